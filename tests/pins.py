@@ -23,23 +23,23 @@ from documents import TOP, read
 PROMISED = {
     # the firmware's map
     "e820_model/run-join-later_entry_wins",
-    "boot_stages/map-append_settled-edits_act_on_unsettled_claims",
+    "boot_stages/map-append_and_sanitise-edits_act_on_unsettled_claims",
     # memory, searches and the tables' growth
-    "memblock_ranges/trim-frames-frame_with_a_byte_that_isnt_memory_is_kept",
+    "memblock_ranges/trim-whole_frame_bounds-frame_with_a_byte_that_isnt_memory_is_kept",
     "memblock_find/down-bottom-place_over_the_border_of_two_nodes",
     "memblock_find/search-last_between-lowest_place_of_the_gap",
     "memblock_grow/request-allocate-always_no_gap",
-    "memblock_grow/places-place_beside-new_place_meets_the_claimed_range",
+    "memblock_grow/places-table_frames_beside-new_place_meets_the_claimed_range",
     "memblock_grow/reserved-grow_reserved-new_place_is_never_claimed",
-    "memblock_grow/more-is_full-table_doubles_one_record_early",
-    "memblock_grow/places-left_place-old_place_stays_claimed",
+    "memblock_grow/more-lacks_room-table_doubles_one_record_early",
+    "memblock_grow/places-old_place_frames-old_place_stays_claimed",
     "boot_stages/memory-limit_memory-all_memory_is_claimed_for_the_kernel",
     # nodes and the early script
-    "srat_reader/table-find_header_fault-checksum_isnt_tested",
-    "srat_reader/table-find_header_fault-checksum_is_named_before_the_length",
+    "srat_reader/table-srat_header_fault-checksum_isnt_tested",
+    "srat_reader/table-srat_header_fault-checksum_is_named_before_the_length",
     "early_script/live-fill-byte_past_the_id_is_written",
     # free frames and pages
-    "buddy_handover/buddy-note-last_frame_of_a_free_range_is_dropped",
+    "buddy_handover/buddy-mark_free-last_frame_of_a_free_range_is_dropped",
     "frame_blocks/run-is_same-runs_of_two_nodes_are_one",
     "frame_blocks/run-is_same-ranges_that_meet_stay_apart",
     "buddy_handover/buddy-take-always_no_block",

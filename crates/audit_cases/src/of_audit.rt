@@ -80,8 +80,8 @@ impl Ended {
     /// the error output.
     fn is(&self, status: u8, text: &str, line: &str) -> bool {
         self.status == status
-            && self.out.written() == text.as_bytes()
-            && self.err.written() == line.as_bytes()
+            && self.out.written_bytes() == text.as_bytes()
+            && self.err.written_bytes() == line.as_bytes()
     }
 }
 

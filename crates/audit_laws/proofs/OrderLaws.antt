@@ -10,19 +10,19 @@ use Rattle.address_runs.specs.Edits.{NothingFrom}
 use Rattle.address_runs.specs.Runs.{AreRuns, RunOf, extent_of}
 use Rattle.audit_lines.specs.Blocks.{bytes_of_block}
 use Rattle.audit_lines.specs.Lines.{AscendApart, StartFrom}
-use Rattle.audit_texts.specs.Told.{IsToldBlock, told_block}
+use Rattle.audit_texts.specs.Told.{IsPrintableBlock, line_of_block}
 use Rattle.frame_blocks.specs.declared.block.Block.{Block}
 use Rattle.frame_blocks.specs.declared.run.TheConstants.{MAX_FRAMES}
 use Rattle.frame_blocks.specs.Frames.{Frames, IsBlock, IsInBlock}
-use Rattle.frame_blocks.specs.Listed.{AscendFrom, Lists, blocks_of}
+use Rattle.frame_blocks.specs.Listed.{AscendFrom, ListsBlock, blocks_of}
 use Rattle.frame_blocks.proofs.BlockLaws.{found_block, listed_ascends, listed_sound}
 use Rattle.memblock_model.specs.Labels.{LabelView}
 use Rattle.memblock_model.specs.Items.{memory_of}
 use Rattle.memblock_model.specs.declared.item.Item.{Item}
-use Rattle.table_frames.specs.Frames.{free_node_in, node_below, node_of_frame, node_told}
+use Rattle.table_frames.specs.Frames.{free_node_in, valid_node, node_of_frame, node_of_label}
 use Rattle.table_frames.proofs.TakeLaws.{both_tests}
-use Rattle.boot_model.specs.Boot.{Given, Told, handed_over, told_boot}
-use Rattle.conservation.specs.Headline.{told_blocks}
+use Rattle.boot_model.specs.Boot.{InputsView, BootedView, handover_frames, whole_boot}
+use Rattle.conservation.specs.Headline.{booted_blocks}
 use Rattle.conservation.proofs.CountLaws.{in_block}
 use Rattle.conservation.proofs.HeadlineLaws.{below, is_told}
 
@@ -76,8 +76,8 @@ module _ (f : Frames) where
         | inr past ↦ omega (arith, past)
       ]
 
-  ascend_told : (from : ℕ) (bs : List Block) → AscendFrom from bs → ((b : Block) → Lists bs b → IsBlock f b)
-      → AscendApart (map bytes_of_block (map told_block bs))
+  ascend_told : (from : ℕ) (bs : List Block) → AscendFrom from bs → ((b : Block) → ListsBlock bs b → IsBlock f b)
+      → AscendApart (map bytes_of_block (map line_of_block bs))
   ascend_told from [] ascend are = tt
   ascend_told from (b ∷ []) ascend are = (tt, tt)
   ascend_told from (b ∷ (c ∷ cs)) ascend are =
@@ -85,7 +85,7 @@ module _ (f : Frames) where
       let apart : b.first + 2 ^ b.order ≤ c.first = blocks_apart b c (are b (inl refl)) (are c (inr (inl refl))) (omega (arith, next)) in
       (omega (arith, apart), ascend_told (b.first + 1) (c ∷ cs) ascend.1 (λ d listed. are d (inr listed)))
 
-  pub blocks_ascend : AscendApart (map bytes_of_block (map told_block (blocks_of f)))
+  pub blocks_ascend : AscendApart (map bytes_of_block (map line_of_block (blocks_of f)))
   blocks_ascend = ascend_told 0 (blocks_of f) (listed_ascends f) (listed_sound f)
 
   module _ (near : NothingFrom MAX_FRAMES f) where
@@ -103,7 +103,7 @@ module _ (f : Frames) where
         free_near (b.first + 2 ^ b.order - 1) b.node (block.good (b.first + 2 ^ b.order - 1) (last_frame b block.aligned)).0 in
         omega (arith, last)
 
-    few_blocks : (from : ℕ) (bs : List Block) → from ≤ 2 ^ 40 → AscendFrom from bs → ((b : Block) → Lists bs b → IsBlock f b)
+    few_blocks : (from : ℕ) (bs : List Block) → from ≤ 2 ^ 40 → AscendFrom from bs → ((b : Block) → ListsBlock bs b → IsBlock f b)
         → from + length bs ≤ 2 ^ 40
     few_blocks from [] low ascend are = omega (arith, low)
     few_blocks from (b ∷ bs) low ascend are =
@@ -126,11 +126,11 @@ below_low n m true test is =
     omega (arith, same, low)
 below_low n m false test is = cc
 
-node_low : (o : Option ℕ) (n : ℕ) → node_below o ≡ Some n → n < 1024
+node_low : (o : Option ℕ) (n : ℕ) → valid_node o ≡ Some n → n < 1024
 node_low None n is = cc
 node_low (Some m) n is = below_low n m (nat_lt m 1024) refl is
 
-label_low : (o : Option LabelView) (n : ℕ) → node_told o ≡ Some n → n < 1024
+label_low : (o : Option LabelView) (n : ℕ) → node_of_label o ≡ Some n → n < 1024
 label_low None n is = cc
 label_low (Some label) n is = node_low label.node n is
 
@@ -138,26 +138,26 @@ if_low : (b : Bool) (o : Option ℕ) (n : ℕ) → (o ≡ Some n → n < 1024) �
 if_low true o n low is = low is
 if_low false o n low is = cc
 
-handed_low : (items : List Item) (frame n : ℕ) → handed_over items frame ≡ Some n → n < 1024
+handed_low : (items : List Item) (frame n : ℕ) → handover_frames items frame ≡ Some n → n < 1024
 unfolding free_node_in
 handed_low items frame n is =
     if_low _ (node_of_frame (memory_of items) frame) n (label_low (memory_of items (4096 * frame)) n) is
 
 -- each block can be printed as a line
-module _ (given : Given) (told : Told) (ends : told_boot given ≡ Ok told) where
-  block_told : (b : Block) → Lists (told_blocks told) b → IsToldBlock b
+module _ (given : InputsView) (told : BootedView) (ends : whole_boot given ≡ Ok told) where
+  block_told : (b : Block) → ListsBlock (booted_blocks told) b → IsPrintableBlock b
   block_told b listed =
       let block : IsBlock told.free b = listed_sound told.free b listed in
-      let free : handed_over told.items b.first ≡ Some b.node =
+      let free : handover_frames told.items b.first ≡ Some b.node =
       ap (λ (f : Frames). f b.first) (sym (is_told given told ends).free) ∙ (block.good b.first refl).0 in
       let low : b.node < 1024 = handed_low told.items b.first b.node free in
       let end : b.first + 2 ^ b.order ≤ 2 ^ 40 = block_near told.free (below given told ends) b block in
       (omega (arith, low), (block.small, omega (arith, end)))
 
-  all_told : (bs : List Block) → ((b : Block) → Lists bs b → Lists (told_blocks told) b) → All IsToldBlock bs
-  all_told [] among = All-nil IsToldBlock
+  all_told : (bs : List Block) → ((b : Block) → ListsBlock bs b → ListsBlock (booted_blocks told) b) → All IsPrintableBlock bs
+  all_told [] among = All-nil IsPrintableBlock
   all_told (b ∷ bs) among =
-      All-cons IsToldBlock b bs (block_told b (among b (inl refl))) (all_told bs (λ d listed. among d (inr listed)))
+      All-cons IsPrintableBlock b bs (block_told b (among b (inl refl))) (all_told bs (λ d listed. among d (inr listed)))
 
-  pub blocks_told : All IsToldBlock (told_blocks told)
-  blocks_told = all_told (told_blocks told) (λ b listed. listed)
+  pub blocks_told : All IsPrintableBlock (booted_blocks told)
+  blocks_told = all_told (booted_blocks told) (λ b listed. listed)

@@ -7,12 +7,12 @@ use Rattle.memblock_model.specs.Items.{owner_of, owner_runs_of}
 use Rattle.memblock_model.specs.Same.{same_owner}
 use Rattle.memblock_model.specs.declared.item.Item.{Item}
 use Rattle.memblock_model.proofs.SameLaws.{owner_tells}
-use Rattle.boot_model.specs.Boot.{Given, Told, reach_told, told_boot}
-use Rattle.conservation.specs.Headline.{IsTouchedOrInOne as IsKept, told_blocks, blocks_with as blocks_of_told}
+use Rattle.boot_model.specs.Boot.{InputsView, BootedView, booted_address_limit, whole_boot}
+use Rattle.conservation.specs.Headline.{IsTouchedOrInOneBlock as IsKept, booted_blocks, count_blocks_with as blocks_of_told}
 use Rattle.conservation.proofs.HeadlineLaws.{all_touched_or_in_one, blocks_maximal, blocks_whole, no_other_in_a_block}
 use Rattle.conservation.proofs.MapLaws.{usable_mapped}
-use Rattle.audit_texts.specs.Told.{told_block, told_run}
-use Rattle.boot_audit.specs.Conserved.{AreConserved, IsTouchedOrInOne}
+use Rattle.audit_texts.specs.Told.{line_of_block, line_of_run}
+use Rattle.boot_audit.specs.Conserved.{LinesConserveMemory, IsTouchedOrInOne}
 use Rattle.audit_laws.proofs.BlockLaws.{blocks_sound}
 use Rattle.audit_laws.proofs.FrameLaws.{counted_told, told_usable, touched_told, untouched_told, usable_told}
 
@@ -21,33 +21,33 @@ pub owner_runs : (items : List Item) → NothingFrom (2 ^ 64) (owner_of items) �
 unfolding owner_runs_of
 owner_runs items ends = by_address same_owner owner_tells (owner_of items) ends
 
-module _ (given : Given) (told : Told) (ends : told_boot given ≡ Ok told) (near : NothingFrom (2 ^ 64) (owner_of told.items)) where
+module _ (given : InputsView) (told : BootedView) (ends : whole_boot given ≡ Ok told) (near : NothingFrom (2 ^ 64) (owner_of told.items)) where
   runs : IsRunsOf (owner_of told.items) (owner_runs_of told.items)
   runs = owner_runs told.items near
 
   kept_told : (frame : ℕ) → IsKept told frame
-      → IsTouchedOrInOne (map extent_of (owner_runs_of told.items)) (map told_block (told_blocks told)) frame
+      → IsTouchedOrInOne (map extent_of (owner_runs_of told.items)) (map line_of_block (booted_blocks told)) frame
   kept_told frame (inl touched) = inl (
     touched_told told.items (owner_runs_of told.items) runs frame touched.0,
-    counted_told (told_blocks told) frame ∙ touched.1,
+    counted_told (booted_blocks told) frame ∙ touched.1,
   )
   kept_told frame (inr bare) = inr (
     untouched_told told.items (owner_runs_of told.items) runs frame bare.0,
-    counted_told (told_blocks told) frame ∙ bare.1,
+    counted_told (booted_blocks told) frame ∙ bare.1,
   )
 
-  pub lines_conserved : AreConserved (reach_told told) (map told_run told.map) (map extent_of (owner_runs_of told.items))
-      (map told_block (told_blocks told))
+  pub lines_conserved : LinesConserveMemory (booted_address_limit told) (map line_of_run told.map) (map extent_of (owner_runs_of told.items))
+      (map line_of_block (booted_blocks told))
   lines_conserved = record {
     frames = λ frame usable.
         kept_told frame (all_touched_or_in_one given told ends frame
-        ((usable_mapped given told frame ends).1 (told_usable (reach_told told) told.map frame usable)));
+        ((usable_mapped given told frame ends).1 (told_usable (booted_address_limit told) told.map frame usable)));
     others = λ frame some.
-        (let has : 0 < blocks_of_told (told_blocks told) frame =
-        subst (λ (n : ℕ). 0 < n) (counted_told (told_blocks told) frame) some in
+        (let has : 0 < blocks_of_told (booted_blocks told) frame =
+        subst (λ (n : ℕ). 0 < n) (counted_told (booted_blocks told) frame) some in
         let free = no_other_in_a_block given told ends frame has in (
-          usable_told (reach_told told) told.map frame ((usable_mapped given told frame ends).0 free.0),
+          usable_told (booted_address_limit told) told.map frame ((usable_mapped given told frame ends).0 free.0),
           untouched_told told.items (owner_runs_of told.items) runs frame free.1,
         ));
-    each = blocks_sound given told.items (told_blocks told) (blocks_whole given told ends) (blocks_maximal given told ends);
+    each = blocks_sound given told.items (booted_blocks told) (blocks_whole given told ends) (blocks_maximal given told ends);
   }

@@ -1,8 +1,8 @@
 -- Files that contain three reports of one boot.
 use Rattle.std.specs.Prelude.{◌≡◌, ℕ, ◌≤◌, List, length, Option, Some}
-use Rattle.program_end.specs.Program.{Held}
-use Rattle.boot_audit.specs.Words.{Wanted}
-use Rattle.boot_model.specs.Boot.{Told}
+use Rattle.program_end.specs.Program.{FileContents}
+use Rattle.boot_audit.specs.Words.{AuditArgsView}
+use Rattle.boot_model.specs.Boot.{BootedView}
 use Rattle.debugfs_reports.specs.Report.{report_text}
 use Rattle.debugfs_reports.specs.declared.report.Report.TheVariants as reports
 
@@ -14,7 +14,7 @@ pub record IsSaved (held : Option (List ℕ)) (text : List ℕ) : Type 0 where
 
 -- the three files contain the reports of the boot, and the audit's width of addresses is that of
 -- the boot
-pub record AreSaved (held : Held) (wanted : Wanted) (told : Told) : Type 0 where
+pub record AreSaved (held : FileContents) (wanted : AuditArgsView) (told : BootedView) : Type 0 where
   pub width : wanted.width ≡ told.width
   pub map : IsSaved (held wanted.map_name) (report_text reports.Map told)
   pub owners : IsSaved (held wanted.owners_name) (report_text reports.Owners told)

@@ -5,14 +5,14 @@
 ghost use Rattle.std.specs.Prelude.{◌≡◌, Some, Ok};
 ghost use Rattle.std.specs.List.{All};
 ghost use Rattle.audit_laws.specs.Saved.{AreSaved};
-ghost use Rattle.audit_laws.specs.Told.{CanBeTold, IsNear, IsNearOwner};
-ghost use Rattle.audit_texts.specs.Told.{IsToldName};
-ghost use Rattle.boot_audit.specs.Headline.{IsConservedBy};
-ghost use Rattle.boot_audit.specs.Outcome.{outcome};
-ghost use Rattle.program_end.specs.Program.{Held};
-ghost use Rattle.boot_audit.specs.Words.{Wanted};
+ghost use Rattle.audit_laws.specs.Told.{IsPrintableBoot, RunEndsInSpace, IsBoundedOwnerRun};
+ghost use Rattle.audit_texts.specs.Told.{IsPrintableOwner};
+ghost use Rattle.boot_audit.specs.Headline.{FilesConserveMemory};
+ghost use Rattle.boot_audit.specs.Outcome.{audit_outcome};
+ghost use Rattle.program_end.specs.Program.{FileContents};
+ghost use Rattle.boot_audit.specs.Words.{AuditArgsView};
 ghost use Rattle.boot_audit.specs.declared.verdict.Verdict.TheVariants as verdicts;
-ghost use Rattle.boot_model.specs.Boot.{Given, told_boot};
+ghost use Rattle.boot_model.specs.Boot.{InputsView, whole_boot};
 ghost use Rattle.boot_model.specs.View.{booted_view};
 
 use boot_model::Booted;
@@ -22,21 +22,21 @@ use memblock_model::{Owner, OwnerRun};
 /// Law: if the files that an audit names contain the three reports of this boot, as `bootmem`
 /// prints them, then memory was conserved by them, and the outcome of the audit is `Sound`.
 pub fn booted_reports_are_sound(booted: &Booted)
-    ghost given: { Given }
-    requires { told_boot given ≡ Ok (booted_view booted.now) }
-    ensures told { CanBeTold (booted_view booted.now) }
-    ensures conserved { (held : Held) (wanted : Wanted) → AreSaved held wanted (booted_view booted.now)
-        → IsConservedBy (Some wanted) held }
-    ensures sound { (held : Held) (wanted : Wanted) → AreSaved held wanted (booted_view booted.now)
-        → outcome (Some wanted) held ≡ Ok verdicts.Sound }
+    ghost given: { InputsView }
+    requires { whole_boot given ≡ Ok (booted_view booted.now) }
+    ensures told { IsPrintableBoot (booted_view booted.now) }
+    ensures conserved { (held : FileContents) (wanted : AuditArgsView) → AreSaved held wanted (booted_view booted.now)
+        → FilesConserveMemory (Some wanted) held }
+    ensures sound { (held : FileContents) (wanted : AuditArgsView) → AreSaved held wanted (booted_view booted.now)
+        → audit_outcome (Some wanted) held ≡ Ok verdicts.Sound }
 {
-    read_map(&booted.map);
-    read_owners(booted.journal.owners());
+    map_runs_end_in_space(&booted.map);
+    owner_runs_are_bounded(booted.journal.owners());
 }
 
 /// Law: each run of a map ends below 2^64.
-fn read_map(runs: &[Run])
-    ensures { All IsNear runs.now }
+fn map_runs_end_in_space(runs: &[Run])
+    ensures { All RunEndsInSpace runs.now }
 {
     for run in runs {
         run_ends_in_space(run);
@@ -45,30 +45,30 @@ fn read_map(runs: &[Run])
 
 /// Law: a run of a map ends below 2^64.
 fn run_ends_in_space(run: &Run)
-    ensures { IsNear run.now }
+    ensures { RunEndsInSpace run.now }
 {
     let _range = run.range;
 }
 
 /// Law: each run of an owner ends below 2^64, and the owner's number, if it has one, has 32 bits.
-fn read_owners(runs: &[OwnerRun])
-    ensures { All IsNearOwner runs.now }
+fn owner_runs_are_bounded(runs: &[OwnerRun])
+    ensures { All IsBoundedOwnerRun runs.now }
 {
     for run in runs {
-        read_owner(run);
+        owner_run_is_bounded(run);
     }
 }
 
 /// Law: a run of an owner ends below 2^64, and the owner's number, if it has one, has 32 bits.
-fn read_owner(run: &OwnerRun)
-    ensures { IsNearOwner run.now }
+fn owner_run_is_bounded(run: &OwnerRun)
+    ensures { IsBoundedOwnerRun run.now }
 {
-    read_name(run.owner);
+    owner_number_is_bounded(run.owner);
 }
 
 /// Law: the number of an owner, if it has one, has 32 bits.
-fn read_name(owner: Owner)
-    ensures { IsToldName owner }
+fn owner_number_is_bounded(owner: Owner)
+    ensures { IsPrintableOwner owner }
 {
     match owner {
         Owner::NodeData(_number) => {}

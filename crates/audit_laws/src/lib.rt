@@ -6,8 +6,8 @@
 //! (`conservation`) speak of what happened to memory. Those of the audit (`specs/Conserved.antt`
 //! of `boot_audit`) speak of lines that were read. Here the second are proved from the first.
 //!
-//! - [`told_lines_are_conserved`]: the lines of a boot show that memory was conserved.
-//! - [`told_reports_are_read`]: the printed reports are read back as these lines.
+//! - [`booted_lines_conserve_memory`]: the lines of a boot show that memory was conserved.
+//! - [`booted_reports_are_read_back`]: the printed reports are read back as these lines.
 //! - [`saved_reports_are_sound`]: files that contain these reports get the verdict `Sound`.
 //! - [`booted_reports_are_sound`]: the same for the value that the code's boot returns.
 //!
@@ -20,4 +20,4 @@ mod booted;
 mod laws;
 
 pub use booted::booted_reports_are_sound;
-pub use laws::{saved_reports_are_sound, told_lines_are_conserved, told_reports_are_read};
+pub use laws::{saved_reports_are_sound, booted_lines_conserve_memory, booted_reports_are_read_back};

@@ -2,8 +2,8 @@
 use Rattle.std.proofs.Common.{◌≡◌, ℕ, ◌≤◌, false, List, [], ◌∷◌, codes, Some, None, Ok, Err, Option, refl, arith}
 use Rattle.bm_base.specs.Range.{RangeView}
 use Rattle.bm_base.specs.declared.zone.Zone.TheVariants as zones
-use Rattle.audit_lines.specs.Fields.{behind, number_in, range_of}
-use Rattle.audit_lines.specs.Forms.{is_just, zone_in}
+use Rattle.audit_lines.specs.Fields.{rest_after, number_in, range_from_bytes}
+use Rattle.audit_lines.specs.Forms.{is_exactly, zone_in}
 use Rattle.audit_lines.specs.Lines.{AscendApart}
 use Rattle.audit_lines.specs.Reports.{report_of, split_lines}
 use Rattle.audit_lines.specs.declared.report.LineFault.TheVariants as faults
@@ -14,17 +14,17 @@ unfolding number_in
 leading_zero = refl
 
 -- the last byte of a range isn't below its first
-backwards : range_of 4096 4095 ≡ None
+backwards : range_from_bytes 4096 4095 ≡ None
 backwards = refl
 
 -- names of owners must match entirely
-longer_name : is_just (codes "crash") (codes "crash-low") ≡ false
-unfolding is_just behind
+longer_name : is_exactly (codes "crash") (codes "crash-low") ≡ false
+unfolding is_exactly rest_after
 longer_name = refl
 
 -- the name `DMA32` begins like the name `DMA`
 zone_32 : zone_in (codes "DMA32 o") ≡ Some (zones.Dma32, codes " o")
-unfolding zone_in behind
+unfolding zone_in rest_after
 zone_32 = refl
 
 -- a text is split at its newlines, and the text after the last one is left

@@ -4,29 +4,29 @@ use Rattle.std.specs.Option.{option_map, MatchOption}
 use Rattle.std.proofs.Common.{Bor}
 use Rattle.std.proofs.lemmas.Bool.{cases_Bool}
 use Rattle.std.proofs.lemmas.Bool.Decides.{Decides-eqb}
-use Rattle.audit_lines.specs.Fields.{behind}
+use Rattle.audit_lines.specs.Fields.{rest_after}
 
 -- the rest after a front that is there
-pub behind_front : (front rest : List ℕ) → behind front (front ++ rest) ≡ Some rest
-unfolding behind
+pub behind_front : (front rest : List ℕ) → rest_after front (front ++ rest) ≡ Some rest
+unfolding rest_after
 behind_front [] rest = refl
 behind_front (f ∷ fs) rest = rw (eq-eqb f f refl) (behind_front fs rest)
 
 -- if there is a rest, the text is the front followed by it
-pub behind_is : (front text rest : List ℕ) → behind front text ≡ Some rest → text ≡ front ++ rest
-unfolding behind
+pub behind_is : (front text rest : List ℕ) → rest_after front text ≡ Some rest → text ≡ front ++ rest
+unfolding rest_after
 behind_is [] text rest is = cc
 behind_is (f ∷ fs) [] rest is = cc
 behind_is (f ∷ fs) (b ∷ bs) rest is =
     elim (cases_Bool (f == b)) as (λ _. (b ∷ bs) ≡ (f ∷ fs) ++ rest) [
       | inl same ↦
-          let left : behind fs bs ≡ Some rest = rw same at is in
+          let left : rest_after fs bs ≡ Some rest = rw same at is in
           let first : f ≡ b = (Decides-eqb f b).0 same in
           rw (behind_is fs bs rest left, first) refl
       | inr other ↦ let none : ◌≡◌ {A = Option (List ℕ)} None (Some rest) = rw other at is in cc
     ]
 
-none_behind : (front text : List ℕ) (found : Option (List ℕ)) → behind front text ≡ found
+none_behind : (front text : List ℕ) (found : Option (List ℕ)) → rest_after front text ≡ found
     → ((rest : List ℕ) → text ≢ front ++ rest) → None ≡ found
 none_behind front text None is never = refl
 none_behind front text (Some rest) is never = absurd (never rest (behind_is front text rest is))
@@ -34,6 +34,6 @@ none_behind front text (Some rest) is never = absurd (never rest (behind_is fron
 -- the rest after a front was removed
 pub stripped : (front text : List ℕ) (r : Option (Bor (List ℕ)))
     → MatchOption r ((rest : List ℕ) → text ≢ front ++ rest) (λ x. text ≡ front ++ x.now)
-    → option_map (λ x. x.now) r ≡ behind front text
-stripped front text None left = none_behind front text (behind front text) refl left
-stripped front text (Some x) left = sym (ap (behind front) left ∙ behind_front front x.now)
+    → option_map (λ x. x.now) r ≡ rest_after front text
+stripped front text None left = none_behind front text (rest_after front text) refl left
+stripped front text (Some x) left = sym (ap (rest_after front) left ∙ behind_front front x.now)

@@ -6,7 +6,7 @@ use Rattle.bm_base.specs.Range.{RangeView, end_of}
 use Rattle.bm_base.specs.ResultSteps.{◌>>=◌}
 use Rattle.audit_lines.specs.Lines.{StartFrom, AscendApart}
 use Rattle.audit_lines.specs.declared.report.LineFault.{LineFault}
-use Rattle.audit_lines.specs.Reports.{Split, line_at, line_in, in_order, none_left, report_from}
+use Rattle.audit_lines.specs.Reports.{LinesAndRest, report_line_at, line_or_fault, line_if_in_order, no_lines_if_ended, report_from}
 
 -- these lines followed by those of the result, or its fault
 abbrev pub in_front : {L : Type 0} → List L → Result (List L) LineFault → Result (List L) LineFault
@@ -25,9 +25,9 @@ module _ {L : Type 0} (form : ℕ → List ℕ → Option L) (extent : L → Ran
   more_in_front front line (Err fault) = refl
 
   -- one more line
-  pub line_read : (front : List L) (index at : ℕ) (split : Split) (text : List ℕ) (texts : List (List ℕ)) (left : List ℕ) (line : L)
+  pub line_read : (front : List L) (index at : ℕ) (split : LinesAndRest) (text : List ℕ) (texts : List (List ℕ)) (left : List ℕ) (line : L)
       (said : Result (List L) LineFault)
-      → split ≡ (text ∷ texts, left) → line_at form extent index at text ≡ Ok line
+      → split ≡ (text ∷ texts, left) → report_line_at form extent index at text ≡ Ok line
       → in_front front (report_from form extent index at split.0 split.1) ≡ said
       → in_front (front ++ (line ∷ [])) (report_from form extent (index + 1) (end_of (extent line)) texts left) ≡ said
   line_read front index at split text texts left line said splits is so =
@@ -35,28 +35,28 @@ module _ {L : Type 0} (form : ℕ → List ℕ → Option L) (extent : L → Ran
       ∙ (rw is at (rw splits at so))
 
   -- a line that has a fault
-  pub line_faulty : (front : List L) (index at : ℕ) (split : Split) (text : List ℕ) (texts : List (List ℕ)) (left : List ℕ)
+  pub line_faulty : (front : List L) (index at : ℕ) (split : LinesAndRest) (text : List ℕ) (texts : List (List ℕ)) (left : List ℕ)
       (fault : LineFault)
       (said : Result (List L) LineFault)
-      → split ≡ (text ∷ texts, left) → line_at form extent index at text ≡ Err fault
+      → split ≡ (text ∷ texts, left) → report_line_at form extent index at text ≡ Err fault
       → in_front front (report_from form extent index at split.0 split.1) ≡ said → said ≡ Err fault
   line_faulty front index at split text texts left fault said splits is so = sym (rw is at (rw splits at so))
 
   -- no line is left
-  pub lines_end : (front : List L) (index at : ℕ) (split : Split) (said : Result (List L) LineFault)
+  pub lines_end : (front : List L) (index at : ℕ) (split : LinesAndRest) (said : Result (List L) LineFault)
       → split ≡ ([], []) → in_front front (report_from form extent index at split.0 split.1) ≡ said → said ≡ Ok front
   lines_end front index at split said splits so = sym (rw splits at so) ∙ ap (λ (ls : List L). Ok ls) (append-nil front)
 
   -- bytes without a newline are left
-  pub line_open : (front : List L) (index at : ℕ) (split : Split) (left : List ℕ) (said : Result (List L) LineFault)
+  pub line_open : (front : List L) (index at : ℕ) (split : LinesAndRest) (left : List ℕ) (said : Result (List L) LineFault)
       → split ≡ ([], left) → 0 < length left → in_front front (report_from form extent index at split.0 split.1) ≡ said
-      → said ≡ none_left form extent index left
+      → said ≡ no_lines_if_ended form extent index left
   line_open front index at split [] said splits some so = absurd (omega arith)
   line_open front index at split (b ∷ bs) said splits some so = sym (rw splits at so)
 
   -- a line that was read begins at or above the end of the one before it
   at_or_behind : (index at : ℕ) (text : List ℕ) (read : Option L) (line : L)
-      → (line_in form extent index read >>= in_order form extent index at) ≡ Ok line → at ≤ (extent line).base
+      → (line_or_fault form extent index read >>= line_if_in_order form extent index at) ≡ Ok line → at ≤ (extent line).base
   at_or_behind index at text None line is = cc
   at_or_behind index at text (Some other) line is =
       elim (cases_Bool (nat_lt (extent other).base at)) as (λ _. at ≤ (extent line).base) [
@@ -71,7 +71,7 @@ module _ {L : Type 0} (form : ℕ → List ℕ → Option L) (extent : L → Ran
   abbrev AscendFrom : ℕ → List L → Type 0
   AscendFrom at lines = StartFrom at (map extent lines) × AscendApart (map extent lines)
 
-  none_ascend : (index at : ℕ) (left : List ℕ) (lines : List L) → none_left form extent index left ≡ Ok lines → AscendFrom at lines
+  none_ascend : (index at : ℕ) (left : List ℕ) (lines : List L) → no_lines_if_ended form extent index left ≡ Ok lines → AscendFrom at lines
   none_ascend index at [] [] is = (tt, tt)
   none_ascend index at [] (line ∷ lines) is = cc
   none_ascend index at (b ∷ bs) lines is = cc
@@ -82,7 +82,7 @@ module _ {L : Type 0} (form : ℕ → List ℕ → Option L) (extent : L → Ran
       let same : line ∷ others ≡ lines = cc in rw (← same) (above, (rest.0, rest.1))
 
   both_ascend : (index at : ℕ) (text : List ℕ) (texts : List (List ℕ)) (left : List ℕ) (first : Result L LineFault)
-      → line_at form extent index at text ≡ first
+      → report_line_at form extent index at text ≡ first
       → ((line : L) (others : List L) → report_from form extent (index + 1) (end_of (extent line)) texts left ≡ Ok others
       → AscendFrom (end_of (extent line)) others)
       → (lines : List L) → (first >>= λ line. report_from form extent (index + 1) (end_of (extent line)) texts left
@@ -101,5 +101,5 @@ module _ {L : Type 0} (form : ℕ → List ℕ → Option L) (extent : L → Ran
       → report_from form extent index at texts left ≡ Ok lines → AscendFrom at lines
   report_ascends index at [] left lines is = none_ascend index at left lines is
   report_ascends index at (text ∷ texts) left lines is =
-      both_ascend index at text texts left (line_at form extent index at text) refl
+      both_ascend index at text texts left (report_line_at form extent index at text) refl
       (λ line others. report_ascends (index + 1) (end_of (extent line)) texts left others) lines is

@@ -2,14 +2,14 @@
 use Rattle.std.proofs.Common.{◌≡◌, ◌≢◌, ℕ, ◌+◌, ◌<◌, ◌==◌, false, List, [], ◌∷◌, ◌++◌, length, take, drop, get_or, refl, ap, add-one, drop-cons, eq-eqb, suc}
 use Rattle.std.proofs.lemmas.Bool.{ne_eqb}
 use Rattle.std.proofs.lemmas.List.{take_more}
-use Rattle.audit_lines.specs.Reports.{Split, split_lines, with_byte, with_newline}
+use Rattle.audit_lines.specs.Reports.{LinesAndRest, split_lines, with_byte, with_newline}
 
 -- bytes before a text, none of them a newline
-abbrev pub glued : List ℕ → Split → Split
+abbrev pub glued : List ℕ → LinesAndRest → LinesAndRest
 glued [] split = split
 glued (b ∷ bs) split = with_byte b (glued bs split)
 
-pub glued_more : (front : List ℕ) (b : ℕ) (split : Split) → glued (front ++ (b ∷ [])) split ≡ glued front (with_byte b split)
+pub glued_more : (front : List ℕ) (b : ℕ) (split : LinesAndRest) → glued (front ++ (b ∷ [])) split ≡ glued front (with_byte b split)
 glued_more [] b split = refl
 glued_more (a ∷ front) b split = ap (with_byte a) (glued_more front b split)
 

@@ -5,16 +5,16 @@ use Rattle.bm_base.specs.Range.{RangeView, end_of}
 use Rattle.bm_base.specs.declared.range.TheConstants.{FRAME_SIZE}
 
 -- a block of 2^order frames from the address on, with the node and the zone that the line states
-pub record Block : Type 0 where
+pub record BlockLineView : Type 0 where
   pub node : ℕ
   pub zone : Zone
   pub order : ℕ
   pub at : ℕ
 
 -- the bytes of a block
-abbrev pub bytes_of_block : Block → RangeView
+abbrev pub bytes_of_block : BlockLineView → RangeView
 bytes_of_block b = record { base = b.at; size = FRAME_SIZE * 2 ^ b.order }
 
 -- the order of the block is at most 10 (`MAX_ORDER` is 11), and it ends at or below 2^52
-abbrev pub IsBlock : Block → Type 0
-IsBlock b = (b.order ≤ 10) × (end_of (bytes_of_block b) ≤ 2 ^ 52)
+abbrev pub IsBlockLine : BlockLineView → Type 0
+IsBlockLine b = (b.order ≤ 10) × (end_of (bytes_of_block b) ≤ 2 ^ 52)

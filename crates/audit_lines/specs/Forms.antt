@@ -6,13 +6,13 @@ use Rattle.bm_base.specs.OptionSteps.{◌>>=◌}
 use Rattle.bm_base.specs.Text.{padded_decimal}
 use Rattle.bm_base.specs.declared.zone.Zone.{Zone}
 use Rattle.bm_base.specs.declared.zone.Zone.TheVariants as zones
-use Rattle.audit_lines.specs.Blocks.{Block, bytes_of_block}
-use Rattle.audit_lines.specs.Fields.{behind, ends, number_in, address_in, range_in}
+use Rattle.audit_lines.specs.Blocks.{BlockLineView, bytes_of_block}
+use Rattle.audit_lines.specs.Fields.{rest_after, is_at_end, number_in, address_in, range_at_start}
 use Rattle.audit_lines.specs.declared.lines.MapLine.{MapLine}
 
 -- the name of a type of memory in the report `map` (`enum e820_type`)
-unfoldable pub kind_name : ℕ → List ℕ
-kind_name kind =
+unfoldable pub map_type_name : ℕ → List ℕ
+map_type_name kind =
     if kind == 1 then codes "usable" else
     (if kind == 2 then codes "reserved" else
     (if kind == 3 then codes "ACPI data" else
@@ -31,43 +31,43 @@ guard false = None
 -- `A..A T NAME`: a run, its type, which isn't 0, and the name of that type
 unfoldable pub map_in : ℕ → List ℕ → Option MapLine
 map_in index text = do
-  range ← range_in text
-  kind_text ← behind (codes " ") range.1
+  range ← range_at_start text
+  kind_text ← rest_after (codes " ") range.1
   kind ← number_in (2 ^ 32 - 1) kind_text
   above ← guard (nat_lt 0 kind.0)
-  name ← behind (codes " ") kind.1
-  left ← behind (kind_name kind.0) name
-  nothing ← ends left
+  name ← rest_after (codes " ") kind.1
+  left ← rest_after (map_type_name kind.0) name
+  nothing ← is_at_end left
   Some (record { range = range.0; kind = kind.0 })
 
 -- the text is exactly this word
-abbrev pub is_none_left : Option (List ℕ) → Bool
-is_none_left (Some []) = true
-is_none_left (Some (b ∷ bs)) = false
-is_none_left None = false
+abbrev pub is_empty_rest : Option (List ℕ) → Bool
+is_empty_rest (Some []) = true
+is_empty_rest (Some (b ∷ bs)) = false
+is_empty_rest None = false
 
-unfoldable pub is_just : List ℕ → List ℕ → Bool
-is_just word text = is_none_left (behind word text)
+unfoldable pub is_exactly : List ℕ → List ℕ → Bool
+is_exactly word text = is_empty_rest (rest_after word text)
 
 -- the text is this word followed by a number
-abbrev pub is_number_left : Option (List ℕ) → Bool
-is_number_left None = false
-is_number_left (Some text) = is_none_left (option_map (λ number. number.1) (number_in (2 ^ 32 - 1) text))
+abbrev pub is_number_rest : Option (List ℕ) → Bool
+is_number_rest None = false
+is_number_rest (Some text) = is_empty_rest (option_map (λ number. number.1) (number_in (2 ^ 32 - 1) text))
 
 unfoldable pub is_numbered : List ℕ → List ℕ → Bool
-is_numbered front text = is_number_left (behind front text)
+is_numbered front text = is_number_rest (rest_after front text)
 
 -- the names of the owners of reserved memory: those at the start of the boot, those of later
 -- stages, and those with a number
 abbrev pub is_first_owner : List ℕ → Bool
 is_first_owner text =
-    is_just (codes "kernel") text || is_just (codes "low-64k") text || is_just (codes "initrd") text || is_just (codes "low-1m") text
-    || is_just (codes "soft-reserved") text
+    is_exactly (codes "kernel") text || is_exactly (codes "low-64k") text || is_exactly (codes "initrd") text || is_exactly (codes "low-1m") text
+    || is_exactly (codes "soft-reserved") text
 
 abbrev pub is_later_owner : List ℕ → Bool
 is_later_owner text =
-    is_just (codes "table-memory") text || is_just (codes "table-reserved") text || is_just (codes "crash") text
-    || is_just (codes "crash-low") text || is_just (codes "roots") text
+    is_exactly (codes "table-memory") text || is_exactly (codes "table-reserved") text || is_exactly (codes "crash") text
+    || is_exactly (codes "crash-low") text || is_exactly (codes "roots") text
 
 abbrev pub is_numbered_owner : List ℕ → Bool
 is_numbered_owner text =
@@ -80,16 +80,16 @@ is_owner text = is_first_owner text || is_later_owner text || is_numbered_owner 
 -- `INDEX: A..A OWNER`: the index of the line in four columns, a range, and the name of its owner
 unfoldable pub owner_in : ℕ → List ℕ → Option RangeView
 owner_in index text = do
-  colon ← behind (padded_decimal 4 index) text
-  range_text ← behind (codes ": ") colon
-  range ← range_in range_text
-  name ← behind (codes " ") range.1
+  colon ← rest_after (padded_decimal 4 index) text
+  range_text ← rest_after (codes ": ") colon
+  range ← range_at_start range_text
+  name ← rest_after (codes " ") range.1
   known ← guard (is_owner name)
   Some range.0
 
 -- the name of a zone at the start of the text
 unfoldable pub zone_in : List ℕ → Option (Zone × List ℕ)
-zone_in text = dma32 (behind (codes "DMA32") text) (behind (codes "DMA") text) (behind (codes "Normal") text)
+zone_in text = dma32 (rest_after (codes "DMA32") text) (rest_after (codes "DMA") text) (rest_after (codes "Normal") text)
   where
     dma32 : Option (List ℕ) → Option (List ℕ) → Option (List ℕ) → Option (Zone × List ℕ)
     dma32 (Some left) dma normal = Some (zones.Dma32, left)
@@ -98,19 +98,19 @@ zone_in text = dma32 (behind (codes "DMA32") text) (behind (codes "DMA") text) (
     dma32 None None None = None
 
 -- the block, if its order is at most 10 and it ends at or below 2^52
-abbrev pub bounded : Block → Option Block
-bounded b = if nat_le b.order 10 && nat_le (end_of (bytes_of_block b)) (2 ^ 52) then Some b else None
+abbrev pub block_if_bounded : BlockLineView → Option BlockLineView
+block_if_bounded b = if nat_le b.order 10 && nat_le (end_of (bytes_of_block b)) (2 ^ 52) then Some b else None
 
 -- `node N zone Z order O A`: a block of 2^O frames from A on
-unfoldable pub block_in : ℕ → List ℕ → Option Block
+unfoldable pub block_in : ℕ → List ℕ → Option BlockLineView
 block_in index text = do
-  node_text ← behind (codes "node ") text
+  node_text ← rest_after (codes "node ") text
   node ← number_in (2 ^ 32 - 1) node_text
-  zone_text ← behind (codes " zone ") node.1
+  zone_text ← rest_after (codes " zone ") node.1
   zone ← zone_in zone_text
-  order_text ← behind (codes " order ") zone.1
+  order_text ← rest_after (codes " order ") zone.1
   order ← number_in 10 order_text
-  at_text ← behind (codes " ") order.1
+  at_text ← rest_after (codes " ") order.1
   at ← address_in at_text
-  nothing ← ends at.1
-  bounded (record { node = node.0; zone = zone.0; order = order.0; at = at.0 })
+  nothing ← is_at_end at.1
+  block_if_bounded (record { node = node.0; zone = zone.0; order = order.0; at = at.0 })

@@ -6,46 +6,46 @@ use Rattle.audit_lines.specs.declared.report.LineFault.{LineFault}
 use Rattle.audit_lines.specs.declared.report.LineFault.TheVariants as faults
 
 -- the lines of a text, without their newlines, and the text after the last newline
-abbrev pub Split : Type 0
-Split = List (List ℕ) × List ℕ
+abbrev pub LinesAndRest : Type 0
+LinesAndRest = List (List ℕ) × List ℕ
 
 -- a newline before a text ends an empty line; any other byte belongs to the first line
-abbrev pub with_byte : ℕ → Split → Split
+abbrev pub with_byte : ℕ → LinesAndRest → LinesAndRest
 with_byte b ([], left) = ([], b ∷ left)
 with_byte b (line ∷ lines, left) = ((b ∷ line) ∷ lines, left)
 
-abbrev pub with_newline : Split → Split
+abbrev pub with_newline : LinesAndRest → LinesAndRest
 with_newline (lines, left) = ([] ∷ lines, left)
 
-unfoldable pub split_lines : List ℕ → Split
+unfoldable pub split_lines : List ℕ → LinesAndRest
 split_lines [] = ([], [])
 split_lines (b ∷ bs) = if b == 10 then with_newline (split_lines bs) else with_byte b (split_lines bs)
 
 module _ {L : Type 0} (form : ℕ → List ℕ → Option L) (extent : L → RangeView) where
   -- the line that the text spells at this index, from 0 on; faults number lines from 1
-  abbrev pub line_in : ℕ → Option L → Result L LineFault
-  line_in index None = Err (faults.Form (index + 1))
-  line_in index (Some line) = Ok line
+  abbrev pub line_or_fault : ℕ → Option L → Result L LineFault
+  line_or_fault index None = Err (faults.Form (index + 1))
+  line_or_fault index (Some line) = Ok line
 
   -- the line begins at or above `at`, the end of the line before it
-  abbrev pub in_order : ℕ → ℕ → L → Result L LineFault
-  in_order index at line = if nat_lt (extent line).base at then Err (faults.Order (index + 1)) else Ok line
+  abbrev pub line_if_in_order : ℕ → ℕ → L → Result L LineFault
+  line_if_in_order index at line = if nat_lt (extent line).base at then Err (faults.Order (index + 1)) else Ok line
 
   -- the line that the text spells, or its fault: the form is checked before the order
-  abbrev pub line_at : ℕ → ℕ → List ℕ → Result L LineFault
-  line_at index at text = do
-    line ← line_in index (form index text)
-    in_order index at line
+  abbrev pub report_line_at : ℕ → ℕ → List ℕ → Result L LineFault
+  report_line_at index at text = do
+    line ← line_or_fault index (form index text)
+    line_if_in_order index at line
 
   -- a text after the last newline is a line that lacks its own
-  abbrev pub none_left : ℕ → List ℕ → Result (List L) LineFault
-  none_left index [] = Ok []
-  none_left index (b ∷ bs) = Err (faults.Form (index + 1))
+  abbrev pub no_lines_if_ended : ℕ → List ℕ → Result (List L) LineFault
+  no_lines_if_ended index [] = Ok []
+  no_lines_if_ended index (b ∷ bs) = Err (faults.Form (index + 1))
 
   abbrev pub report_from : ℕ → ℕ → List (List ℕ) → List ℕ → Result (List L) LineFault
-  report_from index at [] left = none_left index left
+  report_from index at [] left = no_lines_if_ended index left
   report_from index at (text ∷ texts) left = do
-    line ← line_at index at text
+    line ← report_line_at index at text
     others ← report_from (index + 1) (end_of (extent line)) texts left
     Ok (line ∷ others)
 

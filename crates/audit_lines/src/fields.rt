@@ -4,14 +4,14 @@
 ghost use Rattle.std.specs.Prelude.{◌≡◌, ◌≤◌, length, take, drop, IsTrue};
 ghost use Rattle.std.specs.List.{list_all};
 ghost use Rattle.std.specs.Option.{option_map};
-ghost use Rattle.audit_lines.specs.Fields.{address_in, behind, is_address, is_lower_hex, number_in, range_in};
+ghost use Rattle.audit_lines.specs.Fields.{address_in, rest_after, is_address, is_lower_hex, number_in, range_at_start};
 ghost use Rattle.bm_base.specs.Size.{begins_with_zero};
 
 use bm_base::{Range, read_number};
 
 /// Returns the rest of the text after `front`, or `None` if the text doesn't begin with that.
-pub fn behind<'t>(text: &'t [u8], front: &[u8]) -> Option<&'t [u8]>
-    ensures { option_map (λ rest. rest.now) result ≡ behind front.now text.now }
+pub fn rest_after<'t>(text: &'t [u8], front: &[u8]) -> Option<&'t [u8]>
+    ensures { option_map (λ rest. rest.now) result ≡ rest_after front.now text.now }
 {
     text.strip_prefix(front)
 }
@@ -75,7 +75,7 @@ fn cut_at(text: &[u8], count: usize) -> (&[u8], &[u8])
 fn is_address(text: &[u8]) -> bool
     ensures { result ≡ is_address text.now }
 {
-    match behind(text, b"0x") {
+    match rest_after(text, b"0x") {
         Some(digits) => digits.len() == 16 && are_lower_hex(digits),
         None => false,
     }
@@ -96,12 +96,12 @@ fn is_lower_hex(byte: u8) -> bool
 /// Returns the range at the start of the text, and the rest. A range is written as the addresses
 /// of its first and its last byte; the last must be below 2^64 - 1. Returns `None` if there is no
 /// such range.
-#[tactic(auto, unfolding(crate::specs::Fields::range_in))]
-pub fn range_in(text: &[u8]) -> Option<(Range, &[u8])>
-    ensures { option_map (λ found. (found.0, found.1.now)) result ≡ range_in text.now }
+#[tactic(auto, unfolding(crate::specs::Fields::range_at_start))]
+pub fn range_at_start(text: &[u8]) -> Option<(Range, &[u8])>
+    ensures { option_map (λ found. (found.0, found.1.now)) result ≡ range_at_start text.now }
 {
     let (first, rest) = address_in(text)?;
-    let rest = behind(rest, b"..")?;
+    let rest = rest_after(rest, b"..")?;
     let (last, rest) = address_in(rest)?;
     let range = Range::between(first, last.checked_add(1)?)?;
     Some((range, rest))

@@ -3,11 +3,11 @@
 
 ghost use Rattle.std.specs.Prelude.{◌≡◌, ◌-◌, ◌^◌};
 ghost use Rattle.std.specs.Option.{option_map};
-ghost use Rattle.audit_lines.specs.Fields.{behind, ends};
-ghost use Rattle.audit_lines.specs.Forms.{block_in, bounded, kind_name, map_in, owner_in, zone_in};
+ghost use Rattle.audit_lines.specs.Fields.{rest_after, is_at_end};
+ghost use Rattle.audit_lines.specs.Forms.{block_in, block_if_bounded, map_type_name, map_in, owner_in, zone_in};
 ghost use Rattle.bm_base.specs.Text.{padded_decimal};
 
-use crate::fields::{address_in, behind, number_in, range_in};
+use crate::fields::{address_in, rest_after, number_in, range_at_start};
 use crate::lines::{BlockLine, MapLine};
 use crate::names::is_owner;
 use crate::report::ReportLine;
@@ -23,15 +23,15 @@ impl ReportLine for MapLine {
     /// Reads `A..A T NAME`.
     #[tactic(auto, unfolding(crate::specs::Forms::map_in))]
     fn read(_index: u64, text: &[u8]) -> Option<MapLine> {
-        let Some((range, rest)) = range_in(text) else {
+        let Some((range, rest)) = range_at_start(text) else {
             return None;
         };
-        let (kind, rest) = number_in(behind(rest, b" ")?, u32::MAX)?;
+        let (kind, rest) = number_in(rest_after(rest, b" ")?, u32::MAX)?;
         if kind == 0 {
             return None;
         }
-        let rest = behind(behind(rest, b" ")?, kind_name(kind))?;
-        ends(rest)?;
+        let rest = rest_after(rest_after(rest, b" ")?, map_type_name(kind))?;
+        is_at_end(rest)?;
         Some(MapLine { range, kind })
     }
 
@@ -54,11 +54,11 @@ impl ReportLine for Range {
     /// Reads `INDEX: A..A OWNER`.
     #[tactic(auto, unfolding(crate::specs::Forms::owner_in))]
     fn read(index: u64, text: &[u8]) -> Option<Range> {
-        let rest = behind(behind_index(text, index)?, b": ")?;
-        let Some((range, rest)) = range_in(rest) else {
+        let rest = rest_after(rest_after_index(text, index)?, b": ")?;
+        let Some((range, rest)) = range_at_start(rest) else {
             return None;
         };
-        let name = behind(rest, b" ")?;
+        let name = rest_after(rest, b" ")?;
         if !is_owner(name) {
             return None;
         }
@@ -85,12 +85,12 @@ impl ReportLine for BlockLine {
     /// Reads `node N zone Z order O A`.
     #[tactic(auto, unfolding(crate::specs::Forms::block_in))]
     fn read(_index: u64, text: &[u8]) -> Option<BlockLine> {
-        let (node, rest) = number_in(behind(text, b"node ")?, u32::MAX)?;
-        let (zone, rest) = zone_in(behind(rest, b" zone ")?)?;
-        let (order, rest) = number_in(behind(rest, b" order ")?, 10)?;
-        let (at, rest) = address_in(behind(rest, b" ")?)?;
-        ends(rest)?;
-        bounded(node, zone, order, at)
+        let (node, rest) = number_in(rest_after(text, b"node ")?, u32::MAX)?;
+        let (zone, rest) = zone_in(rest_after(rest, b" zone ")?)?;
+        let (order, rest) = number_in(rest_after(rest, b" order ")?, 10)?;
+        let (at, rest) = address_in(rest_after(rest, b" ")?)?;
+        is_at_end(rest)?;
+        block_if_bounded(node, zone, order, at)
     }
 
     fn base(&self) -> u64 {
@@ -103,27 +103,27 @@ impl ReportLine for BlockLine {
 }
 
 /// Returns `Some(())` if the text is empty.
-fn ends(text: &[u8]) -> Option<()>
-    ensures { result ≡ ends text.now }
+fn is_at_end(text: &[u8]) -> Option<()>
+    ensures { result ≡ is_at_end text.now }
 {
     if text.is_empty() { Some(()) } else { None }
 }
 
 /// Returns the rest of the text after the index, which is right-aligned in four columns. Returns
 /// `None` if the text doesn't begin with that.
-fn behind_index(text: &[u8], index: u64) -> Option<&[u8]>
-    ensures { option_map (λ rest. rest.now) result ≡ behind (padded_decimal 4 index) text.now }
+fn rest_after_index(text: &[u8], index: u64) -> Option<&[u8]>
+    ensures { option_map (λ rest. rest.now) result ≡ rest_after (padded_decimal 4 index) text.now }
 {
     let mut digits = [b' '; 20];
     let start = itoa::write_digits(index, &mut digits, 20);
     let from = start.min(16);
-    behind(text, &digits[from..])
+    rest_after(text, &digits[from..])
 }
 
 /// Returns the name of a type of memory.
-#[tactic(auto, unfolding(crate::specs::Forms::kind_name))]
-fn kind_name(kind: u32) -> &'static [u8]
-    ensures { result.now ≡ kind_name kind }
+#[tactic(auto, unfolding(crate::specs::Forms::map_type_name))]
+fn map_type_name(kind: u32) -> &'static [u8]
+    ensures { result.now ≡ map_type_name kind }
 {
     match kind {
         1 => b"usable",
@@ -145,19 +145,19 @@ fn kind_name(kind: u32) -> &'static [u8]
 fn zone_in(text: &[u8]) -> Option<(Zone, &[u8])>
     ensures { option_map (λ found. (found.0, found.1.now)) result ≡ zone_in text.now }
 {
-    if let Some(rest) = behind(text, b"DMA32") {
+    if let Some(rest) = rest_after(text, b"DMA32") {
         return Some((Zone::Dma32, rest));
     }
-    if let Some(rest) = behind(text, b"DMA") {
+    if let Some(rest) = rest_after(text, b"DMA") {
         return Some((Zone::Dma, rest));
     }
-    let rest = behind(text, b"Normal")?;
+    let rest = rest_after(text, b"Normal")?;
     Some((Zone::Normal, rest))
 }
 
 /// Returns the block, or `None` if its order is above 10, or it ends above 2^52.
-fn bounded(node: u32, zone: Zone, order: u32, at: u64) -> Option<BlockLine>
-    ensures { result ≡ bounded (record { node = node; zone = zone; order = order; at = at }) }
+fn block_if_bounded(node: u32, zone: Zone, order: u32, at: u64) -> Option<BlockLine>
+    ensures { result ≡ block_if_bounded (record { node = node; zone = zone; order = order; at = at }) }
 {
     if order > 10 {
         return None;

@@ -31,13 +31,13 @@ pub struct BlockLine {
 }
 
 impl Model for BlockLine {
-    ghost use Rattle.audit_lines.specs.Blocks.{Block, IsBlock};
+    ghost use Rattle.audit_lines.specs.Blocks.{BlockLineView, IsBlockLine};
 
-    ghost Value = { Block };
+    ghost Value = { BlockLineView };
 
     ghost view = { λ b. record { node = b.node; zone = b.zone; order = b.order; at = b.at } };
 
-    ghost invariant = { λ b. IsBlock (record { node = b.node; zone = b.zone; order = b.order; at = b.at }) };
+    ghost invariant = { λ b. IsBlockLine (record { node = b.node; zone = b.zone; order = b.order; at = b.at }) };
 
     ghost inverse = { λ b. record { node = b.node; zone = b.zone; order = b.order; at = b.at } };
 }

@@ -1,9 +1,9 @@
 //! Tests for the names of the owners of reserved memory, as the report `owners` prints them.
 
 ghost use Rattle.std.specs.Prelude.{◌≡◌};
-ghost use Rattle.audit_lines.specs.Forms.{is_first_owner, is_just, is_later_owner, is_numbered, is_numbered_owner, is_owner};
+ghost use Rattle.audit_lines.specs.Forms.{is_first_owner, is_exactly, is_later_owner, is_numbered, is_numbered_owner, is_owner};
 
-use crate::fields::{behind, number_in};
+use crate::fields::{rest_after, number_in};
 
 /// Tests whether the text is the name of an owner.
 #[tactic(auto, unfolding(crate::specs::Forms::is_owner))]
@@ -17,11 +17,11 @@ pub fn is_owner(text: &[u8]) -> bool
 fn is_first_owner(text: &[u8]) -> bool
     ensures { result ≡ is_first_owner text.now }
 {
-    is_just(text, b"kernel")
-        || is_just(text, b"low-64k")
-        || is_just(text, b"initrd")
-        || is_just(text, b"low-1m")
-        || is_just(text, b"soft-reserved")
+    is_exactly(text, b"kernel")
+        || is_exactly(text, b"low-64k")
+        || is_exactly(text, b"initrd")
+        || is_exactly(text, b"low-1m")
+        || is_exactly(text, b"soft-reserved")
 }
 
 /// Tests whether the text is the name of a table, or of an owner of a later stage that has no
@@ -29,11 +29,11 @@ fn is_first_owner(text: &[u8]) -> bool
 fn is_later_owner(text: &[u8]) -> bool
     ensures { result ≡ is_later_owner text.now }
 {
-    is_just(text, b"table-memory")
-        || is_just(text, b"table-reserved")
-        || is_just(text, b"crash")
-        || is_just(text, b"crash-low")
-        || is_just(text, b"roots")
+    is_exactly(text, b"table-memory")
+        || is_exactly(text, b"table-reserved")
+        || is_exactly(text, b"crash")
+        || is_exactly(text, b"crash-low")
+        || is_exactly(text, b"roots")
 }
 
 /// Tests whether the text is the name of an owner with a number, followed by that number.
@@ -47,11 +47,11 @@ fn is_numbered_owner(text: &[u8]) -> bool
         || is_numbered(text, b"script ")
 }
 
-#[tactic(auto, unfolding(crate::specs::Forms::is_just))]
-fn is_just(text: &[u8], word: &[u8]) -> bool
-    ensures { result ≡ is_just word.now text.now }
+#[tactic(auto, unfolding(crate::specs::Forms::is_exactly))]
+fn is_exactly(text: &[u8], word: &[u8]) -> bool
+    ensures { result ≡ is_exactly word.now text.now }
 {
-    match behind(text, word) {
+    match rest_after(text, word) {
         Some(rest) => rest.is_empty(),
         None => false,
     }
@@ -61,7 +61,7 @@ fn is_just(text: &[u8], word: &[u8]) -> bool
 fn is_numbered(text: &[u8], front: &[u8]) -> bool
     ensures { result ≡ is_numbered front.now text.now }
 {
-    let Some(digits) = behind(text, front) else {
+    let Some(digits) = rest_after(text, front) else {
         return false;
     };
     match number_in(digits, u32::MAX) {

@@ -2,7 +2,7 @@
 
 ghost use Rattle.std.specs.Prelude.{◌≡◌, ◌+◌, ◌<◌, ◌≤◌, ◌^◌, ℕ, List, Option, length, map, IfOk, IsErrOf};
 ghost use Rattle.audit_lines.specs.Lines.{AscendApart};
-ghost use Rattle.audit_lines.specs.Reports.{line_at, report_of};
+ghost use Rattle.audit_lines.specs.Reports.{report_line_at, report_of};
 ghost use Rattle.bm_base.specs.Answers.{Answers};
 ghost use Rattle.bm_base.specs.Range.{RangeView, end_of};
 ghost use Rattle.bm_base.specs.ResultSteps.{with_error};
@@ -80,7 +80,7 @@ pub fn read_report<L: ReportLine>(alloc: Global, bytes: &[u8]) -> Result<Vec<L>,
     let mut index = 0;
     let mut at = 0;
     while let Some((text, others)) = cut_line(rest) {
-        let line: L = line_at(index, at, text)?;
+        let line: L = report_line_at(index, at, text)?;
         at = line.end();
         if lines.push(line).is_err() {
             return Err(ReadError::Memory);
@@ -100,9 +100,9 @@ pub fn read_report<L: ReportLine>(alloc: Global, bytes: &[u8]) -> Result<Vec<L>,
 ///
 /// - `Form`: the text isn't a line of this report.
 /// - `Order`: the line begins below `at`.
-fn line_at<L: ReportLine>(index: u64, at: u64, text: &[u8]) -> Result<L, LineFault>
+fn report_line_at<L: ReportLine>(index: u64, at: u64, text: &[u8]) -> Result<L, LineFault>
     requires { index + 1 < 2 ^ 64 }
-    ensures { result ≡ line_at L.form L.extent index at text.now }
+    ensures { result ≡ report_line_at L.form L.extent index at text.now }
 {
     let Some(line) = L::read(index, text) else {
         return Err(LineFault::Form { line: index + 1 });

@@ -6,9 +6,9 @@ use Rattle.bm_base.specs.Range.{RangeView, end_of}
 use Rattle.bm_base.specs.Text.{hex_text, padded_decimal}
 use Rattle.bm_base.specs.declared.zone.Zone.{Zone}
 use Rattle.bm_base.specs.declared.zone.Zone.TheVariants as zones
-use Rattle.audit_lines.specs.Blocks.{Block, IsBlock, bytes_of_block}
-use Rattle.audit_lines.specs.Fields.{address_in, behind, number_in}
-use Rattle.audit_lines.specs.Forms.{block_in, is_just, is_numbered, is_owner, kind_name, map_in, owner_in, zone_in}
+use Rattle.audit_lines.specs.Blocks.{BlockLineView, IsBlockLine, bytes_of_block}
+use Rattle.audit_lines.specs.Fields.{address_in, rest_after, number_in}
+use Rattle.audit_lines.specs.Forms.{block_in, is_exactly, is_numbered, is_owner, map_type_name, map_in, owner_in, zone_in}
 use Rattle.audit_lines.specs.declared.lines.MapLine.{MapLine}
 use Rattle.audit_lines.proofs.FieldLaws.{behind_front}
 use Rattle.audit_texts.proofs.NumberLaws.{address_line, address_read, number_line, number_read, range_line, range_read, index_line}
@@ -29,13 +29,13 @@ zone_word zones.Dma32 = codes "DMA32"
 zone_word zones.Normal = codes "Normal"
 
 zone_read : (zone : Zone) (rest : List ℕ) → zone_in (zone_word zone ++ (32 ∷ rest)) ≡ Some (zone, 32 ∷ rest)
-unfolding zone_in behind
+unfolding zone_in rest_after
 zone_read zones.Dma rest = refl
 zone_read zones.Dma32 rest = refl
 zone_read zones.Normal rest = refl
 
 -- the line of a block
-block_by : (b : Block) (index : ℕ) → b.node < 2 ^ 32 → IsBlock b
+block_by : (b : BlockLineView) (index : ℕ) → b.node < 2 ^ 32 → IsBlockLine b
     → block_in index (codes "node " ++ (decimal b.node ++ (codes " zone " ++ (zone_word b.zone ++ (codes " order " ++ (decimal b.order
     ++ (codes " " ++ hex_text b.at))))))) ≡ Some b
 unfolding block_in
@@ -60,12 +60,12 @@ block_by b index node fits =
       near,
     ) refl
 
-abbrev pub block_words : Block → List ℕ
+abbrev pub block_words : BlockLineView → List ℕ
 block_words b =
     codes "node " ++ decimal b.node ++ codes " zone " ++ zone_word b.zone ++ codes " order " ++ decimal b.order ++ codes " "
     ++ hex_text b.at
 
-pub block_read : (b : Block) (index : ℕ) → b.node < 2 ^ 32 → IsBlock b → block_in index (block_words b) ≡ Some b
+pub block_read : (b : BlockLineView) (index : ℕ) → b.node < 2 ^ 32 → IsBlockLine b → block_in index (block_words b) ≡ Some b
 block_read b index node fits =
     ap (block_in index) (apart_eight (codes "node ") (decimal b.node) (codes " zone ") (zone_word b.zone) (codes " order ")
     (decimal b.order) (codes " ") (hex_text b.at)) ∙ block_by b index node fits
@@ -79,7 +79,7 @@ zone_line zones.Normal = (refl, (refl, (refl, (refl, (refl, (refl, tt))))))
 one_line-more : (xs : List ℕ) (word ys : List ℕ) → IsOneLine xs → IsOneLine word → IsOneLine ys → IsOneLine ((xs ++ word) ++ ys)
 one_line-more xs word ys first middle last = one_line-append (xs ++ word) ys (one_line-append xs word first middle) last
 
-pub block_one : (b : Block) → b.node < 2 ^ 32 → IsBlock b → IsOneLine (block_words b)
+pub block_one : (b : BlockLineView) → b.node < 2 ^ 32 → IsBlockLine b → IsOneLine (block_words b)
 block_one b node fits =
     one_line-more (codes "node " ++ decimal b.node ++ codes " zone " ++ zone_word b.zone ++ codes " order " ++ decimal b.order) (codes " ")
     (hex_text b.at)
@@ -96,29 +96,29 @@ apart_five a b c d e =
     append_assoc ((a ++ b) ++ c) d e ∙ append_assoc (a ++ b) c (d ++ e) ∙ append_assoc a b (c ++ (d ++ e))
 
 map_by : (l : MapLine) (index : ℕ) → 0 < l.range.size → end_of l.range < 2 ^ 64 → 0 < l.kind → l.kind < 2 ^ 32
-    → map_in index (range_text l.range ++ (codes " " ++ (decimal l.kind ++ (codes " " ++ kind_name l.kind)))) ≡ Some l
+    → map_in index (range_text l.range ++ (codes " " ++ (decimal l.kind ++ (codes " " ++ map_type_name l.kind)))) ≡ Some l
 unfolding map_in
 map_by l index some near kind small =
-    let name : List ℕ = codes " " ++ kind_name l.kind in
-    let left : behind (kind_name l.kind) (kind_name l.kind) ≡ Some [] =
-    ap (behind (kind_name l.kind)) (sym (append-nil (kind_name l.kind))) ∙ behind_front (kind_name l.kind) [] in
+    let name : List ℕ = codes " " ++ map_type_name l.kind in
+    let left : rest_after (map_type_name l.kind) (map_type_name l.kind) ≡ Some [] =
+    ap (rest_after (map_type_name l.kind)) (sym (append-nil (map_type_name l.kind))) ∙ behind_front (map_type_name l.kind) [] in
     let above : nat_lt 0 l.kind ≡ true = grind (arith, nat_tests, kind) in
     rw (
       range_read l.range (codes " " ++ (decimal l.kind ++ name)) some near,
       behind_front (codes " ") (decimal l.kind ++ name),
       number_read (2 ^ 32 - 1) l.kind name (omega (arith, small)) (omega arith) refl,
       above,
-      behind_front (codes " ") (kind_name l.kind),
+      behind_front (codes " ") (map_type_name l.kind),
       left,
     ) refl
 
 abbrev pub map_words : MapLine → List ℕ
-map_words l = range_text l.range ++ codes " " ++ decimal l.kind ++ codes " " ++ kind_name l.kind
+map_words l = range_text l.range ++ codes " " ++ decimal l.kind ++ codes " " ++ map_type_name l.kind
 
 pub map_read : (l : MapLine) (index : ℕ) → 0 < l.range.size → end_of l.range < 2 ^ 64 → 0 < l.kind → l.kind < 2 ^ 32
     → map_in index (map_words l) ≡ Some l
 map_read l index some near kind small =
-    ap (map_in index) (apart_five (range_text l.range) (codes " ") (decimal l.kind) (codes " ") (kind_name l.kind))
+    ap (map_in index) (apart_five (range_text l.range) (codes " ") (decimal l.kind) (codes " ") (map_type_name l.kind))
     ∙ map_by l index some near kind small
 
 one_line-if : (test : Bool) (xs ys : List ℕ) → IsOneLine xs → IsOneLine ys → IsOneLine (if test then xs else ys)
@@ -139,8 +139,8 @@ one_line-by (b ∷ bs) is = by_test (b == 10) refl is (one_line-by bs)
     by_test true here is rest = cc
     by_test false here is rest = (here, rest is)
 
-kind_line : (kind : ℕ) → IsOneLine (kind_name kind)
-unfolding kind_name
+kind_line : (kind : ℕ) → IsOneLine (map_type_name kind)
+unfolding map_type_name
 kind_line kind =
     one_line-if (kind == 1) _ _ (one_line-by (codes "usable") refl)
     (one_line-if (kind == 2) _ _ (one_line-by (codes "reserved") refl)
@@ -154,7 +154,7 @@ kind_line kind =
 
 pub map_one : (l : MapLine) → 0 < l.range.size → end_of l.range < 2 ^ 64 → l.kind < 2 ^ 32 → IsOneLine (map_words l)
 map_one l some near small =
-    one_line-more (range_text l.range ++ codes " " ++ decimal l.kind) (codes " ") (kind_name l.kind)
+    one_line-more (range_text l.range ++ codes " " ++ decimal l.kind) (codes " ") (map_type_name l.kind)
     (one_line-more (range_text l.range) (codes " ") (decimal l.kind) (range_line l.range some near) (refl, tt)
     (number_line l.kind (omega (arith, small))))
     (refl, tt) (kind_line l.kind)
@@ -190,9 +190,9 @@ owner_one r name index small some near one =
     (refl, tt) one
 
 -- the names of owners that have a number
-pub numbered : (front : List ℕ) (n : ℕ) → n < 2 ^ 32 → is_numbered front (front ++ decimal n) ≡ true
+pub owner_with_number_is_read : (front : List ℕ) (n : ℕ) → n < 2 ^ 32 → is_numbered front (front ++ decimal n) ≡ true
 unfolding is_numbered
-numbered front n small =
+owner_with_number_is_read front n small =
     let read : number_in (2 ^ 32 - 1) (decimal n) ≡ Some (n, []) =
     ap (number_in (2 ^ 32 - 1)) (sym (append-nil (decimal n))) ∙ number_read (2 ^ 32 - 1) n [] (omega (arith, small)) (omega arith) tt in
     rw (behind_front front (decimal n), read) refl
@@ -204,21 +204,21 @@ pub named_line : (name : List ℕ) → is_one_line name ≡ true → IsOneLine n
 named_line name one = one_line-by name one
 
 pub node_owner : (n : ℕ) → n < 2 ^ 32 → is_owner (codes "node-data " ++ decimal n) ≡ true
-unfolding is_owner is_just behind
-node_owner n small = rw (numbered (codes "node-data ") n small) refl
+unfolding is_owner is_exactly rest_after
+node_owner n small = rw (owner_with_number_is_read (codes "node-data ") n small) refl
 
 pub root_owner : (n : ℕ) → n < 2 ^ 32 → is_owner (codes "root " ++ decimal n) ≡ true
-unfolding is_owner is_just is_numbered behind
-root_owner n small = rw (numbered (codes "root ") n small) refl
+unfolding is_owner is_exactly is_numbered rest_after
+root_owner n small = rw (owner_with_number_is_read (codes "root ") n small) refl
 
 pub usage_owner : (n : ℕ) → n < 2 ^ 32 → is_owner (codes "usage " ++ decimal n) ≡ true
-unfolding is_owner is_just is_numbered behind
-usage_owner n small = rw (numbered (codes "usage ") n small) refl
+unfolding is_owner is_exactly is_numbered rest_after
+usage_owner n small = rw (owner_with_number_is_read (codes "usage ") n small) refl
 
 pub map_owner : (n : ℕ) → n < 2 ^ 32 → is_owner (codes "map " ++ decimal n) ≡ true
-unfolding is_owner is_just is_numbered behind
-map_owner n small = rw (numbered (codes "map ") n small) refl
+unfolding is_owner is_exactly is_numbered rest_after
+map_owner n small = rw (owner_with_number_is_read (codes "map ") n small) refl
 
 pub script_owner : (n : ℕ) → n < 2 ^ 32 → is_owner (codes "script " ++ decimal n) ≡ true
-unfolding is_owner is_just is_numbered behind
-script_owner n small = rw (numbered (codes "script ") n small) refl
+unfolding is_owner is_exactly is_numbered rest_after
+script_owner n small = rw (owner_with_number_is_read (codes "script ") n small) refl

@@ -15,7 +15,7 @@ use Rattle.bm_base.specs.Size.{begins_with_digit, begins_with_zero, fit_in_u64, 
 use Rattle.bm_base.specs.Text.{hex_text, hex_digits, padded_decimal}
 use Rattle.bm_base.proofs.SizeLaws.{front_digits-all, is_hexadecimal-other, number_of-mark}
 use Rattle.bm_base.proofs.TextLaws.{hex_onto, hex_sixteen}
-use Rattle.audit_lines.specs.Fields.{address_in, at_most, behind, is_address, is_lower_hex, number_in, range_in}
+use Rattle.audit_lines.specs.Fields.{address_in, number_at_most, rest_after, is_address, is_lower_hex, number_in, range_at_start}
 use Rattle.audit_lines.proofs.FieldLaws.{behind_front}
 use Rattle.report_texts.specs.Lines.{range_text}
 use Rattle.audit_texts.proofs.SplitLaws.{IsOneLine, one_line-append}
@@ -90,7 +90,7 @@ hex_number (d ∷ ds) glyphs some =
     spelled : (radix prefix : ℕ) (text digits : List ℕ) → radix ≡ 16 → prefix ≡ 2 → drop 2 text ≡ digits → front_digits 16 digits ≡ digits
         → fit_in_u64 (front_digits_value radix (drop prefix text)) (prefix + length (front_digits radix (drop prefix text)))
         ≡ fit_in_u64 (digits_value 16 digits) (2 + length digits)
-    spelled radix prefix text digits base two behind whole = rw (base, two, behind, whole) refl
+    spelled radix prefix text digits base two rest_after whole = rw (base, two, rest_after, whole) refl
 
 hex_read : (ds : List ℕ) (n : ℕ) → AreGlyphs ds → 0 < length ds → digits_value 16 ds ≡ n → n < 2 ^ 64
     → number_of (48 ∷ 120 ∷ ds) ≡ Ok (n, 2 + length ds)
@@ -117,7 +117,7 @@ address_read n rest small =
     let long : length (hex_text n) ≡ 18 = omega arith in
     let front : take 18 (hex_text n ++ rest) ≡ hex_text n = take_front (hex_text n) rest 18 long in
     let left : drop 18 (hex_text n ++ rest) ≡ rest = drop_front (hex_text n) rest 18 long in
-    let found : behind (codes "0x") (hex_text n) ≡ Some (address_digits n) = behind_front (codes "0x") (address_digits n) in
+    let found : rest_after (codes "0x") (hex_text n) ≡ Some (address_digits n) = behind_front (codes "0x") (address_digits n) in
     let is : is_address (hex_text n) ≡ true = rw (found, digits, lower_glyphs (address_digits n) (digits_glyphs n small)) refl in
     let read : number_of (hex_text n) ≡ Ok (n, 2 + length (address_digits n)) =
     hex_read (address_digits n) n (digits_glyphs n small) (omega arith) (digits_number n small) small in
@@ -156,7 +156,7 @@ number_before text (mark ∷ rest) n read ends = number_of-mark text rest mark e
 
 by_number : (zero_first : Bool) (text : List ℕ) (found : Result (ℕ × ℕ) NumFault) (m taken : ℕ) {most : ℕ} {rest : List ℕ}
     → zero_first ≡ false → found ≡ Ok (m, taken) → m ≤ most → drop taken text ≡ rest
-    → (if zero_first then Some (0, drop 1 text) else at_most most text found) ≡ Some (m, rest)
+    → (if zero_first then Some (0, drop 1 text) else number_at_most most text found) ≡ Some (m, rest)
 by_number zero_first text found m taken {most} other is small left =
     let fits : nat_le m most ≡ true = grind (arith, nat_tests, small) in rw (other, is, fits, left) refl
 
@@ -170,7 +170,7 @@ number_read most (suc n) rest small most_small ends =
     (first_decimal (suc n) (omega arith) (omega arith)) (decimal_is_IsNumeral (suc n) (omega arith)).1 small
   where
     by_digits : (m : ℕ) (ds : List ℕ) → AllDigits 10 ds → 48 < get_or ds 0 0 → digits_value 10 ds ≡ m → m ≤ most
-        → (if begins_with_zero (ds ++ rest) then Some (0, drop 1 (ds ++ rest)) else at_most most (ds ++ rest) (number_of (ds ++ rest)))
+        → (if begins_with_zero (ds ++ rest) then Some (0, drop 1 (ds ++ rest)) else number_at_most most (ds ++ rest) (number_of (ds ++ rest)))
         ≡ Some (m, rest)
     by_digits m [] all above is small = absurd (omega (arith, above))
     by_digits m (d ∷ ds) all above is small =
@@ -182,25 +182,25 @@ number_read most (suc n) rest small most_small ends =
 
 -- a range that isn't empty and ends below 2^64
 range_by : (first last : ℕ) (rest : List ℕ) → first ≤ last → last < 2 ^ 64 - 1
-    → range_in (hex_text first ++ (codes ".." ++ (hex_text last ++ rest))) ≡ Some (record { base = first; size = last + 1 - first }, rest)
-unfolding range_in
+    → range_at_start (hex_text first ++ (codes ".." ++ (hex_text last ++ rest))) ≡ Some (record { base = first; size = last + 1 - first }, rest)
+unfolding range_at_start
 range_by first last rest up below =
     let begins : address_in (hex_text first ++ (codes ".." ++ (hex_text last ++ rest)))
     ≡ Some (first, codes ".." ++ (hex_text last ++ rest)) = address_read first _ (omega arith) in
-    let dots : behind (codes "..") (codes ".." ++ (hex_text last ++ rest)) ≡ Some (hex_text last ++ rest) =
+    let dots : rest_after (codes "..") (codes ".." ++ (hex_text last ++ rest)) ≡ Some (hex_text last ++ rest) =
     behind_front (codes "..") (hex_text last ++ rest) in
     let ends : address_in (hex_text last ++ rest) ≡ Some (last, rest) = address_read last rest (omega arith) in
     let rising : nat_le first last ≡ true = grind (arith, nat_tests, up) in
     let short : nat_lt last (2 ^ 64 - 1) ≡ true = grind (arith, nat_tests, below) in
     rw (begins, dots, ends, rising, short) refl
 
-pub range_read : (r : RangeView) (rest : List ℕ) → 0 < r.size → end_of r < 2 ^ 64 → range_in (range_text r ++ rest) ≡ Some (r, rest)
+pub range_read : (r : RangeView) (rest : List ℕ) → 0 < r.size → end_of r < 2 ^ 64 → range_at_start (range_text r ++ rest) ≡ Some (r, rest)
 range_read r rest some small =
     let parts : range_text r ++ rest ≡ hex_text r.base ++ (codes ".." ++ (hex_text (end_of r - 1) ++ rest)) =
     append_assoc (hex_text r.base ++ codes "..") (hex_text (end_of r - 1)) rest
     ∙ append_assoc (hex_text r.base) (codes "..") (hex_text (end_of r - 1) ++ rest) in
     let size : end_of r - 1 + 1 - r.base ≡ r.size = omega (arith, some) in
-    ap range_in parts ∙ range_by r.base (end_of r - 1) rest (omega (arith, some)) (omega (arith, some, small))
+    ap range_at_start parts ∙ range_by r.base (end_of r - 1) rest (omega (arith, some)) (omega (arith, some, small))
     ∙ ap (λ (n : ℕ). Some (record { base = r.base; size = n }, rest)) size
 
 -- none of these texts has a newline

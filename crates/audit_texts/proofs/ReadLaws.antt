@@ -17,7 +17,7 @@ use Rattle.bm_base.specs.Size.{begins_with_digit, fit_in_u64, front_digits, numb
 use Rattle.bm_base.specs.Text.{hex_text}
 use Rattle.bm_base.proofs.SizeLaws.{is_hexadecimal-other}
 use Rattle.bm_base.proofs.TextLaws.{hex_onto, hex_sixteen}
-use Rattle.audit_lines.specs.Fields.{address_in, are_sixteen, at_most, behind, is_lower_hex, number_in, range_in, range_of, value_in}
+use Rattle.audit_lines.specs.Fields.{address_in, are_sixteen_digits, number_at_most, rest_after, is_lower_hex, number_in, range_at_start, range_from_bytes, value_and_rest}
 use Rattle.audit_lines.proofs.FieldLaws.{behind_is}
 use Rattle.report_texts.specs.Lines.{range_text}
 use Rattle.audit_texts.proofs.NumberLaws.{AreGlyphs, hex_number}
@@ -63,7 +63,7 @@ left_of_found a b xs ys is = let both : ◌≡◌ {A = _ × List ℕ} (a, xs) (b
 -- the number that was found is the one at the start of the text
 found_is : (text rest : List ℕ) (most n : ℕ) (front : List ℕ) → front ≡ front_digits 10 text
     → (nat_lt (digits_value 10 front) (2 ^ 64) ≡ true → decimal (digits_value 10 front) ≡ front)
-    → at_most most text (fit_in_u64 (digits_value 10 front) (length front)) ≡ Some (n, rest) → text ≡ decimal n ++ rest
+    → number_at_most most text (fit_in_u64 (digits_value 10 front) (length front)) ≡ Some (n, rest) → text ≡ decimal n ++ rest
 found_is text rest most n front is same found = by_size (nat_lt (digits_value 10 front) (2 ^ 64)) refl found
   where
     by_most : (small : Bool) → decimal (digits_value 10 front) ≡ front
@@ -78,7 +78,7 @@ found_is text rest most n front is same found = by_size (nat_lt (digits_value 10
         ∙ ap (λ (m : ℕ). decimal m ++ drop (length front) text) value ∙ ap (λ (xs : List ℕ). decimal n ++ xs) left
 
     by_size : (fits : Bool) → nat_lt (digits_value 10 front) (2 ^ 64) ≡ fits
-        → ◌≡◌ {A = Option (ℕ × List ℕ)} (at_most most text
+        → ◌≡◌ {A = Option (ℕ × List ℕ)} (number_at_most most text
         (if◌then◌else◌ {A = Result (ℕ × ℕ) NumFault} fits (Ok (digits_value 10 front, length front)) (Err TooLarge)))
         (Some (n, rest)) → text ≡ decimal n ++ rest
     by_size false test found = cc
@@ -91,7 +91,7 @@ number_is most n (b ∷ bs) rest found =
     by_zero (b == 48) refl found
   where
     spelled : (begins : Bool) (radix prefix : ℕ) → is_digit b 10 ≡ begins → b == 48 ≡ false → radix ≡ 10 → prefix ≡ 0
-        → ◌≡◌ {A = Option (ℕ × List ℕ)} (at_most most (b ∷ bs)
+        → ◌≡◌ {A = Option (ℕ × List ℕ)} (number_at_most most (b ∷ bs)
         (if begins
         then fit_in_u64 (front_digits_value radix (drop prefix (b ∷ bs))) (prefix + length (front_digits radix (drop prefix (b ∷ bs))))
         else Err NoDigits))
@@ -99,7 +99,7 @@ number_is most n (b ∷ bs) rest found =
     spelled false radix prefix digit other base none found = cc
     spelled true radix prefix digit other base none found =
         let front : front_digits 10 (b ∷ bs) ≡ b ∷ front_digits 10 bs = rw digit refl in
-        let read : at_most most (b ∷ bs) (fit_in_u64 (digits_value 10 (front_digits 10 (b ∷ bs))) (length (front_digits 10 (b ∷ bs))))
+        let read : number_at_most most (b ∷ bs) (fit_in_u64 (digits_value 10 (front_digits 10 (b ∷ bs))) (length (front_digits 10 (b ∷ bs))))
         ≡ Some (n, rest) =
         rw (base, none, zero-add (length (front_digits 10 (b ∷ bs)))) at found in
         let digits : AllDigits 10 (front_digits 10 (b ∷ bs)) = front_all (b ∷ bs) in
@@ -109,7 +109,7 @@ number_is most n (b ∷ bs) rest found =
         rw front (digits_text b (front_digits 10 bs) (rw front at digits) other (rw front at bound))) read
 
     by_zero : (zero_first : Bool) → b == 48 ≡ zero_first
-        → ◌≡◌ {A = Option (ℕ × List ℕ)} (if zero_first then Some (0, bs) else at_most most (b ∷ bs) (number_of (b ∷ bs))) (Some (n, rest))
+        → ◌≡◌ {A = Option (ℕ × List ℕ)} (if zero_first then Some (0, bs) else number_at_most most (b ∷ bs) (number_of (b ∷ bs))) (Some (n, rest))
         → b ∷ bs ≡ decimal n ++ rest
     by_zero true is found =
         let first : b ≡ 48 = (Decides-eqb b 48).0 is in
@@ -171,11 +171,11 @@ sixteen_again ds long lower small =
 
 pub address_is : (n : ℕ) (text rest : List ℕ) → address_in text ≡ Some (n, rest) → text ≡ hex_text n ++ rest
 unfolding address_in
-address_is n text rest found = by_front (behind (codes "0x") (take 18 text)) refl found
+address_is n text rest found = by_front (rest_after (codes "0x") (take 18 text)) refl found
   where
     by_value : (ds : List ℕ) → take 18 text ≡ codes "0x" ++ ds → length ds ≡ 16 → list_all is_lower_hex ds ≡ true → (fits : Bool)
         → nat_lt (digits_value 16 ds) (2 ^ 64) ≡ fits
-        → value_in (drop 18 text) (if◌then◌else◌ {A = Result (ℕ × ℕ) NumFault} fits (Ok (digits_value 16 ds, 2 + length ds)) (Err TooLarge))
+        → value_and_rest (drop 18 text) (if◌then◌else◌ {A = Result (ℕ × ℕ) NumFault} fits (Ok (digits_value 16 ds, 2 + length ds)) (Err TooLarge))
         ≡ Some (n, rest) → text ≡ hex_text n ++ rest
     by_value ds front long lower false test found = cc
     by_value ds front long lower true test found =
@@ -185,9 +185,9 @@ address_is n text rest found = by_front (behind (codes "0x") (take 18 text)) ref
         sym (take-append-drop 18 text) ∙ ap (λ (xs : List ℕ). xs ++ drop 18 text) (front ∙ sym spelled)
         ∙ ap (λ (xs : List ℕ). hex_text n ++ xs) left
 
-    by_digits : (ds : List ℕ) → behind (codes "0x") (take 18 text) ≡ Some ds → (right : Bool)
+    by_digits : (ds : List ℕ) → rest_after (codes "0x") (take 18 text) ≡ Some ds → (right : Bool)
         → (length ds == 16) && list_all is_lower_hex ds ≡ right
-        → ◌≡◌ {A = Option (ℕ × List ℕ)} (if right then value_in (drop 18 text) (number_of (take 18 text)) else None) (Some (n, rest))
+        → ◌≡◌ {A = Option (ℕ × List ℕ)} (if right then value_and_rest (drop 18 text) (number_of (take 18 text)) else None) (Some (n, rest))
         → text ≡ hex_text n ++ rest
     by_digits ds is false test found = cc
     by_digits ds is true test found =
@@ -196,10 +196,10 @@ address_is n text rest found = by_front (behind (codes "0x") (take 18 text)) ref
         let long : length ds ≡ 16 = (Decides-eqb (length ds) 16).0 parts.0 in
         let read : number_of (take 18 text) ≡ fit_in_u64 (digits_value 16 ds) (2 + length ds) =
         ap number_of front ∙ hex_number ds (glyphs_from ds parts.1) (omega (arith, long)) in
-        by_value ds front long parts.1 (nat_lt (digits_value 16 ds) (2 ^ 64)) refl (sym (ap (value_in (drop 18 text)) read) ∙ found)
+        by_value ds front long parts.1 (nat_lt (digits_value 16 ds) (2 ^ 64)) refl (sym (ap (value_and_rest (drop 18 text)) read) ∙ found)
 
-    by_front : (found_front : Option (List ℕ)) → behind (codes "0x") (take 18 text) ≡ found_front
-        → ◌≡◌ {A = Option (ℕ × List ℕ)} (if are_sixteen found_front then value_in (drop 18 text) (number_of (take 18 text)) else None)
+    by_front : (found_front : Option (List ℕ)) → rest_after (codes "0x") (take 18 text) ≡ found_front
+        → ◌≡◌ {A = Option (ℕ × List ℕ)} (if are_sixteen_digits found_front then value_and_rest (drop 18 text) (number_of (take 18 text)) else None)
         (Some (n, rest))
         → text ≡ hex_text n ++ rest
     by_front None is found = cc
@@ -211,7 +211,7 @@ pub chain : {A B : Type 0} (first : Option A) (next : A → Option B) (b : B) �
 chain None next b is = cc
 chain (Some a) next b is = (a, (refl, is))
 
-range_found : (first last : ℕ) (r : RangeView) → range_of first last ≡ Some r → (r.base ≡ first) × (end_of r - 1 ≡ last)
+range_found : (first last : ℕ) (r : RangeView) → range_from_bytes first last ≡ Some r → (r.base ≡ first) × (end_of r - 1 ≡ last)
 range_found first last r found = by_test (nat_le first last && nat_lt last (2 ^ 64 - 1)) refl found
   where
     by_test : (test : Bool) → nat_le first last && nat_lt last (2 ^ 64 - 1) ≡ test
@@ -232,13 +232,13 @@ range_parts r first last text one two rest base top begins dots ends =
     ∙ ap (λ (f : ℕ). (hex_text f ++ codes ".." ++ hex_text last) ++ rest) (sym base)
     ∙ ap (λ (l : ℕ). (hex_text r.base ++ codes ".." ++ hex_text l) ++ rest) (sym top)
 
-pub range_is : (r : RangeView) (text rest : List ℕ) → range_in text ≡ Some (r, rest) → text ≡ range_text r ++ rest
-unfolding range_in
+pub range_is : (r : RangeView) (text rest : List ℕ) → range_at_start text ≡ Some (r, rest) → text ≡ range_text r ++ rest
+unfolding range_at_start
 range_is r text rest found =
     let one = chain (address_in text) _ (r, rest) found in
-    let two = chain (behind (codes "..") one.0.1) _ (r, rest) one.1.1 in
+    let two = chain (rest_after (codes "..") one.0.1) _ (r, rest) one.1.1 in
     let three = chain (address_in two.0) _ (r, rest) two.1.1 in
-    let four = chain (range_of one.0.0 three.0.0) _ (r, rest) three.1.1 in
+    let four = chain (range_from_bytes one.0.0 three.0.0) _ (r, rest) three.1.1 in
     let value : four.0 ≡ r = value_of_found four.0 r three.0.1 rest four.1.1 in
     let left : three.0.1 ≡ rest = left_of_found four.0 r three.0.1 rest four.1.1 in
     let ends = range_found one.0.0 three.0.0 r (four.1.0 ∙ ap (λ (e : RangeView). Some e) value) in

@@ -3,8 +3,8 @@ use Rattle.std.proofs.Common.{◌≡◌, ℕ, ◌+◌, ◌^◌, ◌<◌, ◌≤�
 use Rattle.std.proofs.lemmas.Bool.Decides.{nat_tests}
 use Rattle.bm_base.specs.Range.{RangeView, end_of}
 use Rattle.audit_lines.specs.Lines.{StartFrom, AscendApart}
-use Rattle.audit_lines.specs.Reports.{line_at, report_from, split_lines}
-use Rattle.report_texts.specs.Lines.{lines_from}
+use Rattle.audit_lines.specs.Reports.{report_line_at, report_from, split_lines}
+use Rattle.report_texts.specs.Lines.{indexed_lines}
 use Rattle.audit_texts.proofs.SplitLaws.{IsOneLine, split_first}
 
 module _ {L X : Type 0} (form : ℕ → List ℕ → Option L) (extent : L → RangeView) (line text : ℕ → X → List ℕ) (seen : X → L) where
@@ -18,7 +18,7 @@ module _ {L X : Type 0} (form : ℕ → List ℕ → Option L) (extent : L → R
   AreReadBack [] = Unit {0}
   AreReadBack (x ∷ xs) = IsReadBack x × AreReadBack xs
 
-  line_is : (x : X) (n at : ℕ) → IsReadBack x → at ≤ (extent (seen x)).base → line_at form extent n at (text n x) ≡ Ok (seen x)
+  line_is : (x : X) (n at : ℕ) → IsReadBack x → at ≤ (extent (seen x)).base → report_line_at form extent n at (text n x) ≡ Ok (seen x)
   line_is x n at back above =
       let order : nat_lt (extent (seen x)).base at ≡ false = grind (arith, nat_tests, above) in
       rw (back.read n, order) refl
@@ -31,12 +31,12 @@ module _ {L X : Type 0} (form : ℕ → List ℕ → Option L) (extent : L → R
 
   pub lines_read : (xs : List X) (n at : ℕ) → n + length xs ≤ 2 ^ 64 → AreReadBack xs
       → StartFrom at (map extent (map seen xs)) → AscendApart (map extent (map seen xs))
-      → report_from form extent n at (split_lines (lines_from line n xs)).0 (split_lines (lines_from line n xs)).1 ≡ Ok (map seen xs)
+      → report_from form extent n at (split_lines (indexed_lines line n xs)).0 (split_lines (indexed_lines line n xs)).1 ≡ Ok (map seen xs)
   unfolding split_lines
   lines_read [] n at few back start order = refl
   lines_read (x ∷ xs) n at few back start order =
       rw (
-        lines_split x n (lines_from line (n + 1) xs) (omega (arith, few)) back.0,
+        lines_split x n (indexed_lines line (n + 1) xs) (omega (arith, few)) back.0,
         line_is x n at back.0 start,
         lines_read xs (n + 1) (end_of (extent (seen x))) (omega (arith, few)) back.1 order.0 order.1,
       ) refl

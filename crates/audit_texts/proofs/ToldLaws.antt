@@ -7,17 +7,17 @@ use Rattle.bm_base.specs.Range.{RangeView}
 use Rattle.bm_base.specs.declared.zone.Zone.{Zone}
 use Rattle.bm_base.specs.declared.zone.Zone.TheVariants as zones
 use Rattle.audit_lines.specs.Blocks.{bytes_of_block}
-use Rattle.audit_lines.specs.Forms.{block_in, is_just, is_numbered, is_owner, kind_name as kind_name_in, map_in, owner_in}
-use Rattle.audit_lines.specs.Fields.{behind}
+use Rattle.audit_lines.specs.Forms.{block_in, is_exactly, is_numbered, is_owner, map_type_name as kind_name_in, map_in, owner_in}
+use Rattle.audit_lines.specs.Fields.{rest_after}
 use Rattle.audit_lines.specs.Lines.{AscendApart, StartFrom}
 use Rattle.audit_lines.specs.Reports.{report_of}
-use Rattle.audit_texts.specs.Told.{IsToldBlock, IsToldName, IsToldOwner, IsToldRun, told_block, told_run}
+use Rattle.audit_texts.specs.Told.{IsPrintableBlock, IsPrintableOwner, IsPrintableOwnerRun, IsPrintableRun, line_of_block, line_of_run}
 use Rattle.frame_blocks.specs.declared.block.Block.{Block}
 use Rattle.memblock_model.specs.declared.owner.Owner.{Owner}
 use Rattle.memblock_model.specs.declared.owner.Owner.TheVariants as owners
 use Rattle.memblock_model.specs.declared.owner.Which.TheVariants as which
-use Rattle.report_texts.specs.Lines.{lines_from}
-use Rattle.report_texts.specs.MapText.{kind_name, map_line, map_text}
+use Rattle.report_texts.specs.Lines.{indexed_lines}
+use Rattle.report_texts.specs.MapText.{e820_type_name, map_line, map_text}
 use Rattle.report_texts.specs.OwnersText.{owner_line, owner_text, owners_text}
 use Rattle.stage_texts.specs.BlocksText.{block_line}
 use Rattle.stage_texts.specs.ZonesText.{zone_name}
@@ -32,20 +32,20 @@ module _ {L X : Type 0} (form : ℕ → List ℕ → Option L) (extent : L → R
   all_back (x ∷ xs) all = (each x (All-head P x xs all), all_back xs (All-tail P x xs all))
 
 -- both crates have the same names for types
-pub same_name : (kind : ℕ) → kind_name_in kind ≡ kind_name kind
+pub same_name : (kind : ℕ) → kind_name_in kind ≡ e820_type_name kind
 unfolding kind_name_in
 same_name kind = refl
 
-run_back : (r : RunOf ℕ) → IsToldRun r
-    → IsReadBack map_in (λ l. l.range) map_line (λ n x. map_words (told_run x)) told_run r
+run_back : (r : RunOf ℕ) → IsPrintableRun r
+    → IsReadBack map_in (λ l. l.range) map_line (λ n x. map_words (line_of_run x)) line_of_run r
 run_back r told = record {
   ended = λ n. rw (same_name r.value) refl;
-  one = λ n small. map_one (told_run r) told.0.0 told.0.1 told.1.1;
-  read = λ n. map_read (told_run r) n told.0.0 told.0.1 told.1.0 told.1.1;
+  one = λ n small. map_one (line_of_run r) told.0.0 told.0.1 told.1.1;
+  read = λ n. map_read (line_of_run r) n told.0.0 told.0.1 told.1.0 told.1.1;
 }
 
-name_known : (o : Owner) → IsToldName o → is_owner (owner_text o) ≡ true
-unfolding is_owner is_just is_numbered behind
+name_known : (o : Owner) → IsPrintableOwner o → is_owner (owner_text o) ≡ true
+unfolding is_owner is_exactly is_numbered rest_after
 name_known owners.Kernel told = refl
 name_known owners.Low64K told = refl
 name_known owners.Initrd told = refl
@@ -62,7 +62,7 @@ name_known (owners.Usage n) told = usage_owner n told
 name_known (owners.Map n) told = map_owner n told
 name_known (owners.Script n) told = script_owner n told
 
-name_line : (o : Owner) → IsToldName o → IsOneLine (owner_text o)
+name_line : (o : Owner) → IsPrintableOwner o → IsOneLine (owner_text o)
 name_line owners.Kernel told = named_line (codes "kernel") refl
 name_line owners.Low64K told = named_line (codes "low-64k") refl
 name_line owners.Initrd told = named_line (codes "initrd") refl
@@ -79,7 +79,7 @@ name_line (owners.Usage n) told = numbered_line (codes "usage ") n told refl
 name_line (owners.Map n) told = numbered_line (codes "map ") n told refl
 name_line (owners.Script n) told = numbered_line (codes "script ") n told refl
 
-owner_back : (r : RunOf Owner) → IsToldOwner r
+owner_back : (r : RunOf Owner) → IsPrintableOwnerRun r
     → IsReadBack owner_in (λ e. e) owner_line (λ n x. owner_words n (extent_of x) (owner_text x.value)) extent_of r
 owner_back r told = record {
   ended = λ n. refl;
@@ -92,12 +92,12 @@ same_zone zones.Dma = refl
 same_zone zones.Dma32 = refl
 same_zone zones.Normal = refl
 
-block_back : (b : Block) → IsToldBlock b
-    → IsReadBack block_in bytes_of_block block_line (λ n x. block_words (told_block x)) told_block b
+block_back : (b : Block) → IsPrintableBlock b
+    → IsReadBack block_in bytes_of_block block_line (λ n x. block_words (line_of_block x)) line_of_block b
 block_back b told = record {
   ended = λ n. rw (same_zone b.zone) refl;
-  one = λ n small. block_one (told_block b) told.0 told.1;
-  read = λ n. block_read (told_block b) n told.0 told.1;
+  one = λ n small. block_one (line_of_block b) told.0 told.1;
+  read = λ n. block_read (line_of_block b) n told.0 told.1;
 }
 
 -- addresses begin at 0
@@ -105,34 +105,34 @@ from_first : (rs : List RangeView) → StartFrom 0 rs
 from_first [] = tt
 from_first (r ∷ rs) = omega arith
 
-ranges_told : (runs : List (RunOf ℕ)) → map (λ l. l.range) (map told_run runs) ≡ map extent_of runs
+ranges_told : (runs : List (RunOf ℕ)) → map (λ l. l.range) (map line_of_run runs) ≡ map extent_of runs
 ranges_told [] = refl
 ranges_told (r ∷ rs) = ap (λ (es : List RangeView). extent_of r ∷ es) (ranges_told rs)
 
-pub map_back : (runs : List (RunOf ℕ)) → length runs < 2 ^ 64 → All IsToldRun runs → AscendApart (map extent_of runs)
-    → report_of map_in (λ l. l.range) (map_text runs) ≡ Ok (map told_run runs)
+pub map_back : (runs : List (RunOf ℕ)) → length runs < 2 ^ 64 → All IsPrintableRun runs → AscendApart (map extent_of runs)
+    → report_of map_in (λ l. l.range) (map_text runs) ≡ Ok (map line_of_run runs)
 map_back runs few told order =
-    lines_read map_in (λ l. l.range) map_line (λ n x. map_words (told_run x)) told_run runs 0 0 (omega (arith, few))
-    (all_back map_in (λ l. l.range) map_line (λ n x. map_words (told_run x)) told_run IsToldRun run_back runs told)
-    (from_first (map (λ l. l.range) (map told_run runs))) (rw (ranges_told runs) order)
+    lines_read map_in (λ l. l.range) map_line (λ n x. map_words (line_of_run x)) line_of_run runs 0 0 (omega (arith, few))
+    (all_back map_in (λ l. l.range) map_line (λ n x. map_words (line_of_run x)) line_of_run IsPrintableRun run_back runs told)
+    (from_first (map (λ l. l.range) (map line_of_run runs))) (rw (ranges_told runs) order)
 
 same_ranges : (es : List RangeView) → map (λ e. e) es ≡ es
 same_ranges [] = refl
 same_ranges (e ∷ es) = ap (λ (others : List RangeView). e ∷ others) (same_ranges es)
 
-pub owners_back : (runs : List (RunOf Owner)) → length runs < 2 ^ 64 → All IsToldOwner runs → AscendApart (map extent_of runs)
+pub owners_back : (runs : List (RunOf Owner)) → length runs < 2 ^ 64 → All IsPrintableOwnerRun runs → AscendApart (map extent_of runs)
     → report_of owner_in (λ r. r) (owners_text runs) ≡ Ok (map extent_of runs)
 owners_back runs few told order =
     lines_read owner_in (λ e. e) owner_line (λ n x. owner_words n (extent_of x) (owner_text x.value)) extent_of runs 0 0
     (omega (arith, few))
-    (all_back owner_in (λ e. e) owner_line (λ n x. owner_words n (extent_of x) (owner_text x.value)) extent_of IsToldOwner owner_back
+    (all_back owner_in (λ e. e) owner_line (λ n x. owner_words n (extent_of x) (owner_text x.value)) extent_of IsPrintableOwnerRun owner_back
     runs told)
     (from_first (map (λ e. e) (map extent_of runs))) (rw (same_ranges (map extent_of runs)) order)
 
-pub blocks_back : (blocks : List Block) → length blocks < 2 ^ 64 → All IsToldBlock blocks
-    → AscendApart (map bytes_of_block (map told_block blocks))
-    → report_of block_in bytes_of_block (lines_from block_line 0 blocks) ≡ Ok (map told_block blocks)
+pub blocks_back : (blocks : List Block) → length blocks < 2 ^ 64 → All IsPrintableBlock blocks
+    → AscendApart (map bytes_of_block (map line_of_block blocks))
+    → report_of block_in bytes_of_block (indexed_lines block_line 0 blocks) ≡ Ok (map line_of_block blocks)
 blocks_back blocks few told order =
-    lines_read block_in bytes_of_block block_line (λ n x. block_words (told_block x)) told_block blocks 0 0 (omega (arith, few))
-    (all_back block_in bytes_of_block block_line (λ n x. block_words (told_block x)) told_block IsToldBlock block_back blocks told)
-    (from_first (map bytes_of_block (map told_block blocks))) order
+    lines_read block_in bytes_of_block block_line (λ n x. block_words (line_of_block x)) line_of_block blocks 0 0 (omega (arith, few))
+    (all_back block_in bytes_of_block block_line (λ n x. block_words (line_of_block x)) line_of_block IsPrintableBlock block_back blocks told)
+    (from_first (map bytes_of_block (map line_of_block blocks))) order

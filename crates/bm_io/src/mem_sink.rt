@@ -53,7 +53,7 @@ impl MemSink {
     }
 
     /// Returns the bytes written so far.
-    pub fn written(&self) -> &[u8]
+    pub fn written_bytes(&self) -> &[u8]
         ensures { result.now ≡ self.now.written }
     {
         self.written.as_slice()

@@ -2,17 +2,17 @@
 use Rattle.std.proofs.Common.{◌≡◌, ℕ, true, false, [], ◌∷◌, Some, None, refl}
 use Rattle.bm_base.specs.declared.zone.Zone.TheVariants as zones
 use Rattle.bm_base.specs.Each.{each_from, each_in}
-use Rattle.audit_lines.specs.Blocks.{Block}
+use Rattle.audit_lines.specs.Blocks.{BlockLineView}
 use Rattle.boot_audit.specs.declared.verdict.Verdict.TheVariants as verdicts
-use Rattle.boot_audit.specs.Frames.{could_join, is_aligned, is_in_zone, is_memory}
-use Rattle.boot_audit.specs.Sweep.{first_whole}
-use Rattle.boot_audit.specs.Verdicts.{first_fault}
+use Rattle.boot_audit.specs.Frames.{could_merge, is_aligned, is_in_zone, is_memory_type}
+use Rattle.boot_audit.specs.Sweep.{first_whole_frame}
+use Rattle.boot_audit.specs.Verdicts.{verdict_of_faults}
 
-abbrev block_at : ℕ → ℕ → Block
+abbrev block_at : ℕ → ℕ → BlockLineView
 block_at at order = record { node = 0; zone = zones.Dma; order = order; at = at }
 
 -- memory that the kernel keeps for itself counts as memory
-ram : is_memory 128 ≡ true
+ram : is_memory_type 128 ≡ true
 ram = refl
 
 -- two frames at 4 KiB aren't aligned
@@ -29,22 +29,22 @@ unfolding is_in_zone each_in each_from
 across = refl
 
 -- two pairs side by side could merge; one alone couldn't, nor could two of different nodes
-pairs : could_join (block_at 0 1 ∷ block_at 8192 1 ∷ []) (block_at 8192 1) ≡ true
-unfolding could_join each_in each_from
+pairs : could_merge (block_at 0 1 ∷ block_at 8192 1 ∷ []) (block_at 8192 1) ≡ true
+unfolding could_merge each_in each_from
 pairs = refl
 
-alone : could_join (block_at 8192 1 ∷ []) (block_at 8192 1) ≡ false
-unfolding could_join each_in each_from
+alone : could_merge (block_at 8192 1 ∷ []) (block_at 8192 1) ≡ false
+unfolding could_merge each_in each_from
 alone = refl
 
-other_node : could_join (record { node = 1; zone = zones.Dma; order = 1; at = 0 } ∷ block_at 8192 1 ∷ []) (block_at 8192 1) ≡ false
-unfolding could_join each_in each_from
+other_node : could_merge (record { node = 1; zone = zones.Dma; order = 1; at = 0 } ∷ block_at 8192 1 ∷ []) (block_at 8192 1) ≡ false
+unfolding could_merge each_in each_from
 other_node = refl
 
 -- of several faults, the first kind decides
-misaligned_first : first_fault (Some 2) (Some 1) None (Some 7) (Some 1) ≡ verdicts.Misaligned 2
+misaligned_first : verdict_of_faults (Some 2) (Some 1) None (Some 7) (Some 1) ≡ verdicts.Misaligned 2
 misaligned_first = refl
 
 -- the bytes from 1 up to 8191 have no whole frame
-none_whole : first_whole 1 8191 ≡ None
+none_whole : first_whole_frame 1 8191 ≡ None
 none_whole = refl

@@ -9,25 +9,25 @@ use Rattle.bm_base.specs.Range.{RangeView, end_of}
 use Rattle.bm_base.specs.ResultSteps.{◌>>=◌, with_error}
 use Rattle.bm_base.specs.OptionSteps.{◌>>=◌ as ◌and_then◌}
 use Rattle.bm_base.specs.Width.{reach_of}
-use Rattle.audit_lines.specs.Blocks.{Block, IsBlock, bytes_of_block}
-use Rattle.audit_lines.specs.Fields.{behind, ends, number_in, address_in}
+use Rattle.audit_lines.specs.Blocks.{BlockLineView, IsBlockLine, bytes_of_block}
+use Rattle.audit_lines.specs.Fields.{rest_after, is_at_end, number_in, address_in}
 use Rattle.audit_lines.specs.Forms.{block_in, map_in, owner_in, zone_in}
 use Rattle.audit_lines.specs.Lines.{AscendApart}
-use Rattle.audit_lines.specs.Reports.{in_order, line_at, line_in, report_from, report_of, split_lines}
+use Rattle.audit_lines.specs.Reports.{line_if_in_order, report_line_at, line_or_fault, report_from, report_of, split_lines}
 use Rattle.audit_lines.specs.declared.lines.MapLine.{MapLine}
 use Rattle.audit_lines.specs.declared.report.LineFault.{LineFault}
 use Rattle.audit_lines.specs.declared.report.LineFault.TheVariants as line_faults
 use Rattle.audit_lines.proofs.ReportLaws.{report_ascends}
-use Rattle.boot_audit.specs.declared.failure.Fault.TheVariants as faults
-use Rattle.program_end.specs.Program.{Held}
+use Rattle.boot_audit.specs.declared.failure.ReportFault.TheVariants as faults
+use Rattle.program_end.specs.Program.{FileContents}
 use Rattle.program_end.specs.declared.failure.Reason.TheVariants as reasons
-use Rattle.boot_audit.specs.declared.failure.Report.{Report}
-use Rattle.boot_audit.specs.declared.failure.Report.TheVariants as reports
+use Rattle.boot_audit.specs.declared.failure.SavedReport.{SavedReport}
+use Rattle.boot_audit.specs.declared.failure.SavedReport.TheVariants as reports
 use Rattle.boot_audit.specs.declared.verdict.Verdict.TheVariants as verdicts
-use Rattle.boot_audit.specs.Headline.{IsConservedBy}
-use Rattle.boot_audit.specs.Outcome.{Lines, lines_by, lines_of, outcome, verdict_by}
-use Rattle.boot_audit.specs.Reason.{Reason}
-use Rattle.boot_audit.specs.Words.{Wanted}
+use Rattle.boot_audit.specs.Headline.{FilesConserveMemory}
+use Rattle.boot_audit.specs.Outcome.{SavedView, lines_in_file, saved_in_files, audit_outcome, verdict_by}
+use Rattle.boot_audit.specs.Reason.{AuditReason}
+use Rattle.boot_audit.specs.Words.{AuditArgsView}
 use Rattle.boot_audit.proofs.ConservedLaws.{conserved_says, reach_near, sound_says}
 use Rattle.boot_audit.proofs.OrderLaws.{frames_ascend}
 
@@ -37,27 +37,27 @@ step_some : {A B : Type 0} (first : Option A) (next : A → Option B) (b : B) (P
 step_some None next b P each is = cc
 step_some (Some a) next b P each is = each a is
 
-within : (c b : Block) (small : Bool) → (nat_le c.order 10 && nat_le (end_of (bytes_of_block c)) (2 ^ 52)) ≡ small
-    → (if small then Some c else None) ≡ Some b → IsBlock b
+within : (c b : BlockLineView) (small : Bool) → (nat_le c.order 10 && nat_le (end_of (bytes_of_block c)) (2 ^ 52)) ≡ small
+    → (if small then Some c else None) ≡ Some b → IsBlockLine b
 within c b false tests is = cc
 within c b true tests is =
     let same : c ≡ b = cc in
     let parts = and_parts (nat_le c.order 10) (nat_le (end_of (bytes_of_block c)) (2 ^ 52)) tests in
     rw (← same) (grind (arith, nat_tests, parts.0), grind (arith, nat_tests, parts.1))
 
--- a line of `blocks` that was read has the bounds of a block (`IsBlock`)
-block_fits : (index : ℕ) (text : List ℕ) (b : Block) → block_in index text ≡ Some b → IsBlock b
+-- a line of `blocks` that was read has the bounds of a block (`IsBlockLine`)
+block_fits : (index : ℕ) (text : List ℕ) (b : BlockLineView) → block_in index text ≡ Some b → IsBlockLine b
 unfolding block_in
 block_fits index text b is =
-    step_some (behind (codes "node ") text) _ b (IsBlock b) (λ node_text.
-    step_some (number_in (2 ^ 32 - 1) node_text) _ b (IsBlock b) (λ node.
-    step_some (behind (codes " zone ") node.1) _ b (IsBlock b) (λ zone_text.
-    step_some (zone_in zone_text) _ b (IsBlock b) (λ zone.
-    step_some (behind (codes " order ") zone.1) _ b (IsBlock b) (λ order_text.
-    step_some (number_in 10 order_text) _ b (IsBlock b) (λ order.
-    step_some (behind (codes " ") order.1) _ b (IsBlock b) (λ at_text.
-    step_some (address_in at_text) _ b (IsBlock b) (λ at.
-    step_some (ends at.1) _ b (IsBlock b) (λ nothing.
+    step_some (rest_after (codes "node ") text) _ b (IsBlockLine b) (λ node_text.
+    step_some (number_in (2 ^ 32 - 1) node_text) _ b (IsBlockLine b) (λ node.
+    step_some (rest_after (codes " zone ") node.1) _ b (IsBlockLine b) (λ zone_text.
+    step_some (zone_in zone_text) _ b (IsBlockLine b) (λ zone.
+    step_some (rest_after (codes " order ") zone.1) _ b (IsBlockLine b) (λ order_text.
+    step_some (number_in 10 order_text) _ b (IsBlockLine b) (λ order.
+    step_some (rest_after (codes " ") order.1) _ b (IsBlockLine b) (λ at_text.
+    step_some (address_in at_text) _ b (IsBlockLine b) (λ at.
+    step_some (is_at_end at.1) _ b (IsBlockLine b) (λ nothing.
     within (record { node = node.0; zone = zone.0; order = order.0; at = at.0 }) b _ refl))))))))) is
 
 module _ {L : Type 0} (form : ℕ → List ℕ → Option L) (extent : L → RangeView) (P : L → Type 0)
@@ -69,7 +69,7 @@ module _ {L : Type 0} (form : ℕ → List ℕ → Option L) (extent : L → Ran
 
   -- if each line that is read has a property, all lines of a report have it
   line_fits : (index at : ℕ) (text : List ℕ) (read : Option L) (line : L) → form index text ≡ read
-      → (line_in form extent index read >>= in_order form extent index at) ≡ Ok line → P line
+      → (line_or_fault form extent index read >>= line_if_in_order form extent index at) ≡ Ok line → P line
   line_fits index at text None line reads is = cc
   line_fits index at text (Some other) line reads is =
       let same : other ≡ line = ordered index (nat_lt (extent other).base at) other line is in
@@ -83,53 +83,53 @@ module _ {L : Type 0} (form : ℕ → List ℕ → Option L) (extent : L → Ran
     where
       by_rest : (read : Result (List L) LineFault) → rest line ≡ read → (read >>= λ others. Ok (line ∷ others)) ≡ Ok lines → All P lines
       by_rest (Err fault) reads is = cc
-      by_rest (Ok behind) reads is =
-          let same : line ∷ behind ≡ lines = cc in rw (← same) (All-cons P line behind (one line refl) (others line behind reads))
+      by_rest (Ok rest_after) reads is =
+          let same : line ∷ rest_after ≡ lines = cc in rw (← same) (All-cons P line rest_after (one line refl) (others line rest_after reads))
 
   lines_fit : (index at : ℕ) (texts : List (List ℕ)) (left : List ℕ) (lines : List L)
       → report_from form extent index at texts left ≡ Ok lines → All P lines
   lines_fit index at [] [] lines is = let none : [] ≡ lines = cc in rw (← none) (All-nil P)
   lines_fit index at [] (b ∷ bs) lines is = cc
   lines_fit index at (text ∷ texts) left lines is =
-      lines_more (line_at form extent index at text)
+      lines_more (report_line_at form extent index at text)
       (λ line. report_from form extent (index + 1) (end_of (extent line)) texts left) lines
       (λ line. line_fits index at text (form index text) line refl)
       (λ line. lines_fit (index + 1) (end_of (extent line)) texts left) is
 
 -- lines that were read are those of some bytes
-read_of : {L : Type 0} (form : ℕ → List ℕ → Option L) (extent : L → RangeView) (report : Report) (held : Option (List ℕ)) (lines : List L)
-    → lines_by form extent report held ≡ Ok lines → (bytes : List ℕ) × (report_of form extent bytes ≡ Ok lines)
+read_of : {L : Type 0} (form : ℕ → List ℕ → Option L) (extent : L → RangeView) (report : SavedReport) (held : Option (List ℕ)) (lines : List L)
+    → lines_in_file form extent report held ≡ Ok lines → (bytes : List ℕ) × (report_of form extent bytes ≡ Ok lines)
 read_of form extent report None lines is = cc
 read_of form extent report (Some bytes) lines is = (bytes, by_length (nat_lt 536870912 (length bytes)) (report_of form extent bytes) is)
   where
     by_length : (long : Bool) (said : Result (List _) LineFault)
-        → ◌≡◌ {A = Result (List _) Reason} (if long then Err (reasons.Faulty report faults.TooLong)
+        → ◌≡◌ {A = Result (List _) AuditReason} (if long then Err (reasons.Faulty report faults.TooLong)
         else with_error (λ fault. reasons.Faulty report (faults.Line fault)) said) (Ok lines) → said ≡ Ok lines
     by_length true said is = cc
     by_length false (Ok some) is = let same : some ≡ lines = cc in rw same refl
     by_length false (Err fault) is = cc
 
 -- blocks that were read are ascending, disjoint and well-formed
-abbrev AreGood : List Block → Type 0
-AreGood blocks = AscendApart (map bytes_of_block blocks) × All IsBlock blocks
+abbrev AreGood : List BlockLineView → Type 0
+AreGood blocks = AscendApart (map bytes_of_block blocks) × All IsBlockLine blocks
 
-good_blocks : (held : Option (List ℕ)) (blocks : List Block) → lines_by block_in bytes_of_block reports.Blocks held ≡ Ok blocks
+good_blocks : (held : Option (List ℕ)) (blocks : List BlockLineView) → lines_in_file block_in bytes_of_block reports.Blocks held ≡ Ok blocks
     → AreGood blocks
 good_blocks held blocks is =
     let read = read_of block_in bytes_of_block reports.Blocks held blocks is in
     let split = split_lines read.0 in (
       (report_ascends block_in bytes_of_block 0 0 split.0 split.1 blocks read.1).1,
-      lines_fit block_in bytes_of_block IsBlock block_fits 0 0 split.0 split.1 blocks read.1,
+      lines_fit block_in bytes_of_block IsBlockLine block_fits 0 0 split.0 split.1 blocks read.1,
     )
 
-good_lines : (held : Held) (wanted : Wanted) (lines : Lines) → lines_of held wanted ≡ Ok lines → AreGood lines.blocks
+good_lines : (held : FileContents) (wanted : AuditArgsView) (lines : SavedView) → saved_in_files held wanted ≡ Ok lines → AreGood lines.blocks
 good_lines held wanted lines is =
-    by_map (lines_by map_in (λ l. l.range) reports.Map (held wanted.map_name))
-    (lines_by owner_in (λ r. r) reports.Owners (held wanted.owners_name))
-    (lines_by block_in bytes_of_block reports.Blocks (held wanted.blocks_name)) refl is
+    by_map (lines_in_file map_in (λ l. l.range) reports.Map (held wanted.map_name))
+    (lines_in_file owner_in (λ r. r) reports.Owners (held wanted.owners_name))
+    (lines_in_file block_in bytes_of_block reports.Blocks (held wanted.blocks_name)) refl is
   where
-    by_map : (m : Result (List MapLine) Reason) (o : Result (List RangeView) Reason) (b : Result (List Block) Reason)
-        → lines_by block_in bytes_of_block reports.Blocks (held wanted.blocks_name) ≡ b
+    by_map : (m : Result (List MapLine) AuditReason) (o : Result (List RangeView) AuditReason) (b : Result (List BlockLineView) AuditReason)
+        → lines_in_file block_in bytes_of_block reports.Blocks (held wanted.blocks_name) ≡ b
         → (m >>= λ map_lines. o >>= λ owners. b >>= λ blocks.
         Ok (record { map_lines = map_lines; owners = owners; blocks = blocks })) ≡ Ok lines
         → AreGood lines.blocks
@@ -140,12 +140,12 @@ good_lines held wanted lines is =
         let blocks : b ≡ lines.blocks = cc in
         rw (← blocks) (good_blocks (held wanted.blocks_name) b reads)
 
-pub sound_conserved : (accepted : Option Wanted) (held : Held) → outcome accepted held ≡ Ok verdicts.Sound → IsConservedBy accepted held
+pub sound_conserved : (accepted : Option AuditArgsView) (held : FileContents) → audit_outcome accepted held ≡ Ok verdicts.Sound → FilesConserveMemory accepted held
 sound_conserved None held is = cc
-sound_conserved (Some wanted) held is = by_lines (lines_of held wanted) refl is
+sound_conserved (Some wanted) held is = by_lines (saved_in_files held wanted) refl is
   where
-    by_lines : (said : Result Lines Reason) → lines_of held wanted ≡ said
-        → (said >>= λ lines. Ok (verdict_by wanted lines)) ≡ Ok verdicts.Sound → IsConservedBy (Some wanted) held
+    by_lines : (said : Result SavedView AuditReason) → saved_in_files held wanted ≡ said
+        → (said >>= λ lines. Ok (verdict_by wanted lines)) ≡ Ok verdicts.Sound → FilesConserveMemory (Some wanted) held
     by_lines (Err reason) reads is = cc
     by_lines (Ok lines) reads is =
         let good = good_lines held wanted lines reads in
@@ -159,7 +159,7 @@ sound_conserved (Some wanted) held is = by_lines (lines_of held wanted) refl is
               (frames_ascend lines.blocks good.0) good.1 sound;
         }
 
-pub conserved_sound : (accepted : Option Wanted) (held : Held) → IsConservedBy accepted held → outcome accepted held ≡ Ok verdicts.Sound
+pub conserved_sound : (accepted : Option AuditArgsView) (held : FileContents) → FilesConserveMemory accepted held → audit_outcome accepted held ≡ Ok verdicts.Sound
 conserved_sound accepted held kept =
     let good = good_lines held kept.wanted kept.lines kept.texts in
     let sound : verdict_by kept.wanted kept.lines ≡ verdicts.Sound =

@@ -3,42 +3,42 @@ use Rattle.std.proofs.Common.{◌≡◌, ℕ, List, Option, Some, None, Result, 
 use Rattle.std.specs.Prelude.{IfSome, ◌⊎◌}
 use Rattle.bm_io.specs.Counts.{Rose}
 use Rattle.bm_io.specs.declared.writing.Sink.{Ghosts as SinkOf}
-use Rattle.program_end.specs.Causes.{EndHasCause, RoseFor}
-use Rattle.program_end.specs.Ends.{Writes, WritingHasCause}
-use Rattle.program_end.specs.Program.{Held}
-use Rattle.program_end.specs.Status.{End, status_of_end}
+use Rattle.program_end.specs.Causes.{EndHasCause, InputFaultsRose}
+use Rattle.program_end.specs.Ends.{WritesOutcome, WritingHasCause}
+use Rattle.program_end.specs.Program.{FileContents}
+use Rattle.program_end.specs.Status.{End, exit_status}
 use Rattle.program_end.proofs.EndLaws.{ends_complete}
-use Rattle.boot_audit.specs.declared.failure.Report.{Report}
+use Rattle.boot_audit.specs.declared.failure.SavedReport.{SavedReport}
 use Rattle.boot_audit.specs.declared.verdict.Verdict.{Verdict}
 use Rattle.boot_audit.specs.declared.verdict.Verdict.TheVariants as verdicts
 use Rattle.boot_audit.specs.Audit.{bootaudit}
-use Rattle.boot_audit.specs.Headline.{IsConservedBy}
-use Rattle.boot_audit.specs.Outcome.{outcome}
-use Rattle.boot_audit.specs.Reason.{Reason}
-use Rattle.boot_audit.specs.Words.{Wanted}
+use Rattle.boot_audit.specs.Headline.{FilesConserveMemory}
+use Rattle.boot_audit.specs.Outcome.{audit_outcome}
+use Rattle.boot_audit.specs.Reason.{AuditReason}
+use Rattle.boot_audit.specs.Words.{AuditArgsView}
 use Rattle.boot_audit.proofs.HeadlineLaws.{conserved_sound, sound_conserved}
 
 -- status 0 comes only with the verdict `Sound`
-sound_said : (old new : Option (List ℕ)) (end : End Reason) (status : ℕ) (said : Result Verdict Reason) → status ≡ status_of_end end
-    → Writes bootaudit old new end said → status ≡ 0 → said ≡ Ok verdicts.Sound
+sound_said : (old new : Option (List ℕ)) (end : End AuditReason) (status : ℕ) (said : Result Verdict AuditReason) → status ≡ exit_status end
+    → WritesOutcome bootaudit old new end said → status ≡ 0 → said ≡ Ok verdicts.Sound
 sound_said old new end status said is writes zero = grind arith
 
-module _ (accepted : Option Wanted) (end : End Reason) (status : ℕ) (is : status ≡ status_of_end end) where
+module _ (accepted : Option AuditArgsView) (end : End AuditReason) (status : ℕ) (is : status ≡ exit_status end) where
   -- with status 0 memory was conserved
-  pub ran_headline : (old new : Option (List ℕ)) (holds : Option Held)
-      → IfSome holds (λ held. Writes bootaudit old new end (outcome accepted held)) → status ≡ 0 → IfSome holds (IsConservedBy accepted)
+  pub ran_headline : (old new : Option (List ℕ)) (holds : Option FileContents)
+      → IfSome holds (λ held. WritesOutcome bootaudit old new end (audit_outcome accepted held)) → status ≡ 0 → IfSome holds (FilesConserveMemory accepted)
   ran_headline old new None writes zero = tt
   ran_headline old new (Some held) writes zero =
-      sound_conserved accepted held (sound_said old new end status (outcome accepted held) is writes zero)
+      sound_conserved accepted held (sound_said old new end status (audit_outcome accepted held) is writes zero)
 
   -- if memory was conserved and neither a file nor the output failed, the status is 0, or 7 if out
   -- of memory
   pub ran_conserved : {S : Type 0} (sink : SinkOf S) (old new : S) (before now : List ℕ → ℕ)
-      → EndHasCause bootaudit before now accepted end → WritingHasCause sink old new end → (holds : Option Held)
-      → IfSome holds (λ held. Writes bootaudit (sink.written old) (sink.written new) end (outcome accepted held))
-      → IfSome holds (λ held. IsConservedBy accepted held → ¬ Rose (sink.faults old) (sink.faults new)
-      → ((report : Report) → ¬ RoseFor bootaudit before now accepted report) → (status ≡ 0) ⊎ (status ≡ 7))
+      → EndHasCause bootaudit before now accepted end → WritingHasCause sink old new end → (holds : Option FileContents)
+      → IfSome holds (λ held. WritesOutcome bootaudit (sink.written old) (sink.written new) end (audit_outcome accepted held))
+      → IfSome holds (λ held. FilesConserveMemory accepted held → ¬ Rose (sink.faults old) (sink.faults new)
+      → ((report : SavedReport) → ¬ InputFaultsRose bootaudit before now accepted report) → (status ≡ 0) ⊎ (status ≡ 7))
   ran_conserved sink old new before now cause output None writes = tt
   ran_conserved sink old new before now cause output (Some held) writes = λ kept.
-      ends_complete bootaudit sink before now accepted old new end status is cause output (outcome accepted held) writes verdicts.Sound
+      ends_complete bootaudit sink before now accepted old new end status is cause output (audit_outcome accepted held) writes verdicts.Sound
       (conserved_sound accepted held kept)

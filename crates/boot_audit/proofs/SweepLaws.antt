@@ -2,9 +2,9 @@
 use Rattle.std.proofs.Common.{◌≡◌, ◌≢◌, ℕ, zero, suc, ◌+◌, ◌*◌, ◌/◌, ◌^◌, ◌<◌, ◌≤◌, Bool, true, false, nat_lt, Option, Some, None, refl, sym, ap, ◌∙◌, inl, inr, arith}
 use Rattle.std.proofs.lemmas.Bool.{cases_lt}
 use Rattle.std.proofs.lemmas.Bool.Decides.{nat_tests}
-use Rattle.boot_audit.specs.declared.sweep.State.{State}
-use Rattle.boot_audit.specs.declared.sweep.State.TheVariants as states
-use Rattle.boot_audit.specs.Sweep.{carried, first_whole}
+use Rattle.boot_audit.specs.declared.sweep.ByteState.{ByteState}
+use Rattle.boot_audit.specs.declared.sweep.ByteState.TheVariants as states
+use Rattle.boot_audit.specs.Sweep.{advance_lost_frame, first_whole_frame}
 use Rattle.boot_audit.specs.Verdicts.{least_below, least_frame, or_this}
 
 -- if no number passes there is no least one; the next lemma is for a number that passes
@@ -30,7 +30,7 @@ least_some p (suc n) k below here first =
     ]
 
 -- what the states of its bytes say about a frame
-pub record Tells (st : ℕ → State) (lost not_free : ℕ → Bool) : Type 0 where
+pub record Tells (st : ℕ → ByteState) (lost not_free : ℕ → Bool) : Type 0 where
   pub lost_true : (f : ℕ) → ((x : ℕ) → 4096 * f ≤ x → x < 4096 * f + 4096 → st x ≡ states.Lost) → lost f ≡ true
   pub lost_false : (f x : ℕ) → 4096 * f ≤ x → x < 4096 * f + 4096 → st x ≢ states.Lost → lost f ≡ false
   pub free_false : (f x : ℕ) → 4096 * f ≤ x → x < 4096 * f + 4096 → st x ≡ states.NotFree → not_free f ≡ true
@@ -38,7 +38,7 @@ pub record Tells (st : ℕ → State) (lost not_free : ℕ → Bool) : Type 0 wh
 
 -- no frame that begins before `from` is lost; all bytes from `from` up to `at` are lost, but have
 -- no whole frame yet
-pub record IsOpen (st : ℕ → State) (lost : ℕ → Bool) (from at : ℕ) : Type 0 where
+pub record IsOpen (st : ℕ → ByteState) (lost : ℕ → Bool) (from at : ℕ) : Type 0 where
   pub ordered : from ≤ at
   pub before : (f : ℕ) → 4096 * f < from → lost f ≡ false
   pub all : (x : ℕ) → from ≤ x → x < at → st x ≡ states.Lost
@@ -50,11 +50,11 @@ pub record IsLeast (lost : ℕ → Bool) (k : ℕ) : Type 0 where
   pub here : lost k ≡ true
   pub first : (f : ℕ) → f < k → lost f ≡ false
 
-abbrev pub SoFar : (ℕ → State) → (ℕ → Bool) → ℕ → ℕ → Option ℕ → Type 0
+abbrev pub SoFar : (ℕ → ByteState) → (ℕ → Bool) → ℕ → ℕ → Option ℕ → Type 0
 SoFar st lost from at None = IsOpen st lost from at
 SoFar st lost from at (Some k) = IsLeast lost k
 
-module _ (st : ℕ → State) (lost not_free : ℕ → Bool) (tells : Tells st lost not_free) where
+module _ (st : ℕ → ByteState) (lost not_free : ℕ → Bool) (tells : Tells st lost not_free) where
   pub at_start : SoFar st lost 0 0 None
   at_start = record {
     ordered = omega arith;
@@ -64,7 +64,7 @@ module _ (st : ℕ → State) (lost not_free : ℕ → Bool) (tells : Tells st l
   }
 
   found_by : (from at until : ℕ) (ends : Bool) → nat_lt until (4096 * ((from + 4095) / 4096) + 4096) ≡ ends → at < until → until ≤ 2 ^ 52
-      → ((x : ℕ) → at ≤ x → x < until → st x ≡ states.Lost) → IsOpen st lost from at → SoFar st lost from until (first_whole from until)
+      → ((x : ℕ) → at ≤ x → x < until → st x ≡ states.Lost) → IsOpen st lost from at → SoFar st lost from until (first_whole_frame from until)
   found_by from at until true is forward near piece known = rw is record {
     ordered = let low = known.ordered in omega arith;
     before = known.before;
@@ -87,7 +87,7 @@ module _ (st : ℕ → State) (lost not_free : ℕ → Bool) (tells : Tells st l
         first = λ f below. known.before f (omega arith);
       }
 
-  closed : (from at until : ℕ) (s : State) → s ≢ states.Lost → at < until
+  closed : (from at until : ℕ) (s : ByteState) → s ≢ states.Lost → at < until
       → ((x : ℕ) → at ≤ x → x < until → st x ≡ s) → IsOpen st lost from at → IsOpen st lost until until
   closed from at until s other forward piece known = record {
     ordered = omega arith;
@@ -107,9 +107,9 @@ module _ (st : ℕ → State) (lost not_free : ℕ → Bool) (tells : Tells st l
   }
 
   -- after one more piece
-  pub carried_on : (from at until : ℕ) (old : Option ℕ) (s : State) → at < until → until ≤ 2 ^ 52
+  pub carried_on : (from at until : ℕ) (old : Option ℕ) (s : ByteState) → at < until → until ≤ 2 ^ 52
       → ((x : ℕ) → at ≤ x → x < until → st x ≡ s) → SoFar st lost from at old
-      → SoFar st lost (carried old from until s).1 until (carried old from until s).0
+      → SoFar st lost (advance_lost_frame old from until s).1 until (advance_lost_frame old from until s).0
   carried_on from at until None states.Lost forward near piece known =
       found_by from at until (nat_lt until (4096 * ((from + 4095) / 4096) + 4096)) refl forward near piece known
   carried_on from at until None states.Sound forward near piece known = closed from at until states.Sound (λ is. cc) forward piece known
@@ -118,7 +118,7 @@ module _ (st : ℕ → State) (lost not_free : ℕ → Bool) (tells : Tells st l
   carried_on from at until (Some k) states.Sound forward near piece least = least
   carried_on from at until (Some k) states.NotFree forward near piece least = least
 
-  pub carried_near : (from until : ℕ) (old : Option ℕ) (s : State) → from ≤ 2 ^ 52 → until ≤ 2 ^ 52 → (carried old from until s).1 ≤ 2 ^ 52
+  pub carried_near : (from until : ℕ) (old : Option ℕ) (s : ByteState) → from ≤ 2 ^ 52 → until ≤ 2 ^ 52 → (advance_lost_frame old from until s).1 ≤ 2 ^ 52
   carried_near from until old states.Lost low near = low
   carried_near from until old states.Sound low near = near
   carried_near from until old states.NotFree low near = near

@@ -6,7 +6,7 @@ use Rattle.bm_base.specs.Zones.{zone_of}
 use Rattle.bm_base.specs.declared.zone.Zone.{Zone}
 use Rattle.bm_base.specs.declared.zone.Zone.TheVariants as zones
 use Rattle.bm_base.proofs.EachLaws.{each_in-all, each_in-fails}
-use Rattle.audit_lines.specs.Blocks.{Block}
+use Rattle.audit_lines.specs.Blocks.{BlockLineView}
 use Rattle.boot_audit.specs.Frames.{frames_of_block, is_in_zone, same_zone}
 
 abbrev zone_by : Bool → Bool → Zone
@@ -46,7 +46,7 @@ between zone low frame high above below first last =
     ∙ tests_between zone low frame high above below (sym (zone_is zone low) ∙ first) (sym (zone_is zone high) ∙ last)
 
 -- so it is enough to test the first and the last frame of a block
-pub ends_tell : (b : Block) (first last : ℕ) (r : Bool) → first ≡ (frames_of_block b).base → last + 1 ≡ end_of (frames_of_block b)
+pub ends_tell : (b : BlockLineView) (first last : ℕ) (r : Bool) → first ≡ (frames_of_block b).base → last + 1 ≡ end_of (frames_of_block b)
     → first ≤ last → same_zone (zone_of first) b.zone ≡ true → r ≡ same_zone (zone_of last) b.zone → r ≡ is_in_zone b
 unfolding is_in_zone
 ends_tell b first last true is end some low high =
@@ -55,7 +55,7 @@ ends_tell b first last true is end some low high =
 ends_tell b first last false is end some low high =
     sym (each_in-fails (frames_of_block b) (λ frame. same_zone (zone_of frame) b.zone) last (omega arith) (omega arith) (sym high))
 
-pub first_tells : (b : Block) (first last : ℕ) (r : Bool) → first ≡ (frames_of_block b).base → last + 1 ≡ end_of (frames_of_block b)
+pub first_tells : (b : BlockLineView) (first last : ℕ) (r : Bool) → first ≡ (frames_of_block b).base → last + 1 ≡ end_of (frames_of_block b)
     → first ≤ last → same_zone (zone_of first) b.zone ≡ false → r ≡ false → r ≡ is_in_zone b
 unfolding is_in_zone
 first_tells b first last r is end some low none =

@@ -1,31 +1,31 @@
 -- The audit as a program over files.
 use Rattle.std.specs.Prelude.{◌≡◌, ◌≢◌, ℕ, Result, Ok, Some}
 use Rattle.program_end.specs.Program.{Program}
-use Rattle.boot_audit.specs.declared.failure.Report.{Report}
-use Rattle.boot_audit.specs.declared.failure.Report.TheVariants as reports
+use Rattle.boot_audit.specs.declared.failure.SavedReport.{SavedReport}
+use Rattle.boot_audit.specs.declared.failure.SavedReport.TheVariants as reports
 use Rattle.boot_audit.specs.declared.verdict.Verdict.{Verdict}
 use Rattle.boot_audit.specs.declared.verdict.Verdict.TheVariants as verdicts
 use Rattle.boot_audit.specs.Line.{verdict_text}
-use Rattle.boot_audit.specs.Reason.{Reason}
+use Rattle.boot_audit.specs.Reason.{AuditReason}
 use Rattle.boot_audit.specs.Status.{verdict_status, verdict_statuses}
-use Rattle.boot_audit.specs.Words.{Wanted, name_of}
+use Rattle.boot_audit.specs.Words.{AuditArgsView, report_file_name}
 
 -- the position of each report in the order in which they are read
-abbrev pub place : Report → ℕ
-place reports.Map = 0
-place reports.Owners = 1
-place reports.Blocks = 2
+abbrev pub report_position : SavedReport → ℕ
+report_position reports.Map = 0
+report_position reports.Owners = 1
+report_position reports.Blocks = 2
 
 -- an accepted command line names a file for each report
-abbrev pub bootaudit : Program Wanted Report Verdict
+abbrev pub bootaudit : Program AuditArgsView SavedReport Verdict
 bootaudit = record {
-  place = place;
-  named = λ wanted report. Some (name_of wanted report);
+  place = report_position;
+  named = λ wanted report. Some (report_file_name wanted report);
   text = verdict_text;
   status = verdict_status;
   statuses = verdict_statuses;
 }
 
 -- the outcome is a verdict other than `Sound`. `said` is the outcome.
-abbrev pub IsUnsound : Result Verdict Reason → Type 0
+abbrev pub IsUnsound : Result Verdict AuditReason → Type 0
 IsUnsound said = (verdict : Verdict) × ((said ≡ Ok verdict) × (verdict ≢ verdicts.Sound))

@@ -6,38 +6,38 @@ use Rattle.program_end.specs.declared.failure.Failure.{Failure}
 use Rattle.program_end.specs.Line.{failure_line as end_line}
 use Rattle.audit_lines.specs.declared.report.LineFault.{LineFault}
 use Rattle.audit_lines.specs.declared.report.LineFault.TheVariants as line_faults
-use Rattle.boot_audit.specs.declared.failure.Fault.{Fault}
-use Rattle.boot_audit.specs.declared.failure.Fault.TheVariants as faults
+use Rattle.boot_audit.specs.declared.failure.ReportFault.{ReportFault}
+use Rattle.boot_audit.specs.declared.failure.ReportFault.TheVariants as faults
 use Rattle.boot_audit.specs.declared.failure.NoCause.{NoCause}
-use Rattle.boot_audit.specs.declared.failure.Report.{Report}
-use Rattle.boot_audit.specs.declared.failure.Report.TheVariants as reports
+use Rattle.boot_audit.specs.declared.failure.SavedReport.{SavedReport}
+use Rattle.boot_audit.specs.declared.failure.SavedReport.TheVariants as reports
 use Rattle.boot_audit.specs.declared.verdict.Verdict.{Verdict}
 use Rattle.boot_audit.specs.declared.verdict.Verdict.TheVariants as verdicts
-use Rattle.boot_audit.specs.Reason.{Reason}
-use Rattle.boot_audit.specs.Words.{Wanted, name_of}
+use Rattle.boot_audit.specs.Reason.{AuditReason}
+use Rattle.boot_audit.specs.Words.{AuditArgsView, report_file_name}
 
 -- a fault of a block, with its line in `blocks`, counted from 1
-abbrev pub block_text : ℕ → List ℕ → List ℕ
-block_text line what = codes "not sound: block at line " ++ (decimal line ++ what)
+abbrev pub block_fault_text : ℕ → List ℕ → List ℕ
+block_fault_text line what = codes "not sound: block at line " ++ (decimal line ++ what)
 
 -- a fault of a frame, with the address of its first byte
-abbrev pub frame_text : ℕ → List ℕ → List ℕ
-frame_text frame what = codes "not sound: frame " ++ (hex_text (FRAME_SIZE * frame) ++ what)
+abbrev pub frame_fault_text : ℕ → List ℕ → List ℕ
+frame_fault_text frame what = codes "not sound: frame " ++ (hex_text (FRAME_SIZE * frame) ++ what)
 
 -- the text of a verdict
 abbrev pub verdict_text : Verdict → List ℕ
 verdict_text verdicts.Sound = codes "sound\n"
-verdict_text (verdicts.Misaligned line) = block_text line (codes " misaligned\n")
-verdict_text (verdicts.WrongZone line) = block_text line (codes " in wrong zone\n")
-verdict_text (verdicts.NotFree frame) = frame_text frame (codes " not free\n")
-verdict_text (verdicts.Lost frame) = frame_text frame (codes " lost\n")
-verdict_text (verdicts.NotMaximal line) = block_text line (codes " not maximal\n")
+verdict_text (verdicts.Misaligned line) = block_fault_text line (codes " misaligned\n")
+verdict_text (verdicts.WrongZone line) = block_fault_text line (codes " in wrong zone\n")
+verdict_text (verdicts.NotFree frame) = frame_fault_text frame (codes " not free\n")
+verdict_text (verdicts.Lost frame) = frame_fault_text frame (codes " lost\n")
+verdict_text (verdicts.NotMaximal line) = block_fault_text line (codes " not maximal\n")
 
 -- the name of a report
-abbrev pub word_for : Report → List ℕ
-word_for reports.Map = codes "map"
-word_for reports.Owners = codes "owners"
-word_for reports.Blocks = codes "blocks"
+abbrev pub report_word : SavedReport → List ℕ
+report_word reports.Map = codes "map"
+report_word reports.Owners = codes "owners"
+report_word reports.Blocks = codes "blocks"
 
 -- a fault of a line of the report, counted from 1
 abbrev pub numbered_line : List ℕ → ℕ → List ℕ → List ℕ
@@ -49,26 +49,26 @@ line_fault_line name (line_faults.Form line) = numbered_line name line (codes "f
 line_fault_line name (line_faults.Order line) = numbered_line name line (codes "order")
 
 -- the line of a fault of the report `name`
-abbrev pub fault_line : List ℕ → Fault → List ℕ
-fault_line name faults.TooLong = codes "bootaudit: " ++ (name ++ codes ": too long\n")
-fault_line name (faults.Line fault) = line_fault_line name fault
+abbrev pub named_fault_line : List ℕ → ReportFault → List ℕ
+named_fault_line name faults.TooLong = codes "bootaudit: " ++ (name ++ codes ": too long\n")
+named_fault_line name (faults.Line fault) = line_fault_line name fault
 
 -- the line of a fault of the report
-abbrev pub report_line : Report → Fault → List ℕ
-report_line report fault = fault_line (word_for report) fault
+abbrev pub report_fault_line : SavedReport → ReportFault → List ℕ
+report_fault_line report fault = named_fault_line (report_word report) fault
 
 -- there is no cause, so this text is never put
-abbrev pub cause_line : NoCause → List ℕ
-cause_line cause = []
+abbrev pub impossible_cause_text : NoCause → List ℕ
+impossible_cause_text cause = []
 
 -- the name of the report's file on the command line, empty if that is refused
-abbrev pub name_text : Option Wanted → Report → List ℕ
-name_text None report = []
-name_text (Some wanted) report = name_of wanted report
+abbrev pub report_file_text : Option AuditArgsView → SavedReport → List ℕ
+report_file_text None report = []
+report_file_text (Some wanted) report = report_file_name wanted report
 
-abbrev pub program_name : List ℕ
-program_name = codes "bootaudit"
+abbrev pub bootaudit_name : List ℕ
+bootaudit_name = codes "bootaudit"
 
 -- the line of a failure
-abbrev pub failure_line : Option Wanted → Failure Reason → List ℕ
-failure_line accepted failure = end_line program_name (name_text accepted) report_line cause_line failure
+abbrev pub audit_failure_line : Option AuditArgsView → Failure AuditReason → List ℕ
+audit_failure_line accepted failure = end_line bootaudit_name (report_file_text accepted) report_fault_line impossible_cause_text failure

@@ -3,15 +3,15 @@ use Rattle.std.specs.Prelude.{ℕ, zero, suc, ◌+◌, ◌^◌, ◌<◌, ◌&&�
 use Rattle.bm_base.specs.Range.{RangeView}
 use Rattle.bm_base.specs.Width.{reach_of}
 use Rattle.bm_base.specs.declared.width.Width.{Width}
-use Rattle.audit_lines.specs.Blocks.{Block}
+use Rattle.audit_lines.specs.Blocks.{BlockLineView}
 use Rattle.audit_lines.specs.declared.lines.MapLine.{MapLine}
 use Rattle.boot_audit.specs.declared.saved.Saved.{Saved}
 use Rattle.boot_audit.specs.declared.verdict.Verdict.{Verdict}
 use Rattle.boot_audit.specs.declared.verdict.Verdict.TheVariants as verdicts
-use Rattle.boot_audit.specs.Frames.{could_join, in_a_block, is_aligned, is_in_zone, is_untouched, is_usable}
+use Rattle.boot_audit.specs.Frames.{could_merge, is_in_a_block, is_aligned, is_in_zone, is_untouched, is_usable}
 
 -- the number of the first line that passes the test; the first of these lines has number n
-abbrev pub first_line : (Block → Bool) → ℕ → List Block → Option ℕ
+abbrev pub first_line : (BlockLineView → Bool) → ℕ → List BlockLineView → Option ℕ
 first_line p n [] = None
 first_line p n (b ∷ bs) = if p b then Some n else first_line p (n + 1) bs
 
@@ -34,38 +34,38 @@ abbrev pub is_free : ℕ → List MapLine → List RangeView → ℕ → Bool
 is_free limit map owners frame = is_usable limit map frame && is_untouched owners frame
 
 -- the frame is in a block, but not free
-abbrev pub is_not_free : ℕ → List MapLine → List RangeView → List Block → ℕ → Bool
-is_not_free limit map owners blocks frame = in_a_block blocks frame && not (is_free limit map owners frame)
+abbrev pub is_not_free : ℕ → List MapLine → List RangeView → List BlockLineView → ℕ → Bool
+is_not_free limit map owners blocks frame = is_in_a_block blocks frame && not (is_free limit map owners frame)
 
 -- the frame is free, but in no block
-abbrev pub is_lost : ℕ → List MapLine → List RangeView → List Block → ℕ → Bool
-is_lost limit map owners blocks frame = is_free limit map owners frame && not (in_a_block blocks frame)
+abbrev pub is_lost : ℕ → List MapLine → List RangeView → List BlockLineView → ℕ → Bool
+is_lost limit map owners blocks frame = is_free limit map owners frame && not (is_in_a_block blocks frame)
 
 -- the verdict that names the first fault found, in the order of the arguments
-abbrev pub first_fault : Option ℕ → Option ℕ → Option ℕ → Option ℕ → Option ℕ → Verdict
-first_fault (Some line) misplaced taken lost parted = verdicts.Misaligned line
-first_fault None (Some line) taken lost parted = verdicts.WrongZone line
-first_fault None None (Some frame) lost parted = verdicts.NotFree frame
-first_fault None None None (Some frame) parted = verdicts.Lost frame
-first_fault None None None None (Some line) = verdicts.NotMaximal line
-first_fault None None None None None = verdicts.Sound
+abbrev pub verdict_of_faults : Option ℕ → Option ℕ → Option ℕ → Option ℕ → Option ℕ → Verdict
+verdict_of_faults (Some line) misplaced taken lost parted = verdicts.Misaligned line
+verdict_of_faults None (Some line) taken lost parted = verdicts.WrongZone line
+verdict_of_faults None None (Some frame) lost parted = verdicts.NotFree frame
+verdict_of_faults None None None (Some frame) parted = verdicts.Lost frame
+verdict_of_faults None None None None (Some line) = verdicts.NotMaximal line
+verdict_of_faults None None None None None = verdicts.Sound
 
 -- the verdict on lines of the three reports, for addresses below the limit
-abbrev pub verdict_on : ℕ → List MapLine → List RangeView → List Block → Verdict
+abbrev pub verdict_on : ℕ → List MapLine → List RangeView → List BlockLineView → Verdict
 verdict_on limit map owners blocks =
-    first_fault
+    verdict_of_faults
     (first_line (λ b. not (is_aligned b)) 1 blocks)
     (first_line (λ b. not (is_in_zone b)) 1 blocks)
     (least_frame (is_not_free limit map owners blocks))
     (least_frame (is_lost limit map owners blocks))
-    (first_line (could_join blocks) 1 blocks)
+    (first_line (could_merge blocks) 1 blocks)
 
 -- the verdict on the saved lines
 abbrev pub verdict_of : Saved → Width → Verdict
 verdict_of saved width = verdict_on (reach_of width) saved.map.items saved.owners.items saved.blocks.items
 
 -- if the verdict has a frame, it is below 2^40
-abbrev pub IsNear : Verdict → Type 0
-IsNear (verdicts.NotFree frame) = frame < 2 ^ 40
-IsNear (verdicts.Lost frame) = frame < 2 ^ 40
-IsNear verdict = Unit {0}
+abbrev pub HasFrameInSpace : Verdict → Type 0
+HasFrameInSpace (verdicts.NotFree frame) = frame < 2 ^ 40
+HasFrameInSpace (verdicts.Lost frame) = frame < 2 ^ 40
+HasFrameInSpace verdict = Unit {0}

@@ -1,12 +1,12 @@
 -- What contracts see of the program's values.
 use Rattle.boot_audit.specs.declared.saved.Saved.{Saved}
-use Rattle.boot_audit.specs.declared.words.Names.{Names}
-use Rattle.boot_audit.specs.Outcome.{Lines}
-use Rattle.boot_audit.specs.Words.{Wanted}
+use Rattle.boot_audit.specs.declared.words.AuditArgs.{AuditArgs}
+use Rattle.boot_audit.specs.Outcome.{SavedView}
+use Rattle.boot_audit.specs.Words.{AuditArgsView}
 
 -- what contracts see of an accepted command line
-abbrev pub wanted_view : Names → Wanted
-wanted_view names = record {
+abbrev pub audit_args_view : AuditArgs → AuditArgsView
+audit_args_view names = record {
   width = names.width;
   map_name = names.map.now;
   owners_name = names.owners.now;
@@ -14,5 +14,5 @@ wanted_view names = record {
 }
 
 -- what contracts see of the saved lines
-abbrev pub saved_lines : Saved → Lines
-saved_lines saved = record { map_lines = saved.map.items; owners = saved.owners.items; blocks = saved.blocks.items }
+abbrev pub saved_view : Saved → SavedView
+saved_view saved = record { map_lines = saved.map.items; owners = saved.owners.items; blocks = saved.blocks.items }

@@ -1,7 +1,7 @@
 //! The saved reports, their faults, and the ways in which the audit ends without a verdict.
 
 ghost use Rattle.std.specs.Prelude.{◌≡◌};
-ghost use Rattle.boot_audit.specs.Line.{word_for};
+ghost use Rattle.boot_audit.specs.Line.{report_word};
 ghost use Rattle.boot_audit.specs.Status.{verdict_status};
 
 use crate::verdict::Verdict;
@@ -9,7 +9,7 @@ use audit_lines::LineFault;
 
 /// A saved report. The audit reads them in this order.
 #[derive(Clone, Copy, Debug, PartialEq, Eq)]
-pub enum Report {
+pub enum SavedReport {
     /// The map of memory after the boot has accepted it.
     Map,
     /// The reserved memory that has an owner.
@@ -20,7 +20,7 @@ pub enum Report {
 
 /// A fault of a saved report.
 #[derive(Clone, Copy, Debug, PartialEq, Eq)]
-pub enum Fault {
+pub enum ReportFault {
     /// The file contains more than 536,870,912 bytes.
     TooLong,
     /// The fault of the first line that has one.
@@ -32,23 +32,23 @@ pub enum Fault {
 pub enum NoCause {}
 
 /// Why the command line and the files give no verdict.
-pub type Reason = program_end::Reason<Report, Fault, NoCause>;
+pub type AuditReason = program_end::Reason<SavedReport, ReportFault, NoCause>;
 
 /// Why there is no verdict: a reason, or out of memory.
-pub type NoVerdict = program_end::NoResult<Reason>;
+pub type NoVerdict = program_end::NoResult<AuditReason>;
 
 /// Why the audit didn't write its verdict whole.
-pub type Failure = program_end::Failure<Reason>;
+pub type Failure = program_end::Failure<AuditReason>;
 
-impl Report {
+impl SavedReport {
     /// Returns the report's name on the error output.
-    pub fn word(self) -> &'static str
-        ensures { result.now ≡ word_for self }
+    pub fn report_word(self) -> &'static str
+        ensures { result.now ≡ report_word self }
     {
         match self {
-            Report::Map => "map",
-            Report::Owners => "owners",
-            Report::Blocks => "blocks",
+            SavedReport::Map => "map",
+            SavedReport::Owners => "owners",
+            SavedReport::Blocks => "blocks",
         }
     }
 }

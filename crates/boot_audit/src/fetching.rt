@@ -6,15 +6,15 @@ ghost use Rattle.audit_lines.specs.Lines.{AscendApart};
 ghost use Rattle.bm_io.specs.Counts.{Rose};
 ghost use Rattle.program_end.specs.declared.failure.NoResult.TheVariants as errors;
 ghost use Rattle.program_end.specs.declared.failure.Reason.TheVariants as reasons;
-ghost use Rattle.program_end.specs.Causes.{IsOf, IsOfFile};
+ghost use Rattle.program_end.specs.Causes.{IsErrorOfInput, IsFileError};
 ghost use Rattle.program_end.specs.Fetches.{Fetches};
-ghost use Rattle.boot_audit.specs.Audit.{bootaudit, place};
-ghost use Rattle.boot_audit.specs.Outcome.{lines_by, lines_of};
-ghost use Rattle.boot_audit.specs.View.{saved_lines, wanted_view};
+ghost use Rattle.boot_audit.specs.Audit.{bootaudit, report_position};
+ghost use Rattle.boot_audit.specs.Outcome.{lines_in_file, saved_in_files};
+ghost use Rattle.boot_audit.specs.View.{saved_view, audit_args_view};
 
-use crate::failure::{Fault, NoVerdict, Reason, Report};
+use crate::failure::{ReportFault, NoVerdict, AuditReason, SavedReport};
 use crate::saved::Saved;
-use crate::words::Names;
+use crate::words::AuditArgs;
 use audit_lines::{BlockLine, MapLine, ReadError, ReportLine, read_report};
 use bm_base::Range;
 use bm_io::{Fetch, Files};
@@ -28,25 +28,25 @@ const LIMIT: u64 = 536_870_912;
 ///
 /// # Errors
 ///
-/// - `Reason::Unread` if a file can't be read, and `Reason::Faulty` if it contains more than 512
+/// - `AuditReason::Unread` if a file can't be read, and `AuditReason::Faulty` if it contains more than 512
 ///   MiB or a line has a fault. The first such file ends the call.
 /// - `Memory` if this program is out of memory.
 pub fn fetch_saved<F: Files>(
     alloc: Global,
     files: &mut F,
-    names: &Names<'_>,
+    names: &AuditArgs<'_>,
 ) -> Result<Saved, NoVerdict>
     ensures fetches { IfSome (F.holds files.old) (λ held.
-        Fetches place saved_lines result (lines_of held (wanted_view names.now))) }
-    ensures cause { IfErr result (IsOfFile (F.faults files.old) (F.faults files.new) (bootaudit.named (wanted_view names.now))) }
+        Fetches report_position saved_view result (saved_in_files held (audit_args_view names.now))) }
+    ensures cause { IfErr result (IsFileError (F.faults files.old) (F.faults files.new) (bootaudit.named (audit_args_view names.now))) }
     ensures map_order { IfOk result (λ saved. AscendApart (map (λ l. l.range) saved.map.items)) }
     ensures owner_order { IfOk result (λ saved. AscendApart (map (λ r. r) saved.owners.items)) }
     ensures block_order { IfOk result (λ saved. AscendApart (map bytes_of_block saved.blocks.items)) }
     ensures few { IfOk result (λ saved. length saved.blocks.items < 2 ^ 32) }
 {
-    let runs: Vec<MapLine> = fetch_lines(alloc, files, names.map, Report::Map)?;
-    let owners: Vec<Range> = fetch_lines(alloc, files, names.owners, Report::Owners)?;
-    let blocks: Vec<BlockLine> = fetch_lines(alloc, files, names.blocks, Report::Blocks)?;
+    let runs: Vec<MapLine> = fetch_lines(alloc, files, names.map, SavedReport::Map)?;
+    let owners: Vec<Range> = fetch_lines(alloc, files, names.owners, SavedReport::Owners)?;
+    let blocks: Vec<BlockLine> = fetch_lines(alloc, files, names.blocks, SavedReport::Blocks)?;
     Ok(Saved {
         map: runs,
         owners,
@@ -60,11 +60,11 @@ fn fetch_lines<F: Files, L: ReportLine>(
     alloc: Global,
     files: &mut F,
     name: &str,
-    report: Report,
+    report: SavedReport,
 ) -> Result<Vec<L>, NoVerdict>
     ensures fetches { IfSome (F.holds files.old) (λ held.
-        Fetches place (λ lines. lines.items) result (lines_by L.form L.extent report (held name.now))) }
-    ensures own { IfErr result (IsOf report) }
+        Fetches report_position (λ lines. lines.items) result (lines_in_file L.form L.extent report (held name.now))) }
+    ensures own { IfErr result (IsErrorOfInput report) }
     ensures failed { IsErrOf result (errors.Reason (reasons.Unread report))
         → Rose (F.faults files.old name.now) (F.faults files.new name.now) }
     ensures kept { F.holds files.new ≡ F.holds files.old }
@@ -74,18 +74,18 @@ fn fetch_lines<F: Files, L: ReportLine>(
 {
     let bytes = match files.fetch(alloc, name, LIMIT) {
         Ok(bytes) => bytes,
-        Err(Fetch::Failed) => return Err(NoVerdict::Reason(Reason::Unread(report))),
-        Err(Fetch::TooLong) => return Err(NoVerdict::Reason(Reason::Faulty(
+        Err(Fetch::Failed) => return Err(NoVerdict::Reason(AuditReason::Unread(report))),
+        Err(Fetch::TooLong) => return Err(NoVerdict::Reason(AuditReason::Faulty(
             report,
-            Fault::TooLong,
+            ReportFault::TooLong,
         ))),
         Err(Fetch::Memory) => return Err(NoVerdict::Memory),
     };
     match read_report(alloc, &bytes) {
         Ok(lines) => Ok(lines),
-        Err(ReadError::Fault(fault)) => Err(NoVerdict::Reason(Reason::Faulty(
+        Err(ReadError::Fault(fault)) => Err(NoVerdict::Reason(AuditReason::Faulty(
             report,
-            Fault::Line(fault),
+            ReportFault::Line(fault),
         ))),
         Err(ReadError::Memory) => Err(NoVerdict::Memory),
     }

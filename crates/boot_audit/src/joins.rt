@@ -8,9 +8,9 @@
 
 ghost use Rattle.std.specs.Prelude.{◌≡◌, ◌+◌, ◌^◌, ◌<◌, length, map};
 ghost use Rattle.audit_lines.specs.Lines.{AscendApart};
-ghost use Rattle.boot_audit.specs.Frames.{are_kin, could_join, frames_of_block, parent_of};
+ghost use Rattle.boot_audit.specs.Frames.{are_of_one_zone, could_merge, frames_of_block, parent_of};
 ghost use Rattle.boot_audit.specs.Verdicts.{first_line};
-ghost use Rattle.boot_audit.specs.Walk.{fills, goes_on, joins, run_start};
+ghost use Rattle.boot_audit.specs.Walk.{is_covered_up_to, is_next_in_run, could_merge_in_run, run_start};
 ghost use Rattle.bm_base.specs.Range.{end_of};
 
 use crate::blocks::{end_frame, first_frame, same_zone};
@@ -18,16 +18,16 @@ use audit_lines::BlockLine;
 
 /// Returns the first line, counted from 1, whose block could merge: its order is below 10, and
 /// blocks of its node and zone cover its parent.
-pub fn first_joinable(blocks: &[BlockLine]) -> Option<u32>
+pub fn first_mergeable(blocks: &[BlockLine]) -> Option<u32>
     requires order { AscendApart (map frames_of_block blocks.now) }
     requires few { length blocks.now < 2 ^ 32 }
-    ensures { result ≡ first_line (could_join blocks.now) 1 blocks.now }
+    ensures { result ≡ first_line (could_merge blocks.now) 1 blocks.now }
 {
     let mut last = None;
     let mut from = 0;
     for (index, block) in blocks.iter().enumerate() {
         from = run_start(last, from, block);
-        if joins(from, block, blocks.split_at(index + 1).1) {
+        if could_merge_in_run(from, block, blocks.split_at(index + 1).1) {
             return Some(index as u32 + 1);
         }
         last = Some(*block);
@@ -42,29 +42,29 @@ fn run_start(last: Option<BlockLine>, from: u64, block: &BlockLine) -> u64
     ensures { result ≡ run_start last from block.now }
 {
     match last {
-        Some(before) if goes_on(&before, block) => from,
+        Some(before) if is_next_in_run(&before, block) => from,
         _ => first_frame(block),
     }
 }
 
 /// Returns whether `block` begins where `before` ends and has the same node and zone.
-fn goes_on(before: &BlockLine, block: &BlockLine) -> bool
-    ensures { result ≡ goes_on before.now block.now }
+fn is_next_in_run(before: &BlockLine, block: &BlockLine) -> bool
+    ensures { result ≡ is_next_in_run before.now block.now }
 {
-    end_frame(before) == first_frame(block) && are_kin(before, block)
+    end_frame(before) == first_frame(block) && are_of_one_zone(before, block)
 }
 
 /// Returns whether the blocks have the same node and zone.
-fn are_kin(first: &BlockLine, second: &BlockLine) -> bool
-    ensures { result ≡ are_kin first.now second.now }
+fn are_of_one_zone(first: &BlockLine, second: &BlockLine) -> bool
+    ensures { result ≡ are_of_one_zone first.now second.now }
 {
     first.node == second.node && same_zone(first.zone, second.zone)
 }
 
 /// Returns whether the block could merge with its buddy. `from` is the first frame of the run that
 /// ends with the block, and `others` are the blocks after it.
-fn joins(from: u64, block: &BlockLine, others: &[BlockLine]) -> bool
-    ensures { result ≡ joins from block.now others.now }
+fn could_merge_in_run(from: u64, block: &BlockLine, others: &[BlockLine]) -> bool
+    ensures { result ≡ could_merge_in_run from block.now others.now }
 {
     if block.order >= 10 {
         return false;
@@ -72,20 +72,20 @@ fn joins(from: u64, block: &BlockLine, others: &[BlockLine]) -> bool
     let size: u64 = 1 << (block.order + 1);
     let first = first_frame(block);
     let parent = first - first % size;
-    from <= parent && fills(block, parent + size, others)
+    from <= parent && is_covered_up_to(block, parent + size, others)
 }
 
 /// Returns whether `others` cover all frames from the block's end up to frame `until`, without a
 /// gap and with blocks of its node and zone.
-fn fills(block: &BlockLine, until: u64, others: &[BlockLine]) -> bool
-    ensures { result ≡ fills block.now (end_of (frames_of_block block.now)) until others.now }
+fn is_covered_up_to(block: &BlockLine, until: u64, others: &[BlockLine]) -> bool
+    ensures { result ≡ is_covered_up_to block.now (end_of (frames_of_block block.now)) until others.now }
 {
     let mut at = end_frame(block);
     for other in others {
         if until <= at {
             return true;
         }
-        if first_frame(other) != at || !are_kin(block, other) {
+        if first_frame(other) != at || !are_of_one_zone(block, other) {
             return false;
         }
         at = end_frame(other);

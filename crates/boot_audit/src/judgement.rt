@@ -2,13 +2,13 @@
 
 ghost use Rattle.std.specs.Prelude.{◌≡◌, ◌^◌, ◌<◌, ◌↔◌, length, map, Ok, IfOk};
 ghost use Rattle.std.specs.List.{All};
-ghost use Rattle.audit_lines.specs.Blocks.{IsBlock, bytes_of_block};
+ghost use Rattle.audit_lines.specs.Blocks.{IsBlockLine, bytes_of_block};
 ghost use Rattle.audit_lines.specs.Lines.{AscendApart};
-ghost use Rattle.boot_audit.specs.Conserved.{IsConserved};
-ghost use Rattle.boot_audit.specs.Verdicts.{IsNear, verdict_of};
+ghost use Rattle.boot_audit.specs.Conserved.{SavedConservesMemory};
+ghost use Rattle.boot_audit.specs.Verdicts.{HasFrameInSpace, verdict_of};
 
 use crate::blocks::{first_in_wrong_zone, first_misaligned};
-use crate::joins::first_joinable;
+use crate::joins::first_mergeable;
 use crate::saved::Saved;
 use crate::sweep::sweep;
 use crate::verdict::Verdict;
@@ -23,7 +23,7 @@ pub fn judge(saved: &Saved, width: Width) -> Result<Verdict, Memory>
     requires block_order { AscendApart (map bytes_of_block saved.now.blocks.items) }
     requires few { length saved.now.blocks.items < 2 ^ 32 }
     ensures verdict { result ≡ Ok (verdict_of saved.now width) }
-    ensures near { IfOk result IsNear }
+    ensures near { IfOk result HasFrameInSpace }
 {
     if let Some(line) = first_misaligned(&saved.blocks) {
         return Ok(Verdict::Misaligned { line });
@@ -38,15 +38,15 @@ pub fn judge(saved: &Saved, width: Width) -> Result<Verdict, Memory>
     if let Some(frame) = swept.lost {
         return Ok(Verdict::Lost { frame });
     }
-    match first_joinable(&saved.blocks) {
+    match first_mergeable(&saved.blocks) {
         Some(line) => Ok(Verdict::NotMaximal { line }),
         None => Ok(Verdict::Sound),
     }
 }
 
 /// Law: the verdict is `Sound` exactly if memory was conserved, by the lines of these reports.
-pub fn sound_is_conserved(saved: &Saved, width: Width)
+pub fn sound_verdict_conserves_memory(saved: &Saved, width: Width)
     requires order { AscendApart (map bytes_of_block saved.now.blocks.items) }
-    requires fit { All IsBlock saved.now.blocks.items }
-    ensures { (verdict_of saved.now width ≡ Verdict.Sound) ↔ IsConserved saved.now width }
+    requires fit { All IsBlockLine saved.now.blocks.items }
+    ensures { (verdict_of saved.now width ≡ Verdict.Sound) ↔ SavedConservesMemory saved.now width }
 {}

@@ -9,7 +9,7 @@
 //!
 //! - [`judge`] gives the verdict on the lines of the reports: `Sound`, or the first fault
 //!   (`specs/Verdicts.antt`).
-//! - [`sound_is_conserved`] is a law: the verdict is `Sound` exactly if memory was conserved. A
+//! - [`sound_verdict_conserves_memory`] is a law: the verdict is `Sound` exactly if memory was conserved. A
 //!   law is an empty function whose contract is a proven fact.
 //! - [`audit`] is the program `bootaudit` over any files, output and error output. It reads the
 //!   three reports that the command line names (`audit_lines`), and writes the verdict. `outcome`
@@ -36,8 +36,8 @@ mod verdict;
 mod words;
 
 pub use audit_lines::{BlockLine, MapLine};
-pub use failure::{Failure, Fault, NoCause, NoVerdict, Reason, Report};
-pub use judgement::{judge, sound_is_conserved};
+pub use failure::{Failure, ReportFault, NoCause, NoVerdict, AuditReason, SavedReport};
+pub use judgement::{judge, sound_verdict_conserves_memory};
 pub use program::audit;
 pub use saved::Saved;
 pub use verdict::Verdict;

@@ -9,32 +9,32 @@ ghost use Rattle.program_end.specs.declared.failure.Failure.{Failure as AnyFailu
 ghost use Rattle.program_end.specs.declared.failure.Failure.TheVariants as failures;
 ghost use Rattle.program_end.specs.declared.failure.NoResult.TheVariants as errors;
 ghost use Rattle.program_end.specs.declared.failure.Reason.TheVariants as reasons;
-ghost use Rattle.program_end.specs.Causes.{EndHasCause, ErrorHasCause, FailureHasCause, RoseFor};
-ghost use Rattle.program_end.specs.Ends.{EndFits, IsFaulty, MayEndWith, Writes, WritingHasCause};
+ghost use Rattle.program_end.specs.Causes.{EndHasCause, ErrorHasCause, FailureHasCause, InputFaultsRose};
+ghost use Rattle.program_end.specs.Ends.{FitsFailure, IsFaulty, MayEndWith, WritesOutcome, WritingHasCause};
 ghost use Rattle.program_end.specs.Fetches.{Fetches};
 ghost use Rattle.program_end.specs.Line.{PutsLine};
-ghost use Rattle.program_end.specs.Status.{status_of};
-ghost use Rattle.boot_audit.specs.declared.failure.Report.{Report as AnyReport};
+ghost use Rattle.program_end.specs.Status.{failure_status};
+ghost use Rattle.boot_audit.specs.declared.failure.SavedReport.{SavedReport as AnyReport};
 ghost use Rattle.boot_audit.specs.declared.verdict.Verdict.{Verdict as AnyVerdict};
-ghost use Rattle.boot_audit.specs.Audit.{IsUnsound, bootaudit, place};
-ghost use Rattle.boot_audit.specs.Headline.{IsConservedBy};
-ghost use Rattle.boot_audit.specs.Line.{failure_line, verdict_text};
-ghost use Rattle.boot_audit.specs.Outcome.{outcome};
-ghost use Rattle.boot_audit.specs.Reason.{Reason as AnyReason};
+ghost use Rattle.boot_audit.specs.Audit.{IsUnsound, bootaudit, report_position};
+ghost use Rattle.boot_audit.specs.Headline.{FilesConserveMemory};
+ghost use Rattle.boot_audit.specs.Line.{audit_failure_line, verdict_text};
+ghost use Rattle.boot_audit.specs.Outcome.{audit_outcome};
+ghost use Rattle.boot_audit.specs.Reason.{AuditReason as AnyReason};
 ghost use Rattle.boot_audit.specs.Status.{verdict_status};
-ghost use Rattle.boot_audit.specs.Verdicts.{IsNear};
-ghost use Rattle.boot_audit.specs.View.{wanted_view};
-ghost use Rattle.boot_audit.specs.Words.{accepted};
+ghost use Rattle.boot_audit.specs.Verdicts.{HasFrameInSpace};
+ghost use Rattle.boot_audit.specs.View.{audit_args_view};
+ghost use Rattle.boot_audit.specs.Words.{read_audit_args};
 
-use crate::failure::{Failure, NoVerdict, Reason, verdict_status};
+use crate::failure::{Failure, NoVerdict, AuditReason, verdict_status};
 use crate::fetching::fetch_saved;
 use crate::judgement::judge;
 use crate::tell::AuditLines;
 use crate::texts::verdict_text;
 use crate::verdict::Verdict;
-use crate::words::{Names, read_names};
+use crate::words::{AuditArgs, read_audit_args};
 use bm_io::{Files, Sink};
-use program_end::{exit_status, tell_end};
+use program_end::{exit_status, put_end_line};
 use std::alloc::Global;
 
 /// Reads the three saved reports that the command line `[--la57] MAP OWNERS BLOCKS` names, and
@@ -54,7 +54,7 @@ use std::alloc::Global;
 /// With 2, 3 and 5 nothing is put to `out`; with 4 and 7 it may have the first part of the text.
 ///
 /// `holds` gives what each file contains, if the type of `files` knows it. If it is `None`, the
-/// clauses on `outcome` say nothing.
+/// clauses on `audit_outcome` say nothing.
 pub fn audit<F: Files, S: Sink, E: Sink>(
     alloc: Global,
     words: &[String],
@@ -64,14 +64,14 @@ pub fn audit<F: Files, S: Sink, E: Sink>(
 ) -> u8
     // When each status comes, even if the files' contents are unknown. Status 2 comes exactly if
     // the command line is refused.
-    ensures usage { (result ≡ 2) ↔ IsNone (accepted (map string_bytes words.now)) }
+    ensures usage { (result ≡ 2) ↔ IsNone (read_audit_args (map string_bytes words.now)) }
     ensures unread { result ≡ 3 → (report : AnyReport)
-        × RoseFor bootaudit (F.faults files.old) (F.faults files.new) (accepted (map string_bytes words.now)) report }
+        × InputFaultsRose bootaudit (F.faults files.old) (F.faults files.new) (read_audit_args (map string_bytes words.now)) report }
     ensures unwritten { result ≡ 4 → Rose (S.faults out.old) (S.faults out.new) }
 
     // What stays as it was, even if the files' contents are unknown: the files if the command line
     // is refused, and `out` if there is no verdict.
-    ensures unfetched { IsNone (accepted (map string_bytes words.now)) → files.new ≡ files.old }
+    ensures unfetched { IsNone (read_audit_args (map string_bytes words.now)) → files.new ≡ files.old }
     ensures early { (result ≡ 2) ⊎ (result ≡ 3) ⊎ (result ≡ 5) → out.new ≡ out.old }
     ensures wanting { result ≡ 7 → (out.new ≡ out.old) ⊎ Rose (S.wants out.old) (S.wants out.new) }
 
@@ -79,70 +79,70 @@ pub fn audit<F: Files, S: Sink, E: Sink>(
     // the three texts are well-formed, and memory was conserved by their lines. If all this holds,
     // and no counter of faults rose, of `out` or of a file, the status is 0, or 7 if out of
     // memory.
-    ensures headline { result ≡ 0 → IfSome (F.holds files.old) (IsConservedBy (accepted (map string_bytes words.now))) }
-    ensures conserved { IfSome (F.holds files.old) (λ held. IsConservedBy (accepted (map string_bytes words.now)) held
+    ensures headline { result ≡ 0 → IfSome (F.holds files.old) (FilesConserveMemory (read_audit_args (map string_bytes words.now))) }
+    ensures conserved { IfSome (F.holds files.old) (λ held. FilesConserveMemory (read_audit_args (map string_bytes words.now)) held
         → ¬ Rose (S.faults out.old) (S.faults out.new)
         → ((report : AnyReport)
-        → ¬ RoseFor bootaudit (F.faults files.old) (F.faults files.new) (accepted (map string_bytes words.now)) report)
+        → ¬ InputFaultsRose bootaudit (F.faults files.old) (F.faults files.new) (read_audit_args (map string_bytes words.now)) report)
         → (result ≡ 0) ⊎ (result ≡ 7)) }
 
     // If the files' contents are known, the status and the output are those of the outcome.
     ensures answers { IfSome (F.holds files.old) (λ held.
-        MayEndWith bootaudit (outcome (accepted (map string_bytes words.now)) held) result) }
+        MayEndWith bootaudit (audit_outcome (read_audit_args (map string_bytes words.now)) held) result) }
     ensures sound { result ≡ 0 → IfSome (F.holds files.old) (λ held.
-        outcome (accepted (map string_bytes words.now)) held ≡ Ok Verdict.Sound) }
+        audit_outcome (read_audit_args (map string_bytes words.now)) held ≡ Ok Verdict.Sound) }
     ensures unsound { result ≡ 8 → IfSome (F.holds files.old) (λ held.
-        IsUnsound (outcome (accepted (map string_bytes words.now)) held)) }
+        IsUnsound (audit_outcome (read_audit_args (map string_bytes words.now)) held)) }
     ensures faulty { result ≡ 5 → IfSome (F.holds files.old) (λ held.
-        IsFaulty (outcome (accepted (map string_bytes words.now)) held)) }
+        IsFaulty (audit_outcome (read_audit_args (map string_bytes words.now)) held)) }
     ensures written { (result ≡ 0) ⊎ (result ≡ 8) → IfSome (F.holds files.old) (λ held.
-        IsOkAnd (outcome (accepted (map string_bytes words.now)) held)
+        IsOkAnd (audit_outcome (read_audit_args (map string_bytes words.now)) held)
         (λ verdict. Appends (S.written out.old) (S.written out.new) (verdict_text verdict))) }
     ensures part { result ≡ 4 → IfSome (F.holds files.old) (λ held.
-        IsOkAnd (outcome (accepted (map string_bytes words.now)) held)
+        IsOkAnd (audit_outcome (read_audit_args (map string_bytes words.now)) held)
         (λ verdict. AppendsFront (S.written out.old) (S.written out.new) (verdict_text verdict))) }
     ensures wanted { result ≡ 7 → IfSome (F.holds files.old) (λ held.
         (S.written out.new ≡ S.written out.old)
-        ⊎ IsOkAnd (outcome (accepted (map string_bytes words.now)) held)
+        ⊎ IsOkAnd (audit_outcome (read_audit_args (map string_bytes words.now)) held)
         (λ verdict. AppendsFront (S.written out.old) (S.written out.new) (verdict_text verdict))) }
 
     // If no counter of faults rose, of `out` or of a file, a verdict of the outcome is written
     // unless the program is out of memory.
     ensures complete { IfSome (F.holds files.old) (λ held. (verdict : AnyVerdict)
-        → outcome (accepted (map string_bytes words.now)) held ≡ Ok verdict
+        → audit_outcome (read_audit_args (map string_bytes words.now)) held ≡ Ok verdict
         → ¬ Rose (S.faults out.old) (S.faults out.new)
         → ((report : AnyReport)
-        → ¬ RoseFor bootaudit (F.faults files.old) (F.faults files.new) (accepted (map string_bytes words.now)) report)
+        → ¬ InputFaultsRose bootaudit (F.faults files.old) (F.faults files.new) (read_audit_args (map string_bytes words.now)) report)
         → (result ≡ verdict_status verdict) ⊎ (result ≡ 7)) }
 
     // What `err` has: nothing with a verdict, else the line of a failure with this status. The
     // failure has its cause and fits the outcome.
     ensures silent { (result ≡ 0) ⊎ (result ≡ 8) → err.new ≡ err.old }
-    ensures line { result ≢ 0 → result ≢ 8 → (failure : AnyFailure AnyReason) × (result ≡ status_of failure)
-        × PutsLine E.Sink err.old err.new (failure_line (accepted (map string_bytes words.now)) failure)
-        × FailureHasCause bootaudit (F.faults files.old) (F.faults files.new) (accepted (map string_bytes words.now)) failure
+    ensures line { result ≢ 0 → result ≢ 8 → (failure : AnyFailure AnyReason) × (result ≡ failure_status failure)
+        × PutsLine E.Sink err.old err.new (audit_failure_line (read_audit_args (map string_bytes words.now)) failure)
+        × FailureHasCause bootaudit (F.faults files.old) (F.faults files.new) (read_audit_args (map string_bytes words.now)) failure
         × IfSome (F.holds files.old) (λ held.
-        EndFits bootaudit failure (outcome (accepted (map string_bytes words.now)) held)) }
+        FitsFailure bootaudit failure (audit_outcome (read_audit_args (map string_bytes words.now)) held)) }
 {
-    let names = read_names(words);
+    let names = read_audit_args(words);
     let end = write_verdict(alloc, &names, files, out);
-    tell_end(err, &AuditLines { names: &names }, end);
+    put_end_line(err, &AuditLines { names: &names }, end);
     exit_status(end)
 }
 
 /// Writes the verdict, once its whole text is made. Returns its exit status.
 fn write_verdict<F: Files, S: Sink>(
     alloc: Global,
-    names: &Option<Names<'_>>,
+    names: &Option<AuditArgs<'_>>,
     files: &mut F,
     out: &mut S,
 ) -> Result<u8, Failure>
     ensures writes { IfSome (F.holds files.old) (λ held.
-        Writes bootaudit (S.written out.old) (S.written out.new) result (outcome (option_map wanted_view names.now) held)) }
-    ensures cause { EndHasCause bootaudit (F.faults files.old) (F.faults files.new) (option_map wanted_view names.now) result }
-    ensures usage { IsNone (option_map wanted_view names.now)
+        WritesOutcome bootaudit (S.written out.old) (S.written out.new) result (audit_outcome (option_map audit_args_view names.now) held)) }
+    ensures cause { EndHasCause bootaudit (F.faults files.old) (F.faults files.new) (option_map audit_args_view names.now) result }
+    ensures usage { IsNone (option_map audit_args_view names.now)
         → result ≡ Err (failures.NoResult (errors.Reason reasons.Usage)) }
-    ensures unfetched { IsNone (option_map wanted_view names.now) → files.new ≡ files.old }
+    ensures unfetched { IsNone (option_map audit_args_view names.now) → files.new ≡ files.old }
     ensures output { WritingHasCause S.Sink out.old out.new result }
 {
     let verdict = find_verdict(alloc, names, files)?;
@@ -154,18 +154,18 @@ fn write_verdict<F: Files, S: Sink>(
 /// Returns the verdict on the three files that the command line names.
 fn find_verdict<F: Files>(
     alloc: Global,
-    names: &Option<Names<'_>>,
+    names: &Option<AuditArgs<'_>>,
     files: &mut F,
 ) -> Result<Verdict, NoVerdict>
     ensures fetches { IfSome (F.holds files.old) (λ held.
-        Fetches place (λ verdict. verdict) result (outcome (option_map wanted_view names.now) held)) }
-    ensures cause { IfErr result (ErrorHasCause bootaudit (F.faults files.old) (F.faults files.new) (option_map wanted_view names.now)) }
-    ensures usage { IsNone (option_map wanted_view names.now) → result ≡ Err (errors.Reason reasons.Usage) }
-    ensures near { IfOk result IsNear }
-    ensures unfetched { IsNone (option_map wanted_view names.now) → files.new ≡ files.old }
+        Fetches report_position (λ verdict. verdict) result (audit_outcome (option_map audit_args_view names.now) held)) }
+    ensures cause { IfErr result (ErrorHasCause bootaudit (F.faults files.old) (F.faults files.new) (option_map audit_args_view names.now)) }
+    ensures usage { IsNone (option_map audit_args_view names.now) → result ≡ Err (errors.Reason reasons.Usage) }
+    ensures near { IfOk result HasFrameInSpace }
+    ensures unfetched { IsNone (option_map audit_args_view names.now) → files.new ≡ files.old }
 {
     let Some(names) = names else {
-        return Err(NoVerdict::Reason(Reason::Usage));
+        return Err(NoVerdict::Reason(AuditReason::Usage));
     };
     let saved = fetch_saved(alloc, files, names)?;
     Ok(judge(&saved, names.width)?)

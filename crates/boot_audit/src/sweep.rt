@@ -10,7 +10,7 @@ ghost use Rattle.audit_lines.specs.Blocks.{bytes_of_block};
 ghost use Rattle.audit_lines.specs.Lines.{AscendApart};
 ghost use Rattle.bm_base.specs.Range.{RangeView, end_of};
 ghost use Rattle.boot_audit.specs.Frames.{is_aligned};
-ghost use Rattle.boot_audit.specs.Sweep.{EndsBehind, carried, first_whole, says, state_at, state_by};
+ghost use Rattle.boot_audit.specs.Sweep.{FirstEndsAbove, advance_lost_frame, first_whole_frame, is_in_relevant_line, byte_state_at, byte_state_by};
 ghost use Rattle.boot_audit.specs.Verdicts.{first_line, is_lost, is_not_free, least_frame};
 
 use crate::saved::Saved;
@@ -22,7 +22,7 @@ const END: u64 = 1 << 52;
 
 /// What the sweep says of a byte.
 #[derive(Clone, Copy, Debug, PartialEq, Eq)]
-pub enum State {
+pub enum ByteState {
     /// It is in a block and free, or in no block and not free.
     Sound,
     /// It is in a block, but not free.
@@ -33,7 +33,7 @@ pub enum State {
 
 /// The frames that the sweep found.
 #[derive(Clone, Copy)]
-pub struct Swept {
+pub struct FrameFaults {
     /// The least frame in a block that isn't free.
     pub not_free: Option<u64>,
     /// The least frame that is free and in no block; `None` if `not_free` has a frame.
@@ -41,7 +41,7 @@ pub struct Swept {
 }
 
 /// A line of a report, with its range of addresses.
-pub trait Line: Copy {
+pub trait RangeLine: Copy {
     // the range of the line's addresses
     ghost extent: { Self → RangeView };
 
@@ -58,16 +58,16 @@ pub trait Line: Copy {
 
     /// Returns whether the sweep considers the line: a map line counts only if its type is memory
     /// (1 or 128), other lines always.
-    fn counts(&self) -> bool
+    fn is_relevant(&self) -> bool
         ensures { result ≡ counted self.now };
 }
 
-impl Line for MapLine {
-    ghost use Rattle.boot_audit.specs.Frames.{is_memory};
+impl RangeLine for MapLine {
+    ghost use Rattle.boot_audit.specs.Frames.{is_memory_type};
 
     ghost extent = { λ l. l.range };
 
-    ghost counted = { λ l. is_memory l.kind };
+    ghost counted = { λ l. is_memory_type l.kind };
 
     fn base(&self) -> u64 {
         self.range.base
@@ -77,12 +77,12 @@ impl Line for MapLine {
         self.range.end()
     }
 
-    fn counts(&self) -> bool {
+    fn is_relevant(&self) -> bool {
         self.kind == 1 || self.kind == 128
     }
 }
 
-impl Line for Range {
+impl RangeLine for Range {
     ghost use Rattle.std.specs.Prelude.{true};
 
     ghost extent = { λ r. r };
@@ -97,12 +97,12 @@ impl Line for Range {
         Range::end(self)
     }
 
-    fn counts(&self) -> bool {
+    fn is_relevant(&self) -> bool {
         true
     }
 }
 
-impl Line for BlockLine {
+impl RangeLine for BlockLine {
     ghost use Rattle.audit_lines.specs.Blocks.{bytes_of_block};
     ghost use Rattle.std.specs.Prelude.{true};
 
@@ -118,50 +118,50 @@ impl Line for BlockLine {
         BlockLine::end(self)
     }
 
-    fn counts(&self) -> bool {
+    fn is_relevant(&self) -> bool {
         true
     }
 }
 
 /// Whether the bytes from some address up to address `until` are in a line that counts.
 #[derive(Clone, Copy)]
-struct Sight {
+struct Coverage {
     inside: bool,
     until: u64,
 }
 
-fn look<L: Line>(lines: &[L], at: u64) -> Sight
+fn coverage_at<L: RangeLine>(lines: &[L], at: u64) -> Coverage
     requires order { AscendApart (map L.extent lines.now) }
-    requires behind { EndsBehind at (map L.extent lines.now) }
+    requires behind { FirstEndsAbove at (map L.extent lines.now) }
     requires near { at < 2 ^ 52 }
     ensures forward { at < result.until }
-    ensures says { (x : ℕ) → at ≤ x → x < result.until → says L.counted L.extent lines.now x ≡ result.inside }
+    ensures says { (x : ℕ) → at ≤ x → x < result.until → is_in_relevant_line L.counted L.extent lines.now x ≡ result.inside }
 {
     let Some((line, _)) = lines.split_first() else {
-        return Sight {
+        return Coverage {
             inside: false,
             until: END,
         };
     };
     let base = line.base();
     if at < base {
-        return Sight {
+        return Coverage {
             inside: false,
             until: base,
         };
     }
-    Sight {
-        inside: line.counts(),
+    Coverage {
+        inside: line.is_relevant(),
         until: line.end(),
     }
 }
 
 /// Returns the lines without those at the beginning that end at or below address `at`.
-fn passed<L: Line>(lines: &[L], at: u64) -> &[L]
+fn skip_lines_below<L: RangeLine>(lines: &[L], at: u64) -> &[L]
     requires { AscendApart (map L.extent lines.now) }
     ensures order { AscendApart (map L.extent result.now) }
-    ensures behind { EndsBehind at (map L.extent result.now) }
-    ensures says { (x : ℕ) → at ≤ x → says L.counted L.extent result.now x ≡ says L.counted L.extent lines.now x }
+    ensures behind { FirstEndsAbove at (map L.extent result.now) }
+    ensures says { (x : ℕ) → at ≤ x → is_in_relevant_line L.counted L.extent result.now x ≡ is_in_relevant_line L.counted L.extent lines.now x }
 {
     let mut rest = lines;
     while let Some((line, others)) = rest.split_first() {
@@ -175,76 +175,76 @@ fn passed<L: Line>(lines: &[L], at: u64) -> &[L]
 
 /// The state that all bytes from some address up to address `until` have.
 #[derive(Clone, Copy)]
-struct Piece {
-    state: State,
+struct StateRun {
+    state: ByteState,
     until: u64,
 }
 
 /// Returns whether the bytes from address `at` on are below the limit, and how far that is so.
-fn look_at_limit(limit: u64, at: u64) -> Sight
+fn coverage_below_limit(limit: u64, at: u64) -> Coverage
     requires { at < 2 ^ 52 }
     ensures forward { at < result.until }
     ensures near { result.until ≤ 2 ^ 52 }
     ensures says { (x : ℕ) → at ≤ x → x < result.until → nat_lt x limit ≡ result.inside }
 {
     if at < limit {
-        return Sight {
+        return Coverage {
             inside: true,
             until: limit.min(END),
         };
     }
-    Sight {
+    Coverage {
         inside: false,
         until: END,
     }
 }
 
-fn is_free(below: bool, in_memory: bool, owned: bool) -> bool
+fn is_free_state(below: bool, in_memory: bool, owned: bool) -> bool
     ensures { result ≡ ((below && in_memory) && not owned) }
 {
     below && in_memory && !owned
 }
 
-fn state_by(free: bool, in_block: bool) -> State
-    ensures { result ≡ state_by free in_block }
+fn byte_state_by(free: bool, in_block: bool) -> ByteState
+    ensures { result ≡ byte_state_by free in_block }
 {
     if free == in_block {
-        return State::Sound;
+        return ByteState::Sound;
     }
     if in_block {
-        State::NotFree
+        ByteState::NotFree
     } else {
-        State::Lost
+        ByteState::Lost
     }
 }
 
 /// Returns the state of the bytes from address `at` on, and how far it stays the same. In each
 /// list the first line must end above `at`.
-fn look_around(
+fn state_from(
     limit: u64,
     runs: &[MapLine],
     owners: &[Range],
     blocks: &[BlockLine],
     at: u64,
-) -> Piece
+) -> StateRun
     requires map_order { AscendApart (map (λ l. l.range) runs.now) }
-    requires map_behind { EndsBehind at (map (λ l. l.range) runs.now) }
+    requires map_behind { FirstEndsAbove at (map (λ l. l.range) runs.now) }
     requires owner_order { AscendApart (map (λ r. r) owners.now) }
-    requires owner_behind { EndsBehind at (map (λ r. r) owners.now) }
+    requires owner_behind { FirstEndsAbove at (map (λ r. r) owners.now) }
     requires block_order { AscendApart (map bytes_of_block blocks.now) }
-    requires block_behind { EndsBehind at (map bytes_of_block blocks.now) }
+    requires block_behind { FirstEndsAbove at (map bytes_of_block blocks.now) }
     requires near { at < 2 ^ 52 }
     ensures forward { at < result.until }
     ensures near { result.until ≤ 2 ^ 52 }
-    ensures state { (x : ℕ) → at ≤ x → x < result.until → state_at limit runs.now owners.now blocks.now x ≡ result.state }
+    ensures state { (x : ℕ) → at ≤ x → x < result.until → byte_state_at limit runs.now owners.now blocks.now x ≡ result.state }
 {
-    let below = look_at_limit(limit, at);
-    let memory = look(runs, at);
-    let owned = look(owners, at);
-    let held = look(blocks, at);
-    let free = is_free(below.inside, memory.inside, owned.inside);
-    Piece {
-        state: state_by(free, held.inside),
+    let below = coverage_below_limit(limit, at);
+    let memory = coverage_at(runs, at);
+    let owned = coverage_at(owners, at);
+    let held = coverage_at(blocks, at);
+    let free = is_free_state(below.inside, memory.inside, owned.inside);
+    StateRun {
+        state: byte_state_by(free, held.inside),
         until: below
             .until
             .min(memory.until)
@@ -254,9 +254,9 @@ fn look_around(
 }
 
 /// Returns the first frame that lies whole in the bytes from address `from` up to `until`.
-fn first_whole(from: u64, until: u64) -> Option<u64>
+fn first_whole_frame(from: u64, until: u64) -> Option<u64>
     requires { from ≤ 2 ^ 52 }
-    ensures { result ≡ first_whole from until }
+    ensures { result ≡ first_whole_frame from until }
 {
     let frame = (from + FRAME_SIZE - 1) / FRAME_SIZE;
     if until < frame * FRAME_SIZE + FRAME_SIZE {
@@ -267,19 +267,19 @@ fn first_whole(from: u64, until: u64) -> Option<u64>
 
 /// Returns the first lost frame so far, and the address from which all bytes up to the piece's end
 /// are lost. `lost` and `from` are these two before the piece.
-fn carried(lost: Option<u64>, from: u64, piece: Piece) -> (Option<u64>, u64)
+fn advance_lost_frame(lost: Option<u64>, from: u64, piece: StateRun) -> (Option<u64>, u64)
     requires { from ≤ 2 ^ 52 }
-    ensures { result ≡ carried lost from piece.until piece.state }
+    ensures { result ≡ advance_lost_frame lost from piece.until piece.state }
 {
-    if let State::Lost = piece.state {
-        let found = first_whole(from, piece.until);
+    if let ByteState::Lost = piece.state {
+        let found = first_whole_frame(from, piece.until);
         return (if lost.is_some() { lost } else { found }, from);
     }
     (lost, piece.until)
 }
 
 /// Returns the least frame of each fault, for addresses below `limit`. The blocks must be aligned.
-pub fn sweep(saved: &Saved, limit: u64) -> Swept
+pub fn sweep(saved: &Saved, limit: u64) -> FrameFaults
     requires map_order { AscendApart (map (λ l. l.range) saved.now.map.items) }
     requires owner_order { AscendApart (map (λ r. r) saved.now.owners.items) }
     requires block_order { AscendApart (map bytes_of_block saved.now.blocks.items) }
@@ -289,29 +289,29 @@ pub fn sweep(saved: &Saved, limit: u64) -> Swept
     ensures lost { IsNone result.not_free → result.lost ≡ least_frame (is_lost limit saved.now.map.items
         saved.now.owners.items saved.now.blocks.items) }
 {
-    let mut runs = passed(&saved.map, 0);
-    let mut owners = passed(&saved.owners, 0);
-    let mut held = passed(&saved.blocks, 0);
+    let mut runs = skip_lines_below(&saved.map, 0);
+    let mut owners = skip_lines_below(&saved.owners, 0);
+    let mut held = skip_lines_below(&saved.blocks, 0);
     let mut at = 0;
     let mut from = 0;
     let mut lost = None;
     while at < END {
-        let piece = look_around(limit, runs, owners, held, at);
-        if let State::NotFree = piece.state {
-            return Swept {
+        let piece = state_from(limit, runs, owners, held, at);
+        if let ByteState::NotFree = piece.state {
+            return FrameFaults {
                 not_free: Some(at / FRAME_SIZE),
                 lost: None,
             };
         }
-        let next = carried(lost, from, piece);
+        let next = advance_lost_frame(lost, from, piece);
         lost = next.0;
         from = next.1;
         at = piece.until;
-        runs = passed(runs, at);
-        owners = passed(owners, at);
-        held = passed(held, at);
+        runs = skip_lines_below(runs, at);
+        owners = skip_lines_below(owners, at);
+        held = skip_lines_below(held, at);
     }
-    Swept {
+    FrameFaults {
         not_free: None,
         lost,
     }

@@ -1,8 +1,8 @@
 //! The texts of verdicts. Each is made whole, so that one put writes it.
 
 ghost use Rattle.std.specs.Prelude.{◌≡◌, ◌<◌, ◌^◌, IfOk};
-ghost use Rattle.boot_audit.specs.Line.{block_text, frame_text, verdict_text};
-ghost use Rattle.boot_audit.specs.Verdicts.{IsNear};
+ghost use Rattle.boot_audit.specs.Line.{block_fault_text, frame_fault_text, verdict_text};
+ghost use Rattle.boot_audit.specs.Verdicts.{HasFrameInSpace};
 
 use crate::verdict::Verdict;
 use bm_base::{FRAME_SIZE, Memory, put_dec, put_hex, put_text};
@@ -10,16 +10,16 @@ use std::alloc::Global;
 
 /// Returns the text of the verdict, with its newline. Fails only if out of memory.
 pub fn verdict_text(alloc: Global, verdict: Verdict) -> Result<Vec<u8>, Memory>
-    requires { IsNear verdict }
+    requires { HasFrameInSpace verdict }
     ensures { IfOk result (λ text. text.items ≡ verdict_text verdict) }
 {
     match verdict {
         Verdict::Sound => sound_text(alloc),
-        Verdict::Misaligned { line } => block_text(alloc, line, b" misaligned\n"),
-        Verdict::WrongZone { line } => block_text(alloc, line, b" in wrong zone\n"),
-        Verdict::NotFree { frame } => frame_text(alloc, frame, b" not free\n"),
-        Verdict::Lost { frame } => frame_text(alloc, frame, b" lost\n"),
-        Verdict::NotMaximal { line } => block_text(alloc, line, b" not maximal\n"),
+        Verdict::Misaligned { line } => block_fault_text(alloc, line, b" misaligned\n"),
+        Verdict::WrongZone { line } => block_fault_text(alloc, line, b" in wrong zone\n"),
+        Verdict::NotFree { frame } => frame_fault_text(alloc, frame, b" not free\n"),
+        Verdict::Lost { frame } => frame_fault_text(alloc, frame, b" lost\n"),
+        Verdict::NotMaximal { line } => block_fault_text(alloc, line, b" not maximal\n"),
     }
 }
 
@@ -33,8 +33,8 @@ fn sound_text(alloc: Global) -> Result<Vec<u8>, Memory>
 
 /// Returns the text of a fault of the block at line number `line`, counted from 1. Fails only if
 /// out of memory.
-fn block_text(alloc: Global, line: u32, what: &[u8]) -> Result<Vec<u8>, Memory>
-    ensures { IfOk result (λ text. text.items ≡ block_text line what.now) }
+fn block_fault_text(alloc: Global, line: u32, what: &[u8]) -> Result<Vec<u8>, Memory>
+    ensures { IfOk result (λ text. text.items ≡ block_fault_text line what.now) }
 {
     let mut text = Vec::new(alloc);
     put_text(&mut text, b"not sound: block at line ")?;
@@ -45,9 +45,9 @@ fn block_text(alloc: Global, line: u32, what: &[u8]) -> Result<Vec<u8>, Memory>
 
 /// Returns the text of a fault of a frame; it has the address of the frame's first byte. Fails
 /// only if out of memory.
-fn frame_text(alloc: Global, frame: u64, what: &[u8]) -> Result<Vec<u8>, Memory>
+fn frame_fault_text(alloc: Global, frame: u64, what: &[u8]) -> Result<Vec<u8>, Memory>
     requires { frame < 2 ^ 40 }
-    ensures { IfOk result (λ text. text.items ≡ frame_text frame what.now) }
+    ensures { IfOk result (λ text. text.items ≡ frame_fault_text frame what.now) }
 {
     let mut text = Vec::new(alloc);
     put_text(&mut text, b"not sound: frame ")?;

@@ -7,29 +7,29 @@ use Rattle.std.specs.Str.{bytes_eq}
 use Rattle.boot_options.specs.MapOptions.{mem_of}
 use Rattle.boot_options.specs.declared.fault.OptionFault.{OptionFault}
 use Rattle.boot_options.specs.declared.fault.OptionFault.TheVariants as options
-use Rattle.boot_options.specs.Options.{AddEfi, OfMap, Said, crash_of, line_of, memmap_of, numa_of, of_one, name_value_of, options_of, option_words, or_fault, said_by, said_from}
+use Rattle.boot_options.specs.Options.{AddEfi, OfMap, WordMeaning, crash_of, command_line_of, memmap_of, numa_of, one_map_option, name_value_of, options_of, option_words, meaning_or_fault, word_meaning, word_meanings_from}
 use Rattle.boot_inputs.proofs.WantLaws.{then_other}
 
-word_first : (fault : OptionFault) (said : Option Said) (b : Bool) (y : Result Said OptionFault) → fault ≢ options.Memory
-    → ¬ IsErrOf y options.Memory → ¬ IsErrOf (if b then or_fault fault said else y) options.Memory
+word_first : (fault : OptionFault) (said : Option WordMeaning) (b : Bool) (y : Result WordMeaning OptionFault) → fault ≢ options.Memory
+    → ¬ IsErrOf y options.Memory → ¬ IsErrOf (if b then meaning_or_fault fault said else y) options.Memory
 word_first fault said b y other rest = grind arith
 
-word_other : (number : ℕ) (word : List ℕ × Option (List ℕ)) → ¬ IsErrOf (said_by number word) options.Memory
+word_other : (number : ℕ) (word : List ℕ × Option (List ℕ)) → ¬ IsErrOf (word_meaning number word) options.Memory
 word_other number word =
     let last = if bytes_eq word.0 (codes "add_efi_memmap") then Ok AddEfi else Ok (OfMap []) in
-    word_first (options.BadMem number) (option_map of_one (option_and_then mem_of word.1)) (bytes_eq word.0 (codes "mem")) _ (λ is. cc is)
+    word_first (options.BadMem number) (option_map one_map_option (option_and_then mem_of word.1)) (bytes_eq word.0 (codes "mem")) _ (λ is. cc is)
     (word_first (options.BadMemmap number) (option_and_then memmap_of word.1) (bytes_eq word.0 (codes "memmap")) _ (λ is. cc is)
     (word_first (options.BadCrash number) (option_and_then crash_of word.1) (bytes_eq word.0 (codes "crashkernel")) _ (λ is. cc is)
     (word_first (options.BadNuma number) (option_and_then numa_of word.1) (bytes_eq word.0 (codes "numa")) last (λ is. cc is)
     (λ is. grind arith))))
 
-words_other : (number : ℕ) (words : List (List ℕ)) → ¬ IsErrOf (said_from number words) options.Memory
+words_other : (number : ℕ) (words : List (List ℕ)) → ¬ IsErrOf (word_meanings_from number words) options.Memory
 words_other number [] = λ is. cc is
 words_other number (word ∷ words) =
-    then_other (said_by number (name_value_of word)) (word_other number (name_value_of word))
-    (λ said. then_other (said_from (number + 1) words) (words_other (number + 1) words) (λ others is. cc is))
+    then_other (word_meaning number (name_value_of word)) (word_other number (name_value_of word))
+    (λ said. then_other (word_meanings_from (number + 1) words) (words_other (number + 1) words) (λ others is. cc is))
 
 pub options_other : (bytes : List ℕ) → ¬ IsErrOf (options_of bytes) options.Memory
 options_other bytes =
-    then_other (line_of bytes) (λ is. grind arith)
-    (λ line. then_other (said_from 1 (option_words line)) (words_other 1 (option_words line)) (λ said is. grind arith))
+    then_other (command_line_of bytes) (λ is. grind arith)
+    (λ line. then_other (word_meanings_from 1 (option_words line)) (words_other 1 (option_words line)) (λ said is. grind arith))

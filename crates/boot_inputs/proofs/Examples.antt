@@ -10,11 +10,11 @@ use Rattle.e820_table.specs.Initrd.{initrd_of, is_initrd_far}
 use Rattle.boot_options.specs.Crash.{no_crash}
 use Rattle.bm_base.specs.Range.{RangeView}
 use Rattle.bm_base.specs.declared.width.Width.TheVariants.{Bits46}
-use Rattle.boot_model.specs.Boot.{Given, begun, no_options}
+use Rattle.boot_model.specs.Boot.{InputsView, inputs_without_files, no_options}
 use Rattle.boot_options.specs.declared.fault.OptionFault.TheVariants as options
 use Rattle.srat_reader.specs.declared.table.SratFault.TheVariants as srat
-use Rattle.srat_reader.specs.Entries.{is_whole, said_at}
-use Rattle.srat_reader.specs.Table.{Affinity, offsets_from}
+use Rattle.srat_reader.specs.Entries.{is_whole_entry, srat_entry_at}
+use Rattle.srat_reader.specs.Table.{SratView, entry_offsets_from}
 use Rattle.script_reader.specs.declared.act.Act.TheVariants as acts
 use Rattle.script_reader.specs.declared.fault.ScriptFault.TheVariants as script
 use Rattle.page_alloc.specs.declared.fault.PageFault.TheVariants as pages
@@ -27,16 +27,16 @@ use Rattle.program_end.specs.declared.failure.Reason.TheVariants as reasons
 use Rattle.boot_inputs.specs.CommandLine.{command_line, command_line_diagnostic}
 use Rattle.boot_inputs.specs.Diagnostic.{Diagnostic}
 use Rattle.boot_inputs.specs.Extension.{extension_diagnostic, extension_file}
-use Rattle.boot_inputs.specs.Efi.{efi_diagnostic, efi_file, efi_given, efi_said, efi_takes, put_efi}
+use Rattle.boot_inputs.specs.Efi.{efi_diagnostic, efi_file, efi_map_in_frames, efi_or_fault, efi_needs_memory, put_efi}
 use Rattle.boot_inputs.specs.Faults.{IsOfBytes, diagnostic_of}
-use Rattle.boot_inputs.specs.Input.{word_for}
-use Rattle.boot_inputs.specs.Inputs.{Named, input_files, inputs_of, named_step}
-use Rattle.program_end.specs.Program.{Held}
-use Rattle.boot_inputs.specs.Pages.{pages_diagnostic, pages_file, pages_said}
-use Rattle.boot_inputs.specs.Reading.{are_behind, ascend}
-use Rattle.boot_inputs.specs.Script.{lines_said, script_diagnostic, script_file}
-use Rattle.boot_inputs.specs.Slit.{distances_said, slit_diagnostic, slit_file}
-use Rattle.boot_inputs.specs.Srat.{srat_diagnostic, srat_file, table_said}
+use Rattle.boot_inputs.specs.Input.{input_word}
+use Rattle.boot_inputs.specs.Inputs.{FileNames, input_files, inputs_of, inputs_after_named_file}
+use Rattle.program_end.specs.Program.{FileContents}
+use Rattle.boot_inputs.specs.Pages.{pages_diagnostic, pages_file, page_script_or_fault}
+use Rattle.boot_inputs.specs.Reading.{are_read_later, are_in_reading_order}
+use Rattle.boot_inputs.specs.Script.{script_or_fault, script_diagnostic, script_file}
+use Rattle.boot_inputs.specs.Slit.{slit_or_fault, slit_diagnostic, slit_file}
+use Rattle.boot_inputs.specs.Srat.{srat_diagnostic, srat_file, srat_or_fault}
 use Rattle.boot_inputs.specs.WithoutEfi.{IsBeforeFiles, LacksDescriptors, LacksEfiWord, asks_for_efi}
 use Rattle.boot_inputs.specs.ZeroPage.{zero_page, zero_page_diagnostic}
 
@@ -75,13 +75,13 @@ one_processor =
     ++ 2 ∷ 24 ∷ 0 ∷ 0 ∷ 0x0D ∷ 0x0C ∷ 0 ∷ 0 ∷ 9 ∷ 9 ∷ 9 ∷ 9 ∷ 1 ∷ 0 ∷ 0 ∷ 0 ∷ replicate 8 0
 
 -- the table of that SRAT
-abbrev processor_alone : Affinity
+abbrev processor_alone : SratView
 processor_alone = record { processors = 0x0C0D ∷ []; blocks = [] }
 
 -- The files: a zero page, one that is too short and one that is too long; an extension, and one
 -- without a header; a command line, and one with a fault; a table of domains; a script, and one
 -- with a fault.
-abbrev held : Held
+abbrev held : FileContents
 held name =
     if bytes_eq name (codes "zp") then Some (page 2 ram_and_reserved)
     else (if bytes_eq name (codes "short") then Some (replicate 4095 0)
@@ -96,23 +96,23 @@ held name =
     else None)))))))))
 
 -- the names of a zero page, and of an extension and a command line if they are given
-abbrev naming : List ℕ → Option (List ℕ) → Option (List ℕ) → Named
+abbrev naming : List ℕ → Option (List ℕ) → Option (List ℕ) → FileNames
 naming page ext line inputs.ZeroPage = Some page
 naming page ext line inputs.Extension = ext
 naming page ext line inputs.CommandLine = line
 naming page ext line other = None
 
 -- what bytes mean, or their fault
-lines_are_said : (lines_said [] ≡ Ok []) × (lines_said (codes "free") ≡ Err (faults.Script (script.BadLine 1)))
-    × (pages_said [] ≡ Ok []) × (pages_said (codes "give x") ≡ Err (faults.Pages (pages.BadNumber 1)))
+lines_are_said : (script_or_fault [] ≡ Ok []) × (script_or_fault (codes "free") ≡ Err (faults.Script (script.BadLine 1)))
+    × (page_script_or_fault [] ≡ Ok []) × (page_script_or_fault (codes "give x") ≡ Err (faults.Pages (pages.BadNumber 1)))
 lines_are_said = (refl, refl, refl, refl)
 
-tables_are_said : (table_said one_processor ≡ Ok processor_alone) × (table_said [] ≡ Err (faults.Srat srat.Short))
-    × (distances_said [] ≡ Err (faults.Slit slit.Short)) × (efi_said [] ≡ Err (faults.Efi efi.Header))
-unfolding offsets_from is_whole said_at
+tables_are_said : (srat_or_fault one_processor ≡ Ok processor_alone) × (srat_or_fault [] ≡ Err (faults.Srat srat.Short))
+    × (slit_or_fault [] ≡ Err (faults.Slit slit.Short)) × (efi_or_fault [] ≡ Err (faults.Efi efi.Header))
+unfolding entry_offsets_from is_whole_entry srat_entry_at
 tables_are_said = (refl, refl, refl, refl)
 
-efi_gives : efi_given (record { entries = []; mirrors = record { base = 0x4000; size = 0x1000 } ∷ [] })
+efi_gives : efi_map_in_frames (record { entries = []; mirrors = record { base = 0x4000; size = 0x1000 } ∷ [] })
     ≡ record { entries = []; mirrors = record { first = 4; count = 1 } ∷ [] }
 efi_gives = refl
 
@@ -160,18 +160,18 @@ abbrev image : RangeView
 image = record { base = 0x1000000; size = 0x2000000 }
 
 -- the inputs before any file is read
-abbrev start : Given
-start = begun Bits46 image
+abbrev start : InputsView
+start = inputs_without_files Bits46 image
 
 -- the step for one file: read, unread and too long
-step_examples : (named_step held command_line start (codes "cmd")
+step_examples : (inputs_after_named_file held command_line start (codes "cmd")
     ≡ Ok (record start { options = record no_options { numa_off = true; add_efi = false } }))
-    × (named_step held command_line start (codes "no") ≡ Err (reasons.Unread inputs.CommandLine))
-    × (named_step held zero_page start (codes "long") ≡ Err (reasons.Faulty inputs.ZeroPage faults.TooLong))
+    × (inputs_after_named_file held command_line start (codes "no") ≡ Err (reasons.Unread inputs.CommandLine))
+    × (inputs_after_named_file held zero_page start (codes "long") ≡ Err (reasons.Faulty inputs.ZeroPage faults.TooLong))
 step_examples = (refl, refl, refl)
 
 -- a zero page and a script
-abbrev with_script : List ℕ → Named
+abbrev with_script : List ℕ → FileNames
 with_script script inputs.ZeroPage = Some (codes "zp")
 with_script script inputs.Script = Some script
 with_script script other = None
@@ -186,13 +186,13 @@ takes_examples = (refl, refl, refl, refl, refl)
 abbrev header : List ℕ
 header = 40 ∷ 0 ∷ 0 ∷ 0 ∷ 1 ∷ 0 ∷ 0 ∷ 0 ∷ []
 
-efi_take_examples : (efi_takes header ≡ false) × (efi_takes (header ++ replicate 40 0) ≡ true)
+efi_take_examples : (efi_needs_memory header ≡ false) × (efi_needs_memory (header ++ replicate 40 0) ≡ true)
 unfolding descriptors_from
 efi_take_examples = (refl, refl)
 
 -- the files are in the order of their places
-order_examples : (ascend input_files ≡ true) × (ascend (command_line ∷ extension_file ∷ []) ≡ false)
-    × (are_behind inputs.Srat (script_file ∷ []) ≡ true) × (are_behind inputs.Srat (srat_file ∷ []) ≡ false)
+order_examples : (are_in_reading_order input_files ≡ true) × (are_in_reading_order (command_line ∷ extension_file ∷ []) ≡ false)
+    × (are_read_later inputs.Srat (script_file ∷ []) ≡ true) × (are_read_later inputs.Srat (srat_file ∷ []) ≡ false)
 order_examples = (refl, refl, refl, refl)
 
 -- a zero page, an extension and a command line give the inputs
@@ -214,7 +214,7 @@ unfolding entry_at initrd_of is_initrd_far
 scripts_are_given = (refl, refl, refl)
 
 -- a zero page, a table of domains and a script
-abbrev with_both : List ℕ → List ℕ → Named
+abbrev with_both : List ℕ → List ℕ → FileNames
 with_both srat script inputs.ZeroPage = Some (codes "zp")
 with_both srat script inputs.Srat = Some srat
 with_both srat script inputs.Script = Some script
@@ -227,7 +227,7 @@ both_are_given : inputs_of held (with_both (codes "srat") (codes "free")) start
       domains = Some processor_alone;
       lines = record { number = 2; act = acts.Free 7 } ∷ [];
     })
-unfolding entry_at initrd_of is_initrd_far offsets_from is_whole said_at
+unfolding entry_at initrd_of is_initrd_far entry_offsets_from is_whole_entry srat_entry_at
 both_are_given = refl
 
 -- of the faults of both, the table's is reported
@@ -257,7 +257,7 @@ abbrev efi_header : List ℕ
 efi_header = 48 ∷ 0 ∷ 0 ∷ 0 ∷ 1 ∷ 0 ∷ 0 ∷ 0 ∷ []
 
 -- the names of an EFI memory map and a command line
-abbrev with_efi : Named
+abbrev with_efi : FileNames
 with_efi inputs.Efi = Some (codes "efi")
 with_efi inputs.CommandLine = Some (codes "cmd")
 with_efi other = None
@@ -271,6 +271,6 @@ before_files : IsBeforeFiles start × (IsBeforeFiles (put_efi (record { entries 
 before_files = (record { options = refl; efi = refl }, λ is. cc (is.efi))
 
 -- the inputs' words
-word_examples : (word_for inputs.ZeroPage ≡ codes "zeropage") × (word_for inputs.CommandLine ≡ codes "cmdline")
-    × (word_for inputs.Pages ≡ codes "pages") × (word_for inputs.Slit ≡ codes "slit") × (word_for inputs.Efi ≡ codes "efi")
+word_examples : (input_word inputs.ZeroPage ≡ codes "zeropage") × (input_word inputs.CommandLine ≡ codes "cmdline")
+    × (input_word inputs.Pages ≡ codes "pages") × (input_word inputs.Slit ≡ codes "slit") × (input_word inputs.Efi ≡ codes "efi")
 word_examples = (refl, refl, refl, refl, refl)

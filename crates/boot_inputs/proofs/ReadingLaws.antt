@@ -5,57 +5,57 @@ use Rattle.std.specs.Prelude.{IfErr, IfSome, IsErrAnd, IsNone, IsOk, IsTrue}
 use Rattle.std.proofs.lemmas.Bool.{and_parts, ltb-true}
 use Rattle.bm_base.specs.ResultSteps.{◌>>=◌}
 use Rattle.bm_io.specs.declared.reading.Files.{Ghosts as FilesOf}
-use Rattle.boot_model.specs.Boot.{Given}
+use Rattle.boot_model.specs.Boot.{InputsView}
 use Rattle.boot_inputs.specs.declared.fault.Fault.{Fault}
 use Rattle.boot_inputs.specs.declared.input.Input.{Input}
-use Rattle.boot_inputs.specs.Reason.{NoInputs, Reason}
-use Rattle.program_end.specs.Causes.{IsOf, IsOfFile}
+use Rattle.boot_inputs.specs.Reason.{NoInputs, InputsReason}
+use Rattle.program_end.specs.Causes.{IsErrorOfInput, IsFileError}
 use Rattle.program_end.specs.Fetches.{Fetches, FitsError, ReachesFile}
 use Rattle.boot_inputs.specs.File.{File}
-use Rattle.boot_inputs.specs.Input.{place}
-use Rattle.boot_inputs.specs.Inputs.{Named, file_step, given_in, or_faulty, or_unread, step_if, within}
-use Rattle.program_end.specs.Program.{Held}
-use Rattle.boot_inputs.specs.Reading.{AreRead, are_behind, ascend}
+use Rattle.boot_inputs.specs.Input.{input_place}
+use Rattle.boot_inputs.specs.Inputs.{FileNames, inputs_after_file, inputs_after_files, answer_or_faulty_file, step_or_unread_file, inputs_after_optional_file, within_limit}
+use Rattle.program_end.specs.Program.{FileContents}
+use Rattle.boot_inputs.specs.Reading.{AreRead, are_read_later, are_in_reading_order}
 
 -- if the work comes to `other`, it came to each input at or before its place
-faulty_comes : (input other : Input) (x : Result Given Fault) → place input ≤ place other → ReachesFile place input (or_faulty other x)
+faulty_comes : (input other : Input) (x : Result InputsView Fault) → input_place input ≤ input_place other → ReachesFile input_place input (answer_or_faulty_file other x)
 faulty_comes input other (Ok given) below = tt
 faulty_comes input other (Err fault) below = below
 
-read_comes : (input : Input) (file : File) (given : Given) (held : Option (List ℕ)) → place input ≤ place file.input
-    → ReachesFile place input (or_unread file.input held (λ bytes. or_faulty file.input (within file.limit bytes >>= λ read. file.says read given)))
+read_comes : (input : Input) (file : File) (given : InputsView) (held : Option (List ℕ)) → input_place input ≤ input_place file.input
+    → ReachesFile input_place input (step_or_unread_file file.input held (λ bytes. answer_or_faulty_file file.input (within_limit file.limit bytes >>= λ read. file.says read given)))
 read_comes input file given None below = below
 read_comes input file given (Some bytes) below = faulty_comes input file.input _ below
 
-step_comes : (input : Input) (held : Held) (file : File) (given : Given) (name : Option (List ℕ)) → place input ≤ place file.input
-    → ReachesFile place input (step_if held file given name)
+step_comes : (input : Input) (held : FileContents) (file : File) (given : InputsView) (name : Option (List ℕ)) → input_place input ≤ input_place file.input
+    → ReachesFile input_place input (inputs_after_optional_file held file given name)
 step_comes input held file given None below = tt
 step_comes input held file given (Some name) below = read_comes input file given (held name) below
 
-then_comes : (input : Input) (x : Result Given Reason) (f : Given → Result Given Reason) → ReachesFile place input x
-    → ((a : Given) → ReachesFile place input (f a)) → ReachesFile place input (x >>= f)
+then_comes : (input : Input) (x : Result InputsView InputsReason) (f : InputsView → Result InputsView InputsReason) → ReachesFile input_place input x
+    → ((a : InputsView) → ReachesFile input_place input (f a)) → ReachesFile input_place input (x >>= f)
 then_comes input x f first rest = grind (arith, rest)
 
 -- all work after a file came to that file
-later_comes : (input : Input) (held : Held) (named : Named) (files : List File) → IsTrue (are_behind input files) → (given : Given)
-    → ReachesFile place input (given_in held named files given)
+later_comes : (input : Input) (held : FileContents) (named : FileNames) (files : List File) → IsTrue (are_read_later input files) → (given : InputsView)
+    → ReachesFile input_place input (inputs_after_files held named files given)
 later_comes input held named [] behind given = tt
 later_comes input held named (file ∷ files) behind given =
-    let parts = and_parts (nat_lt (place input) (place file.input)) (are_behind input files) behind in
-    let below : place input < place file.input = ltb-true _ _ parts.0 in
-    then_comes input (file_step held named file given) (given_in held named files)
+    let parts = and_parts (nat_lt (input_place input) (input_place file.input)) (are_read_later input files) behind in
+    let below : input_place input < input_place file.input = ltb-true _ _ parts.0 in
+    then_comes input (inputs_after_file held named file given) (inputs_after_files held named files)
     (step_comes input held file given (named file.input) (omega (arith, below))) (later_comes input held named files parts.1)
 
 -- an error that fits the step for the first file fits the whole list
-first_fits : (error : NoInputs) (input : Input) (x : Result Given Reason) (f : Given → Result Given Reason)
-    → IsOf input error → FitsError place error x → ((a : Given) → ReachesFile place input (f a)) → FitsError place error (x >>= f)
+first_fits : (error : NoInputs) (input : Input) (x : Result InputsView InputsReason) (f : InputsView → Result InputsView InputsReason)
+    → IsErrorOfInput input error → FitsError input_place error x → ((a : InputsView) → ReachesFile input_place input (f a)) → FitsError input_place error (x >>= f)
 first_fits error input x f own fits rest = grind (arith, rest)
 
 -- what holds of the object's files if it says what it holds
-if_some : (o : Option Held) (P Q : Held → Type 0) → ((held : Held) → P held → Q held) → IfSome o P → IfSome o Q
+if_some : (o : Option FileContents) (P Q : FileContents → Type 0) → ((held : FileContents) → P held → Q held) → IfSome o P → IfSome o Q
 if_some o P Q then is = grind (arith, then)
 
-if_both : (o : Option Held) (P Q R : Held → Type 0) → ((held : Held) → P held → Q held → R held) → IfSome o P → IfSome o Q → IfSome o R
+if_both : (o : Option FileContents) (P Q R : FileContents → Type 0) → ((held : FileContents) → P held → Q held → R held) → IfSome o P → IfSome o Q → IfSome o R
 if_both o P Q R then first second = grind (arith, then)
 
 -- the error that a `?` returns is that of the result
@@ -63,29 +63,29 @@ pub error_is : {T E : Type 0} → (answer : Result T E) → (error : E) → IsEr
 error_is answer error told = grind arith
 
 -- a file is unread only if the faults counted for its name rose, and before it no count fell
-cause_behind : (before mid now : List ℕ → ℕ) (named : Named) (answer : Result (Unit {0}) NoInputs)
-    → ((any : List ℕ) → before any ≤ mid any) → IfErr answer (IsOfFile mid now named) → IfErr answer (IsOfFile before now named)
+cause_behind : (before mid now : List ℕ → ℕ) (named : FileNames) (answer : Result (Unit {0}) NoInputs)
+    → ((any : List ℕ) → before any ≤ mid any) → IfErr answer (IsFileError mid now named) → IfErr answer (IsFileError before now named)
 cause_behind before mid now named answer stay cause = grind arith
 
 -- the facts about one file
-pub record IsAdded {F : Type 0} (kind : FilesOf F) (names : Named) (file : File) (old new : F) (before after : Given)
+pub record IsAdded {F : Type 0} (kind : FilesOf F) (names : FileNames) (file : File) (old new : F) (before after : InputsView)
     (result : Result (Unit {0}) NoInputs) : Type 0 where
-  pub fetches : IfSome (kind.holds old) (λ held. Fetches place (λ done. after) result (file_step held names file before))
-  pub cause : IfErr result (IsOfFile (kind.faults old) (kind.faults new) names)
-  pub own : IfErr result (IsOf file.input)
+  pub fetches : IfSome (kind.holds old) (λ held. Fetches input_place (λ done. after) result (inputs_after_file held names file before))
+  pub cause : IfErr result (IsFileError (kind.faults old) (kind.faults new) names)
+  pub own : IfErr result (IsErrorOfInput file.input)
   pub unnamed : IsNone (names file.input) → IsOk result
   pub kept : kind.holds new ≡ kind.holds old
   pub faults_stay : (any : List ℕ) → kind.faults old any ≤ kind.faults new any
 
-module _ {F : Type 0} (kind : FilesOf F) (names : Named) (file : File) (files : List File) where
+module _ {F : Type 0} (kind : FilesOf F) (names : FileNames) (file : File) (files : List File) where
   -- the first file is refused, or the program is out of memory
-  pub stopped : (old new : F) (before after last : Given) (error : NoInputs) → IsTrue (ascend (file ∷ files))
+  pub stopped : (old new : F) (before after last : InputsView) (error : NoInputs) → IsTrue (are_in_reading_order (file ∷ files))
       → IsAdded kind names file old new before after (Err error) → AreRead kind names (file ∷ files) old new before last (Err error)
   stopped old new before after last error ascends added =
-      let parts = and_parts (are_behind file.input files) (ascend files) ascends in
+      let parts = and_parts (are_read_later file.input files) (are_in_reading_order files) ascends in
       record {
         fetches = if_some (kind.holds old) _ _
-            (λ held fits. first_fits error file.input (file_step held names file before) (given_in held names files) added.own fits
+            (λ held fits. first_fits error file.input (inputs_after_file held names file before) (inputs_after_files held names files) added.own fits
             (later_comes file.input held names files parts.0)) added.fetches;
         cause = added.cause;
         unnamed = λ none. added.unnamed (none file.input);
@@ -93,7 +93,7 @@ module _ {F : Type 0} (kind : FilesOf F) (names : Named) (file : File) (files : 
       }
 
   -- the first file is read, and so are the rest
-  pub gone_on : (old mid new : F) (before between after : Given) (result : Result (Unit {0}) NoInputs)
+  pub gone_on : (old mid new : F) (before between after : InputsView) (result : Result (Unit {0}) NoInputs)
       → IsAdded kind names file old mid before between (Ok tt) → AreRead kind names files mid new between after result
       → AreRead kind names (file ∷ files) old new before after result
   gone_on old mid new before between after result added rest = record {

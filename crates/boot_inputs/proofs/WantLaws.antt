@@ -4,15 +4,15 @@ use Rattle.std.proofs.Common.{◌≡◌, ◌≢◌, ℕ, List, [], ◌∷◌, Op
 use Rattle.std.specs.Prelude.{All, IfErr, IsErrOf}
 use Rattle.std.proofs.lemmas.List.Elements.{All-head, All-tail}
 use Rattle.bm_base.specs.ResultSteps.{◌>>=◌, with_error}
-use Rattle.boot_model.specs.Boot.{Given}
+use Rattle.boot_model.specs.Boot.{InputsView}
 use Rattle.boot_inputs.specs.declared.fault.Fault.{Fault}
 use Rattle.boot_inputs.specs.declared.input.Input.{Input}
-use Rattle.boot_inputs.specs.Reason.{Reason}
+use Rattle.boot_inputs.specs.Reason.{InputsReason}
 use Rattle.program_end.specs.declared.failure.Reason.TheVariants as reasons
-use Rattle.boot_inputs.specs.Faults.{IsOfBytes, SaysOfBytes}
+use Rattle.boot_inputs.specs.Faults.{IsOfBytes, FaultsAreOfBytes}
 use Rattle.boot_inputs.specs.File.{File}
-use Rattle.boot_inputs.specs.Inputs.{Named, file_step, given_in, input_files, inputs_of, step_if}
-use Rattle.program_end.specs.Program.{Held}
+use Rattle.boot_inputs.specs.Inputs.{FileNames, inputs_after_file, inputs_after_files, input_files, inputs_of, inputs_after_optional_file}
+use Rattle.program_end.specs.Program.{FileContents}
 
 -- neither a step nor the steps after it fail with the error `want`
 pub then_other : {A B E : Type 0} {want : E} (x : Result A E) {f : A → Result B E} → ¬ IsErrOf x want → ((a : A) → ¬ IsErrOf (f a) want)
@@ -26,7 +26,7 @@ turned_other turn want (Ok a) other = λ is. cc is
 turned_other turn want (Err error) other = λ is. other error (cc is)
 
 -- a refusal of one of several files is a fault of its bytes
-abbrev RefusedOfBytes : Reason → Type 0
+abbrev RefusedOfBytes : InputsReason → Type 0
 RefusedOfBytes (reasons.Faulty input fault) = IsOfBytes fault
 RefusedOfBytes other = Unit {0}
 
@@ -34,18 +34,18 @@ then_if : {A B E : Type 0} (P : E → Type 0) (x : Result A E) (f : A → Result
     → IfErr (x >>= f) P
 then_if P x f first rest = grind (arith, rest)
 
-step_other : (held : Held) (file : File) (given : Given) (name : Option (List ℕ)) → SaysOfBytes file
-    → IfErr (step_if held file given name) RefusedOfBytes
+step_other : (held : FileContents) (file : File) (given : InputsView) (name : Option (List ℕ)) → FaultsAreOfBytes file
+    → IfErr (inputs_after_optional_file held file given name) RefusedOfBytes
 step_other held file given name says = grind arith
 
-given_other : (held : Held) (named : Named) (files : List File) → All SaysOfBytes files → (given : Given)
-    → IfErr (given_in held named files given) RefusedOfBytes
+given_other : (held : FileContents) (named : FileNames) (files : List File) → All FaultsAreOfBytes files → (given : InputsView)
+    → IfErr (inputs_after_files held named files given) RefusedOfBytes
 given_other held named [] say given = tt
 given_other held named (file ∷ files) say given =
-    then_if RefusedOfBytes (file_step held named file given) _
-    (step_other held file given (named file.input) (All-head SaysOfBytes file files say))
-    (given_other held named files (All-tail SaysOfBytes file files say))
+    then_if RefusedOfBytes (inputs_after_file held named file given) _
+    (step_other held file given (named file.input) (All-head FaultsAreOfBytes file files say))
+    (given_other held named files (All-tail FaultsAreOfBytes file files say))
 
-pub refused_other : All SaysOfBytes input_files → (held : Held) (named : Named) (begun : Given) (input : Input) (fault : Fault)
+pub refused_other : All FaultsAreOfBytes input_files → (held : FileContents) (named : FileNames) (begun : InputsView) (input : Input) (fault : Fault)
     → inputs_of held named begun ≡ Err (reasons.Faulty input fault) → IsOfBytes fault
 refused_other say held named begun input fault is = rw is at (given_other held named input_files say begun)

@@ -3,8 +3,8 @@ use Rattle.std.specs.Prelude.{ℕ, Bool, false, ◌||◌, nat_lt, is_some, List,
 use Rattle.bm_base.specs.ResultSteps.{with_error}
 use Rattle.boot_options.specs.declared.fault.OptionFault.{OptionFault}
 use Rattle.boot_options.specs.declared.fault.OptionFault.TheVariants as options
-use Rattle.boot_options.specs.Options.{Chosen, options_of}
-use Rattle.boot_model.specs.Boot.{Given}
+use Rattle.boot_options.specs.Options.{OptionsView, options_of}
+use Rattle.boot_model.specs.Boot.{InputsView}
 use Rattle.boot_inputs.specs.declared.fault.Fault.{Fault}
 use Rattle.boot_inputs.specs.declared.fault.Fault.TheVariants as faults
 use Rattle.boot_inputs.specs.declared.input.Input.TheVariants as inputs
@@ -12,25 +12,25 @@ use Rattle.boot_inputs.specs.Diagnostic.{Diagnostic}
 use Rattle.boot_inputs.specs.File.{File, with_value}
 
 -- the options of the line, or its fault
-abbrev pub options_said : List ℕ → Result Chosen Fault
-options_said bytes = with_error faults.CommandLine (options_of bytes)
+abbrev pub options_or_fault : List ℕ → Result OptionsView Fault
+options_or_fault bytes = with_error faults.CommandLine (options_of bytes)
 
 -- an edit needs memory, and so does a plain `crashkernel=`
-abbrev pub options_take : Result Chosen OptionFault → Bool
-options_take (Ok chosen) = nat_lt 0 (length chosen.edits) || is_some chosen.crash.plain
-options_take (Err fault) = false
+abbrev pub options_need_memory : Result OptionsView OptionFault → Bool
+options_need_memory (Ok chosen) = nat_lt 0 (length chosen.edits) || is_some chosen.crash.plain
+options_need_memory (Err fault) = false
 
 -- the options are put into the inputs
-abbrev pub put_options : Chosen → Given → Given
-put_options chosen given = record given { options = chosen }
+abbrev pub set_command_line : OptionsView → InputsView → InputsView
+set_command_line chosen given = record given { options = chosen }
 
 -- at most 4,096 bytes, twice what the kernel keeps of a line (`COMMAND_LINE_SIZE`)
 abbrev pub command_line : File
 command_line = record {
   input = inputs.CommandLine;
   limit = 4096;
-  takes = λ bytes. options_take (options_of bytes);
-  says = λ bytes given. with_value put_options given (options_said bytes);
+  takes = λ bytes. options_need_memory (options_of bytes);
+  says = λ bytes given. with_value set_command_line given (options_or_fault bytes);
 }
 
 -- what the line of a fault says, or `None` for out of memory, which is no fault of the bytes

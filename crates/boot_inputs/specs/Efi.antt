@@ -3,9 +3,9 @@ use Rattle.std.specs.Prelude.{ℕ, Bool, nat_lt, List, length, map, codes, Optio
 use Rattle.bm_base.specs.ResultSteps.{with_error}
 use Rattle.efi_map.specs.declared.efi.EfiFault.{EfiFault}
 use Rattle.efi_map.specs.declared.efi.EfiFault.TheVariants as efi
-use Rattle.efi_map.specs.Map.{Efi, descriptors_of, efi_of}
-use Rattle.boot_model.specs.Boot.{EfiGiven, Given}
-use Rattle.boot_model.specs.Mirrors.{frames_in}
+use Rattle.efi_map.specs.Map.{EfiContent, descriptors_of, efi_of}
+use Rattle.boot_model.specs.Boot.{EfiMapView, InputsView}
+use Rattle.boot_model.specs.Mirrors.{frame_range_of}
 use Rattle.boot_inputs.specs.declared.fault.Fault.{Fault}
 use Rattle.boot_inputs.specs.declared.fault.Fault.TheVariants as faults
 use Rattle.boot_inputs.specs.declared.input.Input.TheVariants as inputs
@@ -13,28 +13,28 @@ use Rattle.boot_inputs.specs.Diagnostic.{Diagnostic}
 use Rattle.boot_inputs.specs.File.{File, with_value}
 
 -- the map as the boot has it: its entries, and its mirrors as frames
-abbrev pub efi_given : Efi → EfiGiven
-efi_given m = record { entries = m.entries; mirrors = map frames_in m.mirrors }
+abbrev pub efi_map_in_frames : EfiContent → EfiMapView
+efi_map_in_frames m = record { entries = m.entries; mirrors = map frame_range_of m.mirrors }
 
 -- the map of the bytes, or their fault
-abbrev pub efi_said : List ℕ → Result Efi Fault
-efi_said bytes = with_error faults.Efi (efi_of bytes)
+abbrev pub efi_or_fault : List ℕ → Result EfiContent Fault
+efi_or_fault bytes = with_error faults.Efi (efi_of bytes)
 
 -- each descriptor needs memory
-abbrev pub efi_takes : List ℕ → Bool
-efi_takes bytes = nat_lt 0 (length (descriptors_of bytes))
+abbrev pub efi_needs_memory : List ℕ → Bool
+efi_needs_memory bytes = nat_lt 0 (length (descriptors_of bytes))
 
 -- the map is put into the inputs
-abbrev pub put_efi : Efi → Given → Given
-put_efi m given = record given { efi = Some (efi_given m) }
+abbrev pub put_efi : EfiContent → InputsView → InputsView
+put_efi m given = record given { efi = Some (efi_map_in_frames m) }
 
 -- at most 1 MiB
 abbrev pub efi_file : File
 efi_file = record {
   input = inputs.Efi;
   limit = 1048576;
-  takes = efi_takes;
-  says = λ bytes given. with_value put_efi given (efi_said bytes);
+  takes = efi_needs_memory;
+  says = λ bytes given. with_value put_efi given (efi_or_fault bytes);
 }
 
 -- what the line of a fault says, or `None` for out of memory, which is no fault of the bytes

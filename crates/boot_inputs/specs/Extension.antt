@@ -5,19 +5,19 @@ use Rattle.e820_model.specs.declared.entry.Entry.{Entry}
 use Rattle.e820_table.specs.declared.extension.ExtFault.{ExtFault}
 use Rattle.e820_table.specs.declared.extension.ExtFault.TheVariants as extension
 use Rattle.e820_table.specs.Extension.{ext_entries_of, ext_fault}
-use Rattle.boot_model.specs.Boot.{Given}
+use Rattle.boot_model.specs.Boot.{InputsView}
 use Rattle.boot_inputs.specs.declared.fault.Fault.{Fault}
 use Rattle.boot_inputs.specs.declared.fault.Fault.TheVariants as faults
 use Rattle.boot_inputs.specs.declared.input.Input.TheVariants as inputs
 use Rattle.boot_inputs.specs.Diagnostic.{Diagnostic}
-use Rattle.boot_inputs.specs.File.{File, unless_fault, with_value}
+use Rattle.boot_inputs.specs.File.{File, value_unless_fault, with_value}
 
 -- the entries of the bytes, or their fault
-abbrev pub entries_said : List ℕ → Result (List Entry) Fault
-entries_said bytes = unless_fault (option_map faults.Extension (ext_fault bytes)) (ext_entries_of bytes)
+abbrev pub extension_or_fault : List ℕ → Result (List Entry) Fault
+extension_or_fault bytes = value_unless_fault (option_map faults.Extension (ext_fault bytes)) (ext_entries_of bytes)
 
 -- the entries are put into the inputs
-abbrev pub put_extension : List Entry → Given → Given
+abbrev pub put_extension : List Entry → InputsView → InputsView
 put_extension entries given = record given { extension = entries }
 
 -- at most 3,072 entries after a header of 16 bytes; each needs memory
@@ -26,7 +26,7 @@ extension_file = record {
   input = inputs.Extension;
   limit = 61456;
   takes = λ bytes. nat_lt 0 (length (ext_entries_of bytes));
-  says = λ bytes given. with_value put_extension given (entries_said bytes);
+  says = λ bytes given. with_value put_extension given (extension_or_fault bytes);
 }
 
 -- what the line of a fault says, or `None` for out of memory, which is no fault of the bytes

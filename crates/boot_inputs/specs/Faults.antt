@@ -1,6 +1,6 @@
 -- What the lines of the files' faults say.
 use Rattle.std.specs.Prelude.{ℕ, List, codes, Option, Some, IfErr, IsSome}
-use Rattle.boot_model.specs.Boot.{Given}
+use Rattle.boot_model.specs.Boot.{InputsView}
 use Rattle.boot_inputs.specs.declared.fault.Fault.{Fault}
 use Rattle.boot_inputs.specs.declared.fault.Fault.TheVariants as faults
 use Rattle.boot_inputs.specs.CommandLine.{command_line_diagnostic}
@@ -32,5 +32,5 @@ abbrev pub IsOfBytes : Fault → Type 0
 IsOfBytes fault = IsSome (diagnostic_of fault)
 
 -- each fault that the file has for bytes is one of the bytes, whatever the inputs before it are
-abbrev pub SaysOfBytes : File → Type 0
-SaysOfBytes file = (bytes : List ℕ) (given : Given) → IfErr (file.says bytes given) IsOfBytes
+abbrev pub FaultsAreOfBytes : File → Type 0
+FaultsAreOfBytes file = (bytes : List ℕ) (given : InputsView) → IfErr (file.says bytes given) IsOfBytes

@@ -1,6 +1,6 @@
 -- An input file as one value.
 use Rattle.std.specs.Prelude.{ℕ, Bool, List, Option, Some, None, Result, Ok, Err}
-use Rattle.boot_model.specs.Boot.{Given}
+use Rattle.boot_model.specs.Boot.{InputsView}
 use Rattle.boot_inputs.specs.declared.fault.Fault.{Fault}
 use Rattle.boot_inputs.specs.declared.input.Input.{Input}
 
@@ -10,14 +10,14 @@ pub record File : Type 0 where
   pub input : Input
   pub limit : ℕ
   pub takes : List ℕ → Bool
-  pub says : List ℕ → Given → Result Given Fault
+  pub says : List ℕ → InputsView → Result InputsView Fault
 
 -- the value is put into the inputs
-abbrev pub with_value : {A : Type 0} → (A → Given → Given) → Given → Result A Fault → Result Given Fault
+abbrev pub with_value : {A : Type 0} → (A → InputsView → InputsView) → InputsView → Result A Fault → Result InputsView Fault
 with_value put given (Ok value) = Ok (put value given)
 with_value put given (Err fault) = Err fault
 
 -- the value, unless there is a fault
-abbrev pub unless_fault : {A : Type 0} → Option Fault → A → Result A Fault
-unless_fault None value = Ok value
-unless_fault (Some fault) value = Err fault
+abbrev pub value_unless_fault : {A : Type 0} → Option Fault → A → Result A Fault
+value_unless_fault None value = Ok value
+value_unless_fault (Some fault) value = Err fault

@@ -6,9 +6,9 @@ use Rattle.boot_inputs.specs.declared.fault.Fault.{Fault}
 use Rattle.boot_inputs.specs.declared.input.Input.{Input}
 
 -- the words, a file, or a cause for which the boot stops
-abbrev pub Reason : Type 0
-Reason = ReasonOf Input Fault Cause
+abbrev pub InputsReason : Type 0
+InputsReason = ReasonOf Input Fault Cause
 
 -- such a reason, or out of memory
 abbrev pub NoInputs : Type 0
-NoInputs = NoResult Reason
+NoInputs = NoResult InputsReason

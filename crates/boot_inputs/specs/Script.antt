@@ -5,7 +5,7 @@ use Rattle.script_reader.specs.declared.act.Line.{Line}
 use Rattle.script_reader.specs.declared.fault.ScriptFault.{ScriptFault}
 use Rattle.script_reader.specs.declared.fault.ScriptFault.TheVariants as script
 use Rattle.script_reader.specs.Script.{script_of}
-use Rattle.boot_model.specs.Boot.{Given}
+use Rattle.boot_model.specs.Boot.{InputsView}
 use Rattle.boot_inputs.specs.declared.fault.Fault.{Fault}
 use Rattle.boot_inputs.specs.declared.fault.Fault.TheVariants as faults
 use Rattle.boot_inputs.specs.declared.input.Input.TheVariants as inputs
@@ -13,25 +13,25 @@ use Rattle.boot_inputs.specs.Diagnostic.{Diagnostic}
 use Rattle.boot_inputs.specs.File.{File, with_value}
 
 -- the lines of the bytes, or their fault
-abbrev pub lines_said : List ℕ → Result (List Line) Fault
-lines_said bytes = with_error faults.Script (script_of bytes)
+abbrev pub script_or_fault : List ℕ → Result (List Line) Fault
+script_or_fault bytes = with_error faults.Script (script_of bytes)
 
 -- each request in a line needs memory
-abbrev pub lines_take : Result (List Line) ScriptFault → Bool
-lines_take (Ok lines) = nat_lt 0 (length lines)
-lines_take (Err fault) = false
+abbrev pub script_needs_memory : Result (List Line) ScriptFault → Bool
+script_needs_memory (Ok lines) = nat_lt 0 (length lines)
+script_needs_memory (Err fault) = false
 
 -- the lines are put into the inputs
-abbrev pub put_lines : List Line → Given → Given
-put_lines lines given = record given { lines = lines }
+abbrev pub set_early_script : List Line → InputsView → InputsView
+set_early_script lines given = record given { lines = lines }
 
 -- at most 1 MiB
 abbrev pub script_file : File
 script_file = record {
   input = inputs.Script;
   limit = 1048576;
-  takes = λ bytes. lines_take (script_of bytes);
-  says = λ bytes given. with_value put_lines given (lines_said bytes);
+  takes = λ bytes. script_needs_memory (script_of bytes);
+  says = λ bytes given. with_value set_early_script given (script_or_fault bytes);
 }
 
 -- what the line of a fault says, or `None` for out of memory, which is no fault of the bytes

@@ -3,9 +3,9 @@ use Rattle.std.specs.Prelude.{ℕ, Bool, false, nat_lt, List, codes, Option, Som
 use Rattle.bm_base.specs.ResultSteps.{with_error}
 use Rattle.slit_zonelists.specs.declared.table.SlitFault.{SlitFault}
 use Rattle.slit_zonelists.specs.declared.table.SlitFault.TheVariants as slit
-use Rattle.slit_zonelists.specs.Matrix.{Matrix}
+use Rattle.slit_zonelists.specs.Matrix.{SlitView}
 use Rattle.slit_zonelists.specs.Table.{slit_of}
-use Rattle.boot_model.specs.Boot.{Given}
+use Rattle.boot_model.specs.Boot.{InputsView}
 use Rattle.boot_inputs.specs.declared.fault.Fault.{Fault}
 use Rattle.boot_inputs.specs.declared.fault.Fault.TheVariants as faults
 use Rattle.boot_inputs.specs.declared.input.Input.TheVariants as inputs
@@ -13,25 +13,25 @@ use Rattle.boot_inputs.specs.Diagnostic.{Diagnostic}
 use Rattle.boot_inputs.specs.File.{File, with_value}
 
 -- the distances of the bytes, or their fault
-abbrev pub distances_said : List ℕ → Result Matrix Fault
-distances_said bytes = with_error faults.Slit (slit_of bytes)
+abbrev pub slit_or_fault : List ℕ → Result SlitView Fault
+slit_or_fault bytes = with_error faults.Slit (slit_of bytes)
 
 -- the distances need memory if there are domains
-abbrev pub distances_take : Result Matrix SlitFault → Bool
-distances_take (Ok m) = nat_lt 0 m.count
-distances_take (Err fault) = false
+abbrev pub slit_needs_memory : Result SlitView SlitFault → Bool
+slit_needs_memory (Ok m) = nat_lt 0 m.count
+slit_needs_memory (Err fault) = false
 
 -- the distances are put into the inputs
-abbrev pub put_distances : Matrix → Given → Given
-put_distances m given = record given { slit = Some m }
+abbrev pub set_slit : SlitView → InputsView → InputsView
+set_slit m given = record given { slit = Some m }
 
 -- at most 1 MiB
 abbrev pub slit_file : File
 slit_file = record {
   input = inputs.Slit;
   limit = 1048576;
-  takes = λ bytes. distances_take (slit_of bytes);
-  says = λ bytes given. with_value put_distances given (distances_said bytes);
+  takes = λ bytes. slit_needs_memory (slit_of bytes);
+  says = λ bytes given. with_value set_slit given (slit_or_fault bytes);
 }
 
 -- what the line of a fault says, or `None` for out of memory, which is no fault of the bytes

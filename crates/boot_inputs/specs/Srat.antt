@@ -3,8 +3,8 @@ use Rattle.std.specs.Prelude.{ℕ, Bool, false, ◌||◌, nat_lt, List, length, 
 use Rattle.bm_base.specs.ResultSteps.{with_error}
 use Rattle.srat_reader.specs.declared.table.SratFault.{SratFault}
 use Rattle.srat_reader.specs.declared.table.SratFault.TheVariants as srat
-use Rattle.srat_reader.specs.Table.{Affinity, srat_of}
-use Rattle.boot_model.specs.Boot.{Given}
+use Rattle.srat_reader.specs.Table.{SratView, srat_of}
+use Rattle.boot_model.specs.Boot.{InputsView}
 use Rattle.boot_inputs.specs.declared.fault.Fault.{Fault}
 use Rattle.boot_inputs.specs.declared.fault.Fault.TheVariants as faults
 use Rattle.boot_inputs.specs.declared.input.Input.TheVariants as inputs
@@ -12,25 +12,25 @@ use Rattle.boot_inputs.specs.Diagnostic.{Diagnostic}
 use Rattle.boot_inputs.specs.File.{File, with_value}
 
 -- the table of the bytes, or their fault
-abbrev pub table_said : List ℕ → Result Affinity Fault
-table_said bytes = with_error faults.Srat (srat_of bytes)
+abbrev pub srat_or_fault : List ℕ → Result SratView Fault
+srat_or_fault bytes = with_error faults.Srat (srat_of bytes)
 
 -- a processor needs memory, and so does a range of memory
-abbrev pub table_takes : Result Affinity SratFault → Bool
-table_takes (Ok table) = nat_lt 0 (length table.processors) || nat_lt 0 (length table.blocks)
-table_takes (Err fault) = false
+abbrev pub srat_needs_memory : Result SratView SratFault → Bool
+srat_needs_memory (Ok table) = nat_lt 0 (length table.processors) || nat_lt 0 (length table.blocks)
+srat_needs_memory (Err fault) = false
 
 -- the table is put into the inputs
-abbrev pub put_domains : Affinity → Given → Given
-put_domains table given = record given { domains = Some table }
+abbrev pub set_srat : SratView → InputsView → InputsView
+set_srat table given = record given { domains = Some table }
 
 -- at most 1 MiB
 abbrev pub srat_file : File
 srat_file = record {
   input = inputs.Srat;
   limit = 1048576;
-  takes = λ bytes. table_takes (srat_of bytes);
-  says = λ bytes given. with_value put_domains given (table_said bytes);
+  takes = λ bytes. srat_needs_memory (srat_of bytes);
+  says = λ bytes given. with_value set_srat given (srat_or_fault bytes);
 }
 
 -- what the line of a fault says, or `None` for out of memory, which is no fault of the bytes

@@ -5,13 +5,13 @@ use Rattle.std.specs.List.{list_any}
 use Rattle.std.specs.Str.{bytes_eq}
 use Rattle.boot_options.specs.Options.{name_value_of, option_words, raw_line}
 use Rattle.efi_map.specs.Map.{descriptors_of}
-use Rattle.boot_model.specs.Boot.{Given, claims, map_judged, no_options}
+use Rattle.boot_model.specs.Boot.{InputsView, claims, judge_map, no_options}
 use Rattle.boot_inputs.specs.declared.input.Input.TheVariants as inputs
-use Rattle.boot_inputs.specs.Inputs.{Named, inputs_of}
-use Rattle.program_end.specs.Program.{Held}
+use Rattle.boot_inputs.specs.Inputs.{FileNames, inputs_of}
+use Rattle.program_end.specs.Program.{FileContents}
 
 -- the same names of files, without the name of the EFI memory map
-abbrev pub without_efi : Named → Named
+abbrev pub without_efi : FileNames → FileNames
 without_efi named inputs.Efi = None
 without_efi named input = named input
 
@@ -21,26 +21,26 @@ abbrev pub asks_for_efi : List ℕ → Bool
 asks_for_efi bytes = list_any (λ word. bytes_eq (name_value_of word).0 (codes "add_efi_memmap")) (option_words (raw_line bytes))
 
 -- no word of the command line has that name, or there is no command line
-abbrev pub LacksEfiWord : Held → Named → Type 0
+abbrev pub LacksEfiWord : FileContents → FileNames → Type 0
 LacksEfiWord held named = IfSome (option_and_then held (named inputs.CommandLine)) (λ bytes. asks_for_efi bytes ≡ false)
 
 -- nothing follows the header of the EFI memory map, or there is no such file
-abbrev pub LacksDescriptors : Held → Named → Type 0
+abbrev pub LacksDescriptors : FileContents → FileNames → Type 0
 LacksDescriptors held named = IfSome (option_and_then held (named inputs.Efi)) (λ bytes. descriptors_of bytes ≡ [])
 
 -- the inputs before any file is read: no option and no EFI memory map
-pub record IsBeforeFiles (begun : Given) : Type 0 where
+pub record IsBeforeFiles (begun : InputsView) : Type 0 where
   pub options : begun.options ≡ no_options
   pub efi : begun.efi ≡ None
 
 -- the inputs without the EFI memory map; the rest is unchanged
-abbrev pub without_map : Given → Given
-without_map given = record given { efi = None }
+abbrev pub without_efi_map : InputsView → InputsView
+without_efi_map given = record given { efi = None }
 
 -- The inputs are also accepted without the EFI file, and differ only in its map. Each address has
 -- the same claims with the file and without it. The judgement of the map is the same too: the same
 -- map, or a stop for the same cause.
-pub record HasMapWithoutEfi (held : Held) (named : Named) (begun given : Given) : Type 0 where
-  pub inputs : inputs_of held (without_efi named) begun ≡ Ok (without_map given)
-  pub claims : (x : ℕ) → claims given x ≡ claims (without_map given) x
-  pub judged : map_judged given ≡ map_judged (without_map given)
+pub record HasMapWithoutEfi (held : FileContents) (named : FileNames) (begun given : InputsView) : Type 0 where
+  pub inputs : inputs_of held (without_efi named) begun ≡ Ok (without_efi_map given)
+  pub claims : (x : ℕ) → claims given x ≡ claims (without_efi_map given) x
+  pub judged : judge_map given ≡ judge_map (without_efi_map given)

@@ -3,21 +3,21 @@ use Rattle.std.specs.Prelude.{ℕ, false, List, codes, Result}
 use Rattle.std.specs.Option.{option_map}
 use Rattle.e820_table.specs.declared.zero_page.ZeroFault.{ZeroFault}
 use Rattle.e820_table.specs.declared.zero_page.ZeroFault.TheVariants as zero
-use Rattle.e820_table.specs.ZeroPage.{Page, page_of, zero_fault}
-use Rattle.boot_model.specs.Boot.{Given}
+use Rattle.e820_table.specs.ZeroPage.{ZeroPageView, zero_page_of, zero_fault}
+use Rattle.boot_model.specs.Boot.{InputsView}
 use Rattle.boot_inputs.specs.declared.fault.Fault.{Fault}
 use Rattle.boot_inputs.specs.declared.fault.Fault.TheVariants as faults
 use Rattle.boot_inputs.specs.declared.input.Input.TheVariants as inputs
 use Rattle.boot_inputs.specs.Diagnostic.{Diagnostic}
-use Rattle.boot_inputs.specs.File.{File, unless_fault, with_value}
+use Rattle.boot_inputs.specs.File.{File, value_unless_fault, with_value}
 
 -- the page of the bytes, or their fault
-abbrev pub page_said : List ℕ → Result Page Fault
-page_said bytes = unless_fault (option_map faults.ZeroPage (zero_fault bytes)) (page_of bytes)
+abbrev pub zero_page_or_fault : List ℕ → Result ZeroPageView Fault
+zero_page_or_fault bytes = value_unless_fault (option_map faults.ZeroPage (zero_fault bytes)) (zero_page_of bytes)
 
 -- the page's entries and initrd are put into the inputs
-abbrev pub put_page : Page → Given → Given
-put_page page given = record given { entries = page.entries; initrd = page.initrd }
+abbrev pub set_zero_page : ZeroPageView → InputsView → InputsView
+set_zero_page page given = record given { entries = page.entries; initrd = page.initrd }
 
 -- one page; its entries go into an array with room for all of them, so reading it needs no memory
 abbrev pub zero_page : File
@@ -25,7 +25,7 @@ zero_page = record {
   input = inputs.ZeroPage;
   limit = 4096;
   takes = λ bytes. false;
-  says = λ bytes given. with_value put_page given (page_said bytes);
+  says = λ bytes given. with_value set_zero_page given (zero_page_or_fault bytes);
 }
 
 -- what the line of a fault says

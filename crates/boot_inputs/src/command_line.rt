@@ -5,7 +5,7 @@ ghost use Rattle.std.specs.Option.{option_map};
 ghost use Rattle.bm_base.specs.Answers.{Answers};
 ghost use Rattle.bm_base.specs.ResultSteps.{with_error};
 ghost use Rattle.boot_model.specs.View.{inputs_view};
-ghost use Rattle.boot_inputs.specs.Faults.{SaysOfBytes};
+ghost use Rattle.boot_inputs.specs.Faults.{FaultsAreOfBytes};
 ghost use Rattle.boot_inputs.specs.Diagnostic.{diagnostic_view};
 ghost use Rattle.boot_inputs.specs.CommandLine.{command_line, command_line_diagnostic};
 ghost use Rattle.boot_options.specs.Options.{options_of};
@@ -43,13 +43,13 @@ impl Reader for CommandLines {
         }
     }
 
-    fn wants_no_memory() {
-        command_line_wants_no_memory();
+    fn exhaustion_is_no_fault() {
+        exhaustion_is_no_line_fault();
     }
 }
 
 /// Law: "out of memory" is never a fault of a command line's contents.
-pub fn command_line_wants_no_memory()
+pub fn exhaustion_is_no_line_fault()
     ensures { (bytes : List ℕ) → ¬ IsErrOf (options_of bytes) OptionFault.Memory }
 {}
 

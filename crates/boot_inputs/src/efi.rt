@@ -5,7 +5,7 @@ ghost use Rattle.std.specs.Option.{option_map};
 ghost use Rattle.bm_base.specs.Answers.{Answers};
 ghost use Rattle.bm_base.specs.ResultSteps.{with_error};
 ghost use Rattle.boot_model.specs.View.{inputs_view};
-ghost use Rattle.boot_inputs.specs.Faults.{SaysOfBytes};
+ghost use Rattle.boot_inputs.specs.Faults.{FaultsAreOfBytes};
 ghost use Rattle.boot_inputs.specs.Diagnostic.{diagnostic_view};
 ghost use Rattle.boot_inputs.specs.Efi.{efi_diagnostic, efi_file};
 ghost use Rattle.efi_map.specs.Map.{efi_of};
@@ -44,13 +44,13 @@ impl Reader for EfiMaps {
         }
     }
 
-    fn wants_no_memory() {
-        efi_wants_no_memory();
+    fn exhaustion_is_no_fault() {
+        exhaustion_is_no_efi_fault();
     }
 }
 
 /// Law: "out of memory" is never a fault of an EFI memory map's contents.
-pub fn efi_wants_no_memory()
+pub fn exhaustion_is_no_efi_fault()
     ensures { (bytes : List ℕ) → ¬ IsErrOf (efi_of bytes) EfiFault.Memory }
 {}
 

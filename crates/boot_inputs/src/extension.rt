@@ -6,7 +6,7 @@ ghost use Rattle.std.specs.Option.{option_map};
 ghost use Rattle.bm_base.specs.Answers.{Answers};
 ghost use Rattle.bm_base.specs.ResultSteps.{with_error};
 ghost use Rattle.boot_model.specs.View.{inputs_view};
-ghost use Rattle.boot_inputs.specs.Faults.{SaysOfBytes};
+ghost use Rattle.boot_inputs.specs.Faults.{FaultsAreOfBytes};
 ghost use Rattle.boot_inputs.specs.Diagnostic.{diagnostic_view};
 ghost use Rattle.boot_inputs.specs.Extension.{extension_diagnostic, extension_file};
 ghost use Rattle.e820_table.specs.Extension.{ext_fault};
@@ -46,13 +46,13 @@ impl Reader for Extensions {
         }
     }
 
-    fn wants_no_memory() {
-        extension_wants_no_memory();
+    fn exhaustion_is_no_fault() {
+        exhaustion_is_no_ext_fault();
     }
 }
 
 /// Law: "out of memory" is never a fault of an E820 extension's contents.
-pub fn extension_wants_no_memory()
+pub fn exhaustion_is_no_ext_fault()
     ensures { (bytes : List ℕ) → ext_fault bytes ≢ Some ExtFault.Memory }
 {}
 

@@ -2,16 +2,16 @@
 
 ghost use Rattle.std.specs.Prelude.{◌≡◌, ℕ, ◌≤◌, List, length, Option, Some, IfErr, IfSome, IsNone, IsOk};
 ghost use Rattle.boot_model.specs.View.{inputs_view};
-ghost use Rattle.program_end.specs.Causes.{IsOf, IsOfFile};
+ghost use Rattle.program_end.specs.Causes.{IsErrorOfInput, IsFileError};
 ghost use Rattle.program_end.specs.Fetches.{Fetches};
-ghost use Rattle.boot_inputs.specs.Input.{place};
+ghost use Rattle.boot_inputs.specs.Input.{input_place};
 ghost use Rattle.boot_inputs.specs.declared.input.Input.{Input as AnyInput};
-ghost use Rattle.boot_inputs.specs.Inputs.{file_step, named_step, or_faulty};
+ghost use Rattle.boot_inputs.specs.Inputs.{inputs_after_file, inputs_after_named_file, answer_or_faulty_file};
 
 use crate::fault::{Fault, Misread};
 use crate::names::Names;
 use crate::reader::Reader;
-use crate::refusal::{NoInputs, Reason};
+use crate::refusal::{NoInputs, InputsReason};
 use bm_io::{Fetch, Files};
 use boot_model::Inputs;
 use std::alloc::Global;
@@ -32,10 +32,10 @@ pub fn add_file<R: Reader, F: Files, N: Names>(
     names: &N,
     inputs: &mut Inputs,
 ) -> Result<(), NoInputs>
-    ensures fetches { IfSome (F.holds files.old) (λ held. Fetches place (λ done. inputs_view inputs.new) result
-        (file_step held (N.named names.now) R.file (inputs_view inputs.old))) }
-    ensures cause { IfErr result (IsOfFile (F.faults files.old) (F.faults files.new) (N.named names.now)) }
-    ensures own { IfErr result (IsOf R.file.input) }
+    ensures fetches { IfSome (F.holds files.old) (λ held. Fetches input_place (λ done. inputs_view inputs.new) result
+        (inputs_after_file held (N.named names.now) R.file (inputs_view inputs.old))) }
+    ensures cause { IfErr result (IsFileError (F.faults files.old) (F.faults files.new) (N.named names.now)) }
+    ensures own { IfErr result (IsErrorOfInput R.file.input) }
     ensures unnamed { IsNone (N.named names.now R.file.input) → IsOk result }
     ensures unfetched { IsNone (N.named names.now R.file.input) → files.new ≡ files.old }
     ensures kept { F.holds files.new ≡ F.holds files.old }
@@ -58,17 +58,17 @@ fn fetch<R: Reader, F: Files>(
     name: &str,
     inputs: &mut Inputs,
 ) -> Result<(), NoInputs>
-    ensures fetches { IfSome (F.holds files.old) (λ held. Fetches place (λ done. inputs_view inputs.new) result
-        (named_step held R.file (inputs_view inputs.old) name.now)) }
-    ensures cause { IfErr result (IsOfFile (F.faults files.old) (F.faults files.new) (λ input. Some name.now)) }
-    ensures own { IfErr result (IsOf R.file.input) }
+    ensures fetches { IfSome (F.holds files.old) (λ held. Fetches input_place (λ done. inputs_view inputs.new) result
+        (inputs_after_named_file held R.file (inputs_view inputs.old) name.now)) }
+    ensures cause { IfErr result (IsFileError (F.faults files.old) (F.faults files.new) (λ input. Some name.now)) }
+    ensures own { IfErr result (IsErrorOfInput R.file.input) }
     ensures kept { F.holds files.new ≡ F.holds files.old }
     ensures faults_stay { (any : List ℕ) → F.faults files.old any ≤ F.faults files.new any }
 {
     match files.fetch(alloc, name, R::limit()) {
         Ok(bytes) => read::<R>(alloc, &bytes, inputs),
-        Err(Fetch::Failed) => Err(NoInputs::Reason(Reason::Unread(R::input()))),
-        Err(Fetch::TooLong) => Err(NoInputs::Reason(Reason::Faulty(R::input(), Fault::TooLong))),
+        Err(Fetch::Failed) => Err(NoInputs::Reason(InputsReason::Unread(R::input()))),
+        Err(Fetch::TooLong) => Err(NoInputs::Reason(InputsReason::Faulty(R::input(), Fault::TooLong))),
         Err(Fetch::Memory) => Err(NoInputs::Memory),
     }
 }
@@ -81,14 +81,14 @@ fn fetch<R: Reader, F: Files>(
 /// - out of memory
 fn read<R: Reader>(alloc: Global, bytes: &[u8], inputs: &mut Inputs) -> Result<(), NoInputs>
     requires { length bytes.now ≤ R.file.limit }
-    ensures fetches { Fetches place (λ done. inputs_view inputs.new) result
-        (or_faulty R.file.input (R.file.says bytes.now (inputs_view inputs.old))) }
-    ensures cause { (before now : List ℕ → ℕ) (named : AnyInput → Option (List ℕ)) → IfErr result (IsOfFile before now named) }
-    ensures own { IfErr result (IsOf R.file.input) }
+    ensures fetches { Fetches input_place (λ done. inputs_view inputs.new) result
+        (answer_or_faulty_file R.file.input (R.file.says bytes.now (inputs_view inputs.old))) }
+    ensures cause { (before now : List ℕ → ℕ) (named : AnyInput → Option (List ℕ)) → IfErr result (IsFileError before now named) }
+    ensures own { IfErr result (IsErrorOfInput R.file.input) }
 {
     match R::read(alloc, bytes, inputs) {
         Ok(()) => Ok(()),
-        Err(Misread::Fault(fault)) => { Err(NoInputs::Reason(Reason::Faulty(R::input(), fault))) }
+        Err(Misread::Fault(fault)) => { Err(NoInputs::Reason(InputsReason::Faulty(R::input(), fault))) }
         Err(Misread::Memory) => Err(NoInputs::Memory),
     }
 }

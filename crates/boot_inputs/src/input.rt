@@ -1,7 +1,7 @@
 //! The input files, in the order in which they are read.
 
 ghost use Rattle.std.specs.Prelude.{◌≡◌};
-ghost use Rattle.boot_inputs.specs.Input.{word_for};
+ghost use Rattle.boot_inputs.specs.Input.{input_word};
 
 /// An input file. The variants stand in the order in which the files are read.
 #[derive(Clone, Copy, Debug, PartialEq, Eq)]
@@ -26,8 +26,8 @@ pub enum Input {
 
 impl Input {
     /// Returns the word for the input in the line of its fault.
-    pub fn word(self) -> &'static str
-        ensures { result.now ≡ word_for self }
+    pub fn input_word(self) -> &'static str
+        ensures { result.now ≡ input_word self }
     {
         match self {
             Input::ZeroPage => "zeropage",

@@ -2,9 +2,9 @@
 
 ghost use Rattle.std.specs.Prelude.{IfErr, IfSome, IsNone, IsOk};
 ghost use Rattle.boot_model.specs.View.{inputs_view};
-ghost use Rattle.program_end.specs.Causes.{IsOfFile};
+ghost use Rattle.program_end.specs.Causes.{IsFileError};
 ghost use Rattle.program_end.specs.Fetches.{Fetches};
-ghost use Rattle.boot_inputs.specs.Input.{place};
+ghost use Rattle.boot_inputs.specs.Input.{input_place};
 ghost use Rattle.boot_inputs.specs.Inputs.{inputs_of};
 ghost use Rattle.boot_inputs.specs.declared.input.Input.{Input as AnyInput};
 
@@ -54,8 +54,8 @@ pub fn read_inputs<F: Files, N: Names>(
     begun: Inputs,
 ) -> Result<Inputs, NoInputs>
     ensures fetches { IfSome (F.holds files.old) (λ held.
-        Fetches place inputs_view result (inputs_of held (N.named names.now) (inputs_view begun))) }
-    ensures cause { IfErr result (IsOfFile (F.faults files.old) (F.faults files.new) (N.named names.now)) }
+        Fetches input_place inputs_view result (inputs_of held (N.named names.now) (inputs_view begun))) }
+    ensures cause { IfErr result (IsFileError (F.faults files.old) (F.faults files.new) (N.named names.now)) }
     ensures unnamed { ((input : AnyInput) → IsNone (N.named names.now input)) → IsOk result }
 {
     let mut inputs = begun;

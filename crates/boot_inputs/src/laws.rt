@@ -1,13 +1,13 @@
 //! Laws about the definitions, for all bytes.
 
 ghost use Rattle.std.specs.Prelude.{◌≡◌, All, Ok, Err};
-ghost use Rattle.boot_inputs.specs.Faults.{IsOfBytes, SaysOfBytes};
-ghost use Rattle.boot_inputs.specs.Inputs.{Named, input_files, inputs_of};
-ghost use Rattle.program_end.specs.Program.{Held};
+ghost use Rattle.boot_inputs.specs.Faults.{IsOfBytes, FaultsAreOfBytes};
+ghost use Rattle.boot_inputs.specs.Inputs.{FileNames, input_files, inputs_of};
+ghost use Rattle.program_end.specs.Program.{FileContents};
 ghost use Rattle.boot_inputs.specs.WithoutEfi.{HasMapWithoutEfi, IsBeforeFiles, LacksDescriptors, LacksEfiWord};
 ghost use Rattle.boot_inputs.specs.declared.fault.Fault.{Fault as AnyFault};
 ghost use Rattle.boot_inputs.specs.declared.input.Input.{Input as AnyInput};
-ghost use Rattle.boot_model.specs.Boot.{Given};
+ghost use Rattle.boot_model.specs.Boot.{InputsView};
 ghost use Rattle.program_end.specs.declared.failure.Reason.TheVariants as reasons;
 
 use crate::inputs::FromZeroPage;
@@ -15,20 +15,20 @@ use crate::list::Readers;
 
 /// Law: "out of memory" is never a fault of an input file's contents. So no file is refused with
 /// it as its fault.
-pub fn bytes_want_no_memory()
-    ensures files { All SaysOfBytes input_files }
-    ensures refused { (held : Held) (named : Named) (begun : Given) (input : AnyInput) (fault : AnyFault) →
+pub fn exhaustion_is_no_file_fault()
+    ensures files { All FaultsAreOfBytes input_files }
+    ensures refused { (held : FileContents) (named : FileNames) (begun : InputsView) (input : AnyInput) (fault : AnyFault) →
         inputs_of held named begun ≡ Err (reasons.Faulty input fault) → IsOfBytes fault }
 {
-    FromZeroPage::want_no_memory();
+    FromZeroPage::exhaustion_is_no_fault_of_any();
 }
 
 /// Law: the EFI memory map changes the boot's map only if a word of the command line has the name
 /// `add_efi_memmap` and the file has descriptors. Otherwise the map is that of the same inputs
 /// without the file (`do_add_efi_memmap`).
 pub fn efi_adds_what_is_asked()
-    ensures unasked { (held : Held) (named : Named) (begun given : Given) → IsBeforeFiles begun →
+    ensures unasked { (held : FileContents) (named : FileNames) (begun given : InputsView) → IsBeforeFiles begun →
         inputs_of held named begun ≡ Ok given → LacksEfiWord held named → HasMapWithoutEfi held named begun given }
-    ensures empty { (held : Held) (named : Named) (begun given : Given) → IsBeforeFiles begun →
+    ensures empty { (held : FileContents) (named : FileNames) (begun given : InputsView) → IsBeforeFiles begun →
         inputs_of held named begun ≡ Ok given → LacksDescriptors held named → HasMapWithoutEfi held named begun given }
 {}

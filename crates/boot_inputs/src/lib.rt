@@ -13,7 +13,7 @@
 //! 8. the firmware's own map of memory (EFI)
 //!
 //! [`read_inputs`] reads them in this order. It stops at the first file that can't be read
-//! ([`Reason::Unread`]) or has a fault ([`Reason::Faulty`]).
+//! ([`InputsReason::Unread`]) or has a fault ([`InputsReason::Faulty`]).
 //!
 //! The program does the same with each file ([`add_file`]): it looks up the name, fetches the file
 //! up to its limit, and reads it into the inputs. So an input file is one value in one module, a
@@ -54,20 +54,20 @@ mod slit;
 mod srat;
 mod zero_page;
 
-pub use command_line::command_line_wants_no_memory;
+pub use command_line::exhaustion_is_no_line_fault;
 pub use diagnostic::Diagnostic;
-pub use efi::efi_wants_no_memory;
-pub use extension::extension_wants_no_memory;
+pub use efi::exhaustion_is_no_efi_fault;
+pub use extension::exhaustion_is_no_ext_fault;
 pub use fault::{Fault, Misread};
 pub use fetching::add_file;
 pub use input::Input;
 pub use inputs::read_inputs;
-pub use laws::{bytes_want_no_memory, efi_adds_what_is_asked};
+pub use laws::{exhaustion_is_no_file_fault, efi_adds_what_is_asked};
 pub use list::Readers;
 pub use names::Names;
-pub use pages::pages_wants_no_memory;
+pub use pages::exhaustion_is_no_page_script_fault;
 pub use reader::Reader;
-pub use refusal::{NoInputs, Reason};
-pub use script::script_wants_no_memory;
-pub use slit::slit_wants_no_memory;
-pub use srat::srat_wants_no_memory;
+pub use refusal::{NoInputs, InputsReason};
+pub use script::exhaustion_is_no_script_fault;
+pub use slit::exhaustion_is_no_slit_fault;
+pub use srat::exhaustion_is_no_srat_fault;

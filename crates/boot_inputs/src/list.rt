@@ -3,9 +3,9 @@
 
 ghost use Rattle.std.specs.Prelude.{◌≡◌, All, IsTrue, List, [], ◌∷◌};
 ghost use Rattle.boot_model.specs.View.{inputs_view};
-ghost use Rattle.boot_inputs.specs.Faults.{SaysOfBytes};
+ghost use Rattle.boot_inputs.specs.Faults.{FaultsAreOfBytes};
 ghost use Rattle.boot_inputs.specs.File.{File};
-ghost use Rattle.boot_inputs.specs.Reading.{AreRead, ascend};
+ghost use Rattle.boot_inputs.specs.Reading.{AreRead, are_in_reading_order};
 
 use crate::fetching::add_file;
 use crate::names::Names;
@@ -33,12 +33,12 @@ pub trait Readers {
         names: &N,
         inputs: &mut Inputs,
     ) -> Result<(), NoInputs>
-        requires { IsTrue (ascend list) }
+        requires { IsTrue (are_in_reading_order list) }
         ensures { AreRead F.Files (N.named names.now) list files.old files.new (inputs_view inputs.old) (inputs_view inputs.new) result };
 
     /// Law: "out of memory" is never a fault of these files' contents.
-    fn want_no_memory()
-        ensures { All SaysOfBytes list };
+    fn exhaustion_is_no_fault_of_any()
+        ensures { All FaultsAreOfBytes list };
 }
 
 impl Readers for () {
@@ -53,7 +53,7 @@ impl Readers for () {
         Ok(())
     }
 
-    fn want_no_memory() {}
+    fn exhaustion_is_no_fault_of_any() {}
 }
 
 impl<R: Reader, L: Readers> Readers for (R, L) {
@@ -69,8 +69,8 @@ impl<R: Reader, L: Readers> Readers for (R, L) {
         L::add_files::<F, N>(alloc, files, names, inputs)
     }
 
-    fn want_no_memory() {
-        R::wants_no_memory();
-        L::want_no_memory();
+    fn exhaustion_is_no_fault_of_any() {
+        R::exhaustion_is_no_fault();
+        L::exhaustion_is_no_fault_of_any();
     }
 }

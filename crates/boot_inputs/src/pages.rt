@@ -5,10 +5,10 @@ ghost use Rattle.std.specs.Option.{option_map};
 ghost use Rattle.bm_base.specs.Answers.{Answers};
 ghost use Rattle.bm_base.specs.ResultSteps.{with_error};
 ghost use Rattle.boot_model.specs.View.{inputs_view};
-ghost use Rattle.boot_inputs.specs.Faults.{SaysOfBytes};
+ghost use Rattle.boot_inputs.specs.Faults.{FaultsAreOfBytes};
 ghost use Rattle.boot_inputs.specs.Diagnostic.{diagnostic_view};
 ghost use Rattle.boot_inputs.specs.Pages.{pages_diagnostic, pages_file};
-ghost use Rattle.page_alloc.specs.Reading.{pages_of};
+ghost use Rattle.page_alloc.specs.Reading.{page_lines_of};
 
 use crate::diagnostic::Diagnostic;
 use crate::fault::{Fault, Misread};
@@ -43,14 +43,14 @@ impl Reader for PageScripts {
         }
     }
 
-    fn wants_no_memory() {
-        pages_wants_no_memory();
+    fn exhaustion_is_no_fault() {
+        exhaustion_is_no_page_script_fault();
     }
 }
 
 /// Law: "out of memory" is never a fault of a page script's contents.
-pub fn pages_wants_no_memory()
-    ensures { (bytes : List ℕ) → ¬ IsErrOf (pages_of bytes) PageFault.Memory }
+pub fn exhaustion_is_no_page_script_fault()
+    ensures { (bytes : List ℕ) → ¬ IsErrOf (page_lines_of bytes) PageFault.Memory }
 {}
 
 /// Returns what the line of the fault says, or `None` for out of memory, which is no fault of the

@@ -6,7 +6,7 @@ ghost use Rattle.bm_base.specs.Answers.{Answers};
 ghost use Rattle.bm_base.specs.ResultSteps.{with_error};
 ghost use Rattle.boot_model.specs.View.{inputs_view};
 ghost use Rattle.boot_inputs.specs.declared.fault.Misread.TheVariants as misreads;
-ghost use Rattle.boot_inputs.specs.Faults.{SaysOfBytes};
+ghost use Rattle.boot_inputs.specs.Faults.{FaultsAreOfBytes};
 ghost use Rattle.boot_inputs.specs.File.{File};
 
 use crate::fault::Misread;
@@ -42,6 +42,6 @@ pub trait Reader {
 
     /// Law: "out of memory" is never a fault of this file's contents. So it doesn't matter what
     /// the definition gives for it.
-    fn wants_no_memory()
-        ensures { SaysOfBytes file };
+    fn exhaustion_is_no_fault()
+        ensures { FaultsAreOfBytes file };
 }

@@ -7,7 +7,7 @@ use crate::input::Input;
 use boot_model::Cause;
 
 /// Why words and files give no report.
-pub type Reason = program_end::Reason<Input, Fault, Cause>;
+pub type InputsReason = program_end::Reason<Input, Fault, Cause>;
 
 /// Why there are no inputs: a reason, or out of memory.
-pub type NoInputs = program_end::NoResult<Reason>;
+pub type NoInputs = program_end::NoResult<InputsReason>;

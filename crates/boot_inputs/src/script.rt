@@ -7,7 +7,7 @@ ghost use Rattle.std.specs.Option.{option_map};
 ghost use Rattle.bm_base.specs.Answers.{Answers};
 ghost use Rattle.bm_base.specs.ResultSteps.{with_error};
 ghost use Rattle.boot_model.specs.View.{inputs_view};
-ghost use Rattle.boot_inputs.specs.Faults.{SaysOfBytes};
+ghost use Rattle.boot_inputs.specs.Faults.{FaultsAreOfBytes};
 ghost use Rattle.boot_inputs.specs.Diagnostic.{diagnostic_view};
 ghost use Rattle.boot_inputs.specs.Script.{script_diagnostic, script_file};
 ghost use Rattle.script_reader.specs.Script.{script_of};
@@ -47,13 +47,13 @@ impl Reader for Scripts {
         }
     }
 
-    fn wants_no_memory() {
-        script_wants_no_memory();
+    fn exhaustion_is_no_fault() {
+        exhaustion_is_no_script_fault();
     }
 }
 
 /// Law: "out of memory" is never a fault of a script's contents.
-pub fn script_wants_no_memory()
+pub fn exhaustion_is_no_script_fault()
     ensures { (bytes : List ℕ) → ¬ IsErrOf (script_of bytes) ScriptFault.Memory }
 {}
 

@@ -5,7 +5,7 @@ ghost use Rattle.std.specs.Option.{option_map};
 ghost use Rattle.bm_base.specs.Answers.{Answers};
 ghost use Rattle.bm_base.specs.ResultSteps.{with_error};
 ghost use Rattle.boot_model.specs.View.{inputs_view};
-ghost use Rattle.boot_inputs.specs.Faults.{SaysOfBytes};
+ghost use Rattle.boot_inputs.specs.Faults.{FaultsAreOfBytes};
 ghost use Rattle.boot_inputs.specs.Diagnostic.{diagnostic_view};
 ghost use Rattle.boot_inputs.specs.Slit.{slit_diagnostic, slit_file};
 ghost use Rattle.slit_zonelists.specs.Table.{slit_of};
@@ -43,13 +43,13 @@ impl Reader for Slits {
         }
     }
 
-    fn wants_no_memory() {
-        slit_wants_no_memory();
+    fn exhaustion_is_no_fault() {
+        exhaustion_is_no_slit_fault();
     }
 }
 
 /// Law: "out of memory" is never a fault of a SLIT's contents.
-pub fn slit_wants_no_memory()
+pub fn exhaustion_is_no_slit_fault()
     ensures { (bytes : List ℕ) → ¬ IsErrOf (slit_of bytes) SlitFault.Memory }
 {}
 

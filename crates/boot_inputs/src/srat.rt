@@ -6,7 +6,7 @@ ghost use Rattle.std.specs.Option.{option_map};
 ghost use Rattle.bm_base.specs.Answers.{Answers};
 ghost use Rattle.bm_base.specs.ResultSteps.{with_error};
 ghost use Rattle.boot_model.specs.View.{inputs_view};
-ghost use Rattle.boot_inputs.specs.Faults.{SaysOfBytes};
+ghost use Rattle.boot_inputs.specs.Faults.{FaultsAreOfBytes};
 ghost use Rattle.boot_inputs.specs.Diagnostic.{diagnostic_view};
 ghost use Rattle.boot_inputs.specs.Srat.{srat_diagnostic, srat_file};
 ghost use Rattle.srat_reader.specs.Table.{srat_of};
@@ -44,13 +44,13 @@ impl Reader for Srats {
         }
     }
 
-    fn wants_no_memory() {
-        srat_wants_no_memory();
+    fn exhaustion_is_no_fault() {
+        exhaustion_is_no_srat_fault();
     }
 }
 
 /// Law: "out of memory" is never a fault of an SRAT's contents.
-pub fn srat_wants_no_memory()
+pub fn exhaustion_is_no_srat_fault()
     ensures { (bytes : List ℕ) → ¬ IsErrOf (srat_of bytes) SratFault.Memory }
 {}
 

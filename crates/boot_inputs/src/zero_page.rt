@@ -6,7 +6,7 @@ ghost use Rattle.bm_base.specs.Answers.{Answers};
 ghost use Rattle.bm_base.specs.ResultSteps.{with_error};
 ghost use Rattle.boot_model.specs.View.{inputs_view};
 ghost use Rattle.boot_inputs.specs.Diagnostic.{diagnostic_view};
-ghost use Rattle.boot_inputs.specs.Faults.{SaysOfBytes};
+ghost use Rattle.boot_inputs.specs.Faults.{FaultsAreOfBytes};
 ghost use Rattle.boot_inputs.specs.ZeroPage.{zero_page, zero_page_diagnostic};
 
 use crate::diagnostic::Diagnostic;
@@ -41,7 +41,7 @@ impl Reader for ZeroPages {
         }
     }
 
-    fn wants_no_memory() {}
+    fn exhaustion_is_no_fault() {}
 }
 
 /// Returns what the line of the fault says.

@@ -15,7 +15,7 @@ use Rattle.memblock_model.specs.Labels.{LabelView, Labels}
 use Rattle.memblock_model.specs.Items.{memory_after, trim_frames}
 use Rattle.memblock_model.proofs.LabelLaws.{IsInFrame, in_own_frame, trim_frames-whole, trim_frames-unlike, trim_frames-frame}
 use Rattle.memblock_model.proofs.ItemLaws.{memory_fold-local}
-use Rattle.boot_journal.specs.Bytes.{is_trim, label_after, label_from, label_kept, Agrees, Differs, EdgesAgree, AllAgree}
+use Rattle.boot_journal.specs.Bytes.{is_trim, label_after, label_after_items, label_after_trim, EdgeAgrees, EdgeDiffers, ItemAgrees, ItemsAgree}
 
 -- an end of the item's range is at address `e`
 abbrev edge_at : Item → ℕ → Bool
@@ -39,71 +39,71 @@ label_after-step (item.Node range node) t y h = rw (covers-step range y h) refl
 label_after-step (item.Mirror range) t y h = rw (covers-step range y h) refl
 label_after-step i t y h = refl
 
-label_from-step : (items : List Item) (t : Option LabelView) (y : ℕ) → edge_in items (y + 1) ≡ false → label_from t items (y + 1)
-    ≡ label_from t items y
-label_from-step [] t y h = refl
-label_from-step (i ∷ is) t y h =
+label_after_items-step : (items : List Item) (t : Option LabelView) (y : ℕ) → edge_in items (y + 1) ≡ false → label_after_items t items (y + 1)
+    ≡ label_after_items t items y
+label_after_items-step [] t y h = refl
+label_after_items-step (i ∷ is) t y h =
     let both = or_parts (edge_at i (y + 1)) (edge_in is (y + 1)) h in
-    ap (λ (u : Option LabelView). label_from u is (y + 1)) (label_after-step i t y both.0) ∙ label_from-step is (label_after y t i) y both.1
+    ap (λ (u : Option LabelView). label_after_items u is (y + 1)) (label_after-step i t y both.0) ∙ label_after_items-step is (label_after y t i) y both.1
 
 -- if both ends of a range agree with the frame's first byte, so does each of them
-range_agrees-at : (whole : Option LabelView) (items : List Item) (first : ℕ) (r : RangeView) (e : ℕ) → Agrees whole items first r.base
-    → Agrees whole items first (end_of r)
-    → ((r.base == e) || (end_of r == e)) ≡ true → Agrees whole items first e
+range_agrees-at : (whole : Option LabelView) (items : List Item) (first : ℕ) (r : RangeView) (e : ℕ) → EdgeAgrees whole items first r.base
+    → EdgeAgrees whole items first (end_of r)
+    → ((r.base == e) || (end_of r == e)) ≡ true → EdgeAgrees whole items first e
 range_agrees-at whole items first r e base_agrees end_agrees h =
-    elim (or_cases (r.base == e) (end_of r == e) h) as (λ _. Agrees whole items first e) [
+    elim (or_cases (r.base == e) (end_of r == e) h) as (λ _. EdgeAgrees whole items first e) [
       | inl at_base ↦ let is : r.base ≡ e = grind (arith, nat_tests) in rw is at base_agrees
       | inr at_end ↦ let is : end_of r ≡ e = grind (arith, nat_tests) in rw is at end_agrees
     ]
 
-edges_agree-at : (whole : Option LabelView) (items : List Item) (first : ℕ) (i : Item) (e : ℕ) → EdgesAgree whole items first i → edge_at i e
-    ≡ true → Agrees whole items first e
+edges_agree-at : (whole : Option LabelView) (items : List Item) (first : ℕ) (i : Item) (e : ℕ) → ItemAgrees whole items first i → edge_at i e
+    ≡ true → EdgeAgrees whole items first e
 edges_agree-at whole items first (item.Mem range) e agree h = range_agrees-at whole items first range e agree.0 agree.1 h
 edges_agree-at whole items first (item.Node range node) e agree h = range_agrees-at whole items first range e agree.0 agree.1 h
 edges_agree-at whole items first (item.Mirror range) e agree h = range_agrees-at whole items first range e agree.0 agree.1 h
 edges_agree-at whole items first i e agree h = absurd (true≢false (sym h))
 
-all_agree-at : (whole : Option LabelView) (items : List Item) (first : ℕ) (is : List Item) (e : ℕ) → AllAgree whole items first is
-    → edge_in is e ≡ true → Agrees whole items first e
+all_agree-at : (whole : Option LabelView) (items : List Item) (first : ℕ) (is : List Item) (e : ℕ) → ItemsAgree whole items first is
+    → edge_in is e ≡ true → EdgeAgrees whole items first e
 all_agree-at whole items first [] e agree h = absurd (true≢false (sym h))
 all_agree-at whole items first (i ∷ is) e agree h =
-    elim (or_cases (edge_at i e) (edge_in is e) h) as (λ _. Agrees whole items first e) [
+    elim (or_cases (edge_at i e) (edge_in is e) h) as (λ _. EdgeAgrees whole items first e) [
       | inl here ↦ edges_agree-at whole items first i e agree.0 here
       | inr later ↦ all_agree-at whole items first is e agree.1 later
     ]
 
 -- if all ends agree, all bytes of the frame have the same marks
-frame-agrees : (whole : Option LabelView) (items : List Item) (first : ℕ) → AllAgree whole items first items → (k y : ℕ) → y ≡ first + k
+frame-agrees : (whole : Option LabelView) (items : List Item) (first : ℕ) → ItemsAgree whole items first items → (k y : ℕ) → y ≡ first + k
     → k < 4096
-    → label_from whole items y ≡ label_from whole items first
+    → label_after_items whole items y ≡ label_after_items whole items first
 frame-agrees whole items first agree zero y is lt = let same : y ≡ first = omega arith in rw same refl
 frame-agrees whole items first agree (suc k) y is lt =
     let z : ℕ = first + k in
     let next : y ≡ z + 1 = omega arith in
-    rw next (elim (cases_Bool (edge_in items (z + 1))) as (λ _. label_from whole items (z + 1) ≡ label_from whole items first) [
+    rw next (elim (cases_Bool (edge_in items (z + 1))) as (λ _. label_after_items whole items (z + 1) ≡ label_after_items whole items first) [
       | inl edge ↦ all_agree-at whole items first items (z + 1) agree edge (omega arith) (omega arith)
-      | inr quiet ↦ label_from-step items whole z quiet ∙ frame-agrees whole items first agree k z refl (omega arith)
+      | inr quiet ↦ label_after_items-step items whole z quiet ∙ frame-agrees whole items first agree k z refl (omega arith)
     ])
 
 -- a trim keeps a frame whose ends agree
-pub kept-whole : (whole : Option LabelView) (items : List Item) (x : ℕ) → AllAgree whole items (x - x % 4096) items → label_kept whole items x
-    ≡ label_from whole items (x - x % 4096)
-unfolding label_kept
+pub kept-whole : (whole : Option LabelView) (items : List Item) (x : ℕ) → ItemsAgree whole items (x - x % 4096) items → label_after_trim whole items x
+    ≡ label_after_items whole items (x - x % 4096)
+unfolding label_after_trim
 kept-whole whole items x agree =
     let first : ℕ = x - x % 4096 in
-    let one : (y : ℕ) → IsInFrame x y → label_from whole items y ≡ label_from whole items first =
+    let one : (y : ℕ) → IsInFrame x y → label_after_items whole items y ≡ label_after_items whole items first =
     λ y in_frame. frame-agrees whole items first agree (y - first) y (omega arith) (omega arith) in
     let here = one x (in_own_frame x) in
-    trim_frames-whole (label_from whole items) x (λ y in_frame. one y in_frame ∙ sym here) ∙ here
+    trim_frames-whole (label_after_items whole items) x (λ y in_frame. one y in_frame ∙ sym here) ∙ here
 
 -- a trim removes a frame with an end that differs
-pub kept-parts : (whole : Option LabelView) (items : List Item) (x e : ℕ) → Differs whole items (x - x % 4096) e → label_kept whole items x
+pub kept-parts : (whole : Option LabelView) (items : List Item) (x e : ℕ) → EdgeDiffers whole items (x - x % 4096) e → label_after_trim whole items x
     ≡ None
-unfolding label_kept
+unfolding label_after_trim
 kept-parts whole items x e differs =
     let at_edge : IsInFrame x e = record { above = omega arith; below = omega arith } in
     let at_first : IsInFrame x (x - x % 4096) = record { above = omega arith; below = omega arith } in
-    trim_frames-unlike (label_from whole items) x e (x - x % 4096) at_edge at_first differs.other
+    trim_frames-unlike (label_after_items whole items) x e (x - x % 4096) at_edge at_first differs.other
 
 -- the effect of an item other than a trim on a byte depends only on that byte's marks
 label_after-is : (f : Labels) (i : Item) (y : ℕ) → is_trim i ≡ false → memory_after f i y ≡ label_after y (f y) i
@@ -114,11 +114,11 @@ label_after-is f i y plain = refl
 abbrev Plain : List Item → Type 0
 Plain items = (k : ℕ) → k < length items → is_trim (get_or items k item.Trim) ≡ false
 
-labels_after : (f : Labels) (items : List Item) (y : ℕ) → Plain items → fold memory_after f items y ≡ label_from (f y) items y
+labels_after : (f : Labels) (items : List Item) (y : ℕ) → Plain items → fold memory_after f items y ≡ label_after_items (f y) items y
 labels_after f [] y plain = refl
 labels_after f (i ∷ is) y plain =
     labels_after (memory_after f i) is y (λ k lt. plain (suc k) (omega arith))
-    ∙ ap (λ (l : Option LabelView). label_from l is y) (label_after-is f i y (plain 0 (omega arith)))
+    ∙ ap (λ (l : Option LabelView). label_after_items l is y) (label_after-is f i y (plain 0 (omega arith)))
 
 -- memory in which all bytes have the same marks
 abbrev all_with : Option LabelView → Labels
@@ -131,15 +131,15 @@ label_after_all whole items x = fold memory_after (all_with whole) items x
 
 -- after a trim all bytes of the frame have the same marks, so one of them is enough
 trim_step : (whole : Option LabelView) (items rest : List Item) (x : ℕ) → Plain items
-    → label_after_all whole (items ++ item.Trim ∷ rest) x ≡ label_after_all (label_kept whole items x) rest x
-unfolding label_kept
+    → label_after_all whole (items ++ item.Trim ∷ rest) x ≡ label_after_all (label_after_trim whole items x) rest x
+unfolding label_after_trim
 trim_step whole items rest x plain =
-    let same : fold memory_after (all_with whole) items ≡ label_from whole items =
+    let same : fold memory_after (all_with whole) items ≡ label_after_items whole items =
     λ k y. labels_after (all_with whole) items y plain k in
     ap (λ (f : Labels). f x) (fold-append memory_after (all_with whole) items (item.Trim ∷ rest))
     ∙ ap (λ (f : Labels). fold memory_after (trim_frames f) rest x) same
-    ∙ memory_fold-local (trim_frames (label_from whole items)) (all_with (label_kept whole items x)) rest x
-    (trim_frames-frame (label_from whole items) x) x (in_own_frame x)
+    ∙ memory_fold-local (trim_frames (label_after_items whole items)) (all_with (label_after_trim whole items x)) rest x
+    (trim_frames-frame (label_after_items whole items) x) x (in_own_frame x)
 
 position_none : (items : List Item) → position is_trim items ≡ None → Plain items
 position_none items h k lt =
@@ -154,7 +154,7 @@ is_trim-is i h = absurd (true≢false (sym h))
 
 -- one iteration of the loop
 pub turn : (whole : Option LabelView) (items : List Item) (i x : ℕ) → position is_trim items ≡ Some i
-    → label_after_all whole items x ≡ label_after_all (label_kept whole (take i items) x) (drop (i + 1) items) x
+    → label_after_all whole items x ≡ label_after_all (label_after_trim whole (take i items) x) (drop (i + 1) items) x
 turn whole items i x found =
     let at = position-Some is_trim items i item.Trim found in
     let trim : get_or items i item.Trim ≡ item.Trim = is_trim-is (get_or items i item.Trim) at.1 in
@@ -165,5 +165,5 @@ turn whole items i x found =
 
 -- the items after the last trim
 pub last_turn : (whole : Option LabelView) (items : List Item) (x : ℕ) → position is_trim items ≡ None → label_after_all whole items x
-    ≡ label_from whole items x
+    ≡ label_after_items whole items x
 last_turn whole items x none = labels_after (all_with whole) items x (position_none items none)

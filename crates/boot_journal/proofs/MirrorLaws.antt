@@ -7,29 +7,29 @@ use Rattle.memblock_model.specs.declared.item.Item.{Item}
 use Rattle.memblock_model.specs.declared.item.Item.TheVariants as item
 use Rattle.memblock_model.specs.Labels.{Labels}
 use Rattle.memblock_model.specs.Items.{trim_frames, memory_after, no_memory, memory_of}
-use Rattle.memblock_model.specs.Search.{suits}
+use Rattle.memblock_model.specs.Search.{is_allowed_mirror}
 use Rattle.memblock_model.proofs.LabelLaws.{trim_frames-cases, trim_frames-whole}
-use Rattle.boot_journal.specs.Mirrors.{mirrors_after, mirrors_in}
+use Rattle.boot_journal.specs.Mirrors.{has_mirrors_after, has_mirrors}
 
 -- one more item
-pub mirrors_in-push : (items : List Item) (i : Item) → mirrors_in (items ++ i ∷ []) ≡ mirrors_after (mirrors_in items) i
-mirrors_in-push items i = fold-append mirrors_after false items (i ∷ [])
+pub has_mirrors-push : (items : List Item) (i : Item) → has_mirrors (items ++ i ∷ []) ≡ has_mirrors_after (has_mirrors items) i
+has_mirrors-push items i = fold-append has_mirrors_after false items (i ∷ [])
 
-trimmed_suits : (f : Labels) (x : ℕ) → suits true (f x) ≡ false → suits true (trim_frames f x) ≡ false
+trimmed_suits : (f : Labels) (x : ℕ) → is_allowed_mirror true (f x) ≡ false → is_allowed_mirror true (trim_frames f x) ≡ false
 trimmed_suits f x plain =
-    elim (trim_frames-cases f x) as (λ _. suits true (trim_frames f x) ≡ false) [
+    elim (trim_frames-cases f x) as (λ _. is_allowed_mirror true (trim_frames f x) ≡ false) [
       | inl one ↦ rw (trim_frames-whole f x one) plain
       | inr none ↦ rw none refl
     ]
 
 -- after one such item the answer stays true
-marked : (items : List Item) → fold mirrors_after true items ≡ true
+marked : (items : List Item) → fold has_mirrors_after true items ≡ true
 marked [] = refl
 marked (item.Mirror range ∷ is) = marked is
 marked (i ∷ is) = marked is
 
-unmirrored_from : (f : Labels) (items : List Item) → mirrors_in items ≡ false → ((x : ℕ) → suits true (f x) ≡ false)
-    → (x : ℕ) → suits true (fold memory_after f items x) ≡ false
+unmirrored_from : (f : Labels) (items : List Item) → has_mirrors items ≡ false → ((x : ℕ) → is_allowed_mirror true (f x) ≡ false)
+    → (x : ℕ) → is_allowed_mirror true (fold memory_after f items x) ≡ false
 unmirrored_from f [] none plain x = plain x
 unmirrored_from f (item.Mirror range ∷ is) none plain x = absurd (true≢false (sym (marked is) ∙ none))
 unmirrored_from f (item.Mem range ∷ is) none plain x =
@@ -39,5 +39,5 @@ unmirrored_from f (item.Node range node ∷ is) none plain x =
 unmirrored_from f (item.Trim ∷ is) none plain x = unmirrored_from (trim_frames f) is none (λ y. trimmed_suits f y (plain y)) x
 unmirrored_from f (i ∷ is) none plain x = unmirrored_from f is none plain x
 
-pub unmirrored : (items : List Item) → mirrors_in items ≡ false → (x : ℕ) → suits true (memory_of items x) ≡ false
+pub unmirrored : (items : List Item) → has_mirrors items ≡ false → (x : ℕ) → is_allowed_mirror true (memory_of items x) ≡ false
 unmirrored items none x = unmirrored_from no_memory items none (λ y. refl) x

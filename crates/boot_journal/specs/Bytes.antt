@@ -17,33 +17,33 @@ label_after x carried item.Trim = carried
 label_after x carried i = memory_after (λ y. carried) i x
 
 -- the marks of the byte after these items; before them it had the marks `whole`
-abbrev pub label_from : Option LabelView → List Item → ℕ → Option LabelView
-label_from whole items x = fold (label_after x) whole items
+abbrev pub label_after_items : Option LabelView → List Item → ℕ → Option LabelView
+label_after_items whole items x = fold (label_after x) whole items
 
 -- the marks of the byte after these items and a trim; before them all bytes of its frame had the
 -- marks `whole`
-unfoldable pub label_kept : Option LabelView → List Item → ℕ → Option LabelView
-label_kept whole items x = trim_frames (label_from whole items) x
+unfoldable pub label_after_trim : Option LabelView → List Item → ℕ → Option LabelView
+label_after_trim whole items x = trim_frames (label_after_items whole items) x
 
 -- if address `e` is inside the frame at `first`, its byte has the same marks as the frame's first
 -- byte
-abbrev pub Agrees : Option LabelView → List Item → ℕ → ℕ → Type 0
-Agrees whole items first e = first < e → e < first + FRAME_SIZE → label_from whole items e ≡ label_from whole items first
+abbrev pub EdgeAgrees : Option LabelView → List Item → ℕ → ℕ → Type 0
+EdgeAgrees whole items first e = first < e → e < first + FRAME_SIZE → label_after_items whole items e ≡ label_after_items whole items first
 
 -- the address is inside the frame, and its byte has other marks than the frame's first byte
-pub record Differs (whole : Option LabelView) (items : List Item) (first e : ℕ) : Type 0 where
+pub record EdgeDiffers (whole : Option LabelView) (items : List Item) (first e : ℕ) : Type 0 where
   pub behind : first < e
   pub inside : e < first + FRAME_SIZE
-  pub other : label_from whole items e ≢ label_from whole items first
+  pub other : label_after_items whole items e ≢ label_after_items whole items first
 
 -- both ends of the item's range agree with the frame's first byte
-abbrev pub EdgesAgree : Option LabelView → List Item → ℕ → Item → Type 0
-EdgesAgree whole items first (item.Mem range) = Agrees whole items first range.base × Agrees whole items first (end_of range)
-EdgesAgree whole items first (item.Node range node) = Agrees whole items first range.base × Agrees whole items first (end_of range)
-EdgesAgree whole items first (item.Mirror range) = Agrees whole items first range.base × Agrees whole items first (end_of range)
-EdgesAgree whole items first i = Unit {0}
+abbrev pub ItemAgrees : Option LabelView → List Item → ℕ → Item → Type 0
+ItemAgrees whole items first (item.Mem range) = EdgeAgrees whole items first range.base × EdgeAgrees whole items first (end_of range)
+ItemAgrees whole items first (item.Node range node) = EdgeAgrees whole items first range.base × EdgeAgrees whole items first (end_of range)
+ItemAgrees whole items first (item.Mirror range) = EdgeAgrees whole items first range.base × EdgeAgrees whole items first (end_of range)
+ItemAgrees whole items first i = Unit {0}
 
 -- all ends of ranges agree with the frame's first byte
-abbrev pub AllAgree : Option LabelView → List Item → ℕ → List Item → Type 0
-AllAgree whole items first [] = Unit {0}
-AllAgree whole items first (i ∷ is) = EdgesAgree whole items first i × AllAgree whole items first is
+abbrev pub ItemsAgree : Option LabelView → List Item → ℕ → List Item → Type 0
+ItemsAgree whole items first [] = Unit {0}
+ItemsAgree whole items first (i ∷ is) = ItemAgrees whole items first i × ItemsAgree whole items first is

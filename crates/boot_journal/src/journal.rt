@@ -7,8 +7,8 @@
 ghost use Rattle.std.specs.Prelude.{◌≡◌, ◌++◌, ◌∷◌, ◌+◌, ◌-◌, ◌^◌, ◌<◌, ◌≤◌, ℕ, Some, [], ◌↔◌, IsTrue, max, OnOk, OnErr, IfOk, vec_len, vec_capacity};
 ghost use Rattle.bm_base.specs.Range.{end_of};
 ghost use Rattle.address_runs.specs.Runs.{IsRunsOf};
-ghost use Rattle.memblock_model.specs.Items.{IsItem, AreItems, owner_of, tag_of, owner_runs_of};
-ghost use Rattle.boot_journal.specs.Mirrors.{mirrors_after, mirrors_in};
+ghost use Rattle.memblock_model.specs.Items.{ItemHasBytes, ItemsHaveBytes, owner_of, tag_of, owner_runs_of};
+ghost use Rattle.boot_journal.specs.Mirrors.{has_mirrors_after, has_mirrors};
 
 use crate::run_list::RunList;
 use crate::{owners, tags};
@@ -35,20 +35,20 @@ impl Model for Journal {
     ghost use Rattle.std.specs.Prelude.{◌≡◌, ◌+◌, ◌*◌, ◌^◌, ◌≤◌, length, vec_len, vec_capacity};
     ghost use Rattle.address_runs.specs.Runs.{IsRunsOf};
     ghost use Rattle.address_runs.specs.Edits.{NothingFrom};
-    ghost use Rattle.memblock_model.specs.Items.{AreItems, owner_of};
-    ghost use Rattle.boot_journal.specs.Contents.{Contents};
-    ghost use Rattle.boot_journal.specs.Mirrors.{mirrors_in};
+    ghost use Rattle.memblock_model.specs.Items.{ItemsHaveBytes, owner_of};
+    ghost use Rattle.boot_journal.specs.Contents.{JournalView};
+    ghost use Rattle.boot_journal.specs.Mirrors.{has_mirrors};
 
-    ghost Value = { Contents };
+    ghost Value = { JournalView };
 
     ghost view = { λ j. record { items = j.items.items; spare = j.spare } };
 
     // an item adds at most two runs
     ghost invariant = { λ j.
-        (vec_len j.items + j.spare ≤ vec_capacity j.items) × AreItems j.items.items ×
+        (vec_len j.items + j.spare ≤ vec_capacity j.items) × ItemsHaveBytes j.items.items ×
         (length j.owners.items + 2 * j.spare ≤ j.owners.room) ×
         IsRunsOf (owner_of j.items.items) j.owners.items × NothingFrom (2 ^ 64) (owner_of j.items.items) ×
-        (j.mirrors ≡ mirrors_in j.items.items) };
+        (j.mirrors ≡ has_mirrors j.items.items) };
 }
 
 impl Journal {
@@ -85,7 +85,7 @@ impl Journal {
             return Err(Memory);
         };
         self.items.reserve(n as usize)?;
-        self.owners.reserve(runs)?;
+        self.owners.ensure_run_room(runs)?;
         self.spare = n;
         Ok(())
     }
@@ -96,7 +96,7 @@ impl Journal {
     ///
     /// - `Memory`: the program ran out of memory, and `spare` is 0; the journal is unchanged.
     pub fn push(&mut self, item: Item) -> Result<(), Memory>
-        requires { IsItem item }
+        requires { ItemHasBytes item }
         ensures ok { OnOk result (self.new.items ≡ self.old.items ++ item ∷ []) }
         ensures spare { OnOk result (self.old.spare ≤ self.new.spare + 1) }
         ensures exact { OnOk result (self.new.spare ≡ self.old.spare - 1) }
@@ -113,12 +113,12 @@ impl Journal {
     /// Appends an item, whose range must not be empty, without allocating. `spare` must be above
     /// 0.
     pub fn push_ready(&mut self, item: Item)
-        requires item { IsItem item }
+        requires item { ItemHasBytes item }
         requires spare { 0 < self.old.spare }
         ensures { self.new ≡ record { items = self.old.items ++ item ∷ []; spare = self.old.spare - 1 } }
     {
-        owners::note(&mut self.owners, &item);
-        self.mirrors = mirrors_after(self.mirrors, &item);
+        owners::update_owners(&mut self.owners, &item);
+        self.mirrors = has_mirrors_after(self.mirrors, &item);
         push_within_capacity(&mut self.items, item);
         self.spare -= 1;
     }
@@ -126,7 +126,7 @@ impl Journal {
     /// Returns the items, oldest first.
     pub fn items(&self) -> &[Item]
         ensures items { result.now ≡ self.now.items }
-        ensures ranges { AreItems result.now }
+        ensures ranges { ItemsHaveBytes result.now }
     {
         self.items.as_slice()
     }
@@ -151,7 +151,7 @@ impl Journal {
     /// Tests whether some item marks memory as mirrored. The answer is kept, so no item is looked
     /// at.
     pub fn has_mirrors(&self) -> bool
-        ensures { result ≡ mirrors_in self.now.items }
+        ensures { result ≡ has_mirrors self.now.items }
     {
         self.mirrors
     }
@@ -188,8 +188,8 @@ impl Journal {
 }
 
 /// Tests whether this item or one before it marks memory as mirrored.
-fn mirrors_after(before: bool, item: &Item) -> bool
-    ensures { result ≡ mirrors_after before item.now }
+fn has_mirrors_after(before: bool, item: &Item) -> bool
+    ensures { result ≡ has_mirrors_after before item.now }
 {
     before || matches!(item, Item::Mirror { .. })
 }

@@ -7,7 +7,7 @@
 ghost use Rattle.std.specs.Prelude.{◌+◌, ◌^◌, ◌<◌, ◌≤◌, length};
 ghost use Rattle.address_runs.specs.Runs.{AreRuns, IsRunsOf, value_at};
 ghost use Rattle.address_runs.specs.Edits.{change_range, NothingFrom};
-ghost use Rattle.memblock_model.specs.Items.{IsItem, owners_after};
+ghost use Rattle.memblock_model.specs.Items.{ItemHasBytes, owners_after};
 ghost use Rattle.run_edits.specs.Records.{EndsNoRun};
 
 use crate::run_list::RunList;
@@ -17,8 +17,8 @@ use run_edits::{Change, Replace, Uncover, amend};
 
 /// Updates the runs for an item. A claim makes its owner the owner of all bytes in its range;
 /// after a release nobody owns them. There must be room for two more runs.
-pub fn note(owners: &mut RunList, item: &Item)
-    requires item { IsItem item.now }
+pub fn update_owners(owners: &mut RunList, item: &Item)
+    requires item { ItemHasBytes item.now }
     requires runs { AreRuns owners.old.items }
     requires within { NothingFrom (2 ^ 64) (value_at owners.old.items) }
     requires room { length owners.old.items + 2 ≤ owners.old.room }
@@ -28,15 +28,15 @@ pub fn note(owners: &mut RunList, item: &Item)
     ensures room { owners.old.room ≤ owners.new.room }
 {
     match item {
-        Item::Claim { range, owner } => change(owners, range, Replace(*owner)),
-        Item::Free { range } => change(owners, range, Uncover),
+        Item::Claim { range, owner } => apply_change(owners, range, Replace(*owner)),
+        Item::Free { range } => apply_change(owners, range, Uncover),
         _ => {}
     }
 }
 
 /// Carries out one change on the runs inside the range, without allocating. There must be room for
 /// two more runs.
-fn change<C: Change<Owner>>(owners: &mut RunList, range: &Range, change: C)
+fn apply_change<C: Change<Owner>>(owners: &mut RunList, range: &Range, change: C)
     requires some { 0 < range.now.size }
     requires runs { AreRuns owners.old.items }
     requires within { NothingFrom (2 ^ 64) (value_at owners.old.items) }

@@ -56,7 +56,7 @@ impl RunList {
     /// # Errors
     ///
     /// - `Memory`: the program ran out of memory; the list is unchanged.
-    pub fn reserve(&mut self, more: u64) -> Result<(), Memory>
+    pub fn ensure_run_room(&mut self, more: u64) -> Result<(), Memory>
         ensures items { self.new.items ≡ self.old.items }
         ensures room { OnOk result (length self.old.items + more ≤ self.new.room) }
         ensures err { OnErr result (self.new ≡ self.old) }
@@ -125,7 +125,7 @@ impl Slots<OwnerRun> for RunList {
         let i = i as usize;
         let count = self.records.len() - self.front;
         let behind = self.records.capacity() - self.records.len();
-        if is_low(i, count, self.front, behind) {
+        if moves_lower_runs(i, count, self.front, behind) {
             insert_low(&mut self.records, self.front, i, item);
             self.front -= 1;
         } else {
@@ -158,7 +158,7 @@ impl Slots<OwnerRun> for RunList {
 /// Decides whether inserting at index `i` moves the runs before it, and not those after it. That
 /// is so if fewer runs are before it and there is room before the first run, or if there is no
 /// room after the last run.
-fn is_low(i: usize, count: usize, front: usize, behind: usize) -> bool
+fn moves_lower_runs(i: usize, count: usize, front: usize, behind: usize) -> bool
     requires within { i ≤ count }
     requires room { 0 < front + behind }
     ensures low { IsTrue result → 0 < front }

@@ -9,14 +9,14 @@ ghost use Rattle.std.specs.Prelude.{◌≡◌, ◌<◌, ℕ, IsTrue, IfSome, Non
 ghost use Rattle.bm_base.specs.Range.{end_of};
 ghost use Rattle.memblock_model.specs.Labels.{tag_for};
 ghost use Rattle.memblock_model.specs.Items.{tag_of};
-ghost use Rattle.boot_journal.specs.Bytes.{is_trim, label_after, label_from, label_kept, Agrees, Differs, EdgesAgree, AllAgree};
+ghost use Rattle.boot_journal.specs.Bytes.{is_trim, label_after, label_after_items, label_after_trim, EdgeAgrees, EdgeDiffers, ItemAgrees, ItemsAgree};
 
 use bm_base::{FRAME_SIZE, Range};
 use memblock_model::{Item, Marks, Tag};
 
 /// Returns the marks of the byte at `x` after an item other than a trim, or `None` if the byte
 /// isn't memory. `carried` are its marks before the item.
-fn after(carried: Option<Marks>, item: &Item, x: u64) -> Option<Marks>
+fn label_after(carried: Option<Marks>, item: &Item, x: u64) -> Option<Marks>
     ensures { result ≡ label_after x carried item.now }
 {
     match item {
@@ -30,12 +30,12 @@ fn after(carried: Option<Marks>, item: &Item, x: u64) -> Option<Marks>
 }
 
 /// Returns the marks of the byte at `x` after these items, none of which is a trim.
-fn after_all(whole: &Option<Marks>, items: &[Item], x: u64) -> Option<Marks>
-    ensures { result ≡ label_from whole.now items.now x }
+fn label_after_items(whole: &Option<Marks>, items: &[Item], x: u64) -> Option<Marks>
+    ensures { result ≡ label_after_items whole.now items.now x }
 {
     items
         .iter()
-        .fold(*whole, |carried, item| after(carried, item, x))
+        .fold(*whole, |carried, item| label_after(carried, item, x))
 }
 
 fn first_trim(items: &[Item]) -> Option<usize>
@@ -48,19 +48,19 @@ fn first_trim(items: &[Item]) -> Option<usize>
 /// Tests whether the byte at `edge` has the same marks as the first byte of the frame. True for an
 /// edge outside the frame.
 fn edge_agrees(whole: &Option<Marks>, items: &[Item], first: u64, edge: u64) -> bool
-    ensures agrees { IsTrue result → Agrees whole.now items.now first edge }
-    ensures differs { result ≡ false → Differs whole.now items.now first edge }
+    ensures agrees { IsTrue result → EdgeAgrees whole.now items.now first edge }
+    ensures differs { result ≡ false → EdgeDiffers whole.now items.now first edge }
 {
     if edge <= first || edge - first >= FRAME_SIZE {
         return true;
     }
-    after_all(whole, items, edge) == after_all(whole, items, first)
+    label_after_items(whole, items, edge) == label_after_items(whole, items, first)
 }
 
 /// Tests [`edge_agrees`] for both ends of the item's range.
 fn item_agrees(whole: &Option<Marks>, items: &[Item], first: u64, item: &Item) -> bool
-    ensures agrees { IsTrue result → EdgesAgree whole.now items.now first item.now }
-    ensures differs { result ≡ false → (e : ℕ) × Differs whole.now items.now first e }
+    ensures agrees { IsTrue result → ItemAgrees whole.now items.now first item.now }
+    ensures differs { result ≡ false → (e : ℕ) × EdgeDiffers whole.now items.now first e }
 {
     match item {
         Item::Mem { range } | Item::Node { range, .. } | Item::Mirror { range } => {
@@ -72,8 +72,8 @@ fn item_agrees(whole: &Option<Marks>, items: &[Item], first: u64, item: &Item) -
 
 fn range_agrees(whole: &Option<Marks>, items: &[Item], first: u64, range: &Range) -> bool
     ensures agrees { IsTrue result →
-        Agrees whole.now items.now first range.now.base × Agrees whole.now items.now first (end_of range.now) }
-    ensures differs { result ≡ false → (e : ℕ) × Differs whole.now items.now first e }
+        EdgeAgrees whole.now items.now first range.now.base × EdgeAgrees whole.now items.now first (end_of range.now) }
+    ensures differs { result ≡ false → (e : ℕ) × EdgeDiffers whole.now items.now first e }
 {
     edge_agrees(whole, items, first, range.base) && edge_agrees(whole, items, first, range.end())
 }
@@ -82,8 +82,8 @@ fn range_agrees(whole: &Option<Marks>, items: &[Item], first: u64, range: &Range
 /// which is a trim, given that all had the marks `whole` before. The marks can change only at the
 /// ends of ranges, so only the ends inside the frame are looked at.
 fn frame_agrees(whole: &Option<Marks>, items: &[Item], first: u64) -> bool
-    ensures agrees { IsTrue result → AllAgree whole.now items.now first items.now }
-    ensures differs { result ≡ false → (e : ℕ) × Differs whole.now items.now first e }
+    ensures agrees { IsTrue result → ItemsAgree whole.now items.now first items.now }
+    ensures differs { result ≡ false → (e : ℕ) × EdgeDiffers whole.now items.now first e }
 {
     for item in items {
         if !item_agrees(whole, items, first, item) {
@@ -95,18 +95,18 @@ fn frame_agrees(whole: &Option<Marks>, items: &[Item], first: u64) -> bool
 
 /// Returns the marks of the byte at `x` after these items, none of which is a trim, followed by a
 /// trim. The result is `None` unless all bytes of its frame have the same marks before the trim.
-fn kept(whole: &Option<Marks>, items: &[Item], x: u64) -> Option<Marks>
-    ensures { result ≡ label_kept whole.now items.now x }
+fn label_after_trim(whole: &Option<Marks>, items: &[Item], x: u64) -> Option<Marks>
+    ensures { result ≡ label_after_trim whole.now items.now x }
 {
     let first = x - x % FRAME_SIZE;
     if !frame_agrees(whole, items, first) {
         return None;
     }
-    after_all(whole, items, first)
+    label_after_items(whole, items, first)
 }
 
 /// Returns the tag of a byte with these marks.
-fn tag(carried: Option<Marks>) -> Tag
+fn tag_for(carried: Option<Marks>) -> Tag
     ensures { result ≡ tag_for carried }
 {
     match carried {
@@ -125,8 +125,8 @@ pub fn tag_at(items: &[Item], x: u64) -> Tag
     let mut whole = None;
     let mut rest = items;
     while let Some(i) = first_trim(rest) {
-        whole = kept(&whole, &rest[..i], x);
+        whole = label_after_trim(&whole, &rest[..i], x);
         rest = &rest[i + 1..];
     }
-    tag(after_all(&whole, rest, x))
+    tag_for(label_after_items(&whole, rest, x))
 }

@@ -20,19 +20,19 @@ use Rattle.e820_sanitise.specs.declared.stop.MapStop.TheVariants as reasons
 use Rattle.e820_sanitise.specs.Stop.{judge_frames}
 use Rattle.boot_model.specs.declared.stop.Cause.{Cause}
 use Rattle.script_reader.specs.declared.act.Line.{Line}
-use Rattle.early_script.specs.Stage.{after_lines, before_sections, behind_sections}
-use Rattle.boot_model.specs.Boot.{Given, BootSoFar, begin, behind_lines, boot, claims, early_of, has_frames, has_memory, has_room, later_stages, lies_in_memory, map_judged, map_stages, reach, put_crash, put_nodes, put_sections, runs_lines, script_at, types_in_reach, unless_stopped}
-use Rattle.numa_nodes.specs.Assigned.{assigned}
-use Rattle.crash_kernel.specs.Reserved.{reserved}
-use Rattle.boot_model.specs.First.{items_carried}
-use Rattle.boot_model.specs.Sections.{places_of_sections}
+use Rattle.early_script.specs.Stage.{script_after_lines, before_sections, lines_after_sections}
+use Rattle.boot_model.specs.Boot.{InputsView, BootSoFar, begin_boot, with_script_state, boot, claims, early_inputs, usable_frames_stage, memory_stage, map_size_stage, later_stages, lies_in_memory, judge_map, map_stages, reach, made_with_crash_area, result_with_nodes, made_with_sections, script_stage, script_state, types_in_reach, unless_stopped}
+use Rattle.numa_nodes.specs.Assigned.{assign_nodes}
+use Rattle.crash_kernel.specs.Reserved.{reserve_crash_area}
+use Rattle.boot_model.specs.First.{items_with_growths}
+use Rattle.boot_model.specs.Sections.{place_present_sections}
 use Rattle.boot_model.specs.Stop.{cause_of_growth, cause_of_stage}
 use Rattle.boot_model.proofs.ReachLaws.{reach-small}
 use Rattle.boot_model.proofs.StageLaws.{AllKeep, Keeps, chain_keeps, goes_by, passes, steps_keep}
-use Rattle.boot_model.specs.Stages.{in_order}
+use Rattle.boot_model.specs.Stages.{run_each_stage}
 
 -- what is known if the stages end without a stop
-pub record GoesOn (given : Given) (made : BootSoFar) : Type 0 where
+pub record GoesOn (given : InputsView) (made : BootSoFar) : Type 0 where
   pub map : made.map ≡ map_of (claims given)
   pub fits : nat_lt E820_MAX_ENTRIES (length (map_of (claims given))) ≡ false
   pub judged : judge_frames (types_in_reach given) ≡ None
@@ -50,42 +50,42 @@ frames_passed None before after ends = (refl, cc)
 frames_passed (Some reason) before after ends = absurd (cc)
 
 -- after them, what was made is what the boot began with
-pub judged_first : (given : Given) (made : BootSoFar) → map_judged given ≡ Ok made
-    → (made ≡ begin given) × (judge_frames (types_in_reach given) ≡ None)
+pub judged_first : (given : InputsView) (made : BootSoFar) → judge_map given ≡ Ok made
+    → (made ≡ begin_boot given) × (judge_frames (types_in_reach given) ≡ None)
     × (nat_lt E820_MAX_ENTRIES (length (map_of (claims given))) ≡ false)
 judged_first given made ends =
-    let behind_room = passes has_room (drop 1 (map_stages given)) (begin given) made ends in
-    let behind_frames = passes (has_frames given) (drop 2 (map_stages given)) behind_room.middle made behind_room.rest in
-    let room = room_passed _ _ (begin given) behind_room.middle behind_room.first in
+    let behind_room = passes map_size_stage (drop 1 (map_stages given)) (begin_boot given) made ends in
+    let behind_frames = passes (usable_frames_stage given) (drop 2 (map_stages given)) behind_room.middle made behind_room.rest in
+    let room = room_passed _ _ (begin_boot given) behind_room.middle behind_room.first in
     let frames = frames_passed _ behind_room.middle behind_frames.middle behind_frames.first in
     let last : behind_frames.middle ≡ made = cc in
     (sym (room.1 ∙ frames.1 ∙ last), frames.0, room.0)
 
 -- the lines of a script leave the map as it is
-pub lines_passed : (kernel : RangeView) (lines : List Line) (before after : BootSoFar) → runs_lines kernel lines before ≡ Ok after
-    → after ≡ behind_lines before (after_lines (script_at kernel before) lines)
+pub lines_passed : (kernel : RangeView) (lines : List Line) (before after : BootSoFar) → script_stage kernel lines before ≡ Ok after
+    → after ≡ with_script_state before (script_after_lines (script_state kernel before) lines)
 lines_passed kernel lines before after ends = cc
 
-pub lines_map : (kernel : RangeView) (lines : List Line) → Keeps (λ (made : BootSoFar). made.map) (runs_lines kernel lines)
+pub lines_map : (kernel : RangeView) (lines : List Line) → Keeps (λ (made : BootSoFar). made.map) (script_stage kernel lines)
 lines_map kernel lines before after ends = ap (λ (m : BootSoFar). m.map) (lines_passed kernel lines before after ends)
 
 -- each of the stages after those that judge it leaves the map as it is
-pub later_keep : (given : Given) → AllKeep (λ (made : BootSoFar). made.map) (later_stages given)
+pub later_keep : (given : InputsView) → AllKeep (λ (made : BootSoFar). made.map) (later_stages given)
 later_keep given =
     let map : BootSoFar → List (RunOf ℕ) = λ made. made.map in
-    let memory : Keeps map (has_memory given) = λ before after ends. steps_keep map cause_of_growth (λ done next. next)
-    (items_carried (first_items (early_of given) before.map)) (λ a m. refl) (λ last. refl) before after ends in
-    let nodes = steps_keep map cause_of_stage put_nodes (assigned given.domains given.options.numa_off) (λ a m. refl) (λ before. refl) in
-    let crash = steps_keep map cause_of_growth put_crash (reserved given.options.crash) (λ a m. refl) (λ before. refl) in
-    let sections = steps_keep map cause_of_stage put_sections (places_of_sections given.width) (λ a m. refl) (λ before. refl) in
+    let memory : Keeps map (memory_stage given) = λ before after ends. steps_keep map cause_of_growth (λ done next. next)
+    (items_with_growths (first_items (early_inputs given) before.map)) (λ a m. refl) (λ last. refl) before after ends in
+    let nodes = steps_keep map cause_of_stage result_with_nodes (assign_nodes given.domains given.options.numa_off) (λ a m. refl) (λ before. refl) in
+    let crash = steps_keep map cause_of_growth made_with_crash_area (reserve_crash_area given.options.crash) (λ a m. refl) (λ before. refl) in
+    let sections = steps_keep map cause_of_stage made_with_sections (place_present_sections given.width) (λ a m. refl) (λ before. refl) in
     let before = lines_map given.kernel (before_sections given.lines) in
-    let behind = lines_map given.kernel (behind_sections given.lines) in
+    let behind = lines_map given.kernel (lines_after_sections given.lines) in
     (memory, (nodes, (crash, (before, (sections, (behind, tt))))))
 
-pub goes_on : (given : Given) (made : BootSoFar) → boot given ≡ Ok made → GoesOn given made
+pub goes_on : (given : InputsView) (made : BootSoFar) → boot given ≡ Ok made → GoesOn given made
 unfolding boot
 goes_on given made ends =
-    let judged_map = goes_by (map_judged given) (λ m. in_order (later_stages given) m) made ends in
+    let judged_map = goes_by (judge_map given) (λ m. run_each_stage (later_stages given) m) made ends in
     let known = judged_first given judged_map.middle judged_map.first in
     record {
       map = chain_keeps (λ (m : BootSoFar). m.map) (later_stages given) (later_keep given) judged_map.middle made judged_map.rest
@@ -112,7 +112,7 @@ memory_lies (r ∷ rs) x runs =
     ]
 
 -- the runs of the map determine which frames are usable
-pub usable_lies : (given : Given) (made : BootSoFar) (frame : ℕ) → boot given ≡ Ok made → 4096 * frame + 4096 ≤ reach given
+pub usable_lies : (given : InputsView) (made : BootSoFar) (frame : ℕ) → boot given ≡ Ok made → 4096 * frame + 4096 ≤ reach given
     → is_usable_frame (types_in_reach given) frame ≡ each_in (bytes_of_frame frame) (lies_in_memory made.map)
 unfolding is_usable_frame
 usable_lies given made frame ends low =
@@ -126,7 +126,7 @@ usable_lies given made frame ends low =
     rw (low_x, (goes_on given made ends).map) told))
 
 -- each address below 2^64 has in the map the type that the claims give it
-pub types_told : (given : Given) (made : BootSoFar) (x : ℕ) → boot given ≡ Ok made → x < 2 ^ 64
+pub types_told : (given : InputsView) (made : BootSoFar) (x : ℕ) → boot given ≡ Ok made → x < 2 ^ 64
     → value_at made.map x ≡ kinds (claims given) x
 types_told given made x ends low = rw (goes_on given made ends).map ((map_between (claims given)).within x (omega arith) (omega arith))
 
@@ -137,10 +137,10 @@ pub frames_within : (n : ℕ) → (if n == 0 then Some reasons.NoRam else (if na
 frames_within n fine = grind (arith, nat_tests)
 
 -- a map that isn't refused has usable frames, at least one and at most 2^32
-pub frames_told : (given : Given) (made : BootSoFar) → boot given ≡ Ok made
+pub frames_told : (given : InputsView) (made : BootSoFar) → boot given ≡ Ok made
     → (0 < usable_frames (types_in_reach given)) × (usable_frames (types_in_reach given) ≤ 2 ^ 32)
 frames_told given made ends = frames_within (usable_frames (types_in_reach given)) (goes_on given made ends).judged
 
 -- a map that isn't refused fits in the kernel's table
-pub room_told : (given : Given) (made : BootSoFar) → boot given ≡ Ok made → length made.map ≤ E820_MAX_ENTRIES
+pub room_told : (given : InputsView) (made : BootSoFar) → boot given ≡ Ok made → length made.map ≤ E820_MAX_ENTRIES
 room_told given made ends = let known = goes_on given made ends in rw known.map (grind (arith, nat_tests, known.fits))

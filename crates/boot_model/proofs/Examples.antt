@@ -16,14 +16,14 @@ use Rattle.memblock_model.specs.declared.item.Item.TheVariants as item
 use Rattle.boot_model.specs.declared.stop.Cause.TheVariants as causes
 use Rattle.script_reader.specs.declared.act.Act.TheVariants as acts
 use Rattle.early_script.specs.declared.outcome.Outcome.TheVariants as outcomes
-use Rattle.early_script.specs.Acted.{deed}
+use Rattle.early_script.specs.Acted.{act_effect}
 use Rattle.bm_base.specs.Each.{each_from, each_in}
 use Rattle.table_frames.specs.Frames.{free_node_in}
 use Rattle.memblock_model.specs.declared.item.Item.{Item}
 use Rattle.memblock_model.specs.declared.owner.Owner.TheVariants as owner
-use Rattle.boot_model.specs.Boot.{Given, BootSoFar, begin, begin_with, begun, boot, claims, handed_over, has_room, lies_in_memory, no_options, reach, runs_lines, told}
+use Rattle.boot_model.specs.Boot.{InputsView, BootSoFar, begin_boot, begin_with_map, inputs_without_files, boot, claims, handover_frames, map_size_stage, lies_in_memory, no_options, reach, script_stage, finish_boot}
 use Rattle.boot_model.specs.Kernel.{IsKernel, is_kernel}
-use Rattle.boot_model.specs.Mirrors.{IsMirror, frames_in}
+use Rattle.boot_model.specs.Mirrors.{IsMirror, frame_range_of}
 
 -- this and the next four: the values of the examples that follow
 abbrev two_runs : List (RunOf ℕ)
@@ -33,25 +33,25 @@ abbrev image : RangeView
 image = record { base = 0x1000000; size = 0x2000000 }
 
 abbrev made : BootSoFar
-made = begin_with two_runs no_options
+made = begin_with_map two_runs no_options
 
 abbrev empty : Entry
 empty = record { addr = 0; size = 0; kind = 0 }
 
-abbrev of_image : Given
-of_image = begun Bits46 image
+abbrev of_image : InputsView
+of_image = inputs_without_files Bits46 image
 
 -- the report: both tables are empty and lie in the image's last two frames
-told_example : ((told of_image made).heads.memory.place ≡ 0x2FFE000) × ((told of_image made).heads.reserved.place ≡ 0x2FFF000)
+told_example : ((finish_boot of_image made).heads.memory.place ≡ 0x2FFE000) × ((finish_boot of_image made).heads.reserved.place ≡ 0x2FFF000)
 told_example = (refl, refl)
 
 -- the limit of physical addresses is 64 TiB, or 4 PiB with page tables of five levels
-reach_examples : (reach of_image ≡ 0x400000000000) × (reach (begun Bits52 image) ≡ 0x10000000000000)
+reach_examples : (reach of_image ≡ 0x400000000000) × (reach (inputs_without_files Bits52 image) ≡ 0x10000000000000)
 reach_examples = (refl, refl)
 
 -- mirrored memory is whole frames, at least one; the range and its frames
 mirror_examples : IsMirror (record { base = 0x4000000; size = 0x1000 })
-    × (frames_in (record { base = 0x4000000; size = 0x1000000 }) ≡ record { first = 0x4000; count = 0x1000 })
+    × (frame_range_of (record { base = 0x4000000; size = 0x1000000 }) ≡ record { first = 0x4000; count = 0x1000 })
 mirror_examples = (record { some = omega arith; at_frame = refl; of_frames = refl }, refl)
 
 -- no mirrored range ends in the middle of a frame, begins in the middle of one, or is empty
@@ -61,9 +61,9 @@ no_mirrors : (IsMirror (record { base = 0x4000000; size = 0x1800 }) → ⊥)
 no_mirrors = (λ known. omega (arith, known.of_frames), λ known. omega (arith, known.at_frame), λ known. omega (arith, known.some))
 
 -- a line that names an unknown ID is answered, and nothing else is made
-unknown_line : runs_lines image (record { number = 3; act = acts.Free 7 } ∷ []) made
+unknown_line : script_stage image (record { number = 3; act = acts.Free 7 } ∷ []) made
     ≡ Ok (record made { answers = record { line = 3; outcome = outcomes.Unknown } ∷ [] })
-unfolding deed
+unfolding act_effect
 unknown_line = refl
 
 -- two frames of node 3, of which the first has a claimed byte
@@ -73,15 +73,15 @@ two_frames =
     ∷ item.Claim (record { base = 0x1800; size = 1 }) owner.Kernel ∷ []
 
 -- the frame with the claimed byte isn't handed over, the other is
-handed_examples : (handed_over two_frames 1 ≡ None) × (handed_over two_frames 2 ≡ Some 3)
+handed_examples : (handover_frames two_frames 1 ≡ None) × (handover_frames two_frames 2 ≡ Some 3)
 unfolding free_node_in each_in each_from
 handed_examples = (refl, refl)
 
 -- 3,200 runs fit, 3,201 don't, and the stop gives their number
-full_map : (runs : List (RunOf ℕ)) → length runs ≡ 3200 → has_room (record made { map = runs }) ≡ Ok (record made { map = runs })
+full_map : (runs : List (RunOf ℕ)) → length runs ≡ 3200 → map_size_stage (record made { map = runs }) ≡ Ok (record made { map = runs })
 full_map runs many = rw many refl
 
-too_long_a_map : (runs : List (RunOf ℕ)) → length runs ≡ 3201 → has_room (record made { map = runs }) ≡ Err (causes.MapFull 3201)
+too_long_a_map : (runs : List (RunOf ℕ)) → length runs ≡ 3201 → map_size_stage (record made { map = runs }) ≡ Err (causes.MapFull 3201)
 too_long_a_map runs many = rw many refl
 
 -- RAM and the kernel's own memory are memory; a reserved run and an address in no run aren't
@@ -147,7 +147,7 @@ no_frame limit c nothing =
     usable_but (types_below limit (kinds c)) frame (4096 * frame) (omega arith) (omega arith)
     (no_type_in_reach limit c nothing (4096 * frame)))
 
-abbrev two_empty : Given
+abbrev two_empty : InputsView
 two_empty = record of_image { entries = empty ∷ empty ∷ [] }
 
 none_covers : Nothing (claims_of_entries (empty ∷ empty ∷ []))
@@ -162,7 +162,7 @@ nothing_claimed : Nothing (claims two_empty)
 nothing_claimed =
     nothing_trimmed _ (nothing_settled _ (nothing_added _ (nothing_settled _ (nothing_added _ (nothing_settled _ none_covers)))))
 
-begins_without_a_run : (begin two_empty).map ≡ []
+begins_without_a_run : (begin_boot two_empty).map ≡ []
 begins_without_a_run = no_runs (claims two_empty) nothing_claimed
 
 no_ram : boot two_empty ≡ Err causes.NoRam

@@ -13,31 +13,31 @@ use Rattle.e820_model.specs.Usable.{is_usable_frame, types_below}
 use Rattle.memblock_model.specs.Labels.{LabelView, Labels, plain_label, with_mirror}
 use Rattle.memblock_model.specs.Items.{limit_of, memory_of}
 use Rattle.memblock_model.specs.declared.item.Item.{Item}
-use Rattle.growth_model.specs.Carried.{AreQuiet, carried_out}
-use Rattle.growth_model.specs.Outcome.{Outcome, after}
+use Rattle.growth_model.specs.Carried.{StepsKeepMemory, carry_out_items}
+use Rattle.growth_model.specs.Outcome.{ChangeEffect, items_after_change}
 use Rattle.growth_model.proofs.QuietLaws.{quiet-limit, quiet-memory}
-use Rattle.growth_model.specs.Bytes.{byte}
+use Rattle.growth_model.specs.Bytes.{byte_from_history}
 use Rattle.early_stages.specs.Early.{FrameRange}
 use Rattle.early_stages.specs.Memory.{is_mirrored, memory_end, mirrored_memory, usable_memory}
 use Rattle.early_stages.specs.Wanted.{first_items}
 use Rattle.early_stages.proofs.MemoryLaws.{first_limit, first_memory}
 use Rattle.early_stages.proofs.EndLaws.{memory_end-same}
 use Rattle.script_reader.specs.declared.act.Line.{Line}
-use Rattle.early_script.specs.Acted.{answer_of, state_after}
-use Rattle.early_script.specs.Stage.{LineStage as Script, after_line, after_lines, before_sections, behind_sections, deed_at}
-use Rattle.early_script.proofs.QuietLaws.{acts-keep, deed-quiet}
-use Rattle.boot_model.specs.Boot.{Given, BootSoFar, Stage, boot, claims, early_of, has_crash_area, has_memory, has_nodes, has_sections, later_stages, map_judged, mirrors_of, put_crash, put_nodes, put_sections, reach, runs_lines, script_at, types_in_reach}
-use Rattle.boot_model.specs.Sections.{places_of_sections}
+use Rattle.early_script.specs.Acted.{script_outcome_at_line, state_after_line}
+use Rattle.early_script.specs.Stage.{ScriptSoFar as Script, script_after_line, script_after_lines, before_sections, lines_after_sections, line_effect}
+use Rattle.early_script.proofs.QuietLaws.{acts-keep, act_effect-quiet}
+use Rattle.boot_model.specs.Boot.{InputsView, BootSoFar, Stage, boot, claims, early_inputs, crash_area_stage, memory_stage, nodes_stage, sections_stage, later_stages, judge_map, all_mirrors, made_with_crash_area, result_with_nodes, made_with_sections, reach, script_stage, script_state, types_in_reach}
+use Rattle.boot_model.specs.Sections.{place_present_sections}
 use Rattle.boot_model.specs.Stop.{cause_of_growth, cause_of_stage}
-use Rattle.numa_nodes.specs.Assigned.{assigned}
+use Rattle.numa_nodes.specs.Assigned.{assign_nodes}
 use Rattle.numa_nodes.proofs.MemoryLaws.{keeps-limit, keeps-memory}
-use Rattle.crash_kernel.specs.Reserved.{reserved}
+use Rattle.crash_kernel.specs.Reserved.{reserve_crash_area}
 use Rattle.crash_kernel.proofs.QuietLaws.{quiet-reserved}
-use Rattle.stage_model.specs.Quiet.{IsQuietStep}
+use Rattle.stage_model.specs.Quiet.{KeepsMemory}
 use Rattle.stage_model.proofs.QuietLaws.{quiet-appended_limit, quiet-appended_memory, quiet-bind, quiet-listed, quiet-returns}
 use Rattle.sparse_sections.proofs.QuietLaws.{quiet-roots}
 use Rattle.section_maps.proofs.QuietLaws.{quiet-maps}
-use Rattle.boot_model.specs.Stages.{in_order}
+use Rattle.boot_model.specs.Stages.{run_each_stage}
 use Rattle.boot_model.proofs.BootLaws.{judged_first, lines_passed, map_between}
 use Rattle.boot_model.proofs.CarriedLaws.{memory_carried}
 use Rattle.boot_model.proofs.ReachLaws.{reach-small}
@@ -57,66 +57,66 @@ bound_by made = limit_of made.items
 
 -- each line of the script leaves memory as it is
 lines_keep : {X : Type 0} (f : List Item → X)
-    → ((items : List Item) (o : Outcome) → AreQuiet o.steps → f (after items o) ≡ f items) → (s : Script) (lines : List Line)
-    → f (after_lines s lines).state.items ≡ f s.state.items
+    → ((items : List Item) (o : ChangeEffect) → StepsKeepMemory o.steps → f (items_after_change items o) ≡ f items) → (s : Script) (lines : List Line)
+    → f (script_after_lines s lines).state.items ≡ f s.state.items
 lines_keep f keeps s [] = refl
 lines_keep f keeps s (line ∷ lines) =
-    lines_keep f keeps (after_line s line) lines
-    ∙ acts-keep f keeps (Ok (answer_of s.state (deed_at s line))) s.state (state_after s.state (deed_at s line)) (deed_at s line)
-    (deed-quiet s.state (byte s.state.kernel s.state.items s.fills) line.act) (refl, refl)
+    lines_keep f keeps (script_after_line s line) lines
+    ∙ acts-keep f keeps (Ok (script_outcome_at_line s.state (line_effect s line))) s.state (state_after_line s.state (line_effect s line)) (line_effect s line)
+    (act_effect-quiet s.state (byte_from_history s.state.kernel s.state.items s.fills) line.act) (refl, refl)
 
 -- lines of the script leave the labels as they are
-pub lines_labels : (kernel : RangeView) (lines : List Line) → Keeps labels_by (runs_lines kernel lines)
+pub lines_labels : (kernel : RangeView) (lines : List Line) → Keeps labels_by (script_stage kernel lines)
 lines_labels kernel lines before last ends =
-    ap labels_by (lines_passed kernel lines before last ends) ∙ lines_keep memory_of quiet-memory (script_at kernel before) lines
+    ap labels_by (lines_passed kernel lines before last ends) ∙ lines_keep memory_of quiet-memory (script_state kernel before) lines
 
 -- lines of the script leave the limit as it is
-lines_bound : (kernel : RangeView) (lines : List Line) → Keeps bound_by (runs_lines kernel lines)
+lines_bound : (kernel : RangeView) (lines : List Line) → Keeps bound_by (script_stage kernel lines)
 lines_bound kernel lines before last ends =
-    ap bound_by (lines_passed kernel lines before last ends) ∙ lines_keep limit_of quiet-limit (script_at kernel before) lines
+    ap bound_by (lines_passed kernel lines before last ends) ∙ lines_keep limit_of quiet-limit (script_state kernel before) lines
 
 -- the stage of nodes leaves which bytes are memory as it is
-nodes_hold : (given : Given) → Keeps held_by (has_nodes given)
+nodes_hold : (given : InputsView) → Keeps held_by (nodes_stage given)
 nodes_hold given =
-    steps_keep held_by cause_of_stage put_nodes (assigned given.domains given.options.numa_off) (λ a m. refl)
+    steps_keep held_by cause_of_stage result_with_nodes (assign_nodes given.domains given.options.numa_off) (λ a m. refl)
     (λ before. (λ i x. keeps-memory given.domains given.options.numa_off before.items x i))
 
 -- the stage of nodes leaves the limit as it is
-nodes_bound : (given : Given) → Keeps bound_by (has_nodes given)
+nodes_bound : (given : InputsView) → Keeps bound_by (nodes_stage given)
 nodes_bound given =
-    steps_keep bound_by cause_of_stage put_nodes (assigned given.domains given.options.numa_off) (λ a m. refl)
+    steps_keep bound_by cause_of_stage result_with_nodes (assign_nodes given.domains given.options.numa_off) (λ a m. refl)
     (λ before. keeps-limit given.domains given.options.numa_off before.items)
 
 -- the stage of the crash area leaves the labels as they are
-pub crash_labels : (given : Given) → Keeps labels_by (has_crash_area given)
+pub crash_labels : (given : InputsView) → Keeps labels_by (crash_area_stage given)
 crash_labels given =
-    steps_keep labels_by cause_of_growth put_crash (reserved given.options.crash) (λ a m. refl)
-    (λ before. quiet-appended_memory before.items (reserved given.options.crash before.items).steps
+    steps_keep labels_by cause_of_growth made_with_crash_area (reserve_crash_area given.options.crash) (λ a m. refl)
+    (λ before. quiet-appended_memory before.items (reserve_crash_area given.options.crash before.items).steps
     ((quiet-reserved given.options.crash).each before.items))
 
 -- the stage of the crash area leaves the limit as it is
-crash_bound : (given : Given) → Keeps bound_by (has_crash_area given)
+crash_bound : (given : InputsView) → Keeps bound_by (crash_area_stage given)
 crash_bound given =
-    steps_keep bound_by cause_of_growth put_crash (reserved given.options.crash) (λ a m. refl)
-    (λ before. quiet-appended_limit before.items (reserved given.options.crash before.items).steps
+    steps_keep bound_by cause_of_growth made_with_crash_area (reserve_crash_area given.options.crash) (λ a m. refl)
+    (λ before. quiet-appended_limit before.items (reserve_crash_area given.options.crash before.items).steps
     ((quiet-reserved given.options.crash).each before.items))
 
-quiet_sections : (width : Width) → IsQuietStep (places_of_sections width)
-unfolding places_of_sections
+quiet_sections : (width : Width) → KeepsMemory (place_present_sections width)
+unfolding place_present_sections
 quiet_sections width = search (quiet-bind, quiet-listed, quiet-roots, quiet-maps, quiet-returns)
 
 -- the stage of the sections leaves the labels as they are
-pub section_labels : (given : Given) → Keeps labels_by (has_sections given)
+pub section_labels : (given : InputsView) → Keeps labels_by (sections_stage given)
 section_labels given =
-    steps_keep labels_by cause_of_stage put_sections (places_of_sections given.width) (λ a m. refl)
-    (λ before. quiet-appended_memory before.items (places_of_sections given.width before.items).steps
+    steps_keep labels_by cause_of_stage made_with_sections (place_present_sections given.width) (λ a m. refl)
+    (λ before. quiet-appended_memory before.items (place_present_sections given.width before.items).steps
     ((quiet_sections given.width).each before.items))
 
 -- the stage of the sections leaves the limit as it is
-section_bound : (given : Given) → Keeps bound_by (has_sections given)
+section_bound : (given : InputsView) → Keeps bound_by (sections_stage given)
 section_bound given =
-    steps_keep bound_by cause_of_stage put_sections (places_of_sections given.width) (λ a m. refl)
-    (λ before. quiet-appended_limit before.items (places_of_sections given.width before.items).steps
+    steps_keep bound_by cause_of_stage made_with_sections (place_present_sections given.width) (λ a m. refl)
+    (λ before. quiet-appended_limit before.items (place_present_sections given.width before.items).steps
     ((quiet_sections given.width).each before.items))
 
 -- if the labels stay, so does which bytes are memory
@@ -124,42 +124,42 @@ by_labels : (stage : Stage) → Keeps labels_by stage → Keeps held_by stage
 by_labels stage keeps before last ends = let held : Labels → ℕ → Bool = λ f x. is_some (f x) in ap held (keeps before last ends)
 
 -- the stages after the nodes leave the labels as they are
-pub labels_keep : (given : Given) → AllKeep labels_by (drop 2 (later_stages given))
+pub labels_keep : (given : InputsView) → AllKeep labels_by (drop 2 (later_stages given))
 labels_keep given =
     let before = lines_labels given.kernel (before_sections given.lines) in
-    let behind = lines_labels given.kernel (behind_sections given.lines) in
+    let behind = lines_labels given.kernel (lines_after_sections given.lines) in
     (crash_labels given, (before, (section_labels given, (behind, tt))))
 
 -- the stages after memory is made leave which bytes are memory as it is
-memory_keep : (given : Given) → AllKeep held_by (drop 1 (later_stages given))
+memory_keep : (given : InputsView) → AllKeep held_by (drop 1 (later_stages given))
 memory_keep given =
     let before = by_labels _ (lines_labels given.kernel (before_sections given.lines)) in
-    let behind = by_labels _ (lines_labels given.kernel (behind_sections given.lines)) in
+    let behind = by_labels _ (lines_labels given.kernel (lines_after_sections given.lines)) in
     (nodes_hold given, (by_labels _ (crash_labels given), (before, (by_labels _ (section_labels given), (behind, tt)))))
 
 -- the stages after memory is made leave the limit as it is
-limit_keep : (given : Given) → AllKeep bound_by (drop 1 (later_stages given))
+limit_keep : (given : InputsView) → AllKeep bound_by (drop 1 (later_stages given))
 limit_keep given =
     let before = lines_bound given.kernel (before_sections given.lines) in
-    let behind = lines_bound given.kernel (behind_sections given.lines) in
+    let behind = lines_bound given.kernel (lines_after_sections given.lines) in
     (nodes_bound given, (crash_bound given, (before, (section_bound given, (behind, tt)))))
 
 -- what is known once memory is made
-pub record HasMemory (given : Given) (made : BootSoFar) : Type 0 where
+pub record HasMemory (given : InputsView) (made : BootSoFar) : Type 0 where
   pub first : BootSoFar
-  pub carried : carried_out (first_items (early_of given) (map_of (claims given))) [] ≡ Ok first.items
+  pub carried : carry_out_items (first_items (early_inputs given) (map_of (claims given))) [] ≡ Ok first.items
   pub memory : held_by made ≡ held_by first
   pub limit : limit_of made.items ≡ limit_of first.items
 
-pub memory_made : (given : Given) (made : BootSoFar) → boot given ≡ Ok made → HasMemory given made
+pub memory_made : (given : InputsView) (made : BootSoFar) → boot given ≡ Ok made → HasMemory given made
 unfolding boot
 memory_made given made ends =
-    let judged = goes_by (map_judged given) (λ m. in_order (later_stages given) m) made ends in
-    let behind = passes (has_memory given) (drop 1 (later_stages given)) judged.middle made judged.rest in
+    let judged = goes_by (judge_map given) (λ m. run_each_stage (later_stages given) m) made ends in
+    let behind = passes (memory_stage given) (drop 1 (later_stages given)) judged.middle made judged.rest in
     let known = judged_first given judged.middle judged.first in
     record {
       first = behind.middle;
-      carried = ap (λ (m : BootSoFar). carried_out (first_items (early_of given) m.map) m.items) (sym known.0)
+      carried = ap (λ (m : BootSoFar). carry_out_items (first_items (early_inputs given) m.map) m.items) (sym known.0)
           ∙ memory_carried given judged.middle behind.middle behind.first;
       memory = chain_keeps held_by (drop 1 (later_stages given)) (memory_keep given) behind.middle made behind.rest;
       limit = chain_keeps bound_by (drop 1 (later_stages given)) (limit_keep given) behind.middle made behind.rest;
@@ -174,7 +174,7 @@ reached_same limit c x small =
       | inr past ↦ rw past refl
     ]
 
-pub types_same : (given : Given) → types_below (reach given) (value_at (map_of (claims given))) ≡ types_in_reach given
+pub types_same : (given : InputsView) → types_below (reach given) (value_at (map_of (claims given))) ≡ types_in_reach given
 types_same given = λ i x. reached_same (reach given) (claims given) x (reach-small given) i
 
 some_is : (b : Bool) → is_some (if b then Some plain_label else None) ≡ b
@@ -191,22 +191,22 @@ mirrored_some : (mirrors : List FrameRange) (f : Labels) (x : ℕ) → is_some (
 mirrored_some mirrors f x = mapped_some (is_mirrored mirrors x) (f x)
 
 -- a byte is memory exactly if its frame is usable
-pub memory_told : (given : Given) (made : BootSoFar) (x : ℕ) → boot given ≡ Ok made
+pub memory_told : (given : InputsView) (made : BootSoFar) (x : ℕ) → boot given ≡ Ok made
     → is_some (memory_of made.items x) ≡ is_usable_frame (types_in_reach given) (x / 4096)
 memory_told given made x ends =
     let known : HasMemory given made = memory_made given made ends in
     let map : List (RunOf ℕ) = map_of (claims given) in
     let reached : TypeAt = types_below (reach given) (value_at map) in
-    let first = first_memory (early_of given) map known.first.items (map_between (claims given)).runs known.carried x in
+    let first = first_memory (early_inputs given) map known.first.items (map_between (claims given)).runs known.carried x in
     ap (λ (h : ℕ → Bool). h x) known.memory ∙ ap is_some first
-    ∙ mirrored_some (mirrors_of given) (usable_memory (reach given) (value_at map)) x
+    ∙ mirrored_some (all_mirrors given) (usable_memory (reach given) (value_at map)) x
     ∙ some_is (is_usable_frame reached (x / 4096))
     ∙ ap (λ (t : TypeAt). is_usable_frame t (x / 4096)) (types_same given)
 
 -- the limit is the end of the last usable frame
-pub limit_told : (given : Given) (made : BootSoFar) → boot given ≡ Ok made
+pub limit_told : (given : InputsView) (made : BootSoFar) → boot given ≡ Ok made
     → limit_of made.items ≡ memory_end (reach given) (kinds (claims given))
 limit_told given made ends =
     let known : HasMemory given made = memory_made given made ends in
-    known.limit ∙ first_limit (early_of given) (map_of (claims given)) known.first.items known.carried
+    known.limit ∙ first_limit (early_inputs given) (map_of (claims given)) known.first.items known.carried
     ∙ memory_end-same (reach given) (value_at (map_of (claims given))) (kinds (claims given)) (types_same given)

@@ -10,19 +10,19 @@ use Rattle.e820_model.proofs.UsableLaws.{count_none}
 use Rattle.memblock_model.specs.declared.item.Item.{Item}
 use Rattle.memblock_model.specs.Labels.{LabelView, Labels, plain_label}
 use Rattle.memblock_model.specs.Items.{limit_of, memory_of}
-use Rattle.growth_model.specs.Carried.{carried_out}
+use Rattle.growth_model.specs.Carried.{carry_out_items}
 use Rattle.early_stages.specs.Early.{FrameRange}
 use Rattle.early_stages.specs.Memory.{memory_end, mirrored_memory, usable_memory}
 use Rattle.early_stages.specs.Wanted.{first_items}
 use Rattle.early_stages.proofs.MemoryLaws.{first_limit, first_memory}
 use Rattle.early_stages.proofs.EndLaws.{end_reached, memory_below, memory_end-is, mirrored_below}
 use Rattle.early_stages.proofs.MirrorLaws.{mirrored-alike}
-use Rattle.stage_model.specs.Noded.{AreOfFrames, IsNoded}
-use Rattle.numa_nodes.specs.Assigned.{assigned}
+use Rattle.stage_model.specs.Noded.{IsSameInFrames, HasNodes}
+use Rattle.numa_nodes.specs.Assigned.{assign_nodes}
 use Rattle.numa_nodes.proofs.NodedLaws.{answer-noded}
-use Rattle.boot_model.specs.Boot.{Given, BootSoFar, Stage, boot, claims, early_of, has_memory, has_nodes, later_stages, map_judged, mirrors_of, put_nodes, reach}
+use Rattle.boot_model.specs.Boot.{InputsView, BootSoFar, Stage, boot, claims, early_inputs, memory_stage, nodes_stage, later_stages, judge_map, all_mirrors, result_with_nodes, reach}
 use Rattle.boot_model.specs.First.{IsFirstMemory}
-use Rattle.boot_model.specs.Stages.{in_order}
+use Rattle.boot_model.specs.Stages.{run_each_stage}
 use Rattle.boot_model.specs.Stop.{cause_of_stage}
 use Rattle.boot_model.proofs.BootLaws.{frames_within, judged_first, map_between}
 use Rattle.boot_model.proofs.CarriedLaws.{memory_carried}
@@ -43,7 +43,7 @@ past_end limit f mirrors at high x far =
     (λ label is. (let low : x < memory_end limit f = mirrored_below limit f mirrors x label is in omega arith)) far
 
 -- mirrored ranges of frames mirror the bytes of a frame alike
-mirrored_whole : (mirrors : List FrameRange) (f : Labels) → AreOfFrames f → AreOfFrames (mirrored_memory mirrors f)
+mirrored_whole : (mirrors : List FrameRange) (f : Labels) → IsSameInFrames f → IsSameInFrames (mirrored_memory mirrors f)
 mirrored_whole mirrors f whole x =
     let frame : x / 4096 ≡ (4096 * (x / 4096)) / 4096 = omega arith in
     mirrored-alike mirrors f x (4096 * (x / 4096)) frame (whole x)
@@ -65,48 +65,48 @@ end_some limit f some = elim (cases_lt 0 (memory_end limit f)) [
 ]
 
 -- memory after the map became memory, if the boot goes on with the map
-pub first_known : (given : Given) (made : BootSoFar) (items : List Item) → map_judged given ≡ Ok made
-    → carried_out (first_items (early_of given) made.map) made.items ≡ Ok items → IsFirstMemory (reach given) items
+pub first_known : (given : InputsView) (made : BootSoFar) (items : List Item) → judge_map given ≡ Ok made
+    → carry_out_items (first_items (early_inputs given) made.map) made.items ≡ Ok items → IsFirstMemory (reach given) items
 first_known given made items ends carried =
     let known = judged_first given made ends in
     let map : List (RunOf ℕ) = map_of (claims given) in
-    let from : carried_out (first_items (early_of given) map) [] ≡ Ok items =
-    ap (λ (m : BootSoFar). carried_out (first_items (early_of given) m.map) m.items) (sym known.0) ∙ carried in
-    let memory : memory_of items ≡ mirrored_memory (mirrors_of given) (usable_memory (reach given) (value_at map)) = λ i x.
-    first_memory (early_of given) map items (map_between (claims given)).runs from x i in
+    let from : carry_out_items (first_items (early_inputs given) map) [] ≡ Ok items =
+    ap (λ (m : BootSoFar). carry_out_items (first_items (early_inputs given) m.map) m.items) (sym known.0) ∙ carried in
+    let memory : memory_of items ≡ mirrored_memory (all_mirrors given) (usable_memory (reach given) (value_at map)) = λ i x.
+    first_memory (early_inputs given) map items (map_between (claims given)).runs from x i in
     let limit : limit_of items ≡ memory_end (reach given) (value_at map) =
-    first_limit (early_of given) map items from in
+    first_limit (early_inputs given) map items from in
     let below : memory_end (reach given) (value_at map) ≤ reach given =
     (end_reached (reach given) (value_at map) _ (memory_end-is (reach given) (value_at map))).0 in
     let some : 0 < usable_frames (types_below (reach given) (value_at map)) = rw (types_same given) (frames_within _ known.1).0 in
-    let whole : AreOfFrames (usable_memory (reach given) (value_at map)) = λ x.
+    let whole : IsSameInFrames (usable_memory (reach given) (value_at map)) = λ x.
     let same : (4096 * (x / 4096)) / 4096 ≡ x / 4096 = omega arith in rw same refl in
     record {
-      frames = rw memory (mirrored_whole (mirrors_of given) (usable_memory (reach given) (value_at map)) whole);
-      within = rw memory (past_end (reach given) (value_at map) (mirrors_of given) (reach given) below);
-      low = rw memory (past_end (reach given) (value_at map) (mirrors_of given) (limit_of items) (omega (arith, limit)));
+      frames = rw memory (mirrored_whole (all_mirrors given) (usable_memory (reach given) (value_at map)) whole);
+      within = rw memory (past_end (reach given) (value_at map) (all_mirrors given) (reach given) below);
+      low = rw memory (past_end (reach given) (value_at map) (all_mirrors given) (limit_of items) (omega (arith, limit)));
       some = rw limit (end_some (reach given) (value_at map) some);
     }
 
 -- memory after its nodes
-pub nodes_known : (given : Given) (before last : BootSoFar) → IsFirstMemory (reach given) before.items → has_nodes given before ≡ Ok last
-    → IsNoded (reach given) (labels_by last)
+pub nodes_known : (given : InputsView) (before last : BootSoFar) → IsFirstMemory (reach given) before.items → nodes_stage given before ≡ Ok last
+    → HasNodes (reach given) (labels_by last)
 nodes_known given before last first ends =
-    let told = steps_answered cause_of_stage put_nodes (assigned given.domains given.options.numa_off) before last ends in
+    let told = steps_answered cause_of_stage result_with_nodes (assign_nodes given.domains given.options.numa_off) before last ends in
     rw told.same (answer-noded (reach given) given.domains given.options.numa_off before.items told.value told.answer (reach-below given)
     first.frames first.within first.low)
 
 -- memory after any stages that leave the labels, as at the end of the boot
-pub noded_behind : (given : Given) (first made : BootSoFar) (rest : List Stage) → map_judged given ≡ Ok first → AllKeep labels_by rest
-    → in_order (has_memory given ∷ has_nodes given ∷ rest) first ≡ Ok made → IsNoded (reach given) (memory_of made.items)
+pub noded_behind : (given : InputsView) (first made : BootSoFar) (rest : List Stage) → judge_map given ≡ Ok first → AllKeep labels_by rest
+    → run_each_stage (memory_stage given ∷ nodes_stage given ∷ rest) first ≡ Ok made → HasNodes (reach given) (memory_of made.items)
 noded_behind given first made rest judged keep ends =
-    let behind = passes (has_memory given) (has_nodes given ∷ rest) first made ends in
-    let nodes = passes (has_nodes given) rest behind.middle made behind.rest in
+    let behind = passes (memory_stage given) (nodes_stage given ∷ rest) first made ends in
+    let nodes = passes (nodes_stage given) rest behind.middle made behind.rest in
     let known = first_known given first behind.middle.items judged (memory_carried given first behind.middle behind.first) in
     rw (chain_keeps labels_by rest keep nodes.middle made nodes.rest) (nodes_known given behind.middle nodes.middle known nodes.first)
 
-pub noded_told : (given : Given) (made : BootSoFar) → boot given ≡ Ok made → IsNoded (reach given) (memory_of made.items)
+pub noded_told : (given : InputsView) (made : BootSoFar) → boot given ≡ Ok made → HasNodes (reach given) (memory_of made.items)
 unfolding boot
 noded_told given made ends =
-    let judged = goes_by (map_judged given) (λ m. in_order (later_stages given) m) made ends in
+    let judged = goes_by (judge_map given) (λ m. run_each_stage (later_stages given) m) made ends in
     noded_behind given judged.middle made (drop 2 (later_stages given)) judged.first (labels_keep given) judged.rest

@@ -6,18 +6,18 @@ use Rattle.bm_base.specs.ResultSteps.{◌>>=◌}
 use Rattle.e820_model.specs.Usable.{usable_frames}
 use Rattle.e820_model.specs.declared.entry.TheConstants.{E820_MAX_ENTRIES}
 use Rattle.e820_sanitise.specs.declared.stop.MapStop.TheVariants as reasons
-use Rattle.growth_model.specs.Outcome.{Refused}
+use Rattle.growth_model.specs.Outcome.{RefusedGrowth}
 use Rattle.early_stages.specs.Wanted.{first_items}
 use Rattle.stage_model.specs.Causes.{StageCause, NoPlace, NoTablePlace}
-use Rattle.stage_model.specs.Doing.{Doing, after}
-use Rattle.numa_nodes.specs.Assigned.{assigned}
-use Rattle.crash_kernel.specs.Reserved.{reserved}
+use Rattle.stage_model.specs.Doing.{StageStep, items_after_step}
+use Rattle.numa_nodes.specs.Assigned.{assign_nodes}
+use Rattle.crash_kernel.specs.Reserved.{reserve_crash_area}
 use Rattle.boot_model.specs.declared.stop.Cause.{Cause}
 use Rattle.boot_model.specs.declared.stop.Cause.TheVariants as causes
-use Rattle.boot_model.specs.Boot.{Given, BootSoFar, Stage, begin, boot, by_steps, early_of, later_stages, map_judged, map_stages, put_crash, put_nodes, put_sections, types_in_reach, unless_stopped, with_answer}
-use Rattle.boot_model.specs.First.{items_carried}
-use Rattle.boot_model.specs.Sections.{places_of_sections}
-use Rattle.boot_model.specs.Stages.{in_order}
+use Rattle.boot_model.specs.Boot.{InputsView, BootSoFar, Stage, begin_boot, boot, stage_of_steps, early_inputs, later_stages, judge_map, map_stages, made_with_crash_area, result_with_nodes, made_with_sections, types_in_reach, unless_stopped, finish_stage}
+use Rattle.boot_model.specs.First.{items_with_growths}
+use Rattle.boot_model.specs.Sections.{place_present_sections}
+use Rattle.boot_model.specs.Stages.{run_each_stage}
 use Rattle.boot_model.specs.Stop.{cause_of_growth, cause_of_stage}
 
 -- what a cause says of the number of usable frames
@@ -34,10 +34,10 @@ then_errs : (P : Cause → Type 0) (said : Result BootSoFar Cause) (next : Stage
 then_errs P (Ok made) next first rest = rest made
 then_errs P (Err cause) next first rest = first
 
-chain_errs : (P : Cause → Type 0) (stages : List Stage) → AllErr P stages → (made : BootSoFar) → IfErr (in_order stages made) P
+chain_errs : (P : Cause → Type 0) (stages : List Stage) → AllErr P stages → (made : BootSoFar) → IfErr (run_each_stage stages made) P
 unfolding AllErr
 chain_errs P [] all made = tt
-chain_errs P (one ∷ stages) all made = then_errs P (one made) (in_order stages) (all.0 made) (chain_errs P stages all.1)
+chain_errs P (one ∷ stages) all made = then_errs P (one made) (run_each_stage stages) (all.0 made) (chain_errs P stages all.1)
 
 -- a map that doesn't fit in the kernel's table doesn't stop with `NoRam`
 room_errs : (frames : ℕ) (full : Bool) (runs : ℕ) (made : BootSoFar)
@@ -54,16 +54,16 @@ frames_errs frames false false made is = tt
 
 -- a stage that makes steps stops with the causes of its own errors
 answer_errs : {E A : Type 0} (P : Cause → Type 0) (cause : E → Cause) (put : A → BootSoFar → BootSoFar) (next : BootSoFar)
-    (answer : Result A E) → ((e : E) → P (cause e)) → IfErr (with_answer cause put next answer) P
+    (answer : Result A E) → ((e : E) → P (cause e)) → IfErr (finish_stage cause put next answer) P
 answer_errs P cause put next (Ok a) errs = tt
 answer_errs P cause put next (Err e) errs = errs e
 
-steps_errs : {E A : Type 0} (frames : ℕ) (cause : E → Cause) (put : A → BootSoFar → BootSoFar) (doing : Doing E A)
-    → ((e : E) → IsTold frames (cause e)) → (made : BootSoFar) → IfErr (by_steps cause put doing made) (IsTold frames)
+steps_errs : {E A : Type 0} (frames : ℕ) (cause : E → Cause) (put : A → BootSoFar → BootSoFar) (doing : StageStep E A)
+    → ((e : E) → IsTold frames (cause e)) → (made : BootSoFar) → IfErr (stage_of_steps cause put doing made) (IsTold frames)
 steps_errs frames cause put doing told made =
-    answer_errs (IsTold frames) cause put (record made { items = after made.items (doing made.items) }) (doing made.items).answer told
+    answer_errs (IsTold frames) cause put (record made { items = items_after_step made.items (doing made.items) }) (doing made.items).answer told
 
-growth_told : (frames : ℕ) (refused : Refused) → IsTold frames (cause_of_growth refused)
+growth_told : (frames : ℕ) (refused : RefusedGrowth) → IsTold frames (cause_of_growth refused)
 growth_told frames refused = λ same. absurd (cc same)
 
 stage_told : (frames : ℕ) (why : StageCause) → IsTold frames (cause_of_stage why)
@@ -71,33 +71,33 @@ stage_told frames (NoPlace thing) = λ same. absurd (cc same)
 stage_told frames (NoTablePlace w room) = λ same. absurd (cc same)
 
 -- what the errors of the map's stages say: one fact for each stage
-map_errs : (given : Given) → AllErr (IsTold (usable_frames (types_in_reach given))) (map_stages given)
+map_errs : (given : InputsView) → AllErr (IsTold (usable_frames (types_in_reach given))) (map_stages given)
 unfolding AllErr
 map_errs given =
     let frames : ℕ = usable_frames (types_in_reach given) in
     let room = λ (made : BootSoFar). room_errs frames (nat_lt E820_MAX_ENTRIES (length made.map)) (length made.map) made in
     (room, ((λ made. frames_errs frames (frames == 0) (nat_lt (2 ^ 32) frames) made refl), tt))
 
-later_errs : (given : Given) → AllErr (IsTold (usable_frames (types_in_reach given))) (later_stages given)
+later_errs : (given : InputsView) → AllErr (IsTold (usable_frames (types_in_reach given))) (later_stages given)
 unfolding AllErr
 later_errs given =
     let frames : ℕ = usable_frames (types_in_reach given) in
     let memory = λ (made : BootSoFar). steps_errs frames cause_of_growth (λ done next. next)
-    (items_carried (first_items (early_of given) made.map)) (growth_told frames) made in
-    let nodes = steps_errs frames cause_of_stage put_nodes (assigned given.domains given.options.numa_off) (stage_told frames) in
-    let crash = steps_errs frames cause_of_growth put_crash (reserved given.options.crash) (growth_told frames) in
-    let sections = steps_errs frames cause_of_stage put_sections (places_of_sections given.width) (stage_told frames) in
+    (items_with_growths (first_items (early_inputs given) made.map)) (growth_told frames) made in
+    let nodes = steps_errs frames cause_of_stage result_with_nodes (assign_nodes given.domains given.options.numa_off) (stage_told frames) in
+    let crash = steps_errs frames cause_of_growth made_with_crash_area (reserve_crash_area given.options.crash) (growth_told frames) in
+    let sections = steps_errs frames cause_of_stage made_with_sections (place_present_sections given.width) (stage_told frames) in
     (memory, (nodes, (crash, ((λ made. tt), (sections, ((λ made. tt), tt))))))
 
 told_of : (said : Result BootSoFar Cause) (frames : ℕ) → IfErr said (IsTold frames) → said ≡ Err causes.NoRam → frames ≡ 0
 told_of (Ok made) frames errs is = absurd (cc is)
 told_of (Err cause) frames errs is = errs (cc is)
 
-pub no_ram_told : (given : Given) → boot given ≡ Err causes.NoRam → usable_frames (types_in_reach given) ≡ 0
+pub no_ram_told : (given : InputsView) → boot given ≡ Err causes.NoRam → usable_frames (types_in_reach given) ≡ 0
 unfolding boot
 no_ram_told given stops =
     let frames : ℕ = usable_frames (types_in_reach given) in
     told_of (boot given) frames
-    (then_errs (IsTold frames) (map_judged given) (λ made. in_order (later_stages given) made)
-    (chain_errs (IsTold frames) (map_stages given) (map_errs given) (begin given))
+    (then_errs (IsTold frames) (judge_map given) (λ made. run_each_stage (later_stages given) made)
+    (chain_errs (IsTold frames) (map_stages given) (map_errs given) (begin_boot given))
     (chain_errs (IsTold frames) (later_stages given) (later_errs given))) stops

@@ -3,7 +3,7 @@ use Rattle.std.proofs.Common.{◌≡◌, ◌%◌, ◌^◌, ◌≤◌, refl, arit
 use Rattle.bm_base.specs.Width.{reach_of}
 use Rattle.bm_base.specs.declared.width.Width.{Width}
 use Rattle.bm_base.specs.declared.width.Width.TheVariants.{Bits46, Bits52}
-use Rattle.boot_model.specs.Boot.{Given, reach}
+use Rattle.boot_model.specs.Boot.{InputsView, reach}
 
 width-small : (width : Width) → reach_of width ≤ 2 ^ 52
 width-small Bits46 = omega arith
@@ -13,11 +13,11 @@ width-whole : (width : Width) → reach_of width % 4096 ≡ 0
 width-whole Bits46 = refl
 width-whole Bits52 = refl
 
-pub reach-small : (given : Given) → reach given ≤ 2 ^ 52
+pub reach-small : (given : InputsView) → reach given ≤ 2 ^ 52
 reach-small given = width-small given.width
 
-pub reach-below : (given : Given) → reach given ≤ 2 ^ 64
+pub reach-below : (given : InputsView) → reach given ≤ 2 ^ 64
 reach-below given = let small : reach given ≤ 2 ^ 52 = reach-small given in omega (arith, small)
 
-pub reach-whole : (given : Given) → reach given % 4096 ≡ 0
+pub reach-whole : (given : InputsView) → reach given % 4096 ≡ 0
 reach-whole given = width-whole given.width

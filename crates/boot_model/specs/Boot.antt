@@ -13,48 +13,48 @@ use Rattle.e820_model.specs.Usable.{types_below}
 use Rattle.e820_sanitise.specs.declared.stop.MapStop.{MapStop}
 use Rattle.e820_sanitise.specs.Stop.{judge_frames}
 use Rattle.boot_options.specs.Crash.{no_crash}
-use Rattle.boot_options.specs.Options.{Chosen}
+use Rattle.boot_options.specs.Options.{OptionsView}
 use Rattle.memblock_model.specs.declared.item.Item.{Item}
 use Rattle.memblock_model.specs.declared.owner.Which.TheVariants as which
 use Rattle.memblock_ranges.specs.declared.region.Heads.{Heads}
 use Rattle.memblock_ranges.specs.Tables.{head_of}
-use Rattle.growth_model.specs.Bytes.{Filled, table_for}
-use Rattle.early_stages.specs.Early.{Early, FrameRange}
+use Rattle.growth_model.specs.Bytes.{Fill, table_for}
+use Rattle.early_stages.specs.Early.{EarlyInputs, FrameRange}
 use Rattle.early_stages.specs.Wanted.{first_items}
 use Rattle.script_reader.specs.declared.act.Line.{Line}
 use Rattle.early_script.specs.declared.outcome.Answer.{Answer}
-use Rattle.early_script.specs.Ids.{Ids}
-use Rattle.early_script.specs.Stage.{LineStage as Script, after_lines, before_sections, behind_sections}
+use Rattle.early_script.specs.Ids.{LiveView}
+use Rattle.early_script.specs.Stage.{ScriptSoFar as Script, script_after_lines, before_sections, lines_after_sections}
 use Rattle.bm_base.specs.ResultSteps.{◌>>=◌}
 use Rattle.memblock_model.specs.Items.{memory_of, owner_of}
-use Rattle.memblock_model.specs.Tables.{reserved_of}
-use Rattle.srat_reader.specs.Table.{Affinity}
+use Rattle.memblock_model.specs.Tables.{reserved_labels}
+use Rattle.srat_reader.specs.Table.{SratView}
 use Rattle.node_hulls.specs.declared.reasons.Why.TheVariants as why
-use Rattle.stage_model.specs.Doing.{Doing, Done, after}
-use Rattle.numa_nodes.specs.Assigned.{Noded, assigned}
+use Rattle.stage_model.specs.Doing.{StageStep, StepEffect, items_after_step}
+use Rattle.numa_nodes.specs.Assigned.{NodesView, assign_nodes}
 use Rattle.crash_kernel.specs.declared.crash.Crash.{Crash}
 use Rattle.crash_kernel.specs.declared.crash.Crash.TheVariants as crash
-use Rattle.crash_kernel.specs.Reserved.{reserved}
+use Rattle.crash_kernel.specs.Reserved.{reserve_crash_area}
 use Rattle.table_frames.specs.Frames.{free_node_in, node_of_frame}
 use Rattle.frame_blocks.specs.Frames.{Frames}
 use Rattle.page_alloc.specs.declared.act.PageLine.{PageLine}
 use Rattle.page_alloc.specs.declared.outcome.PageAnswer.{PageAnswer}
-use Rattle.page_alloc.specs.Pages.{State as Pages, begun as nothing_taken}
-use Rattle.slit_zonelists.specs.Matrix.{Matrix}
-use Rattle.slit_zonelists.specs.Lists.{Known, known}
-use Rattle.slit_zonelists.specs.Near.{after_with, answers_with}
+use Rattle.page_alloc.specs.Pages.{PageState as Pages, first_page_state as nothing_taken}
+use Rattle.slit_zonelists.specs.Matrix.{SlitView}
+use Rattle.slit_zonelists.specs.Lists.{ListsView, zonelists_from_slit}
+use Rattle.slit_zonelists.specs.Near.{page_state_after, page_answers_of}
 use Rattle.zone_spans.specs.declared.span.Span.{Span}
 use Rattle.zone_spans.specs.Spans.{spans_of}
 use Rattle.boot_model.specs.declared.stop.Cause.{Cause}
 use Rattle.boot_model.specs.declared.stop.Cause.TheVariants as causes
-use Rattle.boot_model.specs.First.{items_carried}
-use Rattle.boot_model.specs.Sections.{SectionPlaces, no_sections, places_of_sections}
-use Rattle.boot_model.specs.Stages.{in_order}
+use Rattle.boot_model.specs.First.{items_with_growths}
+use Rattle.boot_model.specs.Sections.{SectionPlaces, no_sections, place_present_sections}
+use Rattle.boot_model.specs.Stages.{run_each_stage}
 use Rattle.boot_model.specs.Stop.{cause_of_growth, cause_of_map, cause_of_stage}
 
 -- the firmware's own map of memory: its entries, and the frames of which the machine keeps a
 -- second copy
-pub record EfiGiven : Type 0 where
+pub record EfiMapView : Type 0 where
   pub entries : List Entry
   pub mirrors : List FrameRange
 
@@ -63,29 +63,29 @@ pub record EfiGiven : Type 0 where
 -- of physical addresses, the place of the kernel, which memory is mirrored, and whether searches
 -- go from the lowest address up. The rest are the lines of both scripts, the table of distances if
 -- there is one, and the firmware's own map of memory if there is one.
-pub record Given : Type 0 where
+pub record InputsView : Type 0 where
   pub entries : List Entry
   pub initrd : Option RangeView
   pub extension : List Entry
-  pub options : Chosen
-  pub domains : Option Affinity
+  pub options : OptionsView
+  pub domains : Option SratView
   pub width : Width
   pub kernel : RangeView
   pub mirrors : List FrameRange
   pub upward : Bool
   pub lines : List Line
   pub page_lines : List PageLine
-  pub slit : Option Matrix
-  pub efi : Option EfiGiven
+  pub slit : Option SlitView
+  pub efi : Option EfiMapView
 
 -- a command line without words
-abbrev pub no_options : Chosen
+abbrev pub no_options : OptionsView
 no_options = record { edits = []; crash = no_crash; numa_off = false; add_efi = false }
 
 -- the inputs without any file: the width of physical addresses, the place of the kernel, and
 -- nothing else
-abbrev pub begun : Width → RangeView → Given
-begun width kernel = record {
+abbrev pub inputs_without_files : Width → RangeView → InputsView
+inputs_without_files width kernel = record {
   entries = [];
   initrd = None;
   extension = [];
@@ -102,26 +102,26 @@ begun width kernel = record {
 }
 
 -- the limit of physical addresses, in bytes (`MAX_PHYSMEM_BITS`)
-abbrev pub reach : Given → ℕ
+abbrev pub reach : InputsView → ℕ
 reach given = reach_of given.width
 
 -- the mirrored frames of the firmware's own map (`efi_find_mirror`)
-abbrev pub efi_mirrors : Option EfiGiven → List FrameRange
+abbrev pub efi_mirrors : Option EfiMapView → List FrameRange
 efi_mirrors None = []
 efi_mirrors (Some efi) = efi.mirrors
 
 -- the frames that are mirrored: first those of the command words, then those of the firmware's own
 -- map
-abbrev pub mirrors_of : Given → List FrameRange
-mirrors_of given = given.mirrors ++ efi_mirrors given.efi
+abbrev pub all_mirrors : InputsView → List FrameRange
+all_mirrors given = given.mirrors ++ efi_mirrors given.efi
 
 -- what the first items are computed from, except for the map
-abbrev pub early_of : Given → Early
-early_of given = record {
+abbrev pub early_inputs : InputsView → EarlyInputs
+early_inputs given = record {
   limit = reach given;
   kernel = given.kernel;
   initrd = given.initrd;
-  mirrors = mirrors_of given;
+  mirrors = all_mirrors given;
   upward = given.upward;
 }
 
@@ -130,37 +130,37 @@ early_of given = record {
 -- early script's: the live IDs, the fills and the answers.
 pub record BootSoFar : Type 0 where
   pub map : List (RunOf ℕ)
-  pub options : Chosen
+  pub options : OptionsView
   pub items : List Item
-  pub nodes : Noded
+  pub nodes : NodesView
   pub crash : Crash
   pub sections : SectionPlaces
-  pub ids : Ids
-  pub fills : List Filled
+  pub ids : LiveView
+  pub fills : List Fill
   pub answers : List Answer
 
 -- What is reported at the end: what the boot made, except for the live IDs and the fills, which
 -- are in the bytes of memory. It adds the width of physical addresses, the heads of the two
 -- tables, and what the memory of each node spans. It also has the free frames, the order of zones
 -- for each node, and the answers of the page script, with what that script left.
-pub record Told : Type 0 where
+pub record BootedView : Type 0 where
   pub width : Width
   pub map : List (RunOf ℕ)
-  pub options : Chosen
+  pub options : OptionsView
   pub items : List Item
   pub heads : Heads
-  pub nodes : Noded
+  pub nodes : NodesView
   pub crash : Crash
   pub sections : SectionPlaces
   pub answers : List Answer
   pub spans : List Span
   pub free : Frames
-  pub lists : Known
+  pub lists : ListsView
   pub page_answers : List PageAnswer
   pub after : Pages
 
 -- the nodes before memory has any
-abbrev pub no_nodes : Noded
+abbrev pub no_nodes : NodesView
 no_nodes = record { why = why.Absent; domains = []; uncovered = 0; with_memory = [] }
 
 -- a stage: what it makes of what the stages before it made, or why the boot stops there
@@ -168,17 +168,17 @@ abbrev pub Stage : Type 0
 Stage = BootSoFar → Result BootSoFar Cause
 
 -- the entries of the firmware's own map, or none if there is no such map
-abbrev pub efi_entries : Option EfiGiven → List Entry
+abbrev pub efi_entries : Option EfiMapView → List Entry
 efi_entries None = []
 efi_entries (Some efi) = efi.entries
 
 -- these entries, if the command line asks for them (`add_efi_memmap`); else none
-abbrev pub added : Given → List Entry
-added given = if given.options.add_efi then efi_entries given.efi else []
+abbrev pub added_entries : InputsView → List Entry
+added_entries given = if given.options.add_efi then efi_entries given.efi else []
 
 -- the claims of the finished map
-abbrev pub claims : Given → Claims
-claims given = final_claims given.entries given.extension given.options.edits (added given)
+abbrev pub claims : InputsView → Claims
+claims given = final_claims given.entries given.extension given.options.edits (added_entries given)
 
 -- the heads of the tables of these items
 abbrev pub heads_of : RangeView → List Item → Heads
@@ -189,26 +189,26 @@ heads_of kernel items = record {
 
 -- the frames that go to the buddy lists, each with the node of its memory: those in which all
 -- bytes are memory and none is claimed (`memblock_free_all`)
-abbrev pub handed_over : List Item → Frames
-handed_over items = free_node_in (memory_of items) (reserved_of (owner_of items))
+abbrev pub handover_frames : List Item → Frames
+handover_frames items = free_node_in (memory_of items) (reserved_labels (owner_of items))
 
 -- what the memory of each node spans in each zone (`free_area_init`)
-abbrev pub spanned : List Item → List Span
-spanned items = spans_of (node_of_frame (memory_of items))
+abbrev pub spans_of_memory : List Item → List Span
+spans_of_memory items = spans_of (node_of_frame (memory_of items))
 
 -- the limit of physical addresses, for a report
-abbrev pub reach_told : Told → ℕ
-reach_told told = reach_of told.width
+abbrev pub booted_address_limit : BootedView → ℕ
+booted_address_limit finish_boot = reach_of finish_boot.width
 
 -- for each node, the zones with memory, in the order in which its requests look at them
 -- (`build_zonelists`)
-abbrev pub lists_told : Given → BootSoFar → Known
-lists_told given made = known given.slit made.nodes.domains (spanned made.items)
+abbrev pub booted_zonelists : InputsView → BootSoFar → ListsView
+booted_zonelists given made = zonelists_from_slit given.slit made.nodes.domains (spans_of_memory made.items)
 
 -- the report of what the boot made; the page script runs on a copy of the frames handed over, of
 -- which none is allocated at first
-abbrev pub told : Given → BootSoFar → Told
-told given made = record {
+abbrev pub finish_boot : InputsView → BootSoFar → BootedView
+finish_boot given made = record {
   width = given.width;
   map = made.map;
   options = made.options;
@@ -218,16 +218,16 @@ told given made = record {
   crash = made.crash;
   sections = made.sections;
   answers = made.answers;
-  spans = spanned made.items;
-  free = handed_over made.items;
-  lists = lists_told given made;
-  page_answers = answers_with (lists_told given made) (nothing_taken (handed_over made.items)) given.page_lines;
-  after = after_with (lists_told given made) (nothing_taken (handed_over made.items)) given.page_lines;
+  spans = spans_of_memory made.items;
+  free = handover_frames made.items;
+  lists = booted_zonelists given made;
+  page_answers = page_answers_of (booted_zonelists given made) (nothing_taken (handover_frames made.items)) given.page_lines;
+  after = page_state_after (booted_zonelists given made) (nothing_taken (handover_frames made.items)) given.page_lines;
 }
 
 -- a boot begins with a map, and nothing has happened to memory yet
-abbrev pub begin_with : List (RunOf ℕ) → Chosen → BootSoFar
-begin_with map options = record {
+abbrev pub begin_with_map : List (RunOf ℕ) → OptionsView → BootSoFar
+begin_with_map map options = record {
   map = map;
   options = options;
   items = [];
@@ -240,16 +240,16 @@ begin_with map options = record {
 }
 
 -- a boot begins with the map of its claims
-abbrev pub begin : Given → BootSoFar
-begin given = begin_with (map_of (claims given)) given.options
+abbrev pub begin_boot : InputsView → BootSoFar
+begin_boot given = begin_with_map (map_of (claims given)) given.options
 
 -- the types of the addresses below the limit of physical addresses
-abbrev pub types_in_reach : Given → TypeAt
+abbrev pub types_in_reach : InputsView → TypeAt
 types_in_reach given = types_below (reach given) (kinds (claims given))
 
 -- the runs of the map fit in the kernel's table (`E820_MAX_ENTRIES`)
-abbrev pub has_room : Stage
-has_room made = if nat_lt E820_MAX_ENTRIES (length made.map) then Err (causes.MapFull (length made.map)) else Ok made
+abbrev pub map_size_stage : Stage
+map_size_stage made = if nat_lt E820_MAX_ENTRIES (length made.map) then Err (causes.MapFull (length made.map)) else Ok made
 
 -- what was made, unless the map is stopped for the reason
 abbrev pub unless_stopped : Option MapStop → Stage
@@ -258,90 +258,90 @@ unless_stopped (Some reason) made = Err (cause_of_map reason)
 
 -- the map has usable frames below the limit of physical addresses, and not too many
 -- (`e820__memblock_setup`)
-abbrev pub has_frames : Given → Stage
-has_frames given made = unless_stopped (judge_frames (types_in_reach given)) made
+abbrev pub usable_frames_stage : InputsView → Stage
+usable_frames_stage given made = unless_stopped (judge_frames (types_in_reach given)) made
 
 -- the stages that judge the map
-abbrev pub map_stages : Given → List Stage
-map_stages given = has_room ∷ has_frames given ∷ []
+abbrev pub map_stages : InputsView → List Stage
+map_stages given = map_size_stage ∷ usable_frames_stage given ∷ []
 
 -- the boot after its first stages
-abbrev pub map_judged : Given → Result BootSoFar Cause
-map_judged given = in_order (map_stages given) (begin given)
+abbrev pub judge_map : InputsView → Result BootSoFar Cause
+judge_map given = run_each_stage (map_stages given) (begin_boot given)
 
 -- the state that lines of the script begin with
-abbrev pub script_at : RangeView → BootSoFar → Script
-script_at kernel made = record {
+abbrev pub script_state : RangeView → BootSoFar → Script
+script_state kernel made = record {
   state = record { kernel = kernel; items = made.items; ids = made.ids };
   fills = made.fills;
   answers = made.answers;
 }
 
 -- what was made, with the state that the lines of the script left
-abbrev pub behind_lines : BootSoFar → Script → BootSoFar
-behind_lines made s = record made { items = s.state.items; ids = s.state.ids; fills = s.fills; answers = s.answers }
+abbrev pub with_script_state : BootSoFar → Script → BootSoFar
+with_script_state made s = record made { items = s.state.items; ids = s.state.ids; fills = s.fills; answers = s.answers }
 
 -- The lines of the early script are carried out. A line that is refused is answered, and the boot
 -- goes on.
-abbrev pub runs_lines : RangeView → List Line → Stage
-runs_lines kernel lines made = Ok (behind_lines made (after_lines (script_at kernel made) lines))
+abbrev pub script_stage : RangeView → List Line → Stage
+script_stage kernel lines made = Ok (with_script_state made (script_after_lines (script_state kernel made) lines))
 
 -- The value of a stage is put into what was made, or its error stops the boot with its cause.
-abbrev pub with_answer : {E A : Type 0} → (E → Cause) → (A → BootSoFar → BootSoFar) → BootSoFar → Result A E → Result BootSoFar Cause
-with_answer cause put next (Ok a) = Ok (put a next)
-with_answer cause put next (Err error) = Err (cause error)
+abbrev pub finish_stage : {E A : Type 0} → (E → Cause) → (A → BootSoFar → BootSoFar) → BootSoFar → Result A E → Result BootSoFar Cause
+finish_stage cause put next (Ok a) = Ok (put a next)
+finish_stage cause put next (Err error) = Err (cause error)
 
 -- the same for the steps of a stage: their items come after those that were made before
-abbrev pub with_done : {E A : Type 0} → (E → Cause) → (A → BootSoFar → BootSoFar) → BootSoFar → Done E A → Result BootSoFar Cause
-with_done cause put made done = with_answer cause put (record made { items = after made.items done }) done.answer
+abbrev pub finish_steps : {E A : Type 0} → (E → Cause) → (A → BootSoFar → BootSoFar) → BootSoFar → StepEffect E A → Result BootSoFar Cause
+finish_steps cause put made done = finish_stage cause put (record made { items = items_after_step made.items done }) done.answer
 
 -- a stage that is made of steps
-abbrev pub by_steps : {E A : Type 0} → (E → Cause) → (A → BootSoFar → BootSoFar) → Doing E A → Stage
-by_steps cause put doing made = with_done cause put made (doing made.items)
+abbrev pub stage_of_steps : {E A : Type 0} → (E → Cause) → (A → BootSoFar → BootSoFar) → StageStep E A → Stage
+stage_of_steps cause put doing made = finish_steps cause put made (doing made.items)
 
 -- the first claims are made, the map becomes memory in whole frames, and the first MiB is claimed
 -- (`early_reserve_memory`, `e820__memblock_setup`, `reserve_real_mode`)
-abbrev pub has_memory : Given → Stage
-has_memory given made = by_steps cause_of_growth (λ done next. next) (items_carried (first_items (early_of given) made.map)) made
+abbrev pub memory_stage : InputsView → Stage
+memory_stage given made = stage_of_steps cause_of_growth (λ done next. next) (items_with_growths (first_items (early_inputs given) made.map)) made
 
 -- what the boot made, with these nodes
-abbrev pub put_nodes : Noded → BootSoFar → BootSoFar
-put_nodes nodes made = record made { nodes = nodes }
+abbrev pub result_with_nodes : NodesView → BootSoFar → BootSoFar
+result_with_nodes nodes made = record made { nodes = nodes }
 
 -- memory gets its nodes, and each node its data (`initmem_init`)
-abbrev pub has_nodes : Given → Stage
-has_nodes given = by_steps cause_of_stage put_nodes (assigned given.domains given.options.numa_off)
+abbrev pub nodes_stage : InputsView → Stage
+nodes_stage given = stage_of_steps cause_of_stage result_with_nodes (assign_nodes given.domains given.options.numa_off)
 
 -- what the boot made, with this crash area
-abbrev pub put_crash : Crash → BootSoFar → BootSoFar
-put_crash area made = record made { crash = area }
+abbrev pub made_with_crash_area : Crash → BootSoFar → BootSoFar
+made_with_crash_area area made = record made { crash = area }
 
 -- the crash area is claimed (`reserve_crashkernel`)
-abbrev pub has_crash_area : Given → Stage
-has_crash_area given = by_steps cause_of_growth put_crash (reserved given.options.crash)
+abbrev pub crash_area_stage : InputsView → Stage
+crash_area_stage given = stage_of_steps cause_of_growth made_with_crash_area (reserve_crash_area given.options.crash)
 
 -- what the boot made, with these places of sections
-abbrev pub put_sections : SectionPlaces → BootSoFar → BootSoFar
-put_sections sections made = record made { sections = sections }
+abbrev pub made_with_sections : SectionPlaces → BootSoFar → BootSoFar
+made_with_sections sections made = record made { sections = sections }
 
 -- the sections that have memory get their places (`sparse_init`)
-abbrev pub has_sections : Given → Stage
-has_sections given = by_steps cause_of_stage put_sections (places_of_sections given.width)
+abbrev pub sections_stage : InputsView → Stage
+sections_stage given = stage_of_steps cause_of_stage made_with_sections (place_present_sections given.width)
 
 -- the stages after the map, in their order; the script's lines say where the sections are placed
 -- among them
-abbrev pub later_stages : Given → List Stage
+abbrev pub later_stages : InputsView → List Stage
 later_stages given =
-    has_memory given ∷ has_nodes given ∷ has_crash_area given ∷ runs_lines given.kernel (before_sections given.lines) ∷ has_sections given
-    ∷ runs_lines given.kernel (behind_sections given.lines) ∷ []
+    memory_stage given ∷ nodes_stage given ∷ crash_area_stage given ∷ script_stage given.kernel (before_sections given.lines) ∷ sections_stage given
+    ∷ script_stage given.kernel (lines_after_sections given.lines) ∷ []
 
 -- the boot (`setup_arch`) up to the handover (`mem_init`)
-unfoldable pub boot : Given → Result BootSoFar Cause
-boot given = map_judged given >>= λ made. in_order (later_stages given) made
+unfoldable pub boot : InputsView → Result BootSoFar Cause
+boot given = judge_map given >>= λ made. run_each_stage (later_stages given) made
 
 -- the boot, and the report of what it made
-abbrev pub told_boot : Given → Result Told Cause
-told_boot given = boot given >>= λ made. Ok (told given made)
+abbrev pub whole_boot : InputsView → Result BootedView Cause
+whole_boot given = boot given >>= λ made. Ok (finish_boot given made)
 
 -- whether the address lies in a run of RAM or of the kernel's own memory
 abbrev pub lies_in_memory : List (RunOf ℕ) → ℕ → Bool

@@ -16,8 +16,8 @@ use Rattle.early_script.specs.Acted.{CanBeRun}
 use Rattle.page_alloc.specs.declared.act.PageAct.{PageAct}
 use Rattle.page_alloc.specs.declared.act.PageAct.TheVariants as pages
 use Rattle.page_alloc.specs.declared.act.PageLine.{PageLine}
-use Rattle.page_alloc.specs.Pages.{HasOrder, HaveOrders}
-use Rattle.early_script.specs.Stage.{PlaceOnce}
+use Rattle.page_alloc.specs.Pages.{HasValidOrder, HaveValidOrders}
+use Rattle.early_script.specs.Stage.{PlacesSectionsOnce}
 
 pub EntriesFit-prop : (entries : List Entry) → IsProp (EntriesFit entries)
 EntriesFit-prop [] = Unit-prop
@@ -64,14 +64,14 @@ IsRun-prop (acts.Fill id byte) = Unit-prop
 IsRun-prop (acts.Peek at len) = Unit-prop
 IsRun-prop acts.Sections = Prim.hlevel Unit-prop
 
-pub PlaceOnce-prop : (lines : List Line) → IsProp (PlaceOnce lines)
+pub PlaceOnce-prop : (lines : List Line) → IsProp (PlacesSectionsOnce lines)
 PlaceOnce-prop lines = Prim.hlevel IsRun-prop
 
-HasOrder-prop : (act : PageAct) → IsProp (HasOrder act)
+HasOrder-prop : (act : PageAct) → IsProp (HasValidOrder act)
 HasOrder-prop (pages.Pages id order node zone) = le_prop
 HasOrder-prop (pages.Near id order node) = le_prop
 HasOrder-prop (pages.Give id) = Unit-prop
 
-pub HaveOrders-prop : (lines : List PageLine) → IsProp (HaveOrders lines)
+pub HaveOrders-prop : (lines : List PageLine) → IsProp (HaveValidOrders lines)
 HaveOrders-prop [] = Unit-prop
 HaveOrders-prop (l ∷ ls) = ×_prop (HasOrder-prop l.act) (HaveOrders-prop ls)

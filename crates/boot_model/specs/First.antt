@@ -4,20 +4,20 @@ use Rattle.std.specs.Prelude.{ℕ, ◌<◌, List}
 use Rattle.address_runs.specs.Edits.{NothingFrom}
 use Rattle.memblock_model.specs.declared.item.Item.{Item}
 use Rattle.memblock_model.specs.Items.{limit_of, memory_of}
-use Rattle.growth_model.specs.Outcome.{Refused}
-use Rattle.growth_model.specs.Carried.{change}
-use Rattle.stage_model.specs.Doing.{Doing, in_turn}
-use Rattle.stage_model.specs.Noded.{AreOfFrames}
-use Rattle.stage_model.specs.Requests.{changes}
+use Rattle.growth_model.specs.Outcome.{RefusedGrowth}
+use Rattle.growth_model.specs.Carried.{change_for}
+use Rattle.stage_model.specs.Doing.{StageStep, fold_steps}
+use Rattle.stage_model.specs.Noded.{IsSameInFrames}
+use Rattle.stage_model.specs.Requests.{make_change}
 
 -- the items, one after another, each after the growth that it needs
-unfoldable pub items_carried : List Item → Doing Refused (Unit {0})
-items_carried wanted = in_turn (λ done i. changes (change i)) tt wanted
+unfoldable pub items_with_growths : List Item → StageStep RefusedGrowth (Unit {0})
+items_with_growths wanted = fold_steps (λ done i. make_change (change_for i)) tt wanted
 
 -- memory is whole frames, each with one label, below the limit of physical addresses; the limit of
 -- allocations is above 0, and all memory lies below it
 pub record IsFirstMemory (reach : ℕ) (items : List Item) : Type 0 where
-  pub frames : AreOfFrames (memory_of items)
+  pub frames : IsSameInFrames (memory_of items)
   pub within : NothingFrom reach (memory_of items)
   pub low : NothingFrom (limit_of items) (memory_of items)
   pub some : 0 < limit_of items

@@ -11,5 +11,5 @@ pub record IsMirror (range : RangeView) : Type 0 where
   pub of_frames : range.size % 4096 ≡ 0
 
 -- the frames of the range
-abbrev pub frames_in : RangeView → FrameRange
-frames_in range = record { first = range.base / 4096; count = range.size / 4096 }
+abbrev pub frame_range_of : RangeView → FrameRange
+frame_range_of range = record { first = range.base / 4096; count = range.size / 4096 }

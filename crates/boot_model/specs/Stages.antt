@@ -4,6 +4,6 @@ use Rattle.bm_base.specs.ResultSteps.{◌>>=◌}
 
 -- one stage after another: each goes on from what the stages before it made, and the first error
 -- ends all
-abbrev pub in_order : {S E : Type 0} → List (S → Result S E) → S → Result S E
-in_order [] state = Ok state
-in_order (stage ∷ stages) state = stage state >>= λ next. in_order stages next
+abbrev pub run_each_stage : {S E : Type 0} → List (S → Result S E) → S → Result S E
+run_each_stage [] state = Ok state
+run_each_stage (stage ∷ stages) state = stage state >>= λ next. run_each_stage stages next

@@ -1,7 +1,7 @@
 -- The causes of a stop. Out of memory is the one stop without a cause.
 use Rattle.std.specs.Prelude.{Option, Some, None}
 use Rattle.e820_sanitise.specs.declared.stop.MapStop.{MapStop}
-use Rattle.growth_model.specs.Outcome.{Refused}
+use Rattle.growth_model.specs.Outcome.{RefusedGrowth}
 use Rattle.e820_sanitise.specs.declared.stop.MapStop.TheVariants as reasons
 use Rattle.stage_model.specs.Causes.{StageCause, NoPlace, NoTablePlace}
 use Rattle.boot_model.specs.declared.stop.Cause.{Cause}
@@ -32,7 +32,7 @@ cause_of_map reasons.NoRam = causes.NoRam
 cause_of_map (reasons.TooMuchRam frames) = causes.TooMuchRam frames
 
 -- a table that had to grow found no place (`memblock_double_array`)
-abbrev pub cause_of_growth : Refused → Cause
+abbrev pub cause_of_growth : RefusedGrowth → Cause
 cause_of_growth refused = causes.NoTablePlace refused.which refused.room
 
 -- the cause for the stop of a stage
@@ -41,6 +41,6 @@ cause_of_stage (NoPlace thing) = causes.NoPlace thing
 cause_of_stage (NoTablePlace w room) = causes.NoTablePlace w room
 
 -- the stop for a stage's cause, or out of memory if there is none
-abbrev pub stop_by : {E : Type 0} → (E → Cause) → Option E → Stop
-stop_by cause None = stops.Memory
-stop_by cause (Some why) = stop_of (cause why)
+abbrev pub stop_of_error : {E : Type 0} → (E → Cause) → Option E → Stop
+stop_of_error cause None = stops.Memory
+stop_of_error cause (Some why) = stop_of (cause why)

@@ -55,12 +55,12 @@ pub struct Booted {
 
 impl Booted {
     ghost use Rattle.std.specs.Prelude.{◌≡◌};
-    ghost use Rattle.boot_model.specs.Boot.{reach_told};
+    ghost use Rattle.boot_model.specs.Boot.{booted_address_limit};
     ghost use Rattle.boot_model.specs.View.{booted_view};
 
     /// Returns the limit of physical addresses, in bytes (`MAX_PHYSMEM_BITS`).
     pub fn reach(&self) -> u64
-        ensures { result ≡ reach_told (booted_view self.now) }
+        ensures { result ≡ booted_address_limit (booted_view self.now) }
     {
         self.width.limit()
     }

@@ -6,10 +6,10 @@ ghost use Rattle.std.specs.List.{All};
 ghost use Rattle.std.proofs.Props.{props};
 ghost use Rattle.e820_model.specs.Claims.{EntriesFit, HaveTypes};
 ghost use Rattle.e820_table.specs.Initrd.{IsInitrd};
-ghost use Rattle.early_script.specs.Stage.{PlaceOnce};
-ghost use Rattle.page_alloc.specs.Pages.{HaveOrders};
-ghost use Rattle.slit_zonelists.specs.Matrix.{IsSquare, matrix};
-ghost use Rattle.boot_model.specs.Facts.{EntriesFit-prop, HaveBounds, HaveBounds-prop, HaveOrders-prop, HaveTypes-prop, PlaceOnce-prop, efi_ends-prop};
+ghost use Rattle.early_script.specs.Stage.{PlacesSectionsOnce};
+ghost use Rattle.page_alloc.specs.Pages.{HaveValidOrders};
+ghost use Rattle.slit_zonelists.specs.Matrix.{IsSquare, slit_view};
+ghost use Rattle.boot_model.specs.Facts.{EntriesFit-prop, HaveBounds, HaveBounds-prop, HaveValidOrders-prop, HaveTypes-prop, PlacesSectionsOnce-prop, efi_ends-prop};
 ghost use Rattle.boot_model.specs.Kernel.{IsKernel};
 ghost use Rattle.boot_model.specs.Mirrors.{IsMirror};
 
@@ -64,21 +64,21 @@ pub struct Inputs {
     ghost kernel_fits: { IsKernel width kernel },
     ghost mirrors_fit: { All IsMirror mirrors.items },
     ghost bounds_fit: { HaveBounds lines.items } by { HaveBounds-prop lines.items },
-    ghost placed_once: { PlaceOnce lines.items } by { PlaceOnce-prop lines.items },
-    ghost orders_fit: { HaveOrders page_lines.items } by { HaveOrders-prop page_lines.items },
-    ghost slit_square: { IfSome slit (λ table. IsSquare (matrix table)) } by { Prim.hlevel props },
+    ghost placed_once: { PlacesSectionsOnce lines.items } by { PlaceOnce-prop lines.items },
+    ghost orders_fit: { HaveValidOrders page_lines.items } by { HaveOrders-prop page_lines.items },
+    ghost slit_square: { IfSome slit (λ table. IsSquare (slit_view table)) } by { Prim.hlevel props },
     ghost efi_ends: { IfSome efi (λ map. EntriesFit map.entries.items) } by { efi_ends-prop efi },
     ghost efi_mirrors_fit: { IfSome efi (λ map. All IsMirror map.mirrors.items) } by { Prim.hlevel props },
 }
 
 impl Inputs {
-    ghost use Rattle.boot_model.specs.Boot.{begun, reach};
+    ghost use Rattle.boot_model.specs.Boot.{inputs_without_files, reach};
     ghost use Rattle.boot_model.specs.View.{inputs_view};
 
     /// Returns the inputs that have no file. Each file adds to them.
-    pub fn begun(alloc: Global, width: Width, kernel: Range) -> Inputs
+    pub fn without_files(alloc: Global, width: Width, kernel: Range) -> Inputs
         requires { IsKernel width kernel }
-        ensures { inputs_view result ≡ begun width kernel }
+        ensures { inputs_view result ≡ inputs_without_files width kernel }
     {
         Inputs {
             zero: ZeroPage {

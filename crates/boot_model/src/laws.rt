@@ -16,52 +16,52 @@ ghost use Rattle.early_stages.specs.Memory.{memory_end};
 ghost use Rattle.memblock_model.specs.declared.item.Item.{Item};
 ghost use Rattle.boot_model.specs.declared.stop.Cause.TheVariants as causes;
 ghost use Rattle.boot_model.specs.Mirrors.{IsMirror};
-ghost use Rattle.boot_model.specs.Boot.{Given, BootSoFar, boot, claims, efi_entries, lies_in_memory, reach, types_in_reach};
+ghost use Rattle.boot_model.specs.Boot.{InputsView, BootSoFar, boot, claims, efi_entries, lies_in_memory, reach, types_in_reach};
 
 use bm_base::FRAME_SIZE;
 
 /// Law: the claims are those of a boot without the firmware's own map, if the command line doesn't
 /// ask for that map or if it has no descriptors.
-pub fn firmware_adds_what_is_asked()
-    ensures unasked { (given : Given) → given.options.add_efi ≡ false →
+pub fn efi_map_counts_only_if_asked()
+    ensures unasked { (given : InputsView) → given.options.add_efi ≡ false →
         claims given ≡ claims (record given { efi = None }) }
-    ensures empty { (given : Given) → efi_entries given.efi ≡ [] →
+    ensures empty { (given : InputsView) → efi_entries given.efi ≡ [] →
         claims given ≡ claims (record given { efi = None }) }
 {}
 
 /// Law: the map of a boot gives each address below 2^64 the type of its greatest claim, and has at
 /// most 3,200 runs.
 pub fn map_gives_types()
-    ensures types { (given : Given) (made : BootSoFar) (x : ℕ) → boot given ≡ Ok made → x < 2 ^ 64 →
+    ensures types { (given : InputsView) (made : BootSoFar) (x : ℕ) → boot given ≡ Ok made → x < 2 ^ 64 →
         value_at made.map x ≡ kinds (claims given) x }
-    ensures room { (given : Given) (made : BootSoFar) → boot given ≡ Ok made → length made.map ≤ E820_MAX_ENTRIES }
+    ensures room { (given : InputsView) (made : BootSoFar) → boot given ≡ Ok made → length made.map ≤ E820_MAX_ENTRIES }
 {}
 
 /// Law: a frame below the limit of physical addresses is usable exactly if all its bytes lie in
 /// runs of RAM or of the kernel's own memory. The runs are those of the boot's map. There are 1 to
 /// 2^32 usable frames.
 pub fn map_gives_frames()
-    ensures each { (given : Given) (made : BootSoFar) (frame : ℕ) → boot given ≡ Ok made →
+    ensures each { (given : InputsView) (made : BootSoFar) (frame : ℕ) → boot given ≡ Ok made →
         FRAME_SIZE * frame + FRAME_SIZE ≤ reach given → is_usable_frame (types_in_reach given) frame
         ≡ each_in (bytes_of_frame frame) (lies_in_memory made.map) }
-    ensures some { (given : Given) (made : BootSoFar) → boot given ≡ Ok made →
+    ensures some { (given : InputsView) (made : BootSoFar) → boot given ≡ Ok made →
         0 < usable_frames (types_in_reach given) }
-    ensures few { (given : Given) (made : BootSoFar) → boot given ≡ Ok made →
+    ensures few { (given : InputsView) (made : BootSoFar) → boot given ≡ Ok made →
         usable_frames (types_in_reach given) ≤ 2 ^ 32 }
 {}
 
 /// Law: at the end of a boot a byte is memory exactly if its frame is usable, and allocations end
 /// at the end of the last usable frame.
 pub fn map_gives_memory()
-    ensures memory { (given : Given) (made : BootSoFar) (x : ℕ) → boot given ≡ Ok made →
+    ensures memory { (given : InputsView) (made : BootSoFar) (x : ℕ) → boot given ≡ Ok made →
         is_some (memory_of made.items x) ≡ is_usable_frame (types_in_reach given) (x / FRAME_SIZE) }
-    ensures limit { (given : Given) (made : BootSoFar) → boot given ≡ Ok made →
+    ensures limit { (given : InputsView) (made : BootSoFar) → boot given ≡ Ok made →
         limit_of made.items ≡ memory_end (reach given) (kinds (claims given)) }
 {}
 
 /// Law: a boot stops with `NoRam` only if no frame is usable.
 pub fn no_ram_means_no_usable_frame()
-    ensures { (given : Given) → boot given ≡ Err causes.NoRam → usable_frames (types_in_reach given) ≡ 0 }
+    ensures { (given : InputsView) → boot given ≡ Err causes.NoRam → usable_frames (types_in_reach given) ≡ 0 }
 {}
 
 /// Law: the mirrored ranges that the firmware gives, and those of command words cut to whole

@@ -12,7 +12,7 @@
 //! says that it leaves that part as it is.
 //!
 //! The facts about each input's value are facts of the type [`Inputs`], so every function that has
-//! inputs has them. [`is_kernel`] tests the place of the kernel. [`Inputs::begun`] are the inputs
+//! inputs has them. [`is_kernel`] tests the place of the kernel. [`Inputs::without_files`] are the inputs
 //! without any file, to which each file adds. Only [`Inputs::reach`] gives the limit of physical
 //! addresses. Mirrored memory is given in whole frames, so no law about a boot has to require it.
 //!
@@ -32,7 +32,7 @@ pub use booted::Booted;
 pub use inputs::Inputs;
 pub use kernel::is_kernel;
 pub use laws::{
-    firmware_adds_what_is_asked, map_gives_frames, map_gives_memory, map_gives_types,
+    efi_map_counts_only_if_asked, map_gives_frames, map_gives_memory, map_gives_types,
     mirrors_are_whole_frames, no_ram_means_no_usable_frame,
 };
 pub use stop::{Cause, Stop};

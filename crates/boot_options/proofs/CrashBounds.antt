@@ -10,10 +10,10 @@ use Rattle.text_words.specs.declared.separators.Separators.TheVariants.{Byte}
 use Rattle.text_words.specs.Parts.{split_once, parts_from, parts_in, quoted_after, separates, with_front}
 use Rattle.boot_options.specs.declared.crash.CrashRange.{CrashRange}
 use Rattle.boot_options.specs.MapOptions.{whole_size}
-use Rattle.boot_options.specs.Crash.{AreInOrder, Form, High, IsPlain, Low, Plain, comma, crash_range_of, crash_ranges_of, end_of_range, form_of, in_order, is_above, place_of, ranges_form, simple_form, suffix_form, without_colon}
+use Rattle.boot_options.specs.Crash.{AreInOrder, CrashFormView, High, IsPlain, Low, Plain, comma, crash_range_of, crash_ranges_of, end_of_range, crash_form_of, range_if_in_order, is_above, text_and_base, ranges_form, simple_form, suffix_form, form_without_colon}
 use Rattle.boot_options.proofs.MapOptionBounds.{ifsome-if, ifsome-then}
 
-abbrev pub IsSoundForm : Form → Type 0
+abbrev pub IsSoundForm : CrashFormView → Type 0
 IsSoundForm (Plain form) = IsPlain form
 IsSoundForm (High size) = Unit {0}
 IsSoundForm (Low size) = Unit {0}
@@ -21,7 +21,7 @@ IsSoundForm (Low size) = Unit {0}
 abbrev pub IsInOrder : CrashRange → Type 0
 IsInOrder r = IfSome r.end (λ end. r.start < end)
 
-sound-in_order : (r : CrashRange) → IfSome (in_order r) IsInOrder
+sound-in_order : (r : CrashRange) → IfSome (range_if_in_order r) IsInOrder
 sound-in_order r = by_test (is_above r.end r.start) refl
   where
     above : (end : Option ℕ) (start : ℕ) → is_above end start ≡ true → IfSome end (λ e. start < e)
@@ -70,7 +70,7 @@ parts-some s quoted (b ∷ bs) = by_test (separates s b && not quoted)
 
 sound-ranges_form : (value : List ℕ) → IfSome (ranges_form value) IsSoundForm
 sound-ranges_form value =
-    ifsome-then IsSoundForm (place_of value) _ (λ place.
+    ifsome-then IsSoundForm (text_and_base value) _ (λ place.
     with_ranges place.1 (length (parts_in (Byte comma) place.0)) (parts-some (Byte comma) false place.0)
     (crash_ranges_of (parts_in (Byte comma) place.0)) (sound-ranges (parts_in (Byte comma) place.0)))
   where
@@ -81,7 +81,7 @@ sound-ranges_form value =
 
 sound-simple_form : (value : List ℕ) → IfSome (simple_form value) IsSoundForm
 sound-simple_form value =
-    ifsome-then IsSoundForm (place_of value) _ (λ place.
+    ifsome-then IsSoundForm (text_and_base value) _ (λ place.
     ifsome-then IsSoundForm (whole_size place.0) _ (λ size. record { some = omega arith; order = (tt, tt) }))
 
 sound-suffix_form : (halves : List ℕ × List ℕ) → IfSome (suffix_form halves) IsSoundForm
@@ -90,11 +90,11 @@ sound-suffix_form halves =
     ifsome-if IsSoundForm (bytes_eq halves.1 (codes "high")) _ _ tt
     (ifsome-if IsSoundForm (bytes_eq halves.1 (codes "low")) _ _ tt tt))
 
-sound-without_colon : (value : List ℕ) (halves : Option (List ℕ × List ℕ)) → IfSome (without_colon value halves) IsSoundForm
+sound-without_colon : (value : List ℕ) (halves : Option (List ℕ × List ℕ)) → IfSome (form_without_colon value halves) IsSoundForm
 sound-without_colon value None = sound-simple_form value
 sound-without_colon value (Some halves) = sound-suffix_form halves
 
-pub sound-form : (value : List ℕ) → IfSome (form_of value) IsSoundForm
-unfolding form_of
+pub sound-form : (value : List ℕ) → IfSome (crash_form_of value) IsSoundForm
+unfolding crash_form_of
 sound-form value =
     ifsome-if IsSoundForm (is_some (split_once 58 value)) _ _ (sound-ranges_form value) (sound-without_colon value (split_once 44 value))

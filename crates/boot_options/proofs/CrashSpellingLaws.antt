@@ -16,8 +16,8 @@ use Rattle.text_words.specs.Words.{IsClosed}
 use Rattle.text_words.proofs.PartsLaws.{parts-one, parts-spelled}
 use Rattle.boot_options.specs.declared.crash.CrashRange.{CrashRange}
 use Rattle.boot_options.specs.MapOptions.{whole_size}
-use Rattle.boot_options.specs.Crash.{Form, High, Low, Plain, crash_range_of, crash_ranges_of, end_of_range, form_of, in_order, is_above, place_of, simple_form, suffixed}
-use Rattle.boot_options.specs.Spelling.{SpellRanges, SpellsEnd, SpellsForm, SpellsRange, a_base, by_ranges, high, joined, low, no_base, one_size}
+use Rattle.boot_options.specs.Crash.{CrashFormView, High, Low, Plain, crash_range_of, crash_ranges_of, end_of_range, crash_form_of, range_if_in_order, is_above, text_and_base, simple_form, form_by_suffix}
+use Rattle.boot_options.specs.Spelling.{SpellRanges, SpellsEnd, SpellsForm, SpellsRange, a_base, by_ranges, high, join_with_commas, low, no_base, one_size}
 use Rattle.boot_options.proofs.SpellingLaws.{then-some, whole_size-end}
 
 -- the mark isn't in the text
@@ -92,32 +92,32 @@ pub lacks-size : (s : List ℕ) (mark n : ℕ) → is_digit mark 36 ≡ false �
 lacks-size s mark n is size = lacks-from [] s mark n is size
 
 -- the size and the base of a plain form
-place-none : (s : List ℕ) → Lacks 64 s → place_of s ≡ Some (s, 0)
+place-none : (s : List ℕ) → Lacks 64 s → text_and_base s ≡ Some (s, 0)
 place-none s lacks = rw (split_once-none 64 s lacks) refl
 
-place-base : (s b : List ℕ) (base : ℕ) → Lacks 64 s → IsSize b base → place_of (s ++ (64 ∷ b)) ≡ Some (s, base)
+place-base : (s b : List ℕ) (base : ℕ) → Lacks 64 s → IsSize b base → text_and_base (s ++ (64 ∷ b)) ≡ Some (s, base)
 place-base s b base lacks size =
     rw (split_once-mark 64 s b lacks) (ap (λ (o : Option ℕ). option_map (λ x. (s, x)) o) (whole_size-end b base size))
 
 -- one size, with a base and without
-abbrev one : ℕ → ℕ → Form
+abbrev one : ℕ → ℕ → CrashFormView
 one size base = Plain (record { ranges = record { start = 0; end = None; size = size } ∷ []; base = base })
 
-simple-placed : (value s : List ℕ) (base n : ℕ) → place_of value ≡ Some (s, base) → IsSize s n → simple_form value ≡ Some (one n base)
+simple-placed : (value s : List ℕ) (base n : ℕ) → text_and_base value ≡ Some (s, base) → IsSize s n → simple_form value ≡ Some (one n base)
 simple-placed value s base n is size =
-    then-some (place_of value) (λ place. whole_size place.0 >>= λ size. Some (one size place.1)) (s, base) is
+    then-some (text_and_base value) (λ place. whole_size place.0 >>= λ size. Some (one size place.1)) (s, base) is
     ∙ then-some (whole_size s) (λ size. Some (one size base)) n (whole_size-end s n size)
 
-form-simple_form : (value : List ℕ) → Lacks 58 value → Lacks 44 value → form_of value ≡ simple_form value
-unfolding form_of
+form-simple_form : (value : List ℕ) → Lacks 58 value → Lacks 44 value → crash_form_of value ≡ simple_form value
+unfolding crash_form_of
 form-simple_form value colons commas = rw (split_once-none 58 value colons, split_once-none 44 value commas) refl
 
-form-simple : (s : List ℕ) (n : ℕ) → IsSize s n → form_of s ≡ Some (one n 0)
+form-simple : (s : List ℕ) (n : ℕ) → IsSize s n → crash_form_of s ≡ Some (one n 0)
 form-simple s n size =
     form-simple_form s (lacks-size s 58 n refl size) (lacks-size s 44 n refl size)
     ∙ simple-placed s s 0 n (place-none s (lacks-size s 64 n refl size)) size
 
-form-placed : (s b : List ℕ) (n base : ℕ) → IsSize s n → IsSize b base → form_of (s ++ (64 ∷ b)) ≡ Some (one n base)
+form-placed : (s b : List ℕ) (n base : ℕ) → IsSize s n → IsSize b base → crash_form_of (s ++ (64 ∷ b)) ≡ Some (one n base)
 form-placed s b n base size at =
     form-simple_form (s ++ (64 ∷ b))
     (lacks-append 58 s (64 ∷ b) (lacks-size s 58 n refl size) (refl, lacks-size b 58 base refl at))
@@ -125,19 +125,19 @@ form-placed s b n base size at =
     ∙ simple-placed (s ++ (64 ∷ b)) s base n (place-base s b base (lacks-size s 64 n refl size) at) size
 
 -- a size with a suffix
-form-suffixed : (s name : List ℕ) (n : ℕ) (form : Form) → IsSize s n → Lacks 58 name → suffixed name n ≡ Some form
-    → form_of (s ++ (44 ∷ name)) ≡ Some form
-unfolding form_of
+form-suffixed : (s name : List ℕ) (n : ℕ) (form : CrashFormView) → IsSize s n → Lacks 58 name → form_by_suffix name n ≡ Some form
+    → crash_form_of (s ++ (44 ∷ name)) ≡ Some form
+unfolding crash_form_of
 form-suffixed s name n form size colons is =
     let none : split_once 58 (s ++ (44 ∷ name)) ≡ None
     = split_once-none 58 (s ++ (44 ∷ name)) (lacks-append 58 s (44 ∷ name) (lacks-size s 58 n refl size) (refl, colons)) in
     rw (none, split_once-mark 44 s name (lacks-size s 44 n refl size))
-    (then-some (whole_size s) (λ size. suffixed name size) n (whole_size-end s n size) ∙ is)
+    (then-some (whole_size s) (λ size. form_by_suffix name size) n (whole_size-end s n size) ∙ is)
 
-form-high : (s : List ℕ) (n : ℕ) → IsSize s n → form_of (s ++ codes ",high") ≡ Some (High n)
+form-high : (s : List ℕ) (n : ℕ) → IsSize s n → crash_form_of (s ++ codes ",high") ≡ Some (High n)
 form-high s n size = form-suffixed s (codes "high") n (High n) size (refl, (refl, (refl, (refl, tt)))) refl
 
-form-low : (s : List ℕ) (n : ℕ) → IsSize s n → form_of (s ++ codes ",low") ≡ Some (Low n)
+form-low : (s : List ℕ) (n : ℕ) → IsSize s n → crash_form_of (s ++ codes ",low") ≡ Some (Low n)
 form-low s n size = form-suffixed s (codes "low") n (Low n) size (refl, (refl, (refl, tt))) refl
 
 -- the end of a range, and a range
@@ -190,7 +190,7 @@ range-spelled text r spells =
     ∙ then-some (split_once 45 bounds) _ (spells.start_text, spells.end_text) at_dash
     ∙ then-some (whole_size spells.start_text) _ r.start (whole_size-end spells.start_text r.start spells.start)
     ∙ then-some (end_of_range spells.end_text) _ r.end end.0
-    ∙ then-some (whole_size spells.size_text) (λ size. in_order (record { start = r.start; end = r.end; size = size })) r.size
+    ∙ then-some (whole_size spells.size_text) (λ size. range_if_in_order (record { start = r.start; end = r.end; size = size })) r.size
     (whole_size-end spells.size_text r.size spells.size)
     ∙ rw end.1 refl
 
@@ -200,7 +200,7 @@ lacks-closed [] lacks = refl
 lacks-closed (b ∷ bs) lacks = (lacks.0, lacks-closed bs lacks.1)
 
 ranges-spelled : (text : List ℕ) (texts : List (List ℕ)) (rs : List CrashRange) → SpellRanges (text ∷ texts) rs
-    → crash_ranges_of (parts_in (Byte 44) (joined (text ∷ texts))) ≡ Some rs
+    → crash_ranges_of (parts_in (Byte 44) (join_with_commas (text ∷ texts))) ≡ Some rs
 ranges-spelled text [] [] spell = absurd spell
 ranges-spelled text [] (r ∷ []) spell =
     rw (parts-one (Byte 44) false text (lacks-closed text (lacks-range text r 44 refl refl refl spell.0)))
@@ -209,65 +209,65 @@ ranges-spelled text [] (r ∷ q ∷ rs) spell = absurd spell.1
 ranges-spelled text (u ∷ texts) [] spell = absurd spell
 ranges-spelled text (u ∷ texts) (r ∷ rs) spell =
     let closed : IsClosed (Byte 44) false text = lacks-closed text (lacks-range text r 44 refl refl refl spell.0) in
-    rw (parts-spelled (Byte 44) false text 44 (joined (u ∷ texts)) closed refl)
+    rw (parts-spelled (Byte 44) false text 44 (join_with_commas (u ∷ texts)) closed refl)
     (then-some (crash_range_of text)
-    (λ range. crash_ranges_of (parts_in (Byte 44) (joined (u ∷ texts))) >>= λ ranges. Some (range ∷ ranges)) r
+    (λ range. crash_ranges_of (parts_in (Byte 44) (join_with_commas (u ∷ texts))) >>= λ ranges. Some (range ∷ ranges)) r
     (range-spelled text r spell.0)
-    ∙ then-some (crash_ranges_of (parts_in (Byte 44) (joined (u ∷ texts)))) (λ ranges. Some (r ∷ ranges)) rs
+    ∙ then-some (crash_ranges_of (parts_in (Byte 44) (join_with_commas (u ∷ texts)))) (λ ranges. Some (r ∷ ranges)) rs
     (ranges-spelled u texts rs spell.1))
 
 -- the text of ranges has no `@`, and has a colon
-lacks-joined : (texts : List (List ℕ)) (rs : List CrashRange) → SpellRanges texts rs → Lacks 64 (joined texts)
+lacks-joined : (texts : List (List ℕ)) (rs : List CrashRange) → SpellRanges texts rs → Lacks 64 (join_with_commas texts)
 lacks-joined [] [] spell = tt
 lacks-joined [] (r ∷ rs) spell = absurd spell
 lacks-joined (text ∷ texts) [] spell = absurd spell
 lacks-joined (text ∷ []) (r ∷ rs) spell = lacks-range text r 64 refl refl refl spell.0
 lacks-joined (text ∷ u ∷ texts) (r ∷ rs) spell =
-    lacks-append 64 text (44 ∷ joined (u ∷ texts)) (lacks-range text r 64 refl refl refl spell.0)
+    lacks-append 64 text (44 ∷ join_with_commas (u ∷ texts)) (lacks-range text r 64 refl refl refl spell.0)
     (refl, lacks-joined (u ∷ texts) rs spell.1)
 
 front-joined : (text : List ℕ) (texts : List (List ℕ)) (behind : List ℕ)
-    → (rest : List ℕ) × (joined (text ∷ texts) ++ behind ≡ text ++ rest)
+    → (rest : List ℕ) × (join_with_commas (text ∷ texts) ++ behind ≡ text ++ rest)
 front-joined text [] behind = (behind, refl)
-front-joined text (u ∷ texts) behind = ((44 ∷ joined (u ∷ texts)) ++ behind, append_assoc text (44 ∷ joined (u ∷ texts)) behind)
+front-joined text (u ∷ texts) behind = ((44 ∷ join_with_commas (u ∷ texts)) ++ behind, append_assoc text (44 ∷ join_with_commas (u ∷ texts)) behind)
 
 has-colon : (text : List ℕ) (texts : List (List ℕ)) (rs : List CrashRange) (behind : List ℕ) → SpellRanges (text ∷ texts) rs
-    → is_some (split_once 58 (joined (text ∷ texts) ++ behind)) ≡ true
+    → is_some (split_once 58 (join_with_commas (text ∷ texts) ++ behind)) ≡ true
 has-colon text texts [] behind spell = absurd spell
 has-colon text texts (r ∷ rs) behind spell =
     let front = front-joined text texts behind in rw (front.1, split_once-range text front.0 r spell.0) refl
 
 form-ranges_form : (value front : List ℕ) (base : ℕ) (rs : List CrashRange) → is_some (split_once 58 value) ≡ true
-    → place_of value ≡ Some (front, base) → crash_ranges_of (parts_in (Byte 44) front) ≡ Some rs
-    → form_of value ≡ Some (Plain (record { ranges = rs; base = base }))
-unfolding form_of
+    → text_and_base value ≡ Some (front, base) → crash_ranges_of (parts_in (Byte 44) front) ≡ Some rs
+    → crash_form_of value ≡ Some (Plain (record { ranges = rs; base = base }))
+unfolding crash_form_of
 form-ranges_form value front base rs colon place ranges =
     rw colon
-    (then-some (place_of value)
+    (then-some (text_and_base value)
     (λ place. crash_ranges_of (parts_in (Byte 44) place.0) >>= λ ranges. Some (Plain (record { ranges = ranges; base = place.1 })))
     (front, base) place
     ∙ then-some (crash_ranges_of (parts_in (Byte 44) front)) (λ ranges. Some (Plain (record { ranges = ranges; base = base }))) rs ranges)
 
 form-ranges : (text : List ℕ) (texts : List (List ℕ)) (rs : List CrashRange) → SpellRanges (text ∷ texts) rs
-    → form_of (joined (text ∷ texts)) ≡ Some (Plain (record { ranges = rs; base = 0 }))
+    → crash_form_of (join_with_commas (text ∷ texts)) ≡ Some (Plain (record { ranges = rs; base = 0 }))
 form-ranges text texts rs spell =
-    let whole : joined (text ∷ texts) ++ [] ≡ joined (text ∷ texts) = append-nil (joined (text ∷ texts)) in
-    form-ranges_form (joined (text ∷ texts)) (joined (text ∷ texts)) 0 rs (rw whole at (has-colon text texts rs [] spell))
-    (place-none (joined (text ∷ texts)) (lacks-joined (text ∷ texts) rs spell)) (ranges-spelled text texts rs spell)
+    let whole : join_with_commas (text ∷ texts) ++ [] ≡ join_with_commas (text ∷ texts) = append-nil (join_with_commas (text ∷ texts)) in
+    form-ranges_form (join_with_commas (text ∷ texts)) (join_with_commas (text ∷ texts)) 0 rs (rw whole at (has-colon text texts rs [] spell))
+    (place-none (join_with_commas (text ∷ texts)) (lacks-joined (text ∷ texts) rs spell)) (ranges-spelled text texts rs spell)
 
 form-ranges-placed : (text : List ℕ) (texts : List (List ℕ)) (rs : List CrashRange) (b : List ℕ) (base : ℕ)
     → SpellRanges (text ∷ texts) rs → IsSize b base
-    → form_of (joined (text ∷ texts) ++ (64 ∷ b)) ≡ Some (Plain (record { ranges = rs; base = base }))
+    → crash_form_of (join_with_commas (text ∷ texts) ++ (64 ∷ b)) ≡ Some (Plain (record { ranges = rs; base = base }))
 form-ranges-placed text texts rs b base spell size =
-    form-ranges_form (joined (text ∷ texts) ++ (64 ∷ b)) (joined (text ∷ texts)) base rs (has-colon text texts rs (64 ∷ b) spell)
-    (place-base (joined (text ∷ texts)) b base (lacks-joined (text ∷ texts) rs spell) size) (ranges-spelled text texts rs spell)
+    form-ranges_form (join_with_commas (text ∷ texts) ++ (64 ∷ b)) (join_with_commas (text ∷ texts)) base rs (has-colon text texts rs (64 ∷ b) spell)
+    (place-base (join_with_commas (text ∷ texts)) b base (lacks-joined (text ∷ texts) rs spell) size) (ranges-spelled text texts rs spell)
 
 -- each form that is spelled is read as that form
-pub form-read : (value : List ℕ) (form : Form) → SpellsForm value form → form_of value ≡ Some form
+pub form-read : (value : List ℕ) (form : CrashFormView) → SpellsForm value form → crash_form_of value ≡ Some form
 form-read value form (one_size s _ size _ is no_base) = rw (append-nil s) (form-simple s size is)
 form-read value form (one_size s _ size base is (a_base b _ at)) = form-placed s b size base is at
 form-read value form (by_ranges text _ texts ranges _ spell no_base) =
-    rw (append-nil (joined (text ∷ texts))) (form-ranges text texts ranges spell)
+    rw (append-nil (join_with_commas (text ∷ texts))) (form-ranges text texts ranges spell)
 form-read value form (by_ranges text _ texts ranges base spell (a_base b _ at)) = form-ranges-placed text texts ranges b base spell at
 form-read value form (high s size is) = form-high s size is
 form-read value form (low s size is) = form-low s size is

@@ -11,11 +11,11 @@ use Rattle.boot_options.specs.declared.map_option.MapOption.{MapOption}
 use Rattle.boot_options.specs.declared.map_option.MapOption.TheVariants.{ExactMap, Adding, Other}
 use Rattle.boot_options.specs.declared.reading.Reading.{Reading}
 use Rattle.boot_options.specs.declared.reading.UserMap.{UserMap}
-use Rattle.boot_options.specs.MapOptions.{whole_size, range_at, range_above, ram_above, map_option_of, mem_of}
-use Rattle.boot_options.specs.Crash.{crash_view, no_crash}
+use Rattle.boot_options.specs.MapOptions.{whole_size, range_if_addressable, range_above, ram_above, map_option_of, mem_of}
+use Rattle.boot_options.specs.Crash.{crash_option_view, no_crash}
 use Rattle.boot_options.specs.Kept.{KeepsItems}
-use Rattle.boot_options.specs.Options.{raw_line, checked_line, line_of, Said, OfMap, NumaOff, AddEfi, memmap_of, of_one, said_by, name_value_of, option_words, said_from, all_map_options, edit_of, edits_of, count_adding, last_exact, Chosen, chosen, unless_incomplete, with_user_map, options_of, HaveRanges, IsNumbered}
-use Rattle.boot_options.specs.Reading.{start, user_map_behind, after_map_option, after, after_all, read_on, at_line_end, IsReadTo, IsAtSome, ReadsAs}
+use Rattle.boot_options.specs.Options.{raw_line, checked_line, command_line_of, WordMeaning, OfMap, NumaOff, AddEfi, memmap_of, one_map_option, word_meaning, name_value_of, option_words, word_meanings_from, all_map_options, edit_of, edits_of, count_adding, last_exact, OptionsView, options_view, check_user_map, options_with_user_map, options_of, HaveRanges, IsNumbered}
+use Rattle.boot_options.specs.Reading.{start_state, user_map_after_option, after_map_option, reading_after_word, after_words, after_meaning, at_line_end, IsReadTo, IsAtSome, ReadsAs}
 
 abbrev range : ℕ → ℕ → RangeView
 range base size = record { base = base; size = size }
@@ -26,7 +26,7 @@ whole_sizes : (whole_size (codes "640K") ≡ Some 655360) × (whole_size (codes 
 whole_sizes = (refl, refl, refl, refl, refl, refl)
 
 -- base and size together are at most 2^64 - 1
-ranges : (range_at (2 ^ 64 - 2) 1 ≡ Some (range (2 ^ 64 - 2) 1)) × (range_at (2 ^ 64 - 1) 1 ≡ None)
+ranges : (range_if_addressable (2 ^ 64 - 2) 1 ≡ Some (range (2 ^ 64 - 2) 1)) × (range_if_addressable (2 ^ 64 - 1) 1 ≡ None)
 ranges = (refl, refl)
 
 -- the range from an address up to 2^64 - 2, and the edit that removes RAM there; there is none if
@@ -99,7 +99,7 @@ mem_values = (refl, refl, refl, refl, refl, refl, refl)
 raw_lines : (raw_line (codes "quiet\n") ≡ codes "quiet") × (raw_line (113 ∷ 10 ∷ 10 ∷ 0 ∷ 120 ∷ []) ≡ 113 ∷ 10 ∷ []) × (raw_line [] ≡ [])
 raw_lines = (refl, refl, refl)
 
-lines : (line_of (codes "mem=\"4G\"\n") ≡ Ok (codes "mem=\"4G\"")) × (line_of (codes "mem=\"4G\n") ≡ Err faults.OpenQuote)
+lines : (command_line_of (codes "mem=\"4G\"\n") ≡ Ok (codes "mem=\"4G\"")) × (command_line_of (codes "mem=\"4G\n") ≡ Err faults.OpenQuote)
 lines = (refl, refl)
 
 -- a line of 2,047 bytes is accepted, and one of 2,048 is too long
@@ -117,16 +117,16 @@ names : (name_value_of (codes "mem=\"4G\"") ≡ (codes "mem", Some (codes "4G"))
 names = (refl, refl, refl)
 
 -- the meaning of a word depends on its whole name; a fault has the number of the word
-said_words : (said_by 2 (codes "mem", Some (codes "nopentium")) ≡ Ok (of_one (Other None)))
-    × (said_by 2 (codes "numa", Some (codes "off")) ≡ Ok NumaOff) × (said_by 2 (codes "memory", Some (codes "4G")) ≡ Ok (OfMap []))
-    × (said_by 2 (codes "mem", None) ≡ Err (faults.BadMem 2))
-    × (said_by 3 (codes "memmap", Some (codes "1G!4X")) ≡ Err (faults.BadMemmap 3))
-    × (said_by 4 (codes "numa", Some (codes "fake=2")) ≡ Err (faults.BadNuma 4))
+said_words : (word_meaning 2 (codes "mem", Some (codes "nopentium")) ≡ Ok (one_map_option (Other None)))
+    × (word_meaning 2 (codes "numa", Some (codes "off")) ≡ Ok NumaOff) × (word_meaning 2 (codes "memory", Some (codes "4G")) ≡ Ok (OfMap []))
+    × (word_meaning 2 (codes "mem", None) ≡ Err (faults.BadMem 2))
+    × (word_meaning 3 (codes "memmap", Some (codes "1G!4X")) ≡ Err (faults.BadMemmap 3))
+    × (word_meaning 4 (codes "numa", Some (codes "fake=2")) ≡ Err (faults.BadNuma 4))
 said_words = (refl, refl, refl, refl, refl, refl)
 
 -- `add_efi_memmap` means the same with any value and without one; its whole name is needed
-efi_words : (said_by 2 (codes "add_efi_memmap", None) ≡ Ok AddEfi) × (said_by 2 (codes "add_efi_memmap", Some (codes "0")) ≡ Ok AddEfi)
-    × (said_by 2 (codes "add_efi_memmaps", None) ≡ Ok (OfMap [])) × (said_by 2 (codes "add_efi", None) ≡ Ok (OfMap []))
+efi_words : (word_meaning 2 (codes "add_efi_memmap", None) ≡ Ok AddEfi) × (word_meaning 2 (codes "add_efi_memmap", Some (codes "0")) ≡ Ok AddEfi)
+    × (word_meaning 2 (codes "add_efi_memmaps", None) ≡ Ok (OfMap [])) × (word_meaning 2 (codes "add_efi", None) ≡ Ok (OfMap []))
 efi_words = (refl, refl, refl, refl)
 
 -- if `--` is the first word, no word comes before it
@@ -134,15 +134,15 @@ words_of_options : (option_words (codes "a \"b\" -- c") ≡ codes "a" ∷ codes 
 words_of_options = (refl, refl)
 
 -- the fault of the lowest malformed word is reported; words are numbered from the given number on
-first_fault : (said_from 1 (codes "quiet" ∷ codes "numa=on" ∷ codes "mem=0" ∷ []) ≡ Err (faults.BadNuma 2))
-    × (said_from 1 (codes "quiet" ∷ codes "numa=off" ∷ []) ≡ Ok ((1, OfMap []) ∷ (2, NumaOff) ∷ []))
+first_fault : (word_meanings_from 1 (codes "quiet" ∷ codes "numa=on" ∷ codes "mem=0" ∷ []) ≡ Err (faults.BadNuma 2))
+    × (word_meanings_from 1 (codes "quiet" ∷ codes "numa=off" ∷ []) ≡ Ok ((1, OfMap []) ∷ (2, NumaOff) ∷ []))
 first_fault = (refl, refl)
 
 -- word 1 is `memmap=exactmap,0@1M`, word 2 `numa=off`, word 3 `memmap=8@0`
 abbrev a_page : MapOption
 a_page = Adding (Some (Add (range 0 8) 1))
 
-abbrev three_words : List (ℕ × Said)
+abbrev three_words : List (ℕ × WordMeaning)
 three_words = (1, OfMap (ExactMap ∷ Adding None ∷ [])) ∷ (2, NumaOff) ∷ (3, OfMap (a_page ∷ [])) ∷ []
 
 -- a map option that adds an empty range makes no edit
@@ -162,22 +162,22 @@ last_exactmap : (last_exact ((1, ExactMap) ∷ (1, a_page) ∷ (2, ExactMap) ∷
 last_exactmap = (refl, refl)
 
 -- a user map needs two map options that add a range
-abbrev nothing_chosen : Chosen
+abbrev nothing_chosen : OptionsView
 nothing_chosen = record { edits = []; crash = no_crash; numa_off = false; add_efi = false }
 
-user_maps : (unless_incomplete nothing_chosen (Some (3, 1)) ≡ Err (faults.UserMapInvalid 3))
-    × (unless_incomplete nothing_chosen (Some (3, 2)) ≡ Ok nothing_chosen) × (unless_incomplete nothing_chosen None ≡ Ok nothing_chosen)
+user_maps : (check_user_map nothing_chosen (Some (3, 1)) ≡ Err (faults.UserMapInvalid 3))
+    × (check_user_map nothing_chosen (Some (3, 2)) ≡ Ok nothing_chosen) × (check_user_map nothing_chosen None ≡ Ok nothing_chosen)
 user_maps = (refl, refl, refl)
 
-words_with_user_maps : (with_user_map three_words
+words_with_user_maps : (options_with_user_map three_words
     ≡ Ok (record { edits = Clear ∷ Add (range 0 8) 1 ∷ []; crash = no_crash; numa_off = true; add_efi = false }))
-    × (with_user_map ((1, OfMap (ExactMap ∷ a_page ∷ [])) ∷ []) ≡ Err (faults.UserMapInvalid 1))
+    × (options_with_user_map ((1, OfMap (ExactMap ∷ a_page ∷ [])) ∷ []) ≡ Err (faults.UserMapInvalid 1))
 words_with_user_maps = (refl, refl)
 
 -- contracts see the edits, without the vector that holds them, and whether `numa=off` and
 -- `add_efi_memmap` are set
 chosen_options : (options : Options) → options.edits.items ≡ Clear ∷ [] → options.numa_off ≡ true → options.add_efi ≡ true
-    → chosen options ≡ record { edits = Clear ∷ []; crash = crash_view options.crash; numa_off = true; add_efi = true }
+    → options_view options ≡ record { edits = Clear ∷ []; crash = crash_option_view options.crash; numa_off = true; add_efi = true }
 chosen_options options edits off efi = rw (edits, off, efi) refl
 
 -- whole lines: two edits, in their order; words after `--` are ignored; `add_efi_memmap`; a
@@ -203,7 +203,7 @@ numbered_faults = (omega arith, tt)
 
 -- in the middle of a line: after `exactmap` two map options that add a range are needed, and each
 -- one that is read is one fewer
-read_three_words : after_all start three_words
+read_three_words : after_words start_state three_words
     ≡ record {
       edits = Clear ∷ Add (range 0 8) 1 ∷ [];
       crash = no_crash;
@@ -213,8 +213,8 @@ read_three_words : after_all start three_words
     }
 read_three_words = refl
 
-none_wanted : (at_line_end (after_all start three_words) ≡ with_user_map three_words)
-    × (at_line_end (after 1 start (OfMap (ExactMap ∷ a_page ∷ []))) ≡ Err (faults.UserMapInvalid 1))
+none_wanted : (at_line_end (after_words start_state three_words) ≡ options_with_user_map three_words)
+    × (at_line_end (reading_after_word 1 start_state (OfMap (ExactMap ∷ a_page ∷ []))) ≡ Err (faults.UserMapInvalid 1))
 none_wanted = (refl, refl)
 
 abbrev two_wanted : UserMap
@@ -223,8 +223,8 @@ two_wanted = record { word = 3; wanting = 2 }
 abbrev one_wanted : UserMap
 one_wanted = record { word = 3; wanting = 1 }
 
-wanted_behind : (user_map_behind 3 ExactMap None ≡ Some two_wanted) × (user_map_behind 4 a_page (Some two_wanted) ≡ Some one_wanted)
-    × (user_map_behind 4 (Other None) (Some two_wanted) ≡ Some two_wanted) × (user_map_behind 4 a_page None ≡ None)
+wanted_behind : (user_map_after_option 3 ExactMap None ≡ Some two_wanted) × (user_map_after_option 4 a_page (Some two_wanted) ≡ Some one_wanted)
+    × (user_map_after_option 4 (Other None) (Some two_wanted) ≡ Some two_wanted) × (user_map_after_option 4 a_page None ≡ None)
 wanted_behind = (refl, refl, refl, refl)
 
 -- the reader has the edits of its state; if it ran out of memory, its state has at least one edit
@@ -244,7 +244,7 @@ half_read m = record {
 }
 
 -- even without memory for the edits, the reader has everything else of its state
-at_a_state_without_memory : (m : Memory) → IsReadTo (half_read m) (after 1 (after_map_option 1 start (Other (Some Clear))) NumaOff)
+at_a_state_without_memory : (m : Memory) → IsReadTo (half_read m) (reading_after_word 1 (after_map_option 1 start_state (Other (Some Clear))) NumaOff)
 at_a_state_without_memory m =
     record {
       edits = omega arith;
@@ -254,7 +254,7 @@ at_a_state_without_memory m =
       user_map = refl;
     }
 
-other_numa_off : (m : Memory) → IsReadTo (half_read m) (after_map_option 1 start (Other (Some Clear))) → ⊥
+other_numa_off : (m : Memory) → IsReadTo (half_read m) (after_map_option 1 start_state (Other (Some Clear))) → ⊥
 other_numa_off m has = let off = has.numa_off in cc off
 
 -- a reader that goes on has no fault, and the fault that it returns is the definition's
@@ -262,6 +262,6 @@ no_state_with_a_fault : (m : Memory) → IsAtSome (half_read m) (Err (faults.Bad
 no_state_with_a_fault m is = is
 
 same_fault : (m : Memory)
-    → ReadsAs {X = ℕ} (λ _. half_read m) (Err (faults.BadMem 1)) (read_on 1 start (said_by 1 (codes "mem", None)))
-    × (ReadsAs {X = ℕ} (λ _. half_read m) (Err faults.Memory) (read_on 1 start (said_by 1 (codes "mem", None))) → ⊥)
+    → ReadsAs {X = ℕ} (λ _. half_read m) (Err (faults.BadMem 1)) (after_meaning 1 start_state (word_meaning 1 (codes "mem", None)))
+    × (ReadsAs {X = ℕ} (λ _. half_read m) (Err faults.Memory) (after_meaning 1 start_state (word_meaning 1 (codes "mem", None))) → ⊥)
 same_fault m = (refl, λ same. cc same)

@@ -17,10 +17,10 @@ use Rattle.text_words.proofs.SpellingLaws.{unquoted_exactly, words_exactly}
 use Rattle.boot_options.specs.declared.fault.OptionFault.{OptionFault}
 use Rattle.boot_options.specs.declared.fault.OptionFault.TheVariants as faults
 use Rattle.boot_options.specs.declared.options.TheConstants.{LONGEST_LINE}
-use Rattle.boot_options.specs.Crash.{form_of}
+use Rattle.boot_options.specs.Crash.{crash_form_of}
 use Rattle.boot_options.specs.MapOptions.{mem_of}
-use Rattle.boot_options.specs.Options.{Said, OfMap, OfCrash, NumaOff, AddEfi, at_cut, chosen_by, crash_of, is_closed, last_exact, all_map_options, line_of, map_options_of, memmap_of, name_value_of, numa_of, of_one, option_words, options_of, or_fault, raw_line, said_by, said_from, unless_incomplete, until_end, with_user_map}
-use Rattle.boot_options.specs.Spelling.{IsBadCrash, IsBadMem, IsBadMemmap, IsBadNuma, IsCrashValue, IsFirstFault, IsMalformed, IsMemValue, IsMemmapValue, IsNumaValue, IsSoundWord, OptionWords, a_word, line_end, no_value, other_value, two_dashes}
+use Rattle.boot_options.specs.Options.{WordMeaning, OfMap, OfCrash, NumaOff, AddEfi, split_name_value, options_of_words, crash_of, is_closed, last_exact, all_map_options, command_line_of, map_options_of, memmap_of, name_value_of, numa_of, one_map_option, option_words, options_of, meaning_or_fault, raw_line, word_meaning, word_meanings_from, check_user_map, until_end, options_with_user_map}
+use Rattle.boot_options.specs.Spelling.{IsBadCrash, IsBadMem, IsBadMemmap, IsBadNuma, IsCrashValue, IsFirstWordFault, IsMalformed, IsMemValue, IsMemmapValue, IsNumaValue, IsSoundWord, OptionWords, a_word, line_end, no_value, other_value, two_dashes}
 use Rattle.boot_options.proofs.CrashSpellingLaws.{Lacks, split_once-mark, split_once-none}
 use Rattle.boot_options.proofs.SpelledCrashLaws.{split_once-spelled, form-exactly}
 use Rattle.boot_options.proofs.SpelledLaws.{map_options-exactly, mem-exactly}
@@ -63,8 +63,8 @@ NoValue n None = Unit {0}
 NoValue n (Some value) = IsValue n value → ⊥
 
 -- the meaning of a value
-abbrev pub said_value : Name → Option (List ℕ) → Option Said
-said_value mem value = option_map of_one (option_and_then mem_of value)
+abbrev pub said_value : Name → Option (List ℕ) → Option WordMeaning
+said_value mem value = option_map one_map_option (option_and_then mem_of value)
 said_value memmap value = option_and_then memmap_of value
 said_value crash value = option_and_then crash_of value
 said_value numa value = option_and_then numa_of value
@@ -77,11 +77,11 @@ none-exactly (Some a) f Spells exact = (λ is. cc, λ none. absurd (none (a, (ex
 
 said_none : (n : Name) (value : Option (List ℕ)) → said_value n value ≡ None ↔ NoValue n value
 said_none mem None = (λ is. tt, λ none. refl)
-said_none mem (Some value) = none-exactly (mem_of value) of_one _ (mem-exactly value)
+said_none mem (Some value) = none-exactly (mem_of value) one_map_option _ (mem-exactly value)
 said_none memmap None = (λ is. tt, λ none. refl)
 said_none memmap (Some value) = none-exactly (map_options_of (parts_in (Byte 44) value)) OfMap _ (map_options-exactly value)
 said_none crash None = (λ is. tt, λ none. refl)
-said_none crash (Some value) = none-exactly (form_of value) OfCrash _ (form-exactly value)
+said_none crash (Some value) = none-exactly (crash_form_of value) OfCrash _ (form-exactly value)
 said_none numa None = (λ is. tt, λ none. refl)
 said_none numa (Some value) = by_test (bytes_eq value (codes "off")) (bytes_eq-Decides value (codes "off"))
   where
@@ -91,19 +91,19 @@ said_none numa (Some value) = by_test (bytes_eq value (codes "off")) (bytes_eq-D
     by_test false decides = (λ is off. let told : false ≡ true = decides.1 off in cc told, λ none. refl)
 
 -- the fault of a word, by its name and its value
-is_fault : (fault : OptionFault) (o : Option Said) (found : OptionFault) → or_fault fault o ≡ Err found → (o ≡ None) × (found ≡ fault)
+is_fault : (fault : OptionFault) (o : Option WordMeaning) (found : OptionFault) → meaning_or_fault fault o ≡ Err found → (o ≡ None) × (found ≡ fault)
 is_fault fault None found is = (refl, cc)
 is_fault fault (Some said) found is = cc
 
 abbrev IsFaultOf : ℕ → List ℕ × Option (List ℕ) → OptionFault → Type 0
 IsFaultOf number word fault = (n : Name) × (word.0 ≡ text_of n) × NoValue n word.1 × (fault ≡ fault_at n number)
 
-said_by-fault : (number : ℕ) (word : List ℕ × Option (List ℕ)) (fault : OptionFault) → said_by number word ≡ Err fault → IsFaultOf number word fault
-said_by-fault number word fault =
+word_meaning-fault : (number : ℕ) (word : List ℕ × Option (List ℕ)) (fault : OptionFault) → word_meaning number word ≡ Err fault → IsFaultOf number word fault
+word_meaning-fault number word fault =
     by_tests (bytes_eq word.0 (codes "mem")) refl (bytes_eq word.0 (codes "memmap")) refl (bytes_eq word.0 (codes "crashkernel")) refl
     (bytes_eq word.0 (codes "numa")) refl (bytes_eq word.0 (codes "add_efi_memmap"))
   where
-    named : (n : Name) → bytes_eq word.0 (text_of n) ≡ true → or_fault (fault_at n number) (said_value n word.1) ≡ Err fault
+    named : (n : Name) → bytes_eq word.0 (text_of n) ≡ true → meaning_or_fault (fault_at n number) (said_value n word.1) ≡ Err fault
         → IsFaultOf number word fault
     named n test is =
         let found = is_fault (fault_at n number) (said_value n word.1) fault is in
@@ -111,10 +111,10 @@ said_by-fault number word fault =
 
     by_tests : (a : Bool) → bytes_eq word.0 (codes "mem") ≡ a → (b : Bool) → bytes_eq word.0 (codes "memmap") ≡ b → (c : Bool)
         → bytes_eq word.0 (codes "crashkernel") ≡ c → (d : Bool) → bytes_eq word.0 (codes "numa") ≡ d → (e : Bool)
-        → (if a then or_fault (faults.BadMem number) (said_value mem word.1) else
-        (if b then or_fault (faults.BadMemmap number) (said_value memmap word.1) else
-        (if c then or_fault (faults.BadCrash number) (said_value crash word.1) else
-        (if d then or_fault (faults.BadNuma number) (said_value numa word.1) else (if e then Ok AddEfi else Ok (OfMap [])))))) ≡ Err fault
+        → (if a then meaning_or_fault (faults.BadMem number) (said_value mem word.1) else
+        (if b then meaning_or_fault (faults.BadMemmap number) (said_value memmap word.1) else
+        (if c then meaning_or_fault (faults.BadCrash number) (said_value crash word.1) else
+        (if d then meaning_or_fault (faults.BadNuma number) (said_value numa word.1) else (if e then Ok AddEfi else Ok (OfMap [])))))) ≡ Err fault
         → IsFaultOf number word fault
     by_tests true a_is b b_is c c_is d d_is e is = named mem a_is is
     by_tests false a_is true b_is c c_is d d_is e is = named memmap b_is is
@@ -123,12 +123,12 @@ said_by-fault number word fault =
     by_tests false a_is false b_is false c_is false d_is true is = cc
     by_tests false a_is false b_is false c_is false d_is false is = cc
 
-said_by-malformed : (number : ℕ) (n : Name) (name : List ℕ) (value : Option (List ℕ)) → name ≡ text_of n → NoValue n value
-    → said_by number (name, value) ≡ Err (fault_at n number)
-said_by-malformed number mem name value is none = rw is (rw ((said_none mem value).1 none) refl)
-said_by-malformed number memmap name value is none = rw is (rw ((said_none memmap value).1 none) refl)
-said_by-malformed number crash name value is none = rw is (rw ((said_none crash value).1 none) refl)
-said_by-malformed number numa name value is none = rw is (rw ((said_none numa value).1 none) refl)
+word_meaning-malformed : (number : ℕ) (n : Name) (name : List ℕ) (value : Option (List ℕ)) → name ≡ text_of n → NoValue n value
+    → word_meaning number (name, value) ≡ Err (fault_at n number)
+word_meaning-malformed number mem name value is none = rw is (rw ((said_none mem value).1 none) refl)
+word_meaning-malformed number memmap name value is none = rw is (rw ((said_none memmap value).1 none) refl)
+word_meaning-malformed number crash name value is none = rw is (rw ((said_none crash value).1 none) refl)
+word_meaning-malformed number numa name value is none = rw is (rw ((said_none numa value).1 none) refl)
 
 -- a malformed word, by its name and its value
 pub lacks_equals : (n : Name) → Lacks 61 (text_of n)
@@ -149,22 +149,22 @@ none-malformed : (n : Name) (word : List ℕ) → HasNone n (name_value_of word)
 none-malformed n word = by_cut (split_once 61 word) (split_once-spelled 61 word)
   where
     by_cut : (o : Option (List ℕ × List ℕ)) → ((halves : List ℕ × List ℕ) → o ≡ Some halves → word ≡ halves.0 ++ (61 ∷ halves.1))
-        → HasNone n (at_cut word o) → IsMalformed (text_of n) (IsValue n) word
+        → HasNone n (split_name_value word o) → IsMalformed (text_of n) (IsValue n) word
     by_cut None spelled has = rw has.0 no_value
     by_cut (Some halves) spelled has =
         let whole : word ≡ text_of n ++ (61 ∷ halves.1) = spelled halves refl ∙ ap (λ (name : List ℕ). name ++ (61 ∷ halves.1)) has.0 in
         rw whole (other_value halves.1 (unquote halves.1) ((unquoted_exactly halves.1 (unquote halves.1)).0 refl) has.1)
 
 -- a word has no fault exactly if it isn't malformed
-pub sound-ok : (number : ℕ) (word : List ℕ) (said : Said) → said_by number (name_value_of word) ≡ Ok said → IsSoundWord word
+pub sound-ok : (number : ℕ) (word : List ℕ) (said : WordMeaning) → word_meaning number (name_value_of word) ≡ Ok said → IsSoundWord word
 sound-ok number word said is =
     record { mem = sound mem; memmap = sound memmap; crash = sound crash; numa = sound numa }
   where
     sound : (n : Name) → IsMalformed (text_of n) (IsValue n) word → ⊥
     sound n malformed =
         let has = malformed-none n word malformed in
-        let told : said_by number (name_value_of word) ≡ Err (fault_at n number)
-        = said_by-malformed number n (name_value_of word).0 (name_value_of word).1 has.0 has.1 in
+        let told : word_meaning number (name_value_of word) ≡ Err (fault_at n number)
+        = word_meaning-malformed number n (name_value_of word).0 (name_value_of word).1 has.0 has.1 in
         cc (is, told)
 
 sound_of : (n : Name) (word : List ℕ) → IsSoundWord word → IsMalformed (text_of n) (IsValue n) word → ⊥
@@ -173,11 +173,11 @@ sound_of memmap word sound = sound.memmap
 sound_of crash word sound = sound.crash
 sound_of numa word sound = sound.numa
 
-ok-sound : (number : ℕ) (word : List ℕ) → IsSoundWord word → (said : Said) × (said_by number (name_value_of word) ≡ Ok said)
-ok-sound number word sound = by_said (said_by number (name_value_of word)) (said_by-fault number (name_value_of word))
+ok-sound : (number : ℕ) (word : List ℕ) → IsSoundWord word → (said : WordMeaning) × (word_meaning number (name_value_of word) ≡ Ok said)
+ok-sound number word sound = by_said (word_meaning number (name_value_of word)) (word_meaning-fault number (name_value_of word))
   where
-    by_said : (r : Result Said OptionFault) → ((fault : OptionFault) → r ≡ Err fault → IsFaultOf number (name_value_of word) fault)
-        → (said : Said) × (r ≡ Ok said)
+    by_said : (r : Result WordMeaning OptionFault) → ((fault : OptionFault) → r ≡ Err fault → IsFaultOf number (name_value_of word) fault)
+        → (said : WordMeaning) × (r ≡ Ok said)
     by_said (Ok said) fault = (said, refl)
     by_said (Err f) fault =
         let found = fault f refl in absurd (sound_of found.0 word sound (none-malformed found.0 word (found.1, found.2)))
@@ -192,12 +192,12 @@ record FirstOf (number : ℕ) (words : List (List ℕ)) (n : Name) (w : ℕ) : T
   place : w ≡ number + length front
   has : HasNone n (name_value_of word)
 
-said_from-fault : (number : ℕ) (words : List (List ℕ)) (n : Name) (w : ℕ) → said_from number words ≡ Err (fault_at n w)
+word_meanings_from-fault : (number : ℕ) (words : List (List ℕ)) (n : Name) (w : ℕ) → word_meanings_from number words ≡ Err (fault_at n w)
     → FirstOf number words n w
-said_from-fault number [] n w is = cc
-said_from-fault number (word ∷ words) n w is =
-    by_said (said_by number (name_value_of word)) (sound-ok number word) (said_by-fault number (name_value_of word))
-    (said_from-fault (number + 1) words n w) is
+word_meanings_from-fault number [] n w is = cc
+word_meanings_from-fault number (word ∷ words) n w is =
+    by_said (word_meaning number (name_value_of word)) (sound-ok number word) (word_meaning-fault number (name_value_of word))
+    (word_meanings_from-fault (number + 1) words n w) is
   where
     first : (fault : OptionFault) → IsFaultOf number (name_value_of word) fault → fault ≡ fault_at n w → FirstOf number (word ∷ words) n w
     first fault found is =
@@ -224,27 +224,27 @@ said_from-fault number (word ∷ words) n w is =
           has = others.has;
         }
 
-    by_others : (said : Said) (r : Result (List (ℕ × Said)) OptionFault)
+    by_others : (said : WordMeaning) (r : Result (List (ℕ × WordMeaning)) OptionFault)
         → (r >>= λ others. Ok ((number, said) ∷ others)) ≡ Err (fault_at n w) → r ≡ Err (fault_at n w)
     by_others said (Ok others) is = cc
     by_others said (Err f) is = is
 
-    by_said : (r : Result Said OptionFault) → ((said : Said) → r ≡ Ok said → IsSoundWord word)
+    by_said : (r : Result WordMeaning OptionFault) → ((said : WordMeaning) → r ≡ Ok said → IsSoundWord word)
         → ((fault : OptionFault) → r ≡ Err fault → IsFaultOf number (name_value_of word) fault)
-        → (said_from (number + 1) words ≡ Err (fault_at n w) → FirstOf (number + 1) words n w)
-        → (r >>= λ said. said_from (number + 1) words >>= λ others. Ok ((number, said) ∷ others)) ≡ Err (fault_at n w)
+        → (word_meanings_from (number + 1) words ≡ Err (fault_at n w) → FirstOf (number + 1) words n w)
+        → (r >>= λ said. word_meanings_from (number + 1) words >>= λ others. Ok ((number, said) ∷ others)) ≡ Err (fault_at n w)
         → FirstOf number (word ∷ words) n w
-    by_said (Ok said) sound fault rest is = later (sound said refl) (rest (by_others said (said_from (number + 1) words) is))
+    by_said (Ok said) sound fault rest is = later (sound said refl) (rest (by_others said (word_meanings_from (number + 1) words) is))
     by_said (Err f) sound fault rest is = first f (fault f refl) cc
 
-said_from-first : (number : ℕ) (front : List (List ℕ)) (word : List ℕ) (behind : List (List ℕ)) (n : Name) → AllByRecursion IsSoundWord front
-    → HasNone n (name_value_of word) → said_from number (front ++ (word ∷ behind)) ≡ Err (fault_at n (number + length front))
-said_from-first number [] word behind n sound has =
+word_meanings_from-first : (number : ℕ) (front : List (List ℕ)) (word : List ℕ) (behind : List (List ℕ)) (n : Name) → AllByRecursion IsSoundWord front
+    → HasNone n (name_value_of word) → word_meanings_from number (front ++ (word ∷ behind)) ≡ Err (fault_at n (number + length front))
+word_meanings_from-first number [] word behind n sound has =
     let here : number + 0 ≡ number = omega arith in
-    rw here (rw (said_by-malformed number n (name_value_of word).0 (name_value_of word).1 has.0 has.1) refl)
-said_from-first number (first ∷ front) word behind n sound has =
+    rw here (rw (word_meaning-malformed number n (name_value_of word).0 (name_value_of word).1 has.0 has.1) refl)
+word_meanings_from-first number (first ∷ front) word behind n sound has =
     let said = ok-sound number first sound.0 in
-    let rest = said_from-first (number + 1) front word behind n sound.1 has in
+    let rest = word_meanings_from-first (number + 1) front word behind n sound.1 has in
     let place : number + 1 + length front ≡ number + suc (length front) = omega arith in
     rw (said.1, rest, place) refl
 
@@ -296,7 +296,7 @@ marks_close quoted (b ∷ bs) even =
 abbrev checked : Bool → Bool → List ℕ → Result (List ℕ) OptionFault
 checked long closed line = if long then Err faults.TooLong else (if closed then Ok line else Err faults.OpenQuote)
 
-pub line-read : (bytes line : List ℕ) → line_of bytes ≡ Ok line → QuotesClose CommandLine false line
+pub line-read : (bytes line : List ℕ) → command_line_of bytes ≡ Ok line → QuotesClose CommandLine false line
 line-read bytes line = by_tests (nat_lt LONGEST_LINE (length (raw_line bytes))) (is_closed (raw_line bytes)) refl
   where
     closes : is_closed (raw_line bytes) ≡ true → QuotesClose CommandLine false (raw_line bytes)
@@ -323,7 +323,7 @@ user_fault : (n : Name) (k w : ℕ) → faults.UserMapInvalid k ≢ fault_at n w
 user_fault mem k w is = cc
 user_fault n k w is = cc
 
-line-fault : (bytes : List ℕ) (n : Name) (w : ℕ) → line_of bytes ≢ Err (fault_at n w)
+line-fault : (bytes : List ℕ) (n : Name) (w : ℕ) → command_line_of bytes ≢ Err (fault_at n w)
 line-fault bytes n w = by_tests (nat_lt LONGEST_LINE (length (raw_line bytes))) (is_closed (raw_line bytes))
   where
     by_tests : (long closed : Bool) → checked long closed (raw_line bytes) ≢ Err (fault_at n w)
@@ -332,26 +332,26 @@ line-fault bytes n w = by_tests (nat_lt LONGEST_LINE (length (raw_line bytes))) 
     by_tests false true is = cc
 
 -- nor does the check of the user map
-user_map-fault : (said : List (ℕ × Said)) (n : Name) (w : ℕ) → with_user_map said ≢ Err (fault_at n w)
+user_map-fault : (said : List (ℕ × WordMeaning)) (n : Name) (w : ℕ) → options_with_user_map said ≢ Err (fault_at n w)
 user_map-fault said n w = by_exact (last_exact (all_map_options said))
   where
-    by_count : (k : ℕ) (t : Bool) → (if t then Err (faults.UserMapInvalid k) else Ok (chosen_by said)) ≢ Err (fault_at n w)
+    by_count : (k : ℕ) (t : Bool) → (if t then Err (faults.UserMapInvalid k) else Ok (options_of_words said)) ≢ Err (fault_at n w)
     by_count k true is = user_fault n k w cc
     by_count k false is = cc
 
-    by_exact : (found : Option (ℕ × ℕ)) → unless_incomplete (chosen_by said) found ≢ Err (fault_at n w)
+    by_exact : (found : Option (ℕ × ℕ)) → check_user_map (options_of_words said) found ≢ Err (fault_at n w)
     by_exact None is = cc
     by_exact (Some exact) is = by_count exact.0 (nat_lt exact.1 2) is
 
 -- the fault of a word is reported exactly if it is that of the lowest malformed word
 pub first-exactly : (n : Name) (bytes : List ℕ) (w : ℕ)
-    → options_of bytes ≡ Err (fault_at n w) ↔ IsFirstFault bytes w (IsMalformed (text_of n) (IsValue n))
-first-exactly n bytes w = (by_line (line_of bytes) refl, told)
+    → options_of bytes ≡ Err (fault_at n w) ↔ IsFirstWordFault bytes w (IsMalformed (text_of n) (IsValue n))
+first-exactly n bytes w = (by_line (command_line_of bytes) refl, told)
   where
-    found : (line : List ℕ) → line_of bytes ≡ Ok line → said_from 1 (option_words line) ≡ Err (fault_at n w)
-        → IsFirstFault bytes w (IsMalformed (text_of n) (IsValue n))
+    found : (line : List ℕ) → command_line_of bytes ≡ Ok line → word_meanings_from 1 (option_words line) ≡ Err (fault_at n w)
+        → IsFirstWordFault bytes w (IsMalformed (text_of n) (IsValue n))
     found line read is =
-        let first = said_from-fault 1 (option_words line) n w is in
+        let first = word_meanings_from-fault 1 (option_words line) n w is in
         record {
           line = line;
           raws = words_in CommandLine line;
@@ -366,20 +366,20 @@ first-exactly n bytes w = (by_line (line_of bytes) refl, told)
           bad = none-malformed n first.word first.has;
         }
 
-    by_said : (line : List ℕ) → line_of bytes ≡ Ok line → (r : Result (List (ℕ × Said)) OptionFault) → said_from 1 (option_words line) ≡ r
-        → (r >>= with_user_map) ≡ Err (fault_at n w) → IsFirstFault bytes w (IsMalformed (text_of n) (IsValue n))
+    by_said : (line : List ℕ) → command_line_of bytes ≡ Ok line → (r : Result (List (ℕ × WordMeaning)) OptionFault) → word_meanings_from 1 (option_words line) ≡ r
+        → (r >>= options_with_user_map) ≡ Err (fault_at n w) → IsFirstWordFault bytes w (IsMalformed (text_of n) (IsValue n))
     by_said line read (Ok said) from is = absurd (user_map-fault said n w is)
     by_said line read (Err fault) from is =
         let same : fault ≡ fault_at n w = cc is in found line read (from ∙ ap (λ (f : OptionFault). Err f) same)
 
-    by_line : (r : Result (List ℕ) OptionFault) → line_of bytes ≡ r
-        → (r >>= λ line. said_from 1 (option_words line) >>= with_user_map) ≡ Err (fault_at n w)
-        → IsFirstFault bytes w (IsMalformed (text_of n) (IsValue n))
-    by_line (Ok line) read is = by_said line read (said_from 1 (option_words line)) refl is
+    by_line : (r : Result (List ℕ) OptionFault) → command_line_of bytes ≡ r
+        → (r >>= λ line. word_meanings_from 1 (option_words line) >>= options_with_user_map) ≡ Err (fault_at n w)
+        → IsFirstWordFault bytes w (IsMalformed (text_of n) (IsValue n))
+    by_line (Ok line) read is = by_said line read (word_meanings_from 1 (option_words line)) refl is
     by_line (Err fault) read is =
         let same : fault ≡ fault_at n w = cc is in absurd (line-fault bytes n w (read ∙ ap (λ (f : OptionFault). Err f) same))
 
-    told : IsFirstFault bytes w (IsMalformed (text_of n) (IsValue n)) → options_of bytes ≡ Err (fault_at n w)
+    told : IsFirstWordFault bytes w (IsMalformed (text_of n) (IsValue n)) → options_of bytes ≡ Err (fault_at n w)
     told first =
         let raws : words_in CommandLine first.line ≡ first.raws
         = (words_exactly CommandLine first.line first.raws (line-read bytes first.line first.read)).1 first.lie in
@@ -387,17 +387,17 @@ first-exactly n bytes w = (by_line (line_of bytes) refl, told)
         = ap (λ (ws : List (List ℕ)). until_end (map unquote ws)) raws
         ∙ until_end-words first.raws (first.front ++ (first.word ∷ first.rest)) first.words in
         let place : w ≡ 1 + length first.front = omega (arith, first.place) in
-        rw (first.read, words, place, said_from-first 1 first.front first.word first.rest n first.sound (malformed-none n first.word first.bad))
+        rw (first.read, words, place, word_meanings_from-first 1 first.front first.word first.rest n first.sound (malformed-none n first.word first.bad))
         refl
 
-pub mem-exactly_first : (bytes : List ℕ) (w : ℕ) → options_of bytes ≡ Err (faults.BadMem w) ↔ IsFirstFault bytes w IsBadMem
+pub mem-exactly_first : (bytes : List ℕ) (w : ℕ) → options_of bytes ≡ Err (faults.BadMem w) ↔ IsFirstWordFault bytes w IsBadMem
 mem-exactly_first = first-exactly mem
 
-pub memmap-exactly_first : (bytes : List ℕ) (w : ℕ) → options_of bytes ≡ Err (faults.BadMemmap w) ↔ IsFirstFault bytes w IsBadMemmap
+pub memmap-exactly_first : (bytes : List ℕ) (w : ℕ) → options_of bytes ≡ Err (faults.BadMemmap w) ↔ IsFirstWordFault bytes w IsBadMemmap
 memmap-exactly_first = first-exactly memmap
 
-pub crash-exactly_first : (bytes : List ℕ) (w : ℕ) → options_of bytes ≡ Err (faults.BadCrash w) ↔ IsFirstFault bytes w IsBadCrash
+pub crash-exactly_first : (bytes : List ℕ) (w : ℕ) → options_of bytes ≡ Err (faults.BadCrash w) ↔ IsFirstWordFault bytes w IsBadCrash
 crash-exactly_first = first-exactly crash
 
-pub numa-exactly_first : (bytes : List ℕ) (w : ℕ) → options_of bytes ≡ Err (faults.BadNuma w) ↔ IsFirstFault bytes w IsBadNuma
+pub numa-exactly_first : (bytes : List ℕ) (w : ℕ) → options_of bytes ≡ Err (faults.BadNuma w) ↔ IsFirstWordFault bytes w IsBadNuma
 numa-exactly_first = first-exactly numa

@@ -17,19 +17,19 @@ use Rattle.boot_options.specs.declared.map_option.MapOption.{MapOption}
 use Rattle.boot_options.specs.declared.map_option.MapOption.TheVariants.{ExactMap, Adding, Other}
 use Rattle.boot_options.specs.MapOptions.{mem_of}
 use Rattle.boot_options.specs.declared.crash.CrashPlain.{CrashPlain}
-use Rattle.boot_options.specs.Crash.{High, IsPlain, Low, Plain, PlainForm, form_of, plain_view}
-use Rattle.boot_options.specs.Options.{Said, OfMap, OfCrash, NumaOff, AddEfi, Chosen, chosen, crash_of, last_said, plain_said, is_closed, line_of, raw_line, map_options_of, memmap_of, of_one, numa_of, or_fault, said_by, name_value_of, said_from, option_words, numbered, all_map_options, edit_of, edits_of, count_adding, or_here, last_exact, chosen_by, unless_incomplete, with_user_map, options_of, HaveRanges, IsNumbered}
+use Rattle.boot_options.specs.Crash.{High, IsPlain, Low, Plain, CrashPlainView, crash_form_of, crash_plain_view}
+use Rattle.boot_options.specs.Options.{WordMeaning, OfMap, OfCrash, NumaOff, AddEfi, OptionsView, options_view, crash_of, last_value, plain_crash_value, is_closed, command_line_of, raw_line, map_options_of, memmap_of, one_map_option, numa_of, meaning_or_fault, word_meaning, name_value_of, word_meanings_from, option_words, numbered_map_options, all_map_options, edit_of, edits_of, count_adding, last_exact_map, last_exact, options_of_words, check_user_map, options_with_user_map, options_of, HaveRanges, IsNumbered}
 use Rattle.boot_options.proofs.CrashBounds.{IsSoundForm, sound-form}
 use Rattle.boot_options.proofs.MapOptionBounds.{IsSound, IsSoundOption, AreSound, ifsome-and_then, ifsome-map, ifsome-if, sound-mem, sound-map_options}
 
-abbrev pub IsSoundWord : Said → Type 0
+abbrev pub IsSoundWord : WordMeaning → Type 0
 IsSoundWord (OfMap ps) = AreSound ps
 IsSoundWord (OfCrash form) = IsSoundForm form
 IsSoundWord NumaOff = Unit {0}
 IsSoundWord AddEfi = Unit {0}
 
 -- each word has a number above 0, and its meaning has sound edits and ranges
-abbrev pub AreSoundWords : List (ℕ × Said) → Type 0
+abbrev pub AreSoundWords : List (ℕ × WordMeaning) → Type 0
 AreSoundWords [] = Unit {0}
 AreSoundWords (s ∷ said) = (0 < s.0) × IsSoundWord s.1 × AreSoundWords said
 
@@ -53,20 +53,20 @@ abbrev pub IsFit : {A : Type 0} → (A → Type 0) → Result A OptionFault → 
 IsFit P (Ok a) = P a
 IsFit P (Err fault) = IsLineFault fault
 
-pub fit-or_fault : (fault : OptionFault) (o : Option Said) → IsLineFault fault → IfSome o IsSoundWord → IsFit IsSoundWord (or_fault fault o)
-fit-or_fault fault None numbered is = numbered
-fit-or_fault fault (Some said) numbered is = is
+pub fit-or_fault : (fault : OptionFault) (o : Option WordMeaning) → IsLineFault fault → IfSome o IsSoundWord → IsFit IsSoundWord (meaning_or_fault fault o)
+fit-or_fault fault None numbered_map_options is = numbered_map_options
+fit-or_fault fault (Some said) numbered_map_options is = is
 
 pub fit-if : {A : Type 0} (P : A → Type 0) (t : Bool) (x y : Result A OptionFault) → IsFit P x → IsFit P y → IsFit P (if t then x else y)
 fit-if P true x y a b = a
 fit-if P false x y a b = b
 
 -- the meaning of a word is sound, and its fault has the word's number
-pub fit-said_by : (number : ℕ) (word : List ℕ × Option (List ℕ)) → 0 < number → IsFit IsSoundWord (said_by number word)
+pub fit-said_by : (number : ℕ) (word : List ℕ × Option (List ℕ)) → 0 < number → IsFit IsSoundWord (word_meaning number word)
 fit-said_by number word above =
     fit-if IsSoundWord (bytes_eq word.0 (codes "mem")) _ _
     (fit-or_fault (faults.BadMem number) _ above
-    (ifsome-map IsSoundOption IsSoundWord of_one (option_and_then mem_of word.1) (λ p is. (is, tt))
+    (ifsome-map IsSoundOption IsSoundWord one_map_option (option_and_then mem_of word.1) (λ p is. (is, tt))
     (ifsome-and_then IsSoundOption mem_of word.1 sound-mem)))
     (fit-if IsSoundWord (bytes_eq word.0 (codes "memmap")) _ _
     (fit-or_fault (faults.BadMemmap number) _ above
@@ -76,7 +76,7 @@ fit-said_by number word above =
     (fit-if IsSoundWord (bytes_eq word.0 (codes "crashkernel")) _ _
     (fit-or_fault (faults.BadCrash number) _ above
     (ifsome-and_then IsSoundWord crash_of word.1 (λ value.
-    ifsome-map IsSoundForm IsSoundWord OfCrash (form_of value) (λ form is. is) (sound-form value))))
+    ifsome-map IsSoundForm IsSoundWord OfCrash (crash_form_of value) (λ form is. is) (sound-form value))))
     (fit-if IsSoundWord (bytes_eq word.0 (codes "numa")) _ _
     (fit-or_fault (faults.BadNuma number) _ above
     (ifsome-and_then IsSoundWord numa_of word.1 (λ value.
@@ -91,20 +91,20 @@ fit-then P Q (Ok a) f is each = each a is
 fit-then P Q (Err fault) f is each = is
 
 -- the meanings of all words are sound
-pub fit-said_from : (number : ℕ) (words : List (List ℕ)) → 0 < number → IsFit AreSoundWords (said_from number words)
+pub fit-said_from : (number : ℕ) (words : List (List ℕ)) → 0 < number → IsFit AreSoundWords (word_meanings_from number words)
 fit-said_from number [] above = tt
 fit-said_from number (word ∷ words) above =
-    fit-then IsSoundWord AreSoundWords (said_by number (name_value_of word)) _ (fit-said_by number (name_value_of word) above) (λ said is.
-    fit-then AreSoundWords AreSoundWords (said_from (number + 1) words) _
+    fit-then IsSoundWord AreSoundWords (word_meaning number (name_value_of word)) _ (fit-said_by number (name_value_of word) above) (λ said is.
+    fit-then AreSoundWords AreSoundWords (word_meanings_from (number + 1) words) _
     (fit-said_from (number + 1) words (omega arith)) (λ others are. (above, is, are)))
 
 -- the map options of all words are sound
 pub sound-numbered : (number : ℕ) (ps : List MapOption) (behind : List (ℕ × MapOption))
-    → 0 < number → AreSound ps → AreNumbered behind → AreNumbered (numbered number ps behind)
+    → 0 < number → AreSound ps → AreNumbered behind → AreNumbered (numbered_map_options number ps behind)
 sound-numbered number [] behind above are rest = rest
 sound-numbered number (p ∷ ps) behind above are rest = (above, are.0, sound-numbered number ps behind above are.1 rest)
 
-pub sound-all_map_options : (said : List (ℕ × Said)) → AreSoundWords said → AreNumbered (all_map_options said)
+pub sound-all_map_options : (said : List (ℕ × WordMeaning)) → AreSoundWords said → AreNumbered (all_map_options said)
 sound-all_map_options [] are = tt
 sound-all_map_options ((number, OfMap ps) ∷ said) are =
     sound-numbered number ps (all_map_options said) are.0 are.1 (sound-all_map_options said are.2)
@@ -113,11 +113,11 @@ sound-all_map_options ((number, NumaOff) ∷ said) are = sound-all_map_options s
 sound-all_map_options ((number, AddEfi) ∷ said) are = sound-all_map_options said are.2
 
 -- the last plain form has ranges, in order
-pub sound-last_plain : (said : List (ℕ × Said)) → AreSoundWords said → IfSome (last_said plain_said said) IsPlain
+pub sound-last_plain : (said : List (ℕ × WordMeaning)) → AreSoundWords said → IfSome (last_value plain_crash_value said) IsPlain
 sound-last_plain [] are = tt
-sound-last_plain (s ∷ said) are = or_this (last_said plain_said said) s.1 (sound-last_plain said are.2) are.1
+sound-last_plain (s ∷ said) are = or_this (last_value plain_crash_value said) s.1 (sound-last_plain said are.2) are.1
   where
-    or_this : (found : Option PlainForm) (s : Said) → IfSome found IsPlain → IsSoundWord s → IfSome (option_or found (plain_said s)) IsPlain
+    or_this : (found : Option CrashPlainView) (s : WordMeaning) → IfSome found IsPlain → IsSoundWord s → IfSome (option_or found (plain_crash_value s)) IsPlain
     or_this (Some form) s is sound = is
     or_this None (OfMap ps) is sound = tt
     or_this None (OfCrash (Plain form)) is sound = sound
@@ -137,72 +137,72 @@ types-edits (p ∷ ps) are = with_one (edit_of p.1) are.1 (types-edits ps are.2)
     with_one (Some e) is rest = ((is.0, rest.0), (is.1, rest.1))
 
 -- the number of the word with the last `exactmap` is above 0
-pub numbered-last_exact : (ps : List (ℕ × MapOption)) → AreNumbered ps → IfSome (last_exact ps) (λ exact. 0 < exact.0)
-numbered-last_exact [] are = tt
-numbered-last_exact ((number, p) ∷ ps) are = or_this (last_exact ps) p (numbered-last_exact ps are.2)
+pub numbered_map_options-last_exact : (ps : List (ℕ × MapOption)) → AreNumbered ps → IfSome (last_exact ps) (λ exact. 0 < exact.0)
+numbered_map_options-last_exact [] are = tt
+numbered_map_options-last_exact ((number, p) ∷ ps) are = or_this (last_exact ps) p (numbered_map_options-last_exact ps are.2)
   where
     or_this : (found : Option (ℕ × ℕ)) (p : MapOption) → IfSome found (λ exact. 0 < exact.0)
-        → IfSome (or_here found number p (count_adding ps)) (λ exact. 0 < exact.0)
+        → IfSome (last_exact_map found number p (count_adding ps)) (λ exact. 0 < exact.0)
     or_this (Some exact) p is = is
     or_this None ExactMap is = are.0
     or_this None (Adding e) is = tt
     or_this None (Other e) is = tt
 
 -- the options of the whole line are sound
-abbrev pub IsSoundChoice : Chosen → Type 0
+abbrev pub IsSoundChoice : OptionsView → Type 0
 IsSoundChoice c = HaveTypes c.edits × HaveRanges c.edits × IfSome c.crash.plain IsPlain
 
-pub sound-chosen_by : (said : List (ℕ × Said)) → AreSoundWords said → IsSoundChoice (chosen_by said)
+pub sound-chosen_by : (said : List (ℕ × WordMeaning)) → AreSoundWords said → IsSoundChoice (options_of_words said)
 sound-chosen_by said are =
     let edits = types-edits (all_map_options said) (sound-all_map_options said are) in (edits.0, edits.1, sound-last_plain said are)
 
-pub fit-with_user_map : (said : List (ℕ × Said)) → AreSoundWords said → IsFit IsSoundChoice (with_user_map said)
+pub fit-with_user_map : (said : List (ℕ × WordMeaning)) → AreSoundWords said → IsFit IsSoundChoice (options_with_user_map said)
 fit-with_user_map said are =
-    by_exact (last_exact (all_map_options said)) (numbered-last_exact (all_map_options said) (sound-all_map_options said are))
+    by_exact (last_exact (all_map_options said)) (numbered_map_options-last_exact (all_map_options said) (sound-all_map_options said are))
   where
     by_exact : (found : Option (ℕ × ℕ)) → IfSome found (λ exact. 0 < exact.0)
-        → IsFit IsSoundChoice (unless_incomplete (chosen_by said) found)
+        → IsFit IsSoundChoice (check_user_map (options_of_words said) found)
     by_exact None is = sound-chosen_by said are
     by_exact (Some exact) is = fit-if IsSoundChoice (nat_lt exact.1 2) _ _ is (sound-chosen_by said are)
 
 abbrev pub IsAnyLine : List ℕ → Type 0
 IsAnyLine line = Unit {0}
 
-pub fit-line : (bytes : List ℕ) → IsFit IsAnyLine (line_of bytes)
+pub fit-line : (bytes : List ℕ) → IsFit IsAnyLine (command_line_of bytes)
 fit-line bytes =
     fit-if IsAnyLine (nat_lt 2047 (length (raw_line bytes))) _ _ tt (fit-if IsAnyLine (is_closed (raw_line bytes)) _ _ tt tt)
 
 -- the options of the bytes are sound, or their fault is one that a line may have
 pub fit-options : (bytes : List ℕ) → IsFit IsSoundChoice (options_of bytes)
 fit-options bytes =
-    fit-then IsAnyLine IsSoundChoice (line_of bytes) _ (fit-line bytes) (λ line _.
-    fit-then AreSoundWords IsSoundChoice (said_from 1 (option_words line)) with_user_map
+    fit-then IsAnyLine IsSoundChoice (command_line_of bytes) _ (fit-line bytes) (λ line _.
+    fit-then AreSoundWords IsSoundChoice (word_meanings_from 1 (option_words line)) options_with_user_map
     (fit-said_from 1 (option_words line) (omega arith)) fit-with_user_map)
 
 -- the options that a call returns have types above 0 and ranges that aren't empty
-pub types-given : (bytes : List ℕ) (r : Result Options OptionFault) → Answers faults.Memory chosen r (options_of bytes)
+pub types-given : (bytes : List ℕ) (r : Result Options OptionFault) → Answers faults.Memory options_view r (options_of bytes)
     → IfOk r (λ options. HaveTypes options.edits.items)
 types-given bytes (Ok options) is = (rw is at (fit-options bytes)).0
 types-given bytes (Err fault) is = tt
 
-pub ranges-given : (bytes : List ℕ) (r : Result Options OptionFault) → Answers faults.Memory chosen r (options_of bytes)
+pub ranges-given : (bytes : List ℕ) (r : Result Options OptionFault) → Answers faults.Memory options_view r (options_of bytes)
     → IfOk r (λ options. HaveRanges options.edits.items)
 ranges-given bytes (Ok options) is = (rw is at (fit-options bytes)).1
 ranges-given bytes (Err fault) is = tt
 
-pub crash-given : (bytes : List ℕ) (r : Result Options OptionFault) → Answers faults.Memory chosen r (options_of bytes)
-    → IfOk r (λ options. IfSome options.crash.plain (λ plain. IsPlain (plain_view plain)))
+pub crash-given : (bytes : List ℕ) (r : Result Options OptionFault) → Answers faults.Memory options_view r (options_of bytes)
+    → IfOk r (λ options. IfSome options.crash.plain (λ plain. IsPlain (crash_plain_view plain)))
 crash-given bytes (Ok options) is = seen options.crash.plain (rw is at (fit-options bytes)).2
   where
-    seen : (plain : Option CrashPlain) → IfSome (option_map plain_view plain) IsPlain → IfSome plain (λ p. IsPlain (plain_view p))
+    seen : (plain : Option CrashPlain) → IfSome (option_map crash_plain_view plain) IsPlain → IfSome plain (λ p. IsPlain (crash_plain_view p))
     seen None is = tt
     seen (Some plain) is = is
 crash-given bytes (Err fault) is = tt
 
-pub numbered-given : (bytes : List ℕ) (r : Result Options OptionFault) → Answers faults.Memory chosen r (options_of bytes)
+pub numbered_map_options-given : (bytes : List ℕ) (r : Result Options OptionFault) → Answers faults.Memory options_view r (options_of bytes)
     → IfErr r IsNumbered
-numbered-given bytes (Ok options) is = tt
-numbered-given bytes (Err fault) is = by_fault fault is
+numbered_map_options-given bytes (Ok options) is = tt
+numbered_map_options-given bytes (Err fault) is = by_fault fault is
   where
     by_fault : (fault : OptionFault) → (fault ≢ faults.Memory → options_of bytes ≡ Err fault) → IsNumbered fault
     by_fault faults.TooLong is = tt

@@ -11,7 +11,7 @@ use Rattle.e820_model.specs.declared.entry.Edit.TheVariants.{Add, Remove, Remove
 use Rattle.bm_base.specs.OptionSteps.{◌>>=◌}
 use Rattle.boot_options.specs.declared.map_option.MapOption.{MapOption}
 use Rattle.boot_options.specs.declared.map_option.MapOption.TheVariants.{ExactMap, Adding, Other}
-use Rattle.boot_options.specs.MapOptions.{front_size, whole_size, at_end, range_at, unless_empty, range_above, ram_above, adding_option, kind_behind, retyped, changed, by_mark, sized_map_option, map_option_of, ram_up_to, mem_of}
+use Rattle.boot_options.specs.MapOptions.{front_size, whole_size, value_if_at_end, range_if_addressable, unless_empty, range_above, ram_above, adding_option, kind_after_mark, retype_option, percent_map_option, map_option_by_mark, sized_map_option, map_option_of, ram_up_to, mem_of}
 use Rattle.boot_options.specs.Options.{map_options_of, edit_of, HasRange}
 
 -- the edit has types above 0, and its range isn't empty
@@ -41,7 +41,7 @@ pub ifsome-map : {A B : Type 0} (P : A → Type 0) (Q : B → Type 0) (f : A →
 ifsome-map P Q f None each is = tt
 ifsome-map P Q f (Some a) each is = each a is
 
-pub ifsome-at_end : {A : Type 0} (P : A → Type 0) (rest : List ℕ) (read : Option A) → IfSome read P → IfSome (at_end rest read) P
+pub ifsome-at_end : {A : Type 0} (P : A → Type 0) (rest : List ℕ) (read : Option A) → IfSome read P → IfSome (value_if_at_end rest read) P
 ifsome-at_end P [] read is = is
 ifsome-at_end P (b ∷ bs) read is = tt
 
@@ -63,10 +63,10 @@ sound-ram_above size = sound-unless_empty (range_above size) (Remove (range_abov
 pub sound-adding_option : (kind size : ℕ) (place : List ℕ) → 0 < kind → IfSome (adding_option kind size place) IsSoundOption
 sound-adding_option kind size place above =
     ifsome-then IsSoundOption (whole_size place) _ (λ base.
-    ifsome-then IsSoundOption (range_at base size) _ (λ range.
+    ifsome-then IsSoundOption (range_if_addressable base size) _ (λ range.
     sound-unless_empty range (Add range kind) above (λ h. h)))
 
-pub sound-retyped : (range : RangeView) (from to : ℕ) → IfSome (retyped range from to) IsSoundOption
+pub sound-retyped : (range : RangeView) (from to : ℕ) → IfSome (retype_option range from to) IsSoundOption
 sound-retyped range from to = by_tests (from == 0) refl (to == 0) refl (from == to)
   where
     above : (n : ℕ) → n == 0 ≡ false → 0 < n
@@ -86,15 +86,15 @@ sound-retyped range from to = by_tests (from == 0) refl (to == 0) refl (from == 
     by_tests false f_is false t_is false =
         sound-unless_empty range (Change range from to) (above from f_is, above to t_is) (λ h. h)
 
-pub sound-changed : (size : ℕ) (place : List ℕ) → IfSome (changed size place) IsSoundOption
+pub sound-changed : (size : ℕ) (place : List ℕ) → IfSome (percent_map_option size place) IsSoundOption
 sound-changed size place =
     ifsome-then IsSoundOption (front_size place) _ (λ base.
-    ifsome-then IsSoundOption (range_at base.0 size) _ (λ range.
-    ifsome-then IsSoundOption (kind_behind 45 base.1) _ (λ from.
-    ifsome-then IsSoundOption (kind_behind 43 from.1) _ (λ to.
-    ifsome-at_end IsSoundOption to.1 (retyped range from.0 to.0) (sound-retyped range from.0 to.0)))))
+    ifsome-then IsSoundOption (range_if_addressable base.0 size) _ (λ range.
+    ifsome-then IsSoundOption (kind_after_mark 45 base.1) _ (λ from.
+    ifsome-then IsSoundOption (kind_after_mark 43 from.1) _ (λ to.
+    ifsome-at_end IsSoundOption to.1 (retype_option range from.0 to.0) (sound-retyped range from.0 to.0)))))
 
-pub sound-by_mark : (size : ℕ) (text : List ℕ) → IfSome (by_mark size text) IsSoundOption
+pub sound-by_mark : (size : ℕ) (text : List ℕ) → IfSome (map_option_by_mark size text) IsSoundOption
 sound-by_mark size [] = sound-ram_above size
 sound-by_mark size (mark ∷ place) =
     ifsome-if IsSoundOption (mark == 64) _ _ (sound-adding_option 1 size place (omega arith))

@@ -11,20 +11,20 @@ use Rattle.text_words.specs.Spelling.{Unquotes}
 use Rattle.text_words.proofs.SpellingLaws.{unquoted_exactly, words_exactly}
 use Rattle.boot_options.specs.declared.fault.OptionFault.{OptionFault}
 use Rattle.boot_options.specs.declared.fault.OptionFault.TheVariants as faults
-use Rattle.boot_options.specs.Crash.{form_of}
+use Rattle.boot_options.specs.Crash.{crash_form_of}
 use Rattle.boot_options.specs.MapOptions.{mem_of}
-use Rattle.boot_options.specs.Options.{Said, OfMap, OfCrash, NumaOff, AddEfi, at_cut, line_of, map_options_of, name_value_of, of_one, option_words, or_fault, said_by, said_from, until_end}
-use Rattle.boot_options.specs.Spelling.{HasName, SpellEach, SpellsLine, SpellsSaid, alone, crash_word, efi_word, mem_word, memmap_word, numa_word, other_word, with_value}
+use Rattle.boot_options.specs.Options.{WordMeaning, OfMap, OfCrash, NumaOff, AddEfi, split_name_value, command_line_of, map_options_of, name_value_of, one_map_option, option_words, meaning_or_fault, word_meaning, word_meanings_from, until_end}
+use Rattle.boot_options.specs.Spelling.{HasName, SpellEach, SpellsLine, SpellsMeaning, alone, crash_word, efi_word, mem_word, memmap_word, numa_word, other_word, with_value}
 use Rattle.boot_options.proofs.CrashSpellingLaws.{Lacks, split_once-mark, split_once-none}
 use Rattle.boot_options.proofs.FaultLaws.{Name, crash, line-read, mem, memmap, numa, said_value, lacks_equals, text_of, OptionWords-until_end, until_end-words}
 use Rattle.boot_options.proofs.SpelledCrashLaws.{split_once-spelled, form-exactly}
 use Rattle.boot_options.proofs.SpelledLaws.{map-some, map_options-exactly, mem-exactly}
 
 -- the meaning of a value is spelled after the name of its word
-said-spelled : (n : Name) (raw : List ℕ) (said : Said) → said_value n (Some (unquote raw)) ≡ Some said
-    → SpellsSaid (text_of n ++ (61 ∷ raw)) said
+said-spelled : (n : Name) (raw : List ℕ) (said : WordMeaning) → said_value n (Some (unquote raw)) ≡ Some said
+    → SpellsMeaning (text_of n ++ (61 ∷ raw)) said
 said-spelled mem raw said is =
-    let found = map-some (mem_of (unquote raw)) of_one said is in
+    let found = map-some (mem_of (unquote raw)) one_map_option said is in
     rw (← found.2) (mem_word raw (unquote raw) found.0 ((unquoted_exactly raw (unquote raw)).0 refl)
     ((mem-exactly (unquote raw) found.0).0 found.1))
 said-spelled memmap raw said is =
@@ -32,13 +32,13 @@ said-spelled memmap raw said is =
     rw (← found.2) (memmap_word raw (unquote raw) found.0 ((unquoted_exactly raw (unquote raw)).0 refl)
     ((map_options-exactly (unquote raw) found.0).0 found.1))
 said-spelled crash raw said is =
-    let found = map-some (form_of (unquote raw)) (λ form. OfCrash form) said is in
+    let found = map-some (crash_form_of (unquote raw)) (λ form. OfCrash form) said is in
     rw (← found.2) (crash_word raw (unquote raw) found.0 ((unquoted_exactly raw (unquote raw)).0 refl)
     ((form-exactly (unquote raw) found.0).0 found.1))
 said-spelled numa raw said is = by_test (bytes_eq (unquote raw) (codes "off")) refl is
   where
     by_test : (t : Bool) → bytes_eq (unquote raw) (codes "off") ≡ t → (if t then Some NumaOff else None) ≡ Some said
-        → SpellsSaid (text_of numa ++ (61 ∷ raw)) said
+        → SpellsMeaning (text_of numa ++ (61 ∷ raw)) said
     by_test true test is =
         let said_is : NumaOff ≡ said = cc in
         rw (← said_is) (numa_word raw ((unquoted_exactly raw (codes "off")).0 ((bytes_eq-Decides (unquote raw) (codes "off")).0 test)))
@@ -49,7 +49,7 @@ named : (name word : List ℕ) → (name_value_of word).0 ≡ name → HasName n
 named name word = by_cut (split_once 61 word) (split_once-spelled 61 word)
   where
     by_cut : (o : Option (List ℕ × List ℕ)) → ((halves : List ℕ × List ℕ) → o ≡ Some halves → word ≡ halves.0 ++ (61 ∷ halves.1))
-        → (at_cut word o).0 ≡ name → HasName name word
+        → (split_name_value word o).0 ≡ name → HasName name word
     by_cut None spelled is = rw is alone
     by_cut (Some halves) spelled is =
         let whole : word ≡ name ++ (61 ∷ halves.1) = spelled halves refl ∙ ap (λ (name : List ℕ). name ++ (61 ∷ halves.1)) is in
@@ -59,8 +59,8 @@ name_is : (name word : List ℕ) → Lacks 61 name → HasName name word → (na
 name_is name word lacks alone = rw (split_once-none 61 name lacks) refl
 name_is name word lacks (with_value raw) = rw (split_once-mark 61 name raw lacks) refl
 
-valued : (n : Name) (word : List ℕ) (said : Said) → (name_value_of word).0 ≡ text_of n → said_value n (name_value_of word).1 ≡ Some said
-    → SpellsSaid word said
+valued : (n : Name) (word : List ℕ) (said : WordMeaning) → (name_value_of word).0 ≡ text_of n → said_value n (name_value_of word).1 ≡ Some said
+    → SpellsMeaning word said
 valued n word said = by_cut (split_once 61 word) (split_once-spelled 61 word)
   where
     none_said : (n : Name) → said_value n None ≡ None
@@ -68,20 +68,20 @@ valued n word said = by_cut (split_once 61 word) (split_once-spelled 61 word)
     none_said n = refl
 
     by_cut : (o : Option (List ℕ × List ℕ)) → ((halves : List ℕ × List ℕ) → o ≡ Some halves → word ≡ halves.0 ++ (61 ∷ halves.1))
-        → (at_cut word o).0 ≡ text_of n → said_value n (at_cut word o).1 ≡ Some said → SpellsSaid word said
+        → (split_name_value word o).0 ≡ text_of n → said_value n (split_name_value word o).1 ≡ Some said → SpellsMeaning word said
     by_cut None spelled is says = let none : None ≡ Some said = sym (none_said n) ∙ says in absurd (cc none)
     by_cut (Some halves) spelled is says =
         let whole : word ≡ text_of n ++ (61 ∷ halves.1) = spelled halves refl ∙ ap (λ (name : List ℕ). name ++ (61 ∷ halves.1)) is in
         rw whole (said-spelled n halves.1 said says)
 
-is_said : (fault : OptionFault) (o : Option Said) (said : Said) → or_fault fault o ≡ Ok said → o ≡ Some said
+is_said : (fault : OptionFault) (o : Option WordMeaning) (said : WordMeaning) → meaning_or_fault fault o ≡ Ok said → o ≡ Some said
 is_said fault None said is = cc
 is_said fault (Some found) said is = cc
 
 lacks_efi : Lacks 61 (codes "add_efi_memmap")
 lacks_efi = (refl, (refl, (refl, (refl, (refl, (refl, (refl, (refl, (refl, (refl, (refl, (refl, (refl, (refl, tt))))))))))))))
 
-word-spelled : (number : ℕ) (word : List ℕ) (said : Said) → said_by number (name_value_of word) ≡ Ok said → SpellsSaid word said
+word-spelled : (number : ℕ) (word : List ℕ) (said : WordMeaning) → word_meaning number (name_value_of word) ≡ Ok said → SpellsMeaning word said
 word-spelled number word said =
     by_tests (bytes_eq name (codes "mem")) refl (bytes_eq name (codes "memmap")) refl (bytes_eq name (codes "crashkernel")) refl
     (bytes_eq name (codes "numa")) refl (bytes_eq name (codes "add_efi_memmap")) refl
@@ -101,11 +101,11 @@ word-spelled number word said =
         → (c : Bool) → bytes_eq (name_value_of word).0 (codes "crashkernel") ≡ c
         → (d : Bool) → bytes_eq (name_value_of word).0 (codes "numa") ≡ d
         → (e : Bool) → bytes_eq (name_value_of word).0 (codes "add_efi_memmap") ≡ e
-        → (if a then or_fault (faults.BadMem number) (said_value mem (name_value_of word).1) else
-        (if b then or_fault (faults.BadMemmap number) (said_value memmap (name_value_of word).1) else
-        (if c then or_fault (faults.BadCrash number) (said_value crash (name_value_of word).1) else
-        (if d then or_fault (faults.BadNuma number) (said_value numa (name_value_of word).1) else
-        (if e then Ok AddEfi else Ok (OfMap [])))))) ≡ Ok said → SpellsSaid word said
+        → (if a then meaning_or_fault (faults.BadMem number) (said_value mem (name_value_of word).1) else
+        (if b then meaning_or_fault (faults.BadMemmap number) (said_value memmap (name_value_of word).1) else
+        (if c then meaning_or_fault (faults.BadCrash number) (said_value crash (name_value_of word).1) else
+        (if d then meaning_or_fault (faults.BadNuma number) (said_value numa (name_value_of word).1) else
+        (if e then Ok AddEfi else Ok (OfMap [])))))) ≡ Ok said → SpellsMeaning word said
     by_tests true a_is b b_is c c_is d d_is e e_is is = valued mem word said (is_name (codes "mem") a_is) (is_said _ _ said is)
     by_tests false a_is true b_is c c_is d d_is e e_is is = valued memmap word said (is_name (codes "memmap") b_is) (is_said _ _ said is)
     by_tests false a_is false b_is true c_is d d_is e e_is is = valued crash word said (is_name (codes "crashkernel") c_is) (is_said _ _ said is)
@@ -124,20 +124,20 @@ word-spelled number word said =
         }))
 
 -- what is spelled is the meaning
-valued-read : (n : Name) (number : ℕ) (raw value : List ℕ) (said : Said) → Unquotes raw value → said_value n (Some value) ≡ Some said
-    → said_by number (name_value_of (text_of n ++ (61 ∷ raw))) ≡ Ok said
+valued-read : (n : Name) (number : ℕ) (raw value : List ℕ) (said : WordMeaning) → Unquotes raw value → said_value n (Some value) ≡ Some said
+    → word_meaning number (name_value_of (text_of n ++ (61 ∷ raw))) ≡ Ok said
 valued-read n number raw value said unquotes says =
     rw (split_once-mark 61 (text_of n) raw (lacks_equals n), (unquoted_exactly raw value).1 unquotes) (by_name n says)
   where
-    by_name : (n : Name) → said_value n (Some value) ≡ Some said → said_by number (text_of n, Some value) ≡ Ok said
-    by_name mem says = ap (or_fault (faults.BadMem number)) says
-    by_name memmap says = ap (or_fault (faults.BadMemmap number)) says
-    by_name crash says = ap (or_fault (faults.BadCrash number)) says
-    by_name numa says = ap (or_fault (faults.BadNuma number)) says
+    by_name : (n : Name) → said_value n (Some value) ≡ Some said → word_meaning number (text_of n, Some value) ≡ Ok said
+    by_name mem says = ap (meaning_or_fault (faults.BadMem number)) says
+    by_name memmap says = ap (meaning_or_fault (faults.BadMemmap number)) says
+    by_name crash says = ap (meaning_or_fault (faults.BadCrash number)) says
+    by_name numa says = ap (meaning_or_fault (faults.BadNuma number)) says
 
-word-read : (number : ℕ) (word : List ℕ) (said : Said) → SpellsSaid word said → said_by number (name_value_of word) ≡ Ok said
+word-read : (number : ℕ) (word : List ℕ) (said : WordMeaning) → SpellsMeaning word said → word_meaning number (name_value_of word) ≡ Ok said
 word-read number word said (mem_word raw value option unquotes spells) =
-    valued-read mem number raw value (OfMap (option ∷ [])) unquotes (ap (option_map of_one) ((mem-exactly value option).1 spells))
+    valued-read mem number raw value (OfMap (option ∷ [])) unquotes (ap (option_map one_map_option) ((mem-exactly value option).1 spells))
 word-read number word said (memmap_word raw value options unquotes spells) =
     valued-read memmap number raw value (OfMap options) unquotes (ap (option_map (λ ps. OfMap ps)) ((map_options-exactly value options).1 spells))
 word-read number word said (crash_word raw value form unquotes spells) =
@@ -145,7 +145,7 @@ word-read number word said (crash_word raw value form unquotes spells) =
 word-read number word said (numa_word raw unquotes) = valued-read numa number raw (codes "off") NumaOff unquotes refl
 word-read number word said (efi_word _ has) = efi (name_value_of word).0 (name_value_of word).1 (name_is (codes "add_efi_memmap") word lacks_efi has)
   where
-    efi : (name : List ℕ) (value : Option (List ℕ)) → name ≡ codes "add_efi_memmap" → said_by number (name, value) ≡ Ok AddEfi
+    efi : (name : List ℕ) (value : Option (List ℕ)) → name ≡ codes "add_efi_memmap" → word_meaning number (name, value) ≡ Ok AddEfi
     efi name value is = rw is refl
 word-read number word said (other_word _ other) =
     rw (
@@ -164,31 +164,31 @@ word-read number word said (other_word _ other) =
     isnt : (n : List ℕ) → (HasName n word → ⊥) → bytes_eq (name_value_of word).0 n ≡ false
     isnt n hasnt = by_test n (bytes_eq (name_value_of word).0 n) (bytes_eq-Decides (name_value_of word).0 n).0 hasnt
 
-pub word-exactly : (number : ℕ) (word : List ℕ) (said : Said) → said_by number (name_value_of word) ≡ Ok said ↔ SpellsSaid word said
+pub word-exactly : (number : ℕ) (word : List ℕ) (said : WordMeaning) → word_meaning number (name_value_of word) ≡ Ok said ↔ SpellsMeaning word said
 word-exactly number word said = (word-spelled number word said, word-read number word said)
 
 -- the meanings of all words
-each-spelled : (number : ℕ) (words : List (List ℕ)) (said : List (ℕ × Said)) → said_from number words ≡ Ok said → SpellEach number words said
+each-spelled : (number : ℕ) (words : List (List ℕ)) (said : List (ℕ × WordMeaning)) → word_meanings_from number words ≡ Ok said → SpellEach number words said
 each-spelled number [] said is = let none : [] ≡ said = cc in subst (SpellEach number []) none tt
 each-spelled number (word ∷ words) said is =
-    by_word (said_by number (name_value_of word)) (word-spelled number word) (each-spelled (number + 1) words) is
+    by_word (word_meaning number (name_value_of word)) (word-spelled number word) (each-spelled (number + 1) words) is
   where
-    by_others : (one : Said) → SpellsSaid word one → (r : Result (List (ℕ × Said)) OptionFault)
-        → ((said : List (ℕ × Said)) → r ≡ Ok said → SpellEach (number + 1) words said)
+    by_others : (one : WordMeaning) → SpellsMeaning word one → (r : Result (List (ℕ × WordMeaning)) OptionFault)
+        → ((said : List (ℕ × WordMeaning)) → r ≡ Ok said → SpellEach (number + 1) words said)
         → (r >>= λ others. Ok ((number, one) ∷ others)) ≡ Ok said → SpellEach number (word ∷ words) said
     by_others one spells (Ok others) each is =
         let said_is : (number, one) ∷ others ≡ said = cc in
         subst (SpellEach number (word ∷ words)) said_is (refl, spells, each others refl)
     by_others one spells (Err fault) each is = cc
 
-    by_word : (r : Result Said OptionFault) → ((one : Said) → r ≡ Ok one → SpellsSaid word one)
-        → ((said : List (ℕ × Said)) → said_from (number + 1) words ≡ Ok said → SpellEach (number + 1) words said)
-        → (r >>= λ one. said_from (number + 1) words >>= λ others. Ok ((number, one) ∷ others)) ≡ Ok said
+    by_word : (r : Result WordMeaning OptionFault) → ((one : WordMeaning) → r ≡ Ok one → SpellsMeaning word one)
+        → ((said : List (ℕ × WordMeaning)) → word_meanings_from (number + 1) words ≡ Ok said → SpellEach (number + 1) words said)
+        → (r >>= λ one. word_meanings_from (number + 1) words >>= λ others. Ok ((number, one) ∷ others)) ≡ Ok said
         → SpellEach number (word ∷ words) said
-    by_word (Ok one) spells each is = by_others one (spells one refl) (said_from (number + 1) words) each is
+    by_word (Ok one) spells each is = by_others one (spells one refl) (word_meanings_from (number + 1) words) each is
     by_word (Err fault) spells each is = cc
 
-each-read : (number : ℕ) (words : List (List ℕ)) (said : List (ℕ × Said)) → SpellEach number words said → said_from number words ≡ Ok said
+each-read : (number : ℕ) (words : List (List ℕ)) (said : List (ℕ × WordMeaning)) → SpellEach number words said → word_meanings_from number words ≡ Ok said
 each-read number [] [] each = refl
 each-read number [] (s ∷ said) each = absurd each
 each-read number (word ∷ words) [] each = absurd each
@@ -196,11 +196,11 @@ each-read number (word ∷ words) ((k, one) ∷ said) each =
     rw (word-read number word one each.1, each-read (number + 1) words said each.2, each.0) refl
 
 -- the words of a line that is read
-pub line-exactly : (bytes line : List ℕ) (said : List (ℕ × Said)) → line_of bytes ≡ Ok line
-    → said_from 1 (option_words line) ≡ Ok said ↔ SpellsLine line said
+pub line-exactly : (bytes line : List ℕ) (said : List (ℕ × WordMeaning)) → command_line_of bytes ≡ Ok line
+    → word_meanings_from 1 (option_words line) ≡ Ok said ↔ SpellsLine line said
 line-exactly bytes line said read = (spelled, told)
   where
-    spelled : said_from 1 (option_words line) ≡ Ok said → SpellsLine line said
+    spelled : word_meanings_from 1 (option_words line) ≡ Ok said → SpellsLine line said
     spelled is =
         record {
           raws = words_in CommandLine line;
@@ -210,7 +210,7 @@ line-exactly bytes line said read = (spelled, told)
           spell = each-spelled 1 (option_words line) said is;
         }
 
-    told : SpellsLine line said → said_from 1 (option_words line) ≡ Ok said
+    told : SpellsLine line said → word_meanings_from 1 (option_words line) ≡ Ok said
     told spells =
         let raws : words_in CommandLine line ≡ spells.raws
         = (words_exactly CommandLine line spells.raws (line-read bytes line read)).1 spells.lie in

@@ -11,10 +11,10 @@ use Rattle.text_words.specs.declared.separators.Separators.TheVariants.{Byte}
 use Rattle.text_words.specs.Parts.{split_once, prepend_text, parts_in}
 use Rattle.boot_options.specs.declared.crash.CrashRange.{CrashRange}
 use Rattle.boot_options.specs.MapOptions.{whole_size}
-use Rattle.boot_options.specs.Crash.{Form, High, Low, Plain, crash_range_of, crash_ranges_of, end_of_range, form_of, in_order, is_above, one_range, place_of, ranges_form, simple_form, suffix_form, suffixed, with_base, without_colon}
-use Rattle.boot_options.specs.Spelling.{SpellRanges, SpellsBase, SpellsEnd, SpellsForm, SpellsRange, a_base, by_ranges, high, joined, low, no_base, one_size}
+use Rattle.boot_options.specs.Crash.{CrashFormView, High, Low, Plain, crash_range_of, crash_ranges_of, end_of_range, crash_form_of, range_if_in_order, is_above, one_range, text_and_base, ranges_form, simple_form, suffix_form, form_by_suffix, text_and_base_at, form_without_colon}
+use Rattle.boot_options.specs.Spelling.{SpellRanges, SpellsBase, SpellsEnd, SpellsForm, SpellsRange, a_base, by_ranges, high, join_with_commas, low, no_base, one_size}
 use Rattle.boot_options.proofs.CrashSpellingLaws.{form-read}
-use Rattle.boot_options.proofs.SpelledLaws.{joined-parts, map-some, then-both, whole_size-spelled}
+use Rattle.boot_options.proofs.SpelledLaws.{join_with_commas-parts, map-some, then-both, whole_size-spelled}
 
 -- a text that is cut at a mark is the part before the mark, the mark, and the part after it
 pub split_once-spelled : (mark : ℕ) (text : List ℕ) (halves : List ℕ × List ℕ) → split_once mark text ≡ Some halves
@@ -46,8 +46,8 @@ end-spelled (b ∷ bs) end start is above =
     by_end None n same size above = cc
     by_end (Some end) n same size above = let number : n ≡ end = cc in (rw (← number) size, ltb-true start end above)
 
-in_order-is : (r found : CrashRange) → in_order r ≡ Some found → (r ≡ found) × (is_above r.end r.start ≡ true)
-in_order-is r found = by_test (is_above r.end r.start) refl
+range_if_in_order-is : (r found : CrashRange) → range_if_in_order r ≡ Some found → (r ≡ found) × (is_above r.end r.start ≡ true)
+range_if_in_order-is r found = by_test (is_above r.end r.start) refl
   where
     by_test : (t : Bool) → is_above r.end r.start ≡ t → (if t then Some r else None) ≡ Some found
         → (r ≡ found) × (is_above r.end r.start ≡ true)
@@ -60,8 +60,8 @@ range-spelled text r is =
     let bounds = then-both (split_once 45 halves.0.0) _ r halves.2 in
     let start = then-both (whole_size bounds.0.0) _ r bounds.2 in
     let end = then-both (end_of_range bounds.0.1) _ r start.2 in
-    let size = then-both (whole_size halves.0.1) (λ size. in_order (record { start = start.0; end = end.0; size = size })) r end.2 in
-    let order = in_order-is (record { start = start.0; end = end.0; size = size.0 }) r size.2 in
+    let size = then-both (whole_size halves.0.1) (λ size. range_if_in_order (record { start = start.0; end = end.0; size = size })) r end.2 in
+    let order = range_if_in_order-is (record { start = start.0; end = end.0; size = size.0 }) r size.2 in
     let at_colon : text ≡ halves.0.0 ++ (58 ∷ halves.0.1) = split_once-spelled 58 text halves.0 halves.1 in
     let at_dash : halves.0.0 ≡ bounds.0.0 ++ (45 ∷ bounds.0.1) = split_once-spelled 45 halves.0.0 bounds.0 bounds.1 in
     subst (SpellsRange text) order.0 (record {
@@ -85,12 +85,12 @@ ranges-spelled (text ∷ texts) rs is =
     subst (SpellRanges (text ∷ texts)) same (range-spelled text range.0 range.1, ranges-spelled texts rest.0 rest.1)
 
 -- the base
-place-spelled : (text : List ℕ) (place : List ℕ × ℕ) → place_of text ≡ Some place
+place-spelled : (text : List ℕ) (place : List ℕ × ℕ) → text_and_base text ≡ Some place
     → (b : List ℕ) × SpellsBase b place.1 × (text ≡ place.0 ++ b)
 place-spelled text place = by_cut (split_once 64 text) (split_once-spelled 64 text)
   where
     by_cut : (o : Option (List ℕ × List ℕ)) → ((halves : List ℕ × List ℕ) → o ≡ Some halves → text ≡ halves.0 ++ (64 ∷ halves.1))
-        → with_base text o ≡ Some place → (b : List ℕ) × SpellsBase b place.1 × (text ≡ place.0 ++ b)
+        → text_and_base_at text o ≡ Some place → (b : List ℕ) × SpellsBase b place.1 × (text ≡ place.0 ++ b)
     by_cut None spelled is =
         let same : (text, 0) ≡ place = cc in
         subst (λ (place : List ℕ × ℕ). (b : List ℕ) × SpellsBase b place.1 × (text ≡ place.0 ++ b)) same
@@ -101,24 +101,24 @@ place-spelled text place = by_cut (split_once 64 text) (split_once-spelled 64 te
         (64 ∷ halves.1, a_base halves.1 base.0 (whole_size-spelled halves.1 base.0 base.1), spelled halves refl)
 
 -- each form
-ranges_form-spelled : (value : List ℕ) (form : Form) → ranges_form value ≡ Some form → SpellsForm value form
+ranges_form-spelled : (value : List ℕ) (form : CrashFormView) → ranges_form value ≡ Some form → SpellsForm value form
 ranges_form-spelled value form is =
-    let place = then-both (place_of value) _ form is in
+    let place = then-both (text_and_base value) _ form is in
     let ranges = then-both (crash_ranges_of (parts_in (Byte 44) place.0.0))
     (λ ranges. Some (Plain (record { ranges = ranges; base = place.0.1 }))) form place.2 in
     let base = place-spelled value place.0 place.1 in
-    let parts = joined-parts place.0.0 in
+    let parts = join_with_commas-parts place.0.0 in
     let form_is : Plain (record { ranges = ranges.0; base = place.0.1 }) ≡ form = cc ranges.2 in
     let spell : SpellRanges (parts.0 ∷ parts.1) ranges.0 =
     ranges-spelled (parts.0 ∷ parts.1) ranges.0 (sym (ap crash_ranges_of parts.2) ∙ ranges.1) in
-    let whole : value ≡ joined (parts.0 ∷ parts.1) ++ base.0 = rw parts.3 base.2 in
+    let whole : value ≡ join_with_commas (parts.0 ∷ parts.1) ++ base.0 = rw parts.3 base.2 in
     subst (SpellsForm value) form_is
     (subst (λ text. SpellsForm text (Plain (record { ranges = ranges.0; base = place.0.1 }))) (sym whole)
     (by_ranges parts.0 base.0 parts.1 ranges.0 place.0.1 spell base.1))
 
-simple_form-spelled : (value : List ℕ) (form : Form) → simple_form value ≡ Some form → SpellsForm value form
+simple_form-spelled : (value : List ℕ) (form : CrashFormView) → simple_form value ≡ Some form → SpellsForm value form
 simple_form-spelled value form is =
-    let place = then-both (place_of value) _ form is in
+    let place = then-both (text_and_base value) _ form is in
     let size = then-both (whole_size place.0.0) (λ size. Some (Plain (one_range size place.0.1))) form place.2 in
     let base = place-spelled value place.0 place.1 in
     let form_is : Plain (one_range size.0 place.0.1) ≡ form = cc size.2 in
@@ -126,8 +126,8 @@ simple_form-spelled value form is =
     (subst (λ text. SpellsForm text (Plain (one_range size.0 place.0.1))) (sym base.2)
     (one_size place.0.0 base.0 size.0 place.0.1 (whole_size-spelled place.0.0 size.0 size.1) base.1))
 
-suffixed-spelled : (s name : List ℕ) (size : ℕ) (form : Form) → IsSize s size → suffixed name size ≡ Some form → SpellsForm (s ++ (44 ∷ name)) form
-suffixed-spelled s name size form size_is = by_tests (bytes_eq name (codes "high")) refl (bytes_eq name (codes "low")) refl
+form_by_suffix-spelled : (s name : List ℕ) (size : ℕ) (form : CrashFormView) → IsSize s size → form_by_suffix name size ≡ Some form → SpellsForm (s ++ (44 ∷ name)) form
+form_by_suffix-spelled s name size form size_is = by_tests (bytes_eq name (codes "high")) refl (bytes_eq name (codes "low")) refl
   where
     by_tests : (h : Bool) → bytes_eq name (codes "high") ≡ h → (l : Bool) → bytes_eq name (codes "low") ≡ l
         → (if h then Some (High size) else (if l then Some (Low size) else None)) ≡ Some form → SpellsForm (s ++ (44 ∷ name)) form
@@ -139,24 +139,24 @@ suffixed-spelled s name size form size_is = by_tests (bytes_eq name (codes "high
         rw ((bytes_eq-Decides name (codes "low")).0 l_is, ← form_is) (low s size size_is)
     by_tests false h_is false l_is is = cc
 
-suffix_form-spelled : (value : List ℕ) (halves : List ℕ × List ℕ) (form : Form) → value ≡ halves.0 ++ (44 ∷ halves.1)
+suffix_form-spelled : (value : List ℕ) (halves : List ℕ × List ℕ) (form : CrashFormView) → value ≡ halves.0 ++ (44 ∷ halves.1)
     → suffix_form halves ≡ Some form → SpellsForm value form
 suffix_form-spelled value halves form whole is =
-    let size = then-both (whole_size halves.0) (λ size. suffixed halves.1 size) form is in
-    rw whole (suffixed-spelled halves.0 halves.1 size.0 form (whole_size-spelled halves.0 size.0 size.1) size.2)
+    let size = then-both (whole_size halves.0) (λ size. form_by_suffix halves.1 size) form is in
+    rw whole (form_by_suffix-spelled halves.0 halves.1 size.0 form (whole_size-spelled halves.0 size.0 size.1) size.2)
 
-form-spelled : (value : List ℕ) (form : Form) → form_of value ≡ Some form → SpellsForm value form
-unfolding form_of
+form-spelled : (value : List ℕ) (form : CrashFormView) → crash_form_of value ≡ Some form → SpellsForm value form
+unfolding crash_form_of
 form-spelled value form = by_colon (is_some (split_once 58 value))
   where
     by_comma : (o : Option (List ℕ × List ℕ)) → ((halves : List ℕ × List ℕ) → o ≡ Some halves → value ≡ halves.0 ++ (44 ∷ halves.1))
-        → without_colon value o ≡ Some form → SpellsForm value form
+        → form_without_colon value o ≡ Some form → SpellsForm value form
     by_comma None spelled is = simple_form-spelled value form is
     by_comma (Some halves) spelled is = suffix_form-spelled value halves form (spelled halves refl) is
 
-    by_colon : (t : Bool) → (if t then ranges_form value else without_colon value (split_once 44 value)) ≡ Some form → SpellsForm value form
+    by_colon : (t : Bool) → (if t then ranges_form value else form_without_colon value (split_once 44 value)) ≡ Some form → SpellsForm value form
     by_colon true is = ranges_form-spelled value form is
     by_colon false is = by_comma (split_once 44 value) (split_once-spelled 44 value) is
 
-pub form-exactly : (value : List ℕ) (form : Form) → form_of value ≡ Some form ↔ SpellsForm value form
+pub form-exactly : (value : List ℕ) (form : CrashFormView) → crash_form_of value ≡ Some form ↔ SpellsForm value form
 form-exactly value form = (form-spelled value form, form-read value form)

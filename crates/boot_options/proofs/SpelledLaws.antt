@@ -19,9 +19,9 @@ use Rattle.text_words.specs.Parts.{parts_in}
 use Rattle.text_words.proofs.PartsLaws.{parts-one, parts-spelled}
 use Rattle.boot_options.specs.declared.map_option.MapOption.{MapOption}
 use Rattle.boot_options.specs.declared.map_option.MapOption.TheVariants.{ExactMap, Adding, Other}
-use Rattle.boot_options.specs.MapOptions.{NumberAndRest, number_and_rest, front_size, front_number, at_end, whole_size, range_at, unless_empty, ram_above, adding_option, small_kind, kind_behind, retyped, changed, by_mark, sized_map_option, map_option_of, ram_up_to, mem_of}
+use Rattle.boot_options.specs.MapOptions.{NumberAndRest, number_and_rest, front_size, front_number, value_if_at_end, whole_size, range_if_addressable, unless_empty, ram_above, adding_option, small_kind, kind_after_mark, retype_option, percent_map_option, map_option_by_mark, sized_map_option, map_option_of, ram_up_to, mem_of}
 use Rattle.boot_options.specs.Options.{map_options_of}
-use Rattle.boot_options.specs.Spelling.{SpellsPlace, SpellsType, a_type, SpellsNoType, nothing, type_zero, SpellsMapOption, exactmap, ram, acpi, reserved, persistent, size_alone, every_type, one_type, new_type, other_type, SpellsMapOptions, last_option, next_option, SpellsMem, nopentium, end_of_ram, joined}
+use Rattle.boot_options.specs.Spelling.{SpellsPlace, SpellsType, a_type, SpellsNoType, nothing, type_zero, SpellsMapOption, exactmap, ram, acpi, reserved, persistent, size_alone, every_type, one_type, new_type, other_type, SpellsMapOptions, last_option, next_option, SpellsMem, nopentium, end_of_ram, join_with_commas}
 use Rattle.boot_options.proofs.SpellingLaws.{IsKind, not_there, there, type-kind, no_type-kind, map_option-read, begins-other, begins_with_digit-size, whole_size-end, other_than_zero}
 use Rattle.boot_options.proofs.CrashSpellingLaws.{Lacks, lacks-append, lacks-closed, lacks-size}
 
@@ -56,14 +56,14 @@ front_number-spelled text front = by_read (number_of text) (number-front text)
         subst (λ (front : NumberAndRest). (s : List ℕ) × IsNumber s front.0 × (text ≡ s ++ front.1)) same (to.0, to.1, to.2)
 
 -- nothing is left of the text
-at_end-ends : {A : Type 0} (rest : List ℕ) (o : Option A) (y : A) → at_end rest o ≡ Some y → (rest ≡ []) × (o ≡ Some y)
-at_end-ends [] o y is = (refl, is)
-at_end-ends (b ∷ bs) o y is = cc
+value_if_at_end-ends : {A : Type 0} (rest : List ℕ) (o : Option A) (y : A) → value_if_at_end rest o ≡ Some y → (rest ≡ []) × (o ≡ Some y)
+value_if_at_end-ends [] o y is = (refl, is)
+value_if_at_end-ends (b ∷ bs) o y is = cc
 
 pub whole_size-spelled : (text : List ℕ) (n : ℕ) → whole_size text ≡ Some n → IsSize text n
 whole_size-spelled text n is =
-    let both = then-both (front_size text) (λ front. at_end front.1 (Some front.0)) n is in
-    let ends = at_end-ends both.0.1 (Some both.0.0) n both.2 in
+    let both = then-both (front_size text) (λ front. value_if_at_end front.1 (Some front.0)) n is in
+    let ends = value_if_at_end-ends both.0.1 (Some both.0.0) n both.2 in
     let to = front_size-spelled text both.0 both.1 in
     whole text to.0 both.0.1 both.0.0 n to.1 to.2 ends.0 (cc ends.1)
   where
@@ -75,26 +75,26 @@ whole_size-spelled text n is =
 abbrev range_if : Bool → ℕ → ℕ → Option RangeView
 range_if t base size = if t then Some (record { base = base; size = size }) else None
 
-range_at-is : (base size : ℕ) (range : RangeView) → range_at base size ≡ Some range
+range_if_addressable-is : (base size : ℕ) (range : RangeView) → range_if_addressable base size ≡ Some range
     → (record { base = base; size = size } ≡ range) × (base + size < 2 ^ 64)
-range_at-is base size range = by_test (nat_lt (base + size) (2 ^ 64)) refl
+range_if_addressable-is base size range = by_test (nat_lt (base + size) (2 ^ 64)) refl
   where
     by_test : (t : Bool) → nat_lt (base + size) (2 ^ 64) ≡ t → range_if t base size ≡ Some range
         → (record { base = base; size = size } ≡ range) × (base + size < 2 ^ 64)
     by_test false test is = cc
     by_test true test is = (cc, ltb-true (base + size) (2 ^ 64) test)
 
-place-spelled : (s a : List ℕ) (size base : ℕ) (range : RangeView) → IsSize s size → IsSize a base → range_at base size ≡ Some range
+place-spelled : (s a : List ℕ) (size base : ℕ) (range : RangeView) → IsSize s size → IsSize a base → range_if_addressable base size ≡ Some range
     → SpellsPlace s a range
 place-spelled s a size base range size_is base_is is =
-    let found = range_at-is base size range is in
+    let found = range_if_addressable-is base size range is in
     subst (SpellsPlace s a) found.0 (record { size = size_is; base = base_is; ends = found.1 })
 
 adding_option-spelled : (kind : ℕ) (s a : List ℕ) (size : ℕ) (option : MapOption) → IsSize s size → adding_option kind size a ≡ Some option
     → (range : RangeView) × SpellsPlace s a range × (option ≡ Adding (unless_empty range (Add range kind)))
 adding_option-spelled kind s a size option size_is is =
-    let base = then-both (whole_size a) (λ base. range_at base size >>= λ range. Some (Adding (unless_empty range (Add range kind)))) option is in
-    let range = then-both (range_at base.0 size) (λ range. Some (Adding (unless_empty range (Add range kind)))) option base.2 in
+    let base = then-both (whole_size a) (λ base. range_if_addressable base size >>= λ range. Some (Adding (unless_empty range (Add range kind)))) option is in
+    let range = then-both (range_if_addressable base.0 size) (λ range. Some (Adding (unless_empty range (Add range kind)))) option base.2 in
     (range.0, place-spelled s a size base.0 range.0 size_is (whole_size-spelled a base.0 base.1) range.1, cc range.2)
 
 -- a type after its mark, or no type
@@ -108,9 +108,9 @@ small_kind-is found front = by_test (nat_lt found.0 (2 ^ 32)) refl
 abbrev BeginsKind : ℕ → List ℕ → NumberAndRest → Type 0
 BeginsKind mark text front = (k : List ℕ) × IsKind mark k front.0 × (text ≡ k ++ front.1)
 
-kind_behind-spelled : (mark : ℕ) (text : List ℕ) (front : NumberAndRest) → kind_behind mark text ≡ Some front → BeginsKind mark text front
-kind_behind-spelled mark [] front is = let same : (0, []) ≡ front = cc in subst (BeginsKind mark []) same ([], not_there, refl)
-kind_behind-spelled mark (b ∷ bs) front is = by_test (b == mark) refl is
+kind_after_mark-spelled : (mark : ℕ) (text : List ℕ) (front : NumberAndRest) → kind_after_mark mark text ≡ Some front → BeginsKind mark text front
+kind_after_mark-spelled mark [] front is = let same : (0, []) ≡ front = cc in subst (BeginsKind mark []) same ([], not_there, refl)
+kind_after_mark-spelled mark (b ∷ bs) front is = by_test (b == mark) refl is
   where
     by_test : (t : Bool) → b == mark ≡ t → (if t then front_number bs >>= small_kind else Some (0, b ∷ bs)) ≡ Some front
         → BeginsKind mark (b ∷ bs) front
@@ -139,9 +139,9 @@ retyped_if no_from no_to same range from to =
     then Some (Other (unless_empty range (Remove range from)))
     else (if same then None else Some (Other (unless_empty range (Change range from to)))))
 
-retyped-spelled : (s a f t : List ℕ) (range : RangeView) (from to : ℕ) (option : MapOption) → SpellsPlace s a range → IsKind 45 f from
-    → IsKind 43 t to → retyped range from to ≡ Some option → SpellsMapOption (s ++ (37 ∷ (a ++ (f ++ t)))) option
-retyped-spelled s a f t range from to option spell from_is to_is =
+retype_option-spelled : (s a f t : List ℕ) (range : RangeView) (from to : ℕ) (option : MapOption) → SpellsPlace s a range → IsKind 45 f from
+    → IsKind 43 t to → retype_option range from to ≡ Some option → SpellsMapOption (s ++ (37 ∷ (a ++ (f ++ t)))) option
+retype_option-spelled s a f t range from to option spell from_is to_is =
     by_tests (from == 0) refl (to == 0) refl (from == to) refl
   where
     by_tests : (no_from : Bool) → from == 0 ≡ no_from → (no_to : Bool) → to == 0 ≡ no_to → (same : Bool) → from == to ≡ same
@@ -163,20 +163,20 @@ retyped-spelled s a f t range from to option spell from_is to_is =
         rw (← option_is)
         (other_type s a f t range from to spell (kind-type 45 f from f_is from_is) (kind-type 43 t to t_is to_is) differ)
 
-changed-spelled : (s : List ℕ) (size : ℕ) (place : List ℕ) (option : MapOption) → IsSize s size → changed size place ≡ Some option
+percent_map_option-spelled : (s : List ℕ) (size : ℕ) (place : List ℕ) (option : MapOption) → IsSize s size → percent_map_option size place ≡ Some option
     → SpellsMapOption (s ++ (37 ∷ place)) option
-changed-spelled s size place option size_is is =
+percent_map_option-spelled s size place option size_is is =
     let base = then-both (front_size place) _ option is in
-    let range = then-both (range_at base.0.0 size) _ option base.2 in
-    let from = then-both (kind_behind 45 base.0.1) _ option range.2 in
-    let to = then-both (kind_behind 43 from.0.1) (λ to. at_end to.1 (retyped range.0 from.0.0 to.0)) option from.2 in
-    let ends = at_end-ends to.0.1 (retyped range.0 from.0.0 to.0.0) option to.2 in
+    let range = then-both (range_if_addressable base.0.0 size) _ option base.2 in
+    let from = then-both (kind_after_mark 45 base.0.1) _ option range.2 in
+    let to = then-both (kind_after_mark 43 from.0.1) (λ to. value_if_at_end to.1 (retype_option range.0 from.0.0 to.0)) option from.2 in
+    let ends = value_if_at_end-ends to.0.1 (retype_option range.0 from.0.0 to.0.0) option to.2 in
     let a = front_size-spelled place base.0 base.1 in
-    let f = kind_behind-spelled 45 base.0.1 from.0 from.1 in
-    let t = kind_behind-spelled 43 from.0.1 to.0 to.1 in
+    let f = kind_after_mark-spelled 45 base.0.1 from.0 from.1 in
+    let t = kind_after_mark-spelled 43 from.0.1 to.0 to.1 in
     let whole : place ≡ a.0 ++ (f.0 ++ t.0) = rw (append-nil t.0) at (rw (ends.0) at (rw (t.2) at (rw (f.2) at (a.2)))) in
     subst (λ text. SpellsMapOption (s ++ (37 ∷ text)) option) {x = a.0 ++ (f.0 ++ t.0)} (sym whole)
-    (retyped-spelled s a.0 f.0 t.0 range.0 from.0.0 to.0.0 option
+    (retype_option-spelled s a.0 f.0 t.0 range.0 from.0.0 to.0.0 option
     (place-spelled s a.0 size base.0.0 range.0 size_is a.1 range.1) f.1 t.1 ends.1)
 
 -- the form that the mark selects
@@ -186,13 +186,13 @@ marked_if a b c d e size place =
     (if b then adding_option 3 size place else
     (if c then adding_option 2 size place else
     (if d then adding_option 12 size place else
-    (if e then changed size place else None))))
+    (if e then percent_map_option size place else None))))
 
-by_mark-spelled : (s : List ℕ) (size : ℕ) (rest : List ℕ) (option : MapOption) → IsSize s size → by_mark size rest ≡ Some option
+map_option_by_mark-spelled : (s : List ℕ) (size : ℕ) (rest : List ℕ) (option : MapOption) → IsSize s size → map_option_by_mark size rest ≡ Some option
     → SpellsMapOption (s ++ rest) option
-by_mark-spelled s size [] option size_is is =
+map_option_by_mark-spelled s size [] option size_is is =
     let option_is : Other (ram_above size) ≡ option = cc in rw (append-nil s, ← option_is) (size_alone s size size_is)
-by_mark-spelled s size (mark ∷ place) option size_is is =
+map_option_by_mark-spelled s size (mark ∷ place) option size_is is =
     by_tests (mark == 64) refl (mark == 35) refl (mark == 36) refl (mark == 33) refl (mark == 37) refl is
   where
     by_tests : (a : Bool) → mark == 64 ≡ a → (b : Bool) → mark == 35 ≡ b → (c : Bool) → mark == 36 ≡ c → (d : Bool) → mark == 33 ≡ d
@@ -210,7 +210,7 @@ by_mark-spelled s size (mark ∷ place) option size_is is =
         let found = adding_option-spelled 12 s place size option size_is is in
         rw (eqb-true mark 33 d_is, found.2) (persistent s place found.0 found.1)
     by_tests false a_is false b_is false c_is false d_is true e_is is =
-        rw (eqb-true mark 37 e_is) (changed-spelled s size place option size_is is)
+        rw (eqb-true mark 37 e_is) (percent_map_option-spelled s size place option size_is is)
     by_tests false a_is false b_is false c_is false d_is false e_is is = cc
 
 map_option-spelled : (text : List ℕ) (option : MapOption) → map_option_of text ≡ Some option → SpellsMapOption text option
@@ -222,9 +222,9 @@ map_option-spelled text option = by_test (bytes_eq text (codes "exactmap")) refl
         let option_is : ExactMap ≡ option = cc in
         rw ((bytes_eq-Decides text (codes "exactmap")).0 test, ← option_is) exactmap
     by_test false test is =
-        let both = then-both (front_size text) (λ front. by_mark front.0 front.1) option is in
+        let both = then-both (front_size text) (λ front. map_option_by_mark front.0 front.1) option is in
         let to = front_size-spelled text both.0 both.1 in
-        rw to.2 (by_mark-spelled to.0 both.0.0 both.0.1 option to.1 both.2)
+        rw to.2 (map_option_by_mark-spelled to.0 both.0.0 both.0.1 option to.1 both.2)
 
 pub map_option-exactly : (text : List ℕ) (option : MapOption) → map_option_of text ≡ Some option ↔ SpellsMapOption text option
 map_option-exactly text option = (map_option-spelled text option, map_option-read text option)
@@ -281,19 +281,19 @@ map_options-read value options (next_option text rest option more spells others)
     refl
 
 -- the parts of a text, joined with commas, are the text
-pub joined-parts : (text : List ℕ)
-    → (first : List ℕ) × (others : List (List ℕ)) × (parts_in (Byte 44) text ≡ first ∷ others) × (joined (first ∷ others) ≡ text)
-joined-parts [] = ([], [], refl, refl)
-joined-parts (b ∷ bs) = by_test (b == 44) refl (joined-parts bs)
+pub join_with_commas-parts : (text : List ℕ)
+    → (first : List ℕ) × (others : List (List ℕ)) × (parts_in (Byte 44) text ≡ first ∷ others) × (join_with_commas (first ∷ others) ≡ text)
+join_with_commas-parts [] = ([], [], refl, refl)
+join_with_commas-parts (b ∷ bs) = by_test (b == 44) refl (join_with_commas-parts bs)
   where
-    longer : (first : List ℕ) (others : List (List ℕ)) → joined ((b ∷ first) ∷ others) ≡ b ∷ joined (first ∷ others)
+    longer : (first : List ℕ) (others : List (List ℕ)) → join_with_commas ((b ∷ first) ∷ others) ≡ b ∷ join_with_commas (first ∷ others)
     longer first [] = refl
     longer first (next ∷ others) = refl
 
     by_test : (t : Bool) → b == 44 ≡ t
-        → (first : List ℕ) × (others : List (List ℕ)) × (parts_in (Byte 44) bs ≡ first ∷ others) × (joined (first ∷ others) ≡ bs)
+        → (first : List ℕ) × (others : List (List ℕ)) × (parts_in (Byte 44) bs ≡ first ∷ others) × (join_with_commas (first ∷ others) ≡ bs)
         → (first : List ℕ) × (others : List (List ℕ)) × (parts_in (Byte 44) (b ∷ bs) ≡ first ∷ others)
-        × (joined (first ∷ others) ≡ b ∷ bs)
+        × (join_with_commas (first ∷ others) ≡ b ∷ bs)
     by_test true is rest =
         ([], rest.0 ∷ rest.1, rw (is, rest.2) refl, rw (eqb-true b 44 is) (ap (λ (text : List ℕ). 44 ∷ text) rest.3))
     by_test false is rest =
@@ -309,7 +309,7 @@ map-some None f y is = cc
 map-some (Some x) f y is = (x, refl, cc)
 
 each-spelled : (text : List ℕ) (texts : List (List ℕ)) (options : List MapOption) → map_options_of (text ∷ texts) ≡ Some options
-    → SpellsMapOptions (joined (text ∷ texts)) options
+    → SpellsMapOptions (join_with_commas (text ∷ texts)) options
 each-spelled text [] options is =
     let both = and_then-both (map_option_of text) (λ p. option_map (λ ps. p ∷ ps) (map_options_of [])) options is in
     let same : both.0 ∷ [] ≡ options = cc both.2 in
@@ -318,14 +318,14 @@ each-spelled text (next ∷ texts) options is =
     let both = and_then-both (map_option_of text) (λ p. option_map (λ ps. p ∷ ps) (map_options_of (next ∷ texts))) options is in
     let rest = map-some (map_options_of (next ∷ texts)) (λ ps. both.0 ∷ ps) options both.2 in
     rw (← rest.2)
-    (next_option text (joined (next ∷ texts)) both.0 rest.0 (map_option-spelled text both.0 both.1)
+    (next_option text (join_with_commas (next ∷ texts)) both.0 rest.0 (map_option-spelled text both.0 both.1)
     (each-spelled next texts rest.0 rest.1))
 
 pub map_options-exactly : (value : List ℕ) (options : List MapOption)
     → map_options_of (parts_in (Byte 44) value) ≡ Some options ↔ SpellsMapOptions value options
-map_options-exactly value options = (spelled (joined-parts value), map_options-read value options)
+map_options-exactly value options = (spelled (join_with_commas-parts value), map_options-read value options)
   where
-    spelled : (first : List ℕ) × (others : List (List ℕ)) × (parts_in (Byte 44) value ≡ first ∷ others) × (joined (first ∷ others) ≡ value)
+    spelled : (first : List ℕ) × (others : List (List ℕ)) × (parts_in (Byte 44) value ≡ first ∷ others) × (join_with_commas (first ∷ others) ≡ value)
         → map_options_of (parts_in (Byte 44) value) ≡ Some options → SpellsMapOptions value options
     spelled parts is = subst (λ text. SpellsMapOptions text options) parts.3 (each-spelled parts.0 parts.1 options (rw parts.2 at is))
 

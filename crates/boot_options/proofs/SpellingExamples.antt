@@ -6,9 +6,9 @@ use Rattle.text_words.specs.Spelling.{blank_first, both_marks, no_mark, word_alo
 use Rattle.boot_options.specs.declared.fault.OptionFault.TheVariants as faults
 use Rattle.boot_options.specs.declared.map_option.MapOption.{MapOption}
 use Rattle.boot_options.specs.declared.map_option.MapOption.TheVariants.{ExactMap, Adding, Other}
-use Rattle.boot_options.specs.Crash.{High, Plain, form_of, one_range}
-use Rattle.boot_options.specs.Options.{AddEfi, OfCrash, OfMap, Said}
-use Rattle.boot_options.specs.Spelling.{HasName, IsOtherWord, SpellEach, SpellsLine, SpellsSaid, alone, crash_word, efi_word, with_value, IsBadMem, IsBadMemmap, IsCrashValue, IsFirstFault, IsMemValue, IsMemmapValue, IsNumaValue, IsSoundWord, OptionWords, SpellsBase, SpellsForm, SpellsMapOption, SpellsMapOptions, SpellsMem, SpellsNoType, SpellsPlace, SpellsType, a_base, a_type, a_word, end_of_ram, every_type, exactmap, high, last_option, line_end, new_type, next_option, no_base, no_value, nopentium, nothing, one_size, other_value, ram, size_alone, two_dashes, type_zero}
+use Rattle.boot_options.specs.Crash.{High, Plain, crash_form_of, one_range}
+use Rattle.boot_options.specs.Options.{AddEfi, OfCrash, OfMap, WordMeaning}
+use Rattle.boot_options.specs.Spelling.{HasName, IsOtherWord, SpellEach, SpellsLine, SpellsMeaning, alone, crash_word, efi_word, with_value, IsBadMem, IsBadMemmap, IsCrashValue, IsFirstWordFault, IsMemValue, IsMemmapValue, IsNumaValue, IsSoundWord, OptionWords, SpellsBase, SpellsForm, SpellsMapOption, SpellsMapOptions, SpellsMem, SpellsNoType, SpellsPlace, SpellsType, a_base, a_type, a_word, end_of_ram, every_type, exactmap, high, last_option, line_end, new_type, next_option, no_base, no_value, nopentium, nothing, one_size, other_value, ram, size_alone, two_dashes, type_zero}
 use Rattle.boot_options.proofs.FaultLaws.{memmap-exactly_first, sound-ok}
 use Rattle.boot_options.proofs.SaidSpelledLaws.{word-exactly}
 use Rattle.boot_options.proofs.SpelledCrashLaws.{form-exactly}
@@ -60,7 +60,7 @@ mem_values = (nopentium, (_, end_of_ram (codes "4G") 0x100000000 refl (omega ari
 -- sizes with a base, without one, and with a suffix; a suffix in the wrong case is malformed
 crash_values : SpellsForm (codes "16M@1M") (Plain (one_range 0x1000000 0x100000)) × SpellsForm (codes "16M") (Plain (one_range 0x1000000 0))
     × SpellsForm (codes "16M,high") (High 0x1000000) × SpellsBase [] 0 × (IsCrashValue (codes "16M,HIGH") → ⊥)
-unfolding form_of
+unfolding crash_form_of
 crash_values = (
   one_size (codes "16M") (codes "@1M") 0x1000000 0x100000 refl (a_base (codes "1M") 0x100000 refl),
   one_size (codes "16M") [] 0x1000000 0 refl no_base,
@@ -87,12 +87,12 @@ option_words = (
 )
 
 -- the second word of the line is the lowest malformed one
-first_fault : IsFirstFault (codes "quiet memmap=1M@ memmap=2") 2 IsBadMemmap
+first_fault : IsFirstWordFault (codes "quiet memmap=1M@ memmap=2") 2 IsBadMemmap
 first_fault = (memmap-exactly_first (codes "quiet memmap=1M@ memmap=2") 2).0 refl
 
 -- words with a quoted value, without a value, and with another name
-said_words : SpellsSaid (codes "crashkernel=\"16M,high\"") (OfCrash (High 0x1000000)) × SpellsSaid (codes "add_efi_memmap") AddEfi
-    × HasName (codes "numa") (codes "numa=on") × SpellsSaid (codes "quiet") (OfMap []) × ((said : Said) → SpellsSaid (codes "numa") said → ⊥)
+said_words : SpellsMeaning (codes "crashkernel=\"16M,high\"") (OfCrash (High 0x1000000)) × SpellsMeaning (codes "add_efi_memmap") AddEfi
+    × HasName (codes "numa") (codes "numa=on") × SpellsMeaning (codes "quiet") (OfMap []) × ((said : WordMeaning) → SpellsMeaning (codes "numa") said → ⊥)
 said_words = (
   crash_word (codes "\"16M,high\"") (codes "16M,high") (High 0x1000000) (both_marks (codes "16M,high")) crash_values.2,
   efi_word (codes "add_efi_memmap") alone,

@@ -14,7 +14,7 @@ use Rattle.bm_base.proofs.SizeLaws.{size_of-mark, number_of-mark}
 use Rattle.e820_model.specs.declared.entry.Edit.TheVariants.{Add}
 use Rattle.bm_base.specs.OptionSteps.{◌>>=◌}
 use Rattle.boot_options.specs.declared.map_option.MapOption.TheVariants.{Adding, Other}
-use Rattle.boot_options.specs.MapOptions.{number_and_rest, front_size, front_number, at_end, whole_size, range_at, unless_empty, adding_option, small_kind, kind_behind, retyped, by_mark, map_option_of, ram_above}
+use Rattle.boot_options.specs.MapOptions.{number_and_rest, front_size, front_number, value_if_at_end, whole_size, range_if_addressable, unless_empty, adding_option, small_kind, kind_after_mark, retype_option, map_option_by_mark, map_option_of, ram_above}
 use Rattle.boot_options.specs.declared.map_option.MapOption.{MapOption}
 use Rattle.boot_options.specs.Spelling.{SpellsPlace, SpellsType, a_type, SpellsNoType, nothing, type_zero, SpellsMapOption, exactmap, ram, acpi, reserved, persistent, size_alone, every_type, one_type, new_type, other_type}
 
@@ -47,7 +47,7 @@ pub front_number-end : (s : List ℕ) (n : ℕ) → IsNumber s n → front_numbe
 front_number-end s n number = number_and_rest-whole s (number_of s) n number
 
 pub whole_size-end : (s : List ℕ) (n : ℕ) → IsSize s n → whole_size s ≡ Some n
-whole_size-end s n size = then-some (front_size s) (λ front. at_end front.1 (Some front.0)) (n, []) (front_size-end s n size)
+whole_size-end s n size = then-some (front_size s) (λ front. value_if_at_end front.1 (Some front.0)) (n, []) (front_size-end s n size)
 
 -- a size begins with a digit, so it isn't `exactmap`
 pub begins_with_digit-size : (s : List ℕ) (n : ℕ) → IsSize s n → begins_with_digit s ≡ true
@@ -71,24 +71,24 @@ exactmap-other (b ∷ bs) rest begins = begins-other (b ∷ (bs ++ rest)) 101 (c
 
 -- a size before a mark is read up to the mark
 pub map_option-mark : (s : List ℕ) (n mark : ℕ) (rest : List ℕ) → IsSize s n → is_digit mark 36 ≡ false
-    → map_option_of (s ++ (mark ∷ rest)) ≡ by_mark n (mark ∷ rest)
+    → map_option_of (s ++ (mark ∷ rest)) ≡ map_option_by_mark n (mark ∷ rest)
 map_option-mark s n mark rest size is =
     rw (exactmap-other s (mark ∷ rest) (begins_with_digit-size s n size))
-    (then-some (front_size (s ++ (mark ∷ rest))) (λ size. by_mark size.0 size.1) (n, mark ∷ rest) (front_size-mark s n mark rest size is))
+    (then-some (front_size (s ++ (mark ∷ rest))) (λ size. map_option_by_mark size.0 size.1) (n, mark ∷ rest) (front_size-mark s n mark rest size is))
 
 -- a range that ends in the address space is read, and so is its edit
-pub range_at-ends : (range : RangeView) → range.base + range.size < 2 ^ 64 → range_at range.base range.size ≡ Some range
-range_at-ends range ends = rw (lt-ltb (range.base + range.size) (2 ^ 64) ends) refl
+pub range_if_addressable-ends : (range : RangeView) → range.base + range.size < 2 ^ 64 → range_if_addressable range.base range.size ≡ Some range
+range_if_addressable-ends range ends = rw (lt-ltb (range.base + range.size) (2 ^ 64) ends) refl
 
 pub adding_option-spelled : (kind : ℕ) (s a : List ℕ) (range : RangeView) → SpellsPlace s a range
     → adding_option kind range.size a ≡ Some (Adding (unless_empty range (Add range kind)))
 adding_option-spelled kind s a range spell =
     then-some (whole_size a) _ range.base (whole_size-end a range.base spell.base)
-    ∙ then-some (range_at range.base range.size) (λ r. Some (Adding (unless_empty r (Add r kind)))) range (range_at-ends range spell.ends)
+    ∙ then-some (range_if_addressable range.base range.size) (λ r. Some (Adding (unless_empty r (Add r kind)))) range (range_if_addressable-ends range spell.ends)
 
 -- a form whose mark adds memory of this type
 pub map_option-adding : (s a : List ℕ) (range : RangeView) (mark kind : ℕ) → is_digit mark 36 ≡ false
-    → by_mark range.size (mark ∷ a) ≡ adding_option kind range.size a → SpellsPlace s a range
+    → map_option_by_mark range.size (mark ∷ a) ≡ adding_option kind range.size a → SpellsPlace s a range
     → map_option_of (s ++ (mark ∷ a)) ≡ Some (Adding (unless_empty range (Add range kind)))
 map_option-adding s a range mark kind is means spell =
     map_option-mark s range.size mark a spell.size is ∙ means ∙ adding_option-spelled kind s a range spell
@@ -101,7 +101,7 @@ small_kind-below n rest is = rw (lt-ltb n (2 ^ 32) is) refl
 pub map_option-above : (s : List ℕ) (size : ℕ) → IsSize s size → map_option_of s ≡ Some (Other (ram_above size))
 map_option-above s size is =
     let other : bytes_eq s (codes "exactmap") ≡ false = rw (append-nil s) at (exactmap-other s [] (begins_with_digit-size s size is)) in
-    rw other (then-some (front_size s) (λ front. by_mark front.0 front.1) (size, []) (front_size-end s size is))
+    rw other (then-some (front_size s) (λ front. map_option_by_mark front.0 front.1) (size, []) (front_size-end s size is))
 
 -- the text is empty, or begins with a byte that isn't a digit or letter
 abbrev pub IsMarked : List ℕ → Type 0
@@ -134,14 +134,14 @@ abbrev pub BeginsOther : ℕ → List ℕ → Type 0
 BeginsOther mark [] = Unit {0}
 BeginsOther mark (b ∷ bs) = b == mark ≡ false
 
-pub kind_behind-kind : (mark : ℕ) (text : List ℕ) (kind : ℕ) (rest : List ℕ) → IsKind mark text kind → IsMarked rest → BeginsOther mark rest
-    → kind_behind mark (text ++ rest) ≡ Some (kind, rest)
-kind_behind-kind mark text kind rest not_there marked other = absent rest other
+pub kind_after_mark-kind : (mark : ℕ) (text : List ℕ) (kind : ℕ) (rest : List ℕ) → IsKind mark text kind → IsMarked rest → BeginsOther mark rest
+    → kind_after_mark mark (text ++ rest) ≡ Some (kind, rest)
+kind_after_mark-kind mark text kind rest not_there marked other = absent rest other
   where
-    absent : (rest : List ℕ) → BeginsOther mark rest → kind_behind mark rest ≡ Some (0, rest)
+    absent : (rest : List ℕ) → BeginsOther mark rest → kind_after_mark mark rest ≡ Some (0, rest)
     absent [] other = refl
     absent (b ∷ bs) other = rw other refl
-kind_behind-kind mark text kind rest (there number _ is small) marked other =
+kind_after_mark-kind mark text kind rest (there number _ is small) marked other =
     rw (eq-eqb mark mark refl)
     (then-some (front_number (number ++ rest)) small_kind (kind, rest) (front_number-marked number kind rest is marked)
     ∙ small_kind-below kind rest small)
@@ -160,16 +160,16 @@ both-marked f t from to (there _ _ number small) to_is = refl
 
 -- the forms with `%`
 pub map_option-changed : (s a f t : List ℕ) (range : RangeView) (from to : ℕ) → SpellsPlace s a range → IsKind 45 f from → IsKind 43 t to
-    → map_option_of (s ++ (37 ∷ (a ++ (f ++ t)))) ≡ retyped range from to
+    → map_option_of (s ++ (37 ∷ (a ++ (f ++ t)))) ≡ retype_option range from to
 map_option-changed s a f t range from to spell from_is to_is =
     map_option-mark s range.size 37 (a ++ (f ++ t)) spell.size refl
     ∙ then-some (front_size (a ++ (f ++ t))) _ (range.base, f ++ t)
     (front_size-marked a range.base (f ++ t) spell.base (both-marked f t from to from_is to_is))
-    ∙ then-some (range_at range.base range.size) _ range (range_at-ends range spell.ends)
-    ∙ then-some (kind_behind 45 (f ++ t)) _ (from, t)
-    (kind_behind-kind 45 f from t from_is (kind-marked 43 t to refl to_is) (kind-other t to to_is))
-    ∙ then-some (kind_behind 43 t) (λ kind. at_end kind.1 (retyped range from kind.0)) (to, [])
-    (rw (append-nil t) at (kind_behind-kind 43 t to [] to_is tt tt))
+    ∙ then-some (range_if_addressable range.base range.size) _ range (range_if_addressable-ends range spell.ends)
+    ∙ then-some (kind_after_mark 45 (f ++ t)) _ (from, t)
+    (kind_after_mark-kind 45 f from t from_is (kind-marked 43 t to refl to_is) (kind-other t to to_is))
+    ∙ then-some (kind_after_mark 43 t) (λ kind. value_if_at_end kind.1 (retype_option range from kind.0)) (to, [])
+    (rw (append-nil t) at (kind_after_mark-kind 43 t to [] to_is tt tt))
 
 pub other_than_zero : (n : ℕ) → 0 < n → n == 0 ≡ false
 other_than_zero n above = grind (arith, nat_tests)

@@ -27,15 +27,15 @@ at_sign = 64
 
 -- the plain form: ranges of total memory, each with a size, and a base; the base 0 means that none
 -- is given
-pub record PlainForm : Type 0 where
+pub record CrashPlainView : Type 0 where
   pub ranges : List CrashRange
   pub base : ℕ
 
 -- one of the three forms: the plain one, `S,high` and `S,low`
-pub data Form : Type 0 where
-  Plain : (form : PlainForm) → Form
-  High : (size : ℕ) → Form
-  Low : (size : ℕ) → Form
+pub data CrashFormView : Type 0 where
+  Plain : (form : CrashPlainView) → CrashFormView
+  High : (size : ℕ) → CrashFormView
+  Low : (size : ℕ) → CrashFormView
 
 -- the end of a range: the text after the `-` is a size, or is empty if the range has no end
 abbrev pub end_of_range : List ℕ → Option (Option ℕ)
@@ -47,8 +47,8 @@ abbrev pub is_above : Option ℕ → ℕ → Bool
 is_above None start = true
 is_above (Some end) start = nat_lt start end
 
-abbrev pub in_order : CrashRange → Option CrashRange
-in_order r = if is_above r.end r.start then Some r else None
+abbrev pub range_if_in_order : CrashRange → Option CrashRange
+range_if_in_order r = if is_above r.end r.start then Some r else None
 
 -- one range: `start-end:S` or `start-:S`
 abbrev pub crash_range_of : List ℕ → Option CrashRange
@@ -58,7 +58,7 @@ crash_range_of text = do
   start ← whole_size bounds.0
   end ← end_of_range bounds.1
   size ← whole_size halves.1
-  in_order (record { start = start; end = end; size = size })
+  range_if_in_order (record { start = start; end = end; size = size })
 
 -- the ranges that these texts spell; None if one is malformed
 abbrev pub crash_ranges_of : List (List ℕ) → Option (List CrashRange)
@@ -69,66 +69,66 @@ crash_ranges_of (text ∷ texts) = do
   Some (range ∷ ranges)
 
 -- the text before the first `@`, and the base after it; the base is 0 if there is no `@`
-abbrev pub with_base : List ℕ → Option (List ℕ × List ℕ) → Option (List ℕ × ℕ)
-with_base text None = Some (text, 0)
-with_base text (Some halves) = option_map (λ base. (halves.0, base)) (whole_size halves.1)
+abbrev pub text_and_base_at : List ℕ → Option (List ℕ × List ℕ) → Option (List ℕ × ℕ)
+text_and_base_at text None = Some (text, 0)
+text_and_base_at text (Some halves) = option_map (λ base. (halves.0, base)) (whole_size halves.1)
 
-abbrev pub place_of : List ℕ → Option (List ℕ × ℕ)
-place_of text = with_base text (split_once at_sign text)
+abbrev pub text_and_base : List ℕ → Option (List ℕ × ℕ)
+text_and_base text = text_and_base_at text (split_once at_sign text)
 
 -- one range or more, with commas between them, and an optional base
-abbrev pub ranges_form : List ℕ → Option Form
+abbrev pub ranges_form : List ℕ → Option CrashFormView
 ranges_form value = do
-  place ← place_of value
+  place ← text_and_base value
   ranges ← crash_ranges_of (parts_in (Byte comma) place.0)
   Some (Plain (record { ranges = ranges; base = place.1 }))
 
 -- a size and an optional base: one range from 0 without an end
-abbrev pub one_range : ℕ → ℕ → PlainForm
+abbrev pub one_range : ℕ → ℕ → CrashPlainView
 one_range size base = record { ranges = record { start = 0; end = None; size = size } ∷ []; base = base }
 
-abbrev pub simple_form : List ℕ → Option Form
+abbrev pub simple_form : List ℕ → Option CrashFormView
 simple_form value = do
-  place ← place_of value
+  place ← text_and_base value
   size ← whole_size place.0
   Some (Plain (one_range size place.1))
 
 -- a size, and after the comma the name of the part that it is for
-abbrev pub suffixed : List ℕ → ℕ → Option Form
-suffixed name size =
+abbrev pub form_by_suffix : List ℕ → ℕ → Option CrashFormView
+form_by_suffix name size =
     if bytes_eq name (codes "high") then Some (High size)
     else (if bytes_eq name (codes "low") then Some (Low size) else None)
 
-abbrev pub suffix_form : List ℕ × List ℕ → Option Form
+abbrev pub suffix_form : List ℕ × List ℕ → Option CrashFormView
 suffix_form halves = do
   size ← whole_size halves.0
-  suffixed halves.1 size
+  form_by_suffix halves.1 size
 
 -- the form of a value without a colon. With a comma it is `S,high` or `S,low`, and `halves` are the
 -- texts around the first one. Without a comma it is `S` or `S@BASE`
-abbrev pub without_colon : List ℕ → Option (List ℕ × List ℕ) → Option Form
-without_colon value None = simple_form value
-without_colon value (Some halves) = suffix_form halves
+abbrev pub form_without_colon : List ℕ → Option (List ℕ × List ℕ) → Option CrashFormView
+form_without_colon value None = simple_form value
+form_without_colon value (Some halves) = suffix_form halves
 
 -- the form of a value of `crashkernel=`; only ranges have a colon
-unfoldable pub form_of : List ℕ → Option Form
-form_of value = if is_some (split_once colon value) then ranges_form value else without_colon value (split_once comma value)
+unfoldable pub crash_form_of : List ℕ → Option CrashFormView
+crash_form_of value = if is_some (split_once colon value) then ranges_form value else form_without_colon value (split_once comma value)
 
 -- the `crashkernel=` options of all words: the last value of each form, if there is one
-pub record CrashWords : Type 0 where
-  pub plain : Option PlainForm
+pub record CrashOptionView : Type 0 where
+  pub plain : Option CrashPlainView
   pub high : Option ℕ
   pub low : Option ℕ
 
-abbrev pub no_crash : CrashWords
+abbrev pub no_crash : CrashOptionView
 no_crash = record { plain = None; high = None; low = None }
 
 -- what contracts see of the code's `CrashPlain` and `CrashOption`
-abbrev pub plain_view : CrashPlain → PlainForm
-plain_view plain = record { ranges = plain.ranges.items; base = plain.base }
+abbrev pub crash_plain_view : CrashPlain → CrashPlainView
+crash_plain_view plain = record { ranges = plain.ranges.items; base = plain.base }
 
-abbrev pub crash_view : CrashOption → CrashWords
-crash_view crash = record { plain = option_map plain_view crash.plain; high = crash.high; low = crash.low }
+abbrev pub crash_option_view : CrashOption → CrashOptionView
+crash_option_view crash = record { plain = option_map crash_plain_view crash.plain; high = crash.high; low = crash.low }
 
 -- each range that has an end ends above its start
 abbrev pub AreInOrder : List CrashRange → Type 0
@@ -137,6 +137,6 @@ AreInOrder (r ∷ rs) = IfSome r.end (λ end. r.start < end) × AreInOrder rs
 
 -- what is true of every plain form: it has at least one range, and each that ends does so above
 -- its start
-pub record IsPlain (form : PlainForm) : Type 0 where
+pub record IsPlain (form : CrashPlainView) : Type 0 where
   pub some : 0 < length form.ranges
   pub order : AreInOrder form.ranges

@@ -6,7 +6,7 @@ use Rattle.boot_options.specs.declared.crash.CrashForm.{CrashForm}
 use Rattle.boot_options.specs.declared.crash.CrashForm.TheVariants as forms
 use Rattle.boot_options.specs.declared.crash.CrashRange.{CrashRange}
 use Rattle.boot_options.specs.declared.crash.PlainRead.{PlainRead}
-use Rattle.boot_options.specs.Crash.{Form, PlainForm, Plain, High, Low}
+use Rattle.boot_options.specs.Crash.{CrashFormView, CrashPlainView, Plain, High, Low}
 
 -- the list has these items; if the reader ran out of memory for the list, there is at least one
 -- item
@@ -22,25 +22,25 @@ KeepsRanges (Some kept) None = ⊥
 KeepsRanges (Some kept) (Some ranges) = KeepsItems kept ranges
 
 -- the reader has this plain form, except that it may have run out of memory for its ranges
-pub record KeepsPlain (kept : PlainRead) (form : PlainForm) : Type 0 where
+pub record KeepsPlain (kept : PlainRead) (form : CrashPlainView) : Type 0 where
   pub ranges : KeepsItems kept.ranges form.ranges
   pub base : kept.base ≡ form.base
 
 -- the reader has the form that the definition gives for a value, or neither has one
-abbrev pub KeepsSame : CrashForm → Form → Type 0
+abbrev pub KeepsSame : CrashForm → CrashFormView → Type 0
 KeepsSame (forms.Plain kept) (Plain form) = KeepsPlain kept form
 KeepsSame (forms.Plain kept) (High size) = ⊥
 KeepsSame (forms.Plain kept) (Low size) = ⊥
 KeepsSame (forms.High kept) said = said ≡ High kept
 KeepsSame (forms.Low kept) said = said ≡ Low kept
 
-abbrev pub KeepsForm : Option CrashForm → Option Form → Type 0
+abbrev pub KeepsForm : Option CrashForm → Option CrashFormView → Type 0
 KeepsForm None said = said ≡ None
 KeepsForm (Some kept) None = ⊥
 KeepsForm (Some kept) (Some form) = KeepsSame kept form
 
 -- the reader has the last plain form that the definition gives, or neither has one
-abbrev pub KeepsLast : Option PlainRead → Option PlainForm → Type 0
+abbrev pub KeepsLast : Option PlainRead → Option CrashPlainView → Type 0
 KeepsLast None said = said ≡ None
 KeepsLast (Some kept) None = ⊥
 KeepsLast (Some kept) (Some form) = KeepsPlain kept form

@@ -52,19 +52,19 @@ abbrev pub front_number : List ℕ → Option NumberAndRest
 front_number text = number_and_rest text (number_of text)
 
 -- what was read, if nothing is left of the text; else None
-abbrev pub at_end : {A : Type 0} → List ℕ → Option A → Option A
-at_end [] read = read
-at_end (b ∷ bs) read = None
+abbrev pub value_if_at_end : {A : Type 0} → List ℕ → Option A → Option A
+value_if_at_end [] read = read
+value_if_at_end (b ∷ bs) read = None
 
 -- the size that the whole text spells
 abbrev pub whole_size : List ℕ → Option ℕ
 whole_size text = do
   front ← front_size text
-  at_end front.1 (Some front.0)
+  value_if_at_end front.1 (Some front.0)
 
 -- the range of this size from the address on, if both together are at most 2^64 - 1
-abbrev pub range_at : ℕ → ℕ → Option RangeView
-range_at base size = if nat_lt (base + size) (2 ^ 64) then Some (record { base = base; size = size }) else None
+abbrev pub range_if_addressable : ℕ → ℕ → Option RangeView
+range_if_addressable base size = if nat_lt (base + size) (2 ^ 64) then Some (record { base = base; size = size }) else None
 
 -- the edit, or None if its range is empty
 abbrev pub unless_empty : RangeView → Edit → Option Edit
@@ -83,7 +83,7 @@ ram_above size = unless_empty (range_above size) (Remove (range_above size) E820
 abbrev pub adding_option : ℕ → ℕ → List ℕ → Option MapOption
 adding_option kind size place = do
   base ← whole_size place
-  range ← range_at base size
+  range ← range_if_addressable base size
   Some (Adding (unless_empty range (Add range kind)))
 
 -- the type after its mark, at most 2^32 - 1, and the rest of the text; the type is 0 if the mark
@@ -91,48 +91,48 @@ adding_option kind size place = do
 abbrev pub small_kind : NumberAndRest → Option NumberAndRest
 small_kind front = if nat_lt front.0 (2 ^ 32) then Some front else None
 
-abbrev pub kind_behind : ℕ → List ℕ → Option NumberAndRest
-kind_behind mark [] = Some (0, [])
-kind_behind mark (b ∷ bs) = if b == mark then front_number bs >>= small_kind else Some (0, b ∷ bs)
+abbrev pub kind_after_mark : ℕ → List ℕ → Option NumberAndRest
+kind_after_mark mark [] = Some (0, [])
+kind_after_mark mark (b ∷ bs) = if b == mark then front_number bs >>= small_kind else Some (0, b ∷ bs)
 
 -- if no type `f` is given: type `t` is added, or without `t` all types are removed
-abbrev pub retyped_to : RangeView → ℕ → Option MapOption
-retyped_to range to =
+abbrev pub retype_every_type : RangeView → ℕ → Option MapOption
+retype_every_type range to =
     if to == 0 then Some (Other (unless_empty range (RemoveAll range))) else Some (Adding (unless_empty range (Add range to)))
 
 -- if a type `f` is given: it is removed, or changed to `t`, which must differ from it
-abbrev pub retyped_from : RangeView → ℕ → ℕ → Option MapOption
-retyped_from range from to =
+abbrev pub retype_one_type : RangeView → ℕ → ℕ → Option MapOption
+retype_one_type range from to =
     if to == 0 then Some (Other (unless_empty range (Remove range from))) else
     (if from == to then None else Some (Other (unless_empty range (Change range from to))))
 
 -- the option for the types `-f` and `+t`; each is 0 if it isn't given
-abbrev pub retyped : RangeView → ℕ → ℕ → Option MapOption
-retyped range from to = if from == 0 then retyped_to range to else retyped_from range from to
+abbrev pub retype_option : RangeView → ℕ → ℕ → Option MapOption
+retype_option range from to = if from == 0 then retype_every_type range to else retype_one_type range from to
 
 -- the option `S%A-f+t`; the types `f` and `t` are optional
-abbrev pub changed : ℕ → List ℕ → Option MapOption
-changed size place = do
+abbrev pub percent_map_option : ℕ → List ℕ → Option MapOption
+percent_map_option size place = do
   base ← front_size place
-  range ← range_at base.0 size
-  from ← kind_behind from_mark base.1
-  to ← kind_behind to_mark from.1
-  at_end to.1 (retyped range from.0 to.0)
+  range ← range_if_addressable base.0 size
+  from ← kind_after_mark from_mark base.1
+  to ← kind_after_mark to_mark from.1
+  value_if_at_end to.1 (retype_option range from.0 to.0)
 
 -- the option that the mark after `S` selects; without a mark, RAM ends at `S`
-abbrev pub by_mark : ℕ → List ℕ → Option MapOption
-by_mark size [] = Some (Other (ram_above size))
-by_mark size (mark ∷ place) =
+abbrev pub map_option_by_mark : ℕ → List ℕ → Option MapOption
+map_option_by_mark size [] = Some (Other (ram_above size))
+map_option_by_mark size (mark ∷ place) =
     if mark == ram_mark then adding_option E820_TYPE_RAM size place else
     (if mark == acpi_mark then adding_option E820_TYPE_ACPI size place else
     (if mark == reserved_mark then adding_option E820_TYPE_RESERVED size place else
     (if mark == persistent_mark then adding_option E820_TYPE_PRAM size place else
-    (if mark == change_mark then changed size place else None))))
+    (if mark == change_mark then percent_map_option size place else None))))
 
 abbrev pub sized_map_option : List ℕ → Option MapOption
 sized_map_option text = do
   size ← front_size text
-  by_mark size.0 size.1
+  map_option_by_mark size.0 size.1
 
 -- one map option of `memmap=`
 abbrev pub map_option_of : List ℕ → Option MapOption

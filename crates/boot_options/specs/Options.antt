@@ -17,7 +17,7 @@ use Rattle.boot_options.specs.declared.options.Options.{Options}
 use Rattle.boot_options.specs.declared.options.TheConstants.{LONGEST_LINE}
 use Rattle.boot_options.specs.declared.map_option.MapOption.{MapOption}
 use Rattle.boot_options.specs.declared.map_option.MapOption.TheVariants.{ExactMap, Adding, Other}
-use Rattle.boot_options.specs.Crash.{CrashWords, Form, PlainForm, Plain, High, Low, crash_view, form_of}
+use Rattle.boot_options.specs.Crash.{CrashOptionView, CrashFormView, CrashPlainView, Plain, High, Low, crash_option_view, crash_form_of}
 use Rattle.boot_options.specs.MapOptions.{map_option_of, mem_of}
 
 -- the line: the bytes before the first zero byte, without a newline at the end. It must have at
@@ -33,60 +33,60 @@ checked_line line =
     if nat_lt LONGEST_LINE (length line) then Err faults.TooLong
     else (if is_closed line then Ok line else Err faults.OpenQuote)
 
-abbrev pub line_of : List ℕ → Result (List ℕ) OptionFault
-line_of bytes = checked_line (raw_line bytes)
+abbrev pub command_line_of : List ℕ → Result (List ℕ) OptionFault
+command_line_of bytes = checked_line (raw_line bytes)
 
 -- the meaning of one word
-pub data Said : Type 0 where
-  OfMap : (options : List MapOption) → Said
-  OfCrash : (form : Form) → Said
-  NumaOff : Said
-  AddEfi : Said
+pub data WordMeaning : Type 0 where
+  OfMap : (options : List MapOption) → WordMeaning
+  OfCrash : (form : CrashFormView) → WordMeaning
+  NumaOff : WordMeaning
+  AddEfi : WordMeaning
 
 -- the value of `memmap=` is one or more map options, with commas between them
 abbrev pub map_options_of : List (List ℕ) → Option (List MapOption)
 map_options_of [] = Some []
 map_options_of (text ∷ texts) = option_and_then (λ p. option_map (λ ps. p ∷ ps) (map_options_of texts)) (map_option_of text)
 
-abbrev pub memmap_of : List ℕ → Option Said
+abbrev pub memmap_of : List ℕ → Option WordMeaning
 memmap_of value = option_map OfMap (map_options_of (parts_in (Byte 44) value))
 
 -- the value of `mem=` is one map option
-abbrev pub of_one : MapOption → Said
-of_one p = OfMap (p ∷ [])
+abbrev pub one_map_option : MapOption → WordMeaning
+one_map_option p = OfMap (p ∷ [])
 
 -- the value of `crashkernel=` has one form
-abbrev pub crash_of : List ℕ → Option Said
-crash_of value = option_map OfCrash (form_of value)
+abbrev pub crash_of : List ℕ → Option WordMeaning
+crash_of value = option_map OfCrash (crash_form_of value)
 
 -- the value of `numa=` must be `off`; a word without a meaning has this fault
-abbrev pub numa_of : List ℕ → Option Said
+abbrev pub numa_of : List ℕ → Option WordMeaning
 numa_of value = if bytes_eq value (codes "off") then Some NumaOff else None
 
-abbrev pub or_fault : OptionFault → Option Said → Result Said OptionFault
-or_fault fault None = Err fault
-or_fault fault (Some said) = Ok said
+abbrev pub meaning_or_fault : OptionFault → Option WordMeaning → Result WordMeaning OptionFault
+meaning_or_fault fault None = Err fault
+meaning_or_fault fault (Some said) = Ok said
 
 -- the meaning of a word, by its name; a word with another name has no effect. A word with one of
 -- these names but without a value is malformed. The exception is `add_efi_memmap`, which means the
 -- same with and without a value (`setup_add_efi_memmap`).
-abbrev pub said_by : ℕ → List ℕ × Option (List ℕ) → Result Said OptionFault
-said_by number word =
-    if bytes_eq word.0 (codes "mem") then or_fault (faults.BadMem number) (option_map of_one (option_and_then mem_of word.1)) else
-    (if bytes_eq word.0 (codes "memmap") then or_fault (faults.BadMemmap number) (option_and_then memmap_of word.1) else
-    (if bytes_eq word.0 (codes "crashkernel") then or_fault (faults.BadCrash number) (option_and_then crash_of word.1) else
-    (if bytes_eq word.0 (codes "numa") then or_fault (faults.BadNuma number) (option_and_then numa_of word.1) else
+abbrev pub word_meaning : ℕ → List ℕ × Option (List ℕ) → Result WordMeaning OptionFault
+word_meaning number word =
+    if bytes_eq word.0 (codes "mem") then meaning_or_fault (faults.BadMem number) (option_map one_map_option (option_and_then mem_of word.1)) else
+    (if bytes_eq word.0 (codes "memmap") then meaning_or_fault (faults.BadMemmap number) (option_and_then memmap_of word.1) else
+    (if bytes_eq word.0 (codes "crashkernel") then meaning_or_fault (faults.BadCrash number) (option_and_then crash_of word.1) else
+    (if bytes_eq word.0 (codes "numa") then meaning_or_fault (faults.BadNuma number) (option_and_then numa_of word.1) else
     (if bytes_eq word.0 (codes "add_efi_memmap") then Ok AddEfi else
     Ok (OfMap [])))))
 
 -- the name of a word is the text before its first `=`; the value is the text after it, without
 -- quotation marks
-abbrev pub at_cut : List ℕ → Option (List ℕ × List ℕ) → List ℕ × Option (List ℕ)
-at_cut word None = (word, None)
-at_cut word (Some halves) = (halves.0, Some (unquote halves.1))
+abbrev pub split_name_value : List ℕ → Option (List ℕ × List ℕ) → List ℕ × Option (List ℕ)
+split_name_value word None = (word, None)
+split_name_value word (Some halves) = (halves.0, Some (unquote halves.1))
 
 abbrev pub name_value_of : List ℕ → List ℕ × Option (List ℕ)
-name_value_of word = at_cut word (split_once 61 word)
+name_value_of word = split_name_value word (split_once 61 word)
 
 -- the words before `--`
 abbrev pub until_end : List (List ℕ) → List (List ℕ)
@@ -97,21 +97,21 @@ abbrev pub option_words : List ℕ → List (List ℕ)
 option_words line = until_end (map unquote (words_in CommandLine line))
 
 -- the meaning of each word with its number, or the fault of the first malformed word
-abbrev pub said_from : ℕ → List (List ℕ) → Result (List (ℕ × Said)) OptionFault
-said_from number [] = Ok []
-said_from number (word ∷ words) = do
-  said ← said_by number (name_value_of word)
-  others ← said_from (number + 1) words
+abbrev pub word_meanings_from : ℕ → List (List ℕ) → Result (List (ℕ × WordMeaning)) OptionFault
+word_meanings_from number [] = Ok []
+word_meanings_from number (word ∷ words) = do
+  said ← word_meaning number (name_value_of word)
+  others ← word_meanings_from (number + 1) words
   Ok ((number, said) ∷ others)
 
 -- all map options in the order of the line, each with the number of its word
-abbrev pub numbered : ℕ → List MapOption → List (ℕ × MapOption) → List (ℕ × MapOption)
-numbered number [] behind = behind
-numbered number (p ∷ ps) behind = (number, p) ∷ numbered number ps behind
+abbrev pub numbered_map_options : ℕ → List MapOption → List (ℕ × MapOption) → List (ℕ × MapOption)
+numbered_map_options number [] behind = behind
+numbered_map_options number (p ∷ ps) behind = (number, p) ∷ numbered_map_options number ps behind
 
-abbrev pub all_map_options : List (ℕ × Said) → List (ℕ × MapOption)
+abbrev pub all_map_options : List (ℕ × WordMeaning) → List (ℕ × MapOption)
 all_map_options [] = []
-all_map_options ((number, OfMap ps) ∷ said) = numbered number ps (all_map_options said)
+all_map_options ((number, OfMap ps) ∷ said) = numbered_map_options number ps (all_map_options said)
 all_map_options ((number, OfCrash form) ∷ said) = all_map_options said
 all_map_options ((number, NumaOff) ∷ said) = all_map_options said
 all_map_options ((number, AddEfi) ∷ said) = all_map_options said
@@ -126,7 +126,7 @@ abbrev pub edits_of : List (ℕ × MapOption) → List Edit
 edits_of ps = filter_map (λ p. edit_of p.1) ps
 
 -- some word is `numa=off`
-abbrev pub is_numa_off : List (ℕ × Said) → Bool
+abbrev pub is_numa_off : List (ℕ × WordMeaning) → Bool
 is_numa_off [] = false
 is_numa_off ((number, OfMap ps) ∷ said) = is_numa_off said
 is_numa_off ((number, OfCrash form) ∷ said) = is_numa_off said
@@ -134,7 +134,7 @@ is_numa_off ((number, NumaOff) ∷ said) = true
 is_numa_off ((number, AddEfi) ∷ said) = is_numa_off said
 
 -- some word is `add_efi_memmap`
-abbrev pub is_efi_added : List (ℕ × Said) → Bool
+abbrev pub is_efi_added : List (ℕ × WordMeaning) → Bool
 is_efi_added [] = false
 is_efi_added ((number, OfMap ps) ∷ said) = is_efi_added said
 is_efi_added ((number, OfCrash form) ∷ said) = is_efi_added said
@@ -142,38 +142,38 @@ is_efi_added ((number, NumaOff) ∷ said) = is_efi_added said
 is_efi_added ((number, AddEfi) ∷ said) = true
 
 -- the value of one form of `crashkernel=`, if the word has that form
-abbrev pub plain_said : Said → Option PlainForm
-plain_said (OfMap ps) = None
-plain_said (OfCrash (Plain form)) = Some form
-plain_said (OfCrash (High size)) = None
-plain_said (OfCrash (Low size)) = None
-plain_said NumaOff = None
-plain_said AddEfi = None
+abbrev pub plain_crash_value : WordMeaning → Option CrashPlainView
+plain_crash_value (OfMap ps) = None
+plain_crash_value (OfCrash (Plain form)) = Some form
+plain_crash_value (OfCrash (High size)) = None
+plain_crash_value (OfCrash (Low size)) = None
+plain_crash_value NumaOff = None
+plain_crash_value AddEfi = None
 
-abbrev pub high_said : Said → Option ℕ
-high_said (OfMap ps) = None
-high_said (OfCrash (Plain form)) = None
-high_said (OfCrash (High size)) = Some size
-high_said (OfCrash (Low size)) = None
-high_said NumaOff = None
-high_said AddEfi = None
+abbrev pub high_crash_value : WordMeaning → Option ℕ
+high_crash_value (OfMap ps) = None
+high_crash_value (OfCrash (Plain form)) = None
+high_crash_value (OfCrash (High size)) = Some size
+high_crash_value (OfCrash (Low size)) = None
+high_crash_value NumaOff = None
+high_crash_value AddEfi = None
 
-abbrev pub low_said : Said → Option ℕ
-low_said (OfMap ps) = None
-low_said (OfCrash (Plain form)) = None
-low_said (OfCrash (High size)) = None
-low_said (OfCrash (Low size)) = Some size
-low_said NumaOff = None
-low_said AddEfi = None
+abbrev pub low_crash_value : WordMeaning → Option ℕ
+low_crash_value (OfMap ps) = None
+low_crash_value (OfCrash (Plain form)) = None
+low_crash_value (OfCrash (High size)) = None
+low_crash_value (OfCrash (Low size)) = Some size
+low_crash_value NumaOff = None
+low_crash_value AddEfi = None
 
 -- the value in the last word that has one
-abbrev pub last_said : {A : Type 0} → (Said → Option A) → List (ℕ × Said) → Option A
-last_said pick [] = None
-last_said pick (s ∷ said) = option_or (last_said pick said) (pick s.1)
+abbrev pub last_value : {A : Type 0} → (WordMeaning → Option A) → List (ℕ × WordMeaning) → Option A
+last_value pick [] = None
+last_value pick (s ∷ said) = option_or (last_value pick said) (pick s.1)
 
 -- the `crashkernel=` options of all words: the last value of each form
-abbrev pub crash_by : List (ℕ × Said) → CrashWords
-crash_by said = record { plain = last_said plain_said said; high = last_said high_said said; low = last_said low_said said }
+abbrev pub last_crash_values : List (ℕ × WordMeaning) → CrashOptionView
+last_crash_values said = record { plain = last_value plain_crash_value said; high = last_value high_crash_value said; low = last_value low_crash_value said }
 
 -- the number of map options that add a range
 abbrev pub count_adding : List (ℕ × MapOption) → ℕ
@@ -184,56 +184,56 @@ count_adding ((number, Other edit) ∷ ps) = count_adding ps
 
 -- the last `exactmap`: the number of its word, and the number of map options that add a range after
 -- it
-abbrev pub or_here : Option (ℕ × ℕ) → ℕ → MapOption → ℕ → Option (ℕ × ℕ)
-or_here (Some found) number p behind = Some found
-or_here None number ExactMap behind = Some (number, behind)
-or_here None number (Adding edit) behind = None
-or_here None number (Other edit) behind = None
+abbrev pub last_exact_map : Option (ℕ × ℕ) → ℕ → MapOption → ℕ → Option (ℕ × ℕ)
+last_exact_map (Some found) number p behind = Some found
+last_exact_map None number ExactMap behind = Some (number, behind)
+last_exact_map None number (Adding edit) behind = None
+last_exact_map None number (Other edit) behind = None
 
 abbrev pub last_exact : List (ℕ × MapOption) → Option (ℕ × ℕ)
 last_exact [] = None
-last_exact (p ∷ ps) = or_here (last_exact ps) p.0 p.1 (count_adding ps)
+last_exact (p ∷ ps) = last_exact_map (last_exact ps) p.0 p.1 (count_adding ps)
 
 -- the options that a command line sets
-pub record Chosen : Type 0 where
+pub record OptionsView : Type 0 where
   pub edits : List Edit
-  pub crash : CrashWords
+  pub crash : CrashOptionView
   pub numa_off : Bool
   pub add_efi : Bool
 
 -- what contracts see of the code's `Options`
-abbrev pub chosen : Options → Chosen
-chosen options = record {
+abbrev pub options_view : Options → OptionsView
+options_view options = record {
   edits = options.edits.items;
-  crash = crash_view options.crash;
+  crash = crash_option_view options.crash;
   numa_off = options.numa_off;
   add_efi = options.add_efi;
 }
 
 -- the options that these words set
-abbrev pub chosen_by : List (ℕ × Said) → Chosen
-chosen_by said = record {
+abbrev pub options_of_words : List (ℕ × WordMeaning) → OptionsView
+options_of_words said = record {
   edits = edits_of (all_map_options said);
-  crash = crash_by said;
+  crash = last_crash_values said;
   numa_off = is_numa_off said;
   add_efi = is_efi_added said;
 }
 
 -- after the last `exactmap` there must be at least two map options that add a range
-abbrev pub unless_incomplete : Chosen → Option (ℕ × ℕ) → Result Chosen OptionFault
-unless_incomplete chosen None = Ok chosen
-unless_incomplete chosen (Some exact) = if nat_lt exact.1 2 then Err (faults.UserMapInvalid exact.0) else Ok chosen
+abbrev pub check_user_map : OptionsView → Option (ℕ × ℕ) → Result OptionsView OptionFault
+check_user_map options_view None = Ok options_view
+check_user_map options_view (Some exact) = if nat_lt exact.1 2 then Err (faults.UserMapInvalid exact.0) else Ok options_view
 
-abbrev pub with_user_map : List (ℕ × Said) → Result Chosen OptionFault
-with_user_map said = unless_incomplete (chosen_by said) (last_exact (all_map_options said))
+abbrev pub options_with_user_map : List (ℕ × WordMeaning) → Result OptionsView OptionFault
+options_with_user_map said = check_user_map (options_of_words said) (last_exact (all_map_options said))
 
 -- the options of a file's bytes, or the first fault: that of the line, then of the lowest
 -- malformed word, then of the user map
-abbrev pub options_of : List ℕ → Result Chosen OptionFault
+abbrev pub options_of : List ℕ → Result OptionsView OptionFault
 options_of bytes = do
-  line ← line_of bytes
-  said ← said_from 1 (option_words line)
-  with_user_map said
+  line ← command_line_of bytes
+  said ← word_meanings_from 1 (option_words line)
+  options_with_user_map said
 
 -- the range of the edit isn't empty
 abbrev pub HasRange : Edit → Type 0
@@ -259,5 +259,5 @@ IsNumbered (faults.BadNuma word) = 0 < word
 IsNumbered faults.Memory = Unit {0}
 
 -- the line needs memory: for an edit, or for the ranges of a plain form of `crashkernel=`
-abbrev pub WantsMemory : Chosen → Type 0
-WantsMemory chosen = (0 < length chosen.edits) ⊎ IsSome chosen.crash.plain
+abbrev pub OptionsNeedMemory : OptionsView → Type 0
+OptionsNeedMemory options_view = (0 < length options_view.edits) ⊎ IsSome options_view.crash.plain

@@ -13,97 +13,97 @@ use Rattle.boot_options.specs.declared.crash.PlainRead.{PlainRead}
 use Rattle.boot_options.specs.declared.reading.CrashRead.{CrashRead}
 use Rattle.boot_options.specs.declared.reading.Reading.{Reading}
 use Rattle.boot_options.specs.declared.reading.UserMap.{UserMap}
-use Rattle.boot_options.specs.Crash.{CrashWords, Form, Plain, High, Low, no_crash}
+use Rattle.boot_options.specs.Crash.{CrashOptionView, CrashFormView, Plain, High, Low, no_crash}
 use Rattle.boot_options.specs.Kept.{KeepsItems, KeepsLast}
-use Rattle.boot_options.specs.Options.{Said, OfMap, OfCrash, NumaOff, AddEfi, Chosen, edit_of}
+use Rattle.boot_options.specs.Options.{WordMeaning, OfMap, OfCrash, NumaOff, AddEfi, OptionsView, edit_of}
 
-pub record State : Type 0 where
+pub record ReadingState : Type 0 where
   pub edits : List Edit
-  pub crash : CrashWords
+  pub crash : CrashOptionView
   pub numa_off : Bool
   pub add_efi : Bool
   pub user_map : Option UserMap
 
-abbrev pub start : State
-start = record { edits = []; crash = no_crash; numa_off = false; add_efi = false; user_map = None }
+abbrev pub start_state : ReadingState
+start_state = record { edits = []; crash = no_crash; numa_off = false; add_efi = false; user_map = None }
 
 -- the state after another map option: an option that adds memory is one fewer to come
-abbrev pub one_fewer : UserMap → UserMap
-one_fewer m = record { word = m.word; wanting = m.wanting - 1 }
+abbrev pub user_map_less_one : UserMap → UserMap
+user_map_less_one m = record { word = m.word; wanting = m.wanting - 1 }
 
-abbrev pub user_map_behind : ℕ → MapOption → Option UserMap → Option UserMap
-user_map_behind number ExactMap m = Some (record { word = number; wanting = 2 })
-user_map_behind number (Adding edit) m = option_map one_fewer m
-user_map_behind number (Other edit) m = m
+abbrev pub user_map_after_option : ℕ → MapOption → Option UserMap → Option UserMap
+user_map_after_option number ExactMap m = Some (record { word = number; wanting = 2 })
+user_map_after_option number (Adding edit) m = option_map user_map_less_one m
+user_map_after_option number (Other edit) m = m
 
-abbrev pub after_map_option : ℕ → State → MapOption → State
+abbrev pub after_map_option : ℕ → ReadingState → MapOption → ReadingState
 after_map_option number st p = record {
   edits = st.edits ++ cons_option (edit_of p) [];
   crash = st.crash;
   numa_off = st.numa_off;
   add_efi = st.add_efi;
-  user_map = user_map_behind number p st.user_map;
+  user_map = user_map_after_option number p st.user_map;
 }
 
-abbrev pub after_map_options : ℕ → State → List MapOption → State
+abbrev pub after_map_options : ℕ → ReadingState → List MapOption → ReadingState
 after_map_options number st [] = st
 after_map_options number st (p ∷ ps) = after_map_options number (after_map_option number st p) ps
 
 -- the state after another word: a later value of a form of `crashkernel=` replaces an earlier one
-abbrev pub after_form : CrashWords → Form → CrashWords
-after_form c (Plain form) = record { plain = Some form; high = c.high; low = c.low }
-after_form c (High size) = record { plain = c.plain; high = Some size; low = c.low }
-after_form c (Low size) = record { plain = c.plain; high = c.high; low = Some size }
+abbrev pub crash_option_after_form : CrashOptionView → CrashFormView → CrashOptionView
+crash_option_after_form c (Plain form) = record { plain = Some form; high = c.high; low = c.low }
+crash_option_after_form c (High size) = record { plain = c.plain; high = Some size; low = c.low }
+crash_option_after_form c (Low size) = record { plain = c.plain; high = c.high; low = Some size }
 
-abbrev pub after : ℕ → State → Said → State
-after number st (OfMap ps) = after_map_options number st ps
-after number st (OfCrash form) =
+abbrev pub reading_after_word : ℕ → ReadingState → WordMeaning → ReadingState
+reading_after_word number st (OfMap ps) = after_map_options number st ps
+reading_after_word number st (OfCrash form) =
     record {
       edits = st.edits;
-      crash = after_form st.crash form;
+      crash = crash_option_after_form st.crash form;
       numa_off = st.numa_off;
       add_efi = st.add_efi;
       user_map = st.user_map;
     }
-after number st NumaOff =
+reading_after_word number st NumaOff =
     record { edits = st.edits; crash = st.crash; numa_off = true; add_efi = st.add_efi; user_map = st.user_map }
-after number st AddEfi =
+reading_after_word number st AddEfi =
     record { edits = st.edits; crash = st.crash; numa_off = st.numa_off; add_efi = true; user_map = st.user_map }
 
-abbrev pub after_all : State → List (ℕ × Said) → State
-after_all st [] = st
-after_all st (s ∷ said) = after_all (after s.0 st s.1) said
+abbrev pub after_words : ReadingState → List (ℕ × WordMeaning) → ReadingState
+after_words st [] = st
+after_words st (s ∷ said) = after_words (reading_after_word s.0 st s.1) said
 
 -- the state after a word, all words, or map options that may be malformed
-abbrev pub read_on : ℕ → State → Result Said OptionFault → Result State OptionFault
-read_on number st (Ok said) = Ok (after number st said)
-read_on number st (Err fault) = Err fault
+abbrev pub after_meaning : ℕ → ReadingState → Result WordMeaning OptionFault → Result ReadingState OptionFault
+after_meaning number st (Ok said) = Ok (reading_after_word number st said)
+after_meaning number st (Err fault) = Err fault
 
-abbrev pub read_all : State → Result (List (ℕ × Said)) OptionFault → Result State OptionFault
-read_all st (Ok said) = Ok (after_all st said)
-read_all st (Err fault) = Err fault
+abbrev pub after_meanings : ReadingState → Result (List (ℕ × WordMeaning)) OptionFault → Result ReadingState OptionFault
+after_meanings st (Ok said) = Ok (after_words st said)
+after_meanings st (Err fault) = Err fault
 
-abbrev pub read_map_options : ℕ → State → Option (List MapOption) → Option State
+abbrev pub read_map_options : ℕ → ReadingState → Option (List MapOption) → Option ReadingState
 read_map_options number st ps = option_map (after_map_options number st) ps
 
 -- at the end of the line no map option may still be needed for the user map
-abbrev pub when_complete : Chosen → Option UserMap → Result Chosen OptionFault
-when_complete chosen None = Ok chosen
-when_complete chosen (Some m) = if m.wanting == 0 then Ok chosen else Err (UserMapInvalid m.word)
+abbrev pub options_of_end_state : OptionsView → Option UserMap → Result OptionsView OptionFault
+options_of_end_state chosen None = Ok chosen
+options_of_end_state chosen (Some m) = if m.wanting == 0 then Ok chosen else Err (UserMapInvalid m.word)
 
-abbrev pub at_line_end : State → Result Chosen OptionFault
+abbrev pub at_line_end : ReadingState → Result OptionsView OptionFault
 at_line_end st =
-    when_complete (record { edits = st.edits; crash = st.crash; numa_off = st.numa_off; add_efi = st.add_efi }) st.user_map
+    options_of_end_state (record { edits = st.edits; crash = st.crash; numa_off = st.numa_off; add_efi = st.add_efi }) st.user_map
 
 -- the reader has these `crashkernel=` options, except that it may have run out of memory for the
 -- ranges
-pub record KeepsCrash (r : CrashRead) (c : CrashWords) : Type 0 where
+pub record KeepsCrash (r : CrashRead) (c : CrashOptionView) : Type 0 where
   pub plain : KeepsLast r.plain c.plain
   pub high : r.high ≡ c.high
   pub low : r.low ≡ c.low
 
 -- the reader is in this state, except that it may have run out of memory for its edits or ranges
-pub record IsReadTo (r : Reading) (st : State) : Type 0 where
+pub record IsReadTo (r : Reading) (st : ReadingState) : Type 0 where
   pub edits : KeepsItems r.edits st.edits
   pub crash : KeepsCrash r.crash st.crash
   pub numa_off : r.numa_off ≡ st.numa_off
@@ -111,12 +111,12 @@ pub record IsReadTo (r : Reading) (st : State) : Type 0 where
   pub user_map : r.user_map ≡ st.user_map
 
 -- the definition gives a state, and the reader is in it
-abbrev pub IsAtSome : Reading → Result State OptionFault → Type 0
+abbrev pub IsAtSome : Reading → Result ReadingState OptionFault → Type 0
 IsAtSome r (Ok st) = IsReadTo r st
 IsAtSome r (Err fault) = ⊥
 
 -- the result matches the definition: the reader is in its state, or returns its fault
-abbrev pub ReadsAs : {X : Type 0} → (X → Reading) → Result X OptionFault → Result State OptionFault → Type 0
+abbrev pub ReadsAs : {X : Type 0} → (X → Reading) → Result X OptionFault → Result ReadingState OptionFault → Type 0
 ReadsAs view (Ok x) definition = IsAtSome (view x) definition
 ReadsAs view (Err fault) definition = definition ≡ Err fault
 

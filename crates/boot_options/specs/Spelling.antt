@@ -12,9 +12,9 @@ use Rattle.text_words.specs.Spelling.{HasWords, Unquotes}
 use Rattle.boot_options.specs.declared.crash.CrashRange.{CrashRange}
 use Rattle.boot_options.specs.declared.map_option.MapOption.{MapOption}
 use Rattle.boot_options.specs.declared.map_option.MapOption.TheVariants.{ExactMap, Adding, Other}
-use Rattle.boot_options.specs.Crash.{Form, Plain, High, Low, comma, one_range}
+use Rattle.boot_options.specs.Crash.{CrashFormView, Plain, High, Low, comma, one_range}
 use Rattle.boot_options.specs.MapOptions.{ram_above, unless_empty}
-use Rattle.boot_options.specs.Options.{AddEfi, NumaOff, OfCrash, OfMap, Said, line_of}
+use Rattle.boot_options.specs.Options.{AddEfi, NumaOff, OfCrash, OfMap, WordMeaning, command_line_of}
 
 -- the two texts spell the size and the address of the range; both together are at most 2^64 - 1
 pub record SpellsPlace (s a : List ℕ) (range : RangeView) : Type 0 where
@@ -88,10 +88,10 @@ SpellRanges (text ∷ texts) [] = ⊥
 SpellRanges (text ∷ texts) (r ∷ rs) = SpellsRange text r × SpellRanges texts rs
 
 -- the texts with commas between them
-abbrev pub joined : List (List ℕ) → List ℕ
-joined [] = []
-joined (text ∷ []) = text
-joined (text ∷ next ∷ texts) = text ++ (comma ∷ joined (next ∷ texts))
+abbrev pub join_with_commas : List (List ℕ) → List ℕ
+join_with_commas [] = []
+join_with_commas (text ∷ []) = text
+join_with_commas (text ∷ next ∷ texts) = text ++ (comma ∷ join_with_commas (next ∷ texts))
 
 -- the base of a plain form: nothing, which means 0, or a size after `@`
 pub data SpellsBase : List ℕ → ℕ → Type 0 where
@@ -99,10 +99,10 @@ pub data SpellsBase : List ℕ → ℕ → Type 0 where
   a_base : (text : List ℕ) (base : ℕ) → IsSize text base → SpellsBase (codes "@" ++ text) base
 
 -- the value of `crashkernel=`
-pub data SpellsForm : List ℕ → Form → Type 0 where
+pub data SpellsForm : List ℕ → CrashFormView → Type 0 where
   one_size : (s b : List ℕ) (size base : ℕ) → IsSize s size → SpellsBase b base → SpellsForm (s ++ b) (Plain (one_range size base))
   by_ranges : (text b : List ℕ) (texts : List (List ℕ)) (ranges : List CrashRange) (base : ℕ) → SpellRanges (text ∷ texts) ranges
-      → SpellsBase b base → SpellsForm (joined (text ∷ texts) ++ b) (Plain (record { ranges = ranges; base = base }))
+      → SpellsBase b base → SpellsForm (join_with_commas (text ∷ texts) ++ b) (Plain (record { ranges = ranges; base = base }))
   high : (s : List ℕ) (size : ℕ) → IsSize s size → SpellsForm (s ++ codes ",high") (High size)
   low : (s : List ℕ) (size : ℕ) → IsSize s size → SpellsForm (s ++ codes ",low") (Low size)
 
@@ -114,7 +114,7 @@ abbrev pub IsMemmapValue : List ℕ → Type 0
 IsMemmapValue value = (options : List MapOption) × SpellsMapOptions value options
 
 abbrev pub IsCrashValue : List ℕ → Type 0
-IsCrashValue value = (form : Form) × SpellsForm value form
+IsCrashValue value = (form : CrashFormView) × SpellsForm value form
 
 abbrev pub IsNumaValue : List ℕ → Type 0
 IsNumaValue value = value ≡ codes "off"
@@ -153,13 +153,13 @@ pub data OptionWords : List (List ℕ) → List (List ℕ) → Type 0 where
 
 -- the lowest malformed word of the line in these bytes: it has this number, counted from 1, and
 -- this fault
-pub record IsFirstFault (bytes : List ℕ) (number : ℕ) (IsBad : List ℕ → Type 0) : Type 0 where
+pub record IsFirstWordFault (bytes : List ℕ) (number : ℕ) (IsBad : List ℕ → Type 0) : Type 0 where
   pub line : List ℕ
   pub raws : List (List ℕ)
   pub front : List (List ℕ)
   pub word : List ℕ
   pub rest : List (List ℕ)
-  pub read : line_of bytes ≡ Ok line
+  pub read : command_line_of bytes ≡ Ok line
   pub lie : HasWords CommandLine line raws
   pub words : OptionWords raws (front ++ (word ∷ rest))
   pub sound : AllByRecursion IsSoundWord front
@@ -181,26 +181,26 @@ pub record IsOtherWord (word : List ℕ) : Type 0 where
 
 -- the meaning of a word, by its name and its value without quotation marks; a word with another
 -- name has no effect
-pub data SpellsSaid : List ℕ → Said → Type 0 where
+pub data SpellsMeaning : List ℕ → WordMeaning → Type 0 where
   mem_word : (raw value : List ℕ) (option : MapOption) → Unquotes raw value → SpellsMem value option
-      → SpellsSaid (codes "mem" ++ (codes "=" ++ raw)) (OfMap (option ∷ []))
+      → SpellsMeaning (codes "mem" ++ (codes "=" ++ raw)) (OfMap (option ∷ []))
   memmap_word : (raw value : List ℕ) (options : List MapOption) → Unquotes raw value → SpellsMapOptions value options
-      → SpellsSaid (codes "memmap" ++ (codes "=" ++ raw)) (OfMap options)
-  crash_word : (raw value : List ℕ) (form : Form) → Unquotes raw value → SpellsForm value form
-      → SpellsSaid (codes "crashkernel" ++ (codes "=" ++ raw)) (OfCrash form)
-  numa_word : (raw : List ℕ) → Unquotes raw (codes "off") → SpellsSaid (codes "numa" ++ (codes "=" ++ raw)) NumaOff
-  efi_word : (word : List ℕ) → HasName (codes "add_efi_memmap") word → SpellsSaid word AddEfi
-  other_word : (word : List ℕ) → IsOtherWord word → SpellsSaid word (OfMap [])
+      → SpellsMeaning (codes "memmap" ++ (codes "=" ++ raw)) (OfMap options)
+  crash_word : (raw value : List ℕ) (form : CrashFormView) → Unquotes raw value → SpellsForm value form
+      → SpellsMeaning (codes "crashkernel" ++ (codes "=" ++ raw)) (OfCrash form)
+  numa_word : (raw : List ℕ) → Unquotes raw (codes "off") → SpellsMeaning (codes "numa" ++ (codes "=" ++ raw)) NumaOff
+  efi_word : (word : List ℕ) → HasName (codes "add_efi_memmap") word → SpellsMeaning word AddEfi
+  other_word : (word : List ℕ) → IsOtherWord word → SpellsMeaning word (OfMap [])
 
 -- each word has the meaning at its place in the list, and the words are numbered from `number` on
-abbrev pub SpellEach : ℕ → List (List ℕ) → List (ℕ × Said) → Type 0
+abbrev pub SpellEach : ℕ → List (List ℕ) → List (ℕ × WordMeaning) → Type 0
 SpellEach number [] [] = Unit {0}
 SpellEach number [] (s ∷ said) = ⊥
 SpellEach number (word ∷ words) [] = ⊥
-SpellEach number (word ∷ words) (s ∷ said) = (s.0 ≡ number) × SpellsSaid word s.1 × SpellEach (number + 1) words said
+SpellEach number (word ∷ words) (s ∷ said) = (s.0 ≡ number) × SpellsMeaning word s.1 × SpellEach (number + 1) words said
 
 -- the words of the line have these meanings
-pub record SpellsLine (line : List ℕ) (said : List (ℕ × Said)) : Type 0 where
+pub record SpellsLine (line : List ℕ) (said : List (ℕ × WordMeaning)) : Type 0 where
   pub raws : List (List ℕ)
   pub words : List (List ℕ)
   pub lie : HasWords CommandLine line raws

@@ -10,11 +10,11 @@ ghost use Rattle.std.specs.Prelude.{◌≡◌, ◌↔◌, ℕ, List, ◌∷◌, 
 ghost use Rattle.std.specs.Option.{option_map};
 ghost use Rattle.text_words.specs.declared.separators.Separators.TheVariants.{Byte as any_byte};
 ghost use Rattle.text_words.specs.Parts.{parts_in};
-ghost use Rattle.boot_options.specs.Crash.{Form, comma, crash_range_of, crash_ranges_of, end_of_range, form_of, place_of as place_at, ranges_form, simple_form, suffix_form};
+ghost use Rattle.boot_options.specs.Crash.{CrashFormView, comma, crash_range_of, crash_ranges_of, end_of_range, crash_form_of, text_and_base as place_at, ranges_form, simple_form, suffix_form};
 ghost use Rattle.boot_options.specs.Kept.{KeepsItems, KeepsForm, KeepsRanges};
 ghost use Rattle.boot_options.specs.Spelling.{SpellsForm};
 
-use crate::kept::keep;
+use crate::kept::append_item;
 use crate::map_option::read_whole_size;
 use bm_base::Memory;
 use std::alloc::Global;
@@ -71,9 +71,9 @@ pub enum CrashForm {
 
 /// Returns the form of a value of `crashkernel=` (`parse_crashkernel`), or `None` if it is
 /// malformed.
-#[tactic(auto, unfolding(crate::specs::Crash::form_of))]
-pub fn read_form(alloc: Global, value: &[u8]) -> Option<CrashForm>
-    ensures { KeepsForm result (form_of value.now) }
+#[tactic(auto, unfolding(crate::specs::Crash::crash_form_of))]
+pub fn read_crash_form(alloc: Global, value: &[u8]) -> Option<CrashForm>
+    ensures { KeepsForm result (crash_form_of value.now) }
 {
     if split_once(value, b':').is_some() {
         return read_ranges_form(alloc, value);
@@ -88,7 +88,7 @@ pub fn read_form(alloc: Global, value: &[u8]) -> Option<CrashForm>
 fn read_ranges_form(alloc: Global, value: &[u8]) -> Option<CrashForm>
     ensures { KeepsForm result (ranges_form value.now) }
 {
-    let (ranges, base) = read_place(value)?;
+    let (ranges, base) = text_and_base(value)?;
     let ranges = read_ranges(alloc, ranges)?;
     Some(CrashForm::Plain(PlainRead { ranges, base }))
 }
@@ -97,7 +97,7 @@ fn read_ranges_form(alloc: Global, value: &[u8]) -> Option<CrashForm>
 fn read_simple_form(alloc: Global, value: &[u8]) -> Option<CrashForm>
     ensures { KeepsForm result (simple_form value.now) }
 {
-    let (size, base) = read_place(value)?;
+    let (size, base) = text_and_base(value)?;
     let size = read_whole_size(size)?;
     let range = CrashRange {
         start: 0,
@@ -140,7 +140,7 @@ fn read_suffix_form(size: &[u8], name: &[u8]) -> Option<CrashForm>
 
 /// Returns the text before the first `@`, and the base after it, or 0 if there is no `@`. Returns
 /// `None` if the base is malformed.
-fn read_place(text: &[u8]) -> Option<(&[u8], u64)>
+fn text_and_base(text: &[u8]) -> Option<(&[u8], u64)>
     ensures { option_map (λ place. (place.0.now, place.1)) result ≡ place_at text.now }
 {
     match split_once(text, b'@') {
@@ -161,7 +161,7 @@ fn read_ranges(alloc: Global, text: &[u8]) -> Option<Result<Vec<CrashRange>, Mem
         let Some(range) = read_range(text) else {
             return None;
         };
-        keep(&Some(range), &mut ranges);
+        append_item(&Some(range), &mut ranges);
         rest = behind;
     }
     Some(ranges)
@@ -195,5 +195,5 @@ fn read_end(text: &[u8]) -> Option<Option<u64>>
 
 /// Law: a value of `crashkernel=` is read as a form exactly if the grammar spells it as that form.
 pub fn crash_forms_are_spelled()
-    ensures { (value : List ℕ) (form : Form) → form_of value ≡ Some form ↔ SpellsForm value form }
+    ensures { (value : List ℕ) (form : CrashFormView) → crash_form_of value ≡ Some form ↔ SpellsForm value form }
 {}

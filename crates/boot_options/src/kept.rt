@@ -9,7 +9,7 @@ use bm_base::Memory;
 
 /// Appends the item, if there is one, to the list. If the program runs out of memory, the list
 /// becomes `Err(Memory)`.
-pub fn keep<T: Copy>(item: &Option<T>, items: &mut Result<Vec<T>, Memory>)
+pub fn append_item<T: Copy>(item: &Option<T>, items: &mut Result<Vec<T>, Memory>)
     ensures { (before : List T) → KeepsItems items.old before →
         KeepsItems items.new (before ++ cons_option item.now []) }
 {

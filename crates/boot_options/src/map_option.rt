@@ -11,7 +11,7 @@ ghost use Rattle.text_words.specs.declared.separators.Separators.TheVariants.{By
 ghost use Rattle.text_words.specs.Parts.{parts_in};
 ghost use Rattle.boot_options.specs.declared.map_option.MapOption.{MapOption as AnyOption};
 ghost use Rattle.boot_options.specs.Crash.{comma};
-ghost use Rattle.boot_options.specs.MapOptions.{front_size, front_number, whole_size, unless_empty as edit_unless_empty, ram_above as edit_above, adding_option as adding_map_option, kind_behind as front_kind, retyped as retyped_map_option, changed as changed_map_option, by_mark as marked_map_option, map_option_of, mem_of};
+ghost use Rattle.boot_options.specs.MapOptions.{front_size, front_number, whole_size, unless_empty as edit_unless_empty, ram_above as edit_above, adding_option as adding_map_option, kind_after_mark as front_kind, retype_option as retyped_map_option, percent_map_option as changed_map_option, map_option_by_mark as marked_map_option, map_option_of, mem_of};
 ghost use Rattle.boot_options.specs.Options.{map_options_of};
 ghost use Rattle.boot_options.specs.Spelling.{SpellsMapOption, SpellsMapOptions, SpellsMem};
 
@@ -52,12 +52,12 @@ pub fn read_map_option(text: &[u8]) -> Option<MapOption>
         return Some(MapOption::ExactMap);
     }
     let (size, rest) = read_front_size(text)?;
-    by_mark(size, rest)
+    map_option_by_mark(size, rest)
 }
 
 /// Returns the map option for a size and the text after it, which begins with a mark. Returns
 /// `None` if the text is malformed. An empty text ends RAM at `size`.
-fn by_mark(size: u64, text: &[u8]) -> Option<MapOption>
+fn map_option_by_mark(size: u64, text: &[u8]) -> Option<MapOption>
     ensures { result ≡ marked_map_option size text.now }
 {
     let [mark, place @ ..] = text else {
@@ -68,7 +68,7 @@ fn by_mark(size: u64, text: &[u8]) -> Option<MapOption>
         b'#' => adding_option(E820_TYPE_ACPI, size, place),
         b'$' => adding_option(E820_TYPE_RESERVED, size, place),
         b'!' => adding_option(E820_TYPE_PRAM, size, place),
-        b'%' => changed(size, place),
+        b'%' => percent_map_option(size, place),
         _ => None,
     }
 }
@@ -85,22 +85,22 @@ fn adding_option(kind: u32, size: u64, place: &[u8]) -> Option<MapOption>
 
 /// Reads `A-f+t`, the text after `S%`: an address, and optional types to change from and to.
 /// Returns `None` if it is malformed, or the range would exceed 2^64 - 1.
-fn changed(size: u64, place: &[u8]) -> Option<MapOption>
+fn percent_map_option(size: u64, place: &[u8]) -> Option<MapOption>
     ensures { result ≡ changed_map_option size place.now }
 {
     let (base, rest) = read_front_size(place)?;
     let range = Range::new(base, size)?;
-    let (from, rest) = kind_behind(b'-', rest)?;
-    let (to, rest) = kind_behind(b'+', rest)?;
+    let (from, rest) = kind_after_mark(b'-', rest)?;
+    let (to, rest) = kind_after_mark(b'+', rest)?;
     if !rest.is_empty() {
         return None;
     }
-    retyped(range, from, to)
+    retype_option(range, from, to)
 }
 
 /// Returns the map option that changes type `from` to type `to` in the range; 0 stands for a type
 /// that isn't given. Returns `None` if both types are given and equal.
-fn retyped(range: Range, from: u32, to: u32) -> Option<MapOption>
+fn retype_option(range: Range, from: u32, to: u32) -> Option<MapOption>
     ensures { result ≡ retyped_map_option range from to }
 {
     match (from, to) {
@@ -114,7 +114,7 @@ fn retyped(range: Range, from: u32, to: u32) -> Option<MapOption>
 
 /// Returns the type after `mark`, if the text begins with that mark, and the rest of the text. The
 /// type is 0 if the mark isn't there. Returns `None` if the type is malformed or exceeds 2^32 - 1.
-fn kind_behind(mark: u8, text: &[u8]) -> Option<(u32, &[u8])>
+fn kind_after_mark(mark: u8, text: &[u8]) -> Option<(u32, &[u8])>
     ensures { option_map (λ front. (front.0, front.1.now)) result ≡ front_kind mark text.now }
 {
     match text {

@@ -5,17 +5,17 @@ ghost use Rattle.std.specs.Prelude.{◌≡◌, ◌↔◌, ℕ, List, ◌<◌, �
 ghost use Rattle.bm_base.specs.Answers.{Answers};
 ghost use Rattle.boot_options.specs.declared.options.TheConstants.{LONGEST_LINE};
 ghost use Rattle.std.specs.Option.{option_map};
-ghost use Rattle.boot_options.specs.Crash.{CrashWords, IsPlain, PlainForm, crash_view, plain_view};
+ghost use Rattle.boot_options.specs.Crash.{CrashOptionView, IsPlain, CrashPlainView, crash_option_view, crash_plain_view};
 ghost use Rattle.boot_options.specs.Kept.{KeepsLast};
-ghost use Rattle.boot_options.specs.Options.{Said, chosen, line_of, name_value_of, option_words, options_of, said_by, said_from, HaveRanges, IsNumbered, WantsMemory};
-ghost use Rattle.boot_options.specs.Spelling.{IsBadCrash, IsBadMem, IsBadMemmap, IsBadNuma, IsFirstFault, SpellsLine, SpellsSaid};
+ghost use Rattle.boot_options.specs.Options.{WordMeaning, options_view, command_line_of, name_value_of, option_words, options_of, word_meaning, word_meanings_from, HaveRanges, IsNumbered, OptionsNeedMemory};
+ghost use Rattle.boot_options.specs.Spelling.{IsBadCrash, IsBadMem, IsBadMemmap, IsBadNuma, IsFirstWordFault, SpellsLine, SpellsMeaning};
 ghost use Rattle.boot_options.specs.declared.fault.OptionFault.TheVariants as faults;
 ghost use Rattle.e820_model.specs.Claims.{HaveTypes};
-ghost use Rattle.boot_options.specs.Reading.{State, IsReadTo, KeepsCrash, LacksRanges, at_line_end};
+ghost use Rattle.boot_options.specs.Reading.{ReadingState, IsReadTo, KeepsCrash, LacksRanges, at_line_end};
 
 use crate::crash::{CrashOption, CrashPlain, PlainRead};
 use crate::fault::OptionFault;
-use crate::reading::{CrashRead, Reading, read_words};
+use crate::reading::{CrashRead, Reading, read_option_words};
 use bm_base::Memory;
 use e820_model::Edit;
 use std::alloc::Global;
@@ -45,16 +45,16 @@ pub struct Options {
 ///   malformed word, then `UserMapInvalid`.
 /// - `Memory`: the line has no fault, but the program ran out of memory for an edit or a range.
 pub fn read_options(alloc: Global, bytes: &[u8]) -> Result<Options, OptionFault>
-    ensures answers { Answers OptionFault.Memory chosen result (options_of bytes.now) }
+    ensures answers { Answers OptionFault.Memory options_view result (options_of bytes.now) }
     ensures memory { result ≡ Err OptionFault.Memory →
-        IsOkAnd (options_of bytes.now) WantsMemory }
+        IsOkAnd (options_of bytes.now) OptionsNeedMemory }
     ensures types { IfOk result (λ options. HaveTypes options.edits.items) }
     ensures ranges { IfOk result (λ options. HaveRanges options.edits.items) }
-    ensures crash { IfOk result (λ options. IfSome options.crash.plain (λ plain. IsPlain (plain_view plain))) }
+    ensures crash { IfOk result (λ options. IfSome options.crash.plain (λ plain. IsPlain (crash_plain_view plain))) }
     ensures words { IfErr result IsNumbered }
 {
-    let line = read_line(bytes)?;
-    let reading = read_words(alloc, line)?;
+    let line = command_line_of(bytes)?;
+    let reading = read_option_words(alloc, line)?;
     finish(reading)
 }
 
@@ -64,22 +64,22 @@ pub fn read_options(alloc: Global, bytes: &[u8]) -> Result<Options, OptionFault>
 /// quotation marks, isn't spelled in any form of its name.
 pub fn malformed_words_are_faults()
     ensures mem { (bytes : List ℕ) (word : ℕ) →
-        options_of bytes ≡ Err (faults.BadMem word) ↔ IsFirstFault bytes word IsBadMem }
+        options_of bytes ≡ Err (faults.BadMem word) ↔ IsFirstWordFault bytes word IsBadMem }
     ensures memmap { (bytes : List ℕ) (word : ℕ) →
-        options_of bytes ≡ Err (faults.BadMemmap word) ↔ IsFirstFault bytes word IsBadMemmap }
+        options_of bytes ≡ Err (faults.BadMemmap word) ↔ IsFirstWordFault bytes word IsBadMemmap }
     ensures crash { (bytes : List ℕ) (word : ℕ) →
-        options_of bytes ≡ Err (faults.BadCrash word) ↔ IsFirstFault bytes word IsBadCrash }
+        options_of bytes ≡ Err (faults.BadCrash word) ↔ IsFirstWordFault bytes word IsBadCrash }
     ensures numa { (bytes : List ℕ) (word : ℕ) →
-        options_of bytes ≡ Err (faults.BadNuma word) ↔ IsFirstFault bytes word IsBadNuma }
+        options_of bytes ≡ Err (faults.BadNuma word) ↔ IsFirstWordFault bytes word IsBadNuma }
 {}
 
 /// Law: a word has exactly the meaning that its name and its value, without quotation marks,
 /// spell. A line has the meanings of its words: the texts between separators, up to `--`.
 pub fn words_say_what_they_spell()
-    ensures word { (number : ℕ) (word : List ℕ) (said : Said) →
-        said_by number (name_value_of word) ≡ Ok said ↔ SpellsSaid word said }
-    ensures line { (bytes line : List ℕ) (said : List (ℕ × Said)) → line_of bytes ≡ Ok line →
-        said_from 1 (option_words line) ≡ Ok said ↔ SpellsLine line said }
+    ensures word { (number : ℕ) (word : List ℕ) (said : WordMeaning) →
+        word_meaning number (name_value_of word) ≡ Ok said ↔ SpellsMeaning word said }
+    ensures line { (bytes line : List ℕ) (said : List (ℕ × WordMeaning)) → command_line_of bytes ≡ Ok line →
+        word_meanings_from 1 (option_words line) ≡ Ok said ↔ SpellsLine line said }
 {}
 
 /// The largest number of bytes of a line without the zero byte that ends it (`COMMAND_LINE_SIZE` -
@@ -93,9 +93,9 @@ const LONGEST_LINE: usize = 2047;
 ///
 /// - `TooLong`: the line has more than 2,047 bytes.
 /// - `OpenQuote`: the line has an odd number of quotation marks.
-fn read_line(bytes: &[u8]) -> Result<&[u8], OptionFault>
-    ensures line { MatchResult result (λ line. line_of bytes.now ≡ Ok line.now)
-        (λ fault. line_of bytes.now ≡ Err fault) }
+fn command_line_of(bytes: &[u8]) -> Result<&[u8], OptionFault>
+    ensures line { MatchResult result (λ line. command_line_of bytes.now ≡ Ok line.now)
+        (λ fault. command_line_of bytes.now ≡ Err fault) }
     ensures short { IfOk result (λ line. length line.now ≤ LONGEST_LINE) }
 {
     let line = without_last(text_before(bytes, 0), b'\n');
@@ -116,11 +116,11 @@ fn read_line(bytes: &[u8]) -> Result<&[u8], OptionFault>
 /// - `Memory`: the user map is complete, but the program ran out of memory for an edit or a range
 ///   while it read the words.
 fn finish(reading: Reading) -> Result<Options, OptionFault>
-    ensures answers { (st : State) → IsReadTo reading st →
-        Answers OptionFault.Memory chosen result (at_line_end st) }
+    ensures answers { (st : ReadingState) → IsReadTo reading st →
+        Answers OptionFault.Memory options_view result (at_line_end st) }
     ensures memory { result ≡ Err OptionFault.Memory → IsErr reading.edits ⊎ LacksRanges reading.crash.plain }
-    ensures complete { result ≡ Err OptionFault.Memory → (st : State) → IsReadTo reading st →
-        IsOkAnd (at_line_end st) WantsMemory }
+    ensures complete { result ≡ Err OptionFault.Memory → (st : ReadingState) → IsReadTo reading st →
+        IsOkAnd (at_line_end st) OptionsNeedMemory }
 {
     if let Some(map) = reading.user_map {
         if map.wanting > 0 {
@@ -141,8 +141,8 @@ fn finish(reading: Reading) -> Result<Options, OptionFault>
 ///
 /// - `Memory`: the program ran out of memory for the ranges of the last plain form.
 fn finish_crash(crash: CrashRead) -> Result<CrashOption, Memory>
-    ensures value { (said : CrashWords) → KeepsCrash crash said →
-        IfOk result (λ option. said ≡ crash_view option) }
+    ensures value { (said : CrashOptionView) → KeepsCrash crash said →
+        IfOk result (λ option. said ≡ crash_option_view option) }
     ensures lacking { OnErr result (LacksRanges crash.plain) }
 {
     Ok(CrashOption {
@@ -158,8 +158,8 @@ fn finish_crash(crash: CrashRead) -> Result<CrashOption, Memory>
 ///
 /// - `Memory`: the program ran out of memory for the ranges.
 fn finish_plain(plain: Option<PlainRead>) -> Result<Option<CrashPlain>, Memory>
-    ensures value { (said : Option PlainForm) → KeepsLast plain said →
-        IfOk result (λ plain. said ≡ option_map plain_view plain) }
+    ensures value { (said : Option CrashPlainView) → KeepsLast plain said →
+        IfOk result (λ plain. said ≡ option_map crash_plain_view plain) }
     ensures lacking { OnErr result (LacksRanges plain) }
 {
     let Some(plain) = plain else {

@@ -12,12 +12,12 @@ ghost use Rattle.std.specs.Prelude.{◌≡◌, ℕ, ◌≤◌, ◌+◌, length, 
 ghost use Rattle.std.specs.Option.{option_map, option_and_then};
 ghost use Rattle.boot_options.specs.declared.fault.OptionFault.TheVariants as faults;
 ghost use Rattle.boot_options.specs.declared.options.TheConstants.{LONGEST_LINE};
-ghost use Rattle.boot_options.specs.Options.{name_value_of, said_by, said_from, option_words, or_fault, crash_of, memmap_of};
-ghost use Rattle.boot_options.specs.Reading.{State, start, one_fewer as one_fewer_wanted, after_map_option, read_on, read_all, IsReadTo, ReadsAs};
+ghost use Rattle.boot_options.specs.Options.{name_value_of, word_meaning, word_meanings_from, option_words, meaning_or_fault, crash_of, memmap_of};
+ghost use Rattle.boot_options.specs.Reading.{ReadingState, start_state, user_map_less_one as one_fewer_wanted, after_map_option, after_meaning, after_meanings, IsReadTo, ReadsAs};
 
-use crate::crash::{CrashForm, PlainRead, read_form};
+use crate::crash::{CrashForm, PlainRead, read_crash_form};
 use crate::fault::OptionFault;
-use crate::kept::keep;
+use crate::kept::append_item;
 use crate::map_option::{MapOption, read_map_option, read_mem};
 use bm_base::Memory;
 use e820_model::Edit;
@@ -57,10 +57,10 @@ pub struct UserMap {
 /// # Errors
 ///
 /// - The fault of the first malformed word.
-pub fn read_words(alloc: Global, line: &[u8]) -> Result<Reading, OptionFault>
+pub fn read_option_words(alloc: Global, line: &[u8]) -> Result<Reading, OptionFault>
     requires { length line.now ≤ LONGEST_LINE }
     ensures { ReadsAs (λ reading. reading) result
-        (read_all start (said_from 1 (option_words line.now))) }
+        (after_meanings start_state (word_meanings_from 1 (option_words line.now))) }
 {
     let mut reading = Reading {
         edits: Ok(Vec::new(alloc)),
@@ -100,11 +100,11 @@ fn read_word(
     number: u32,
     reading: &mut Reading,
 ) -> Result<(), OptionFault>
-    ensures { (st : State) → IsReadTo reading.old st →
+    ensures { (st : ReadingState) → IsReadTo reading.old st →
         ReadsAs (λ _. reading.new) result
-        (read_on number st (said_by number (name_value_of word.now))) }
+        (after_meaning number st (word_meaning number (name_value_of word.now))) }
 {
-    let (name, value) = name_and_value(word);
+    let (name, value) = name_value_of(word);
     if name == b"mem".as_slice() {
         let Some(option) = value.and_then(read_mem) else {
             return Err(OptionFault::BadMem { word: number });
@@ -132,7 +132,7 @@ fn read_word(
 }
 
 /// Returns the name of a word, and its value without quotation marks if the word has a `=`.
-fn name_and_value(word: &[u8]) -> (&[u8], Option<&[u8]>)
+fn name_value_of(word: &[u8]) -> (&[u8], Option<&[u8]>)
     ensures { (result.0.now, option_map (λ value. value.now) result.1) ≡ name_value_of word.now }
 {
     match split_once(word, b'=') {
@@ -147,9 +147,9 @@ fn name_and_value(word: &[u8]) -> (&[u8], Option<&[u8]>)
 ///
 /// - `BadMemmap`: one of the map options is malformed.
 fn read_memmap(value: &[u8], number: u32, reading: &mut Reading) -> Result<(), OptionFault>
-    ensures { (st : State) → IsReadTo reading.old st →
+    ensures { (st : ReadingState) → IsReadTo reading.old st →
         ReadsAs (λ _. reading.new) result
-        (read_on number st (or_fault (faults.BadMemmap number) (memmap_of value.now))) }
+        (after_meaning number st (meaning_or_fault (faults.BadMemmap number) (memmap_of value.now))) }
 {
     let mut rest = Some(value);
     while let Some(text) = rest {
@@ -174,11 +174,11 @@ fn read_crash(
     number: u32,
     reading: &mut Reading,
 ) -> Result<(), OptionFault>
-    ensures { (st : State) → IsReadTo reading.old st →
+    ensures { (st : ReadingState) → IsReadTo reading.old st →
         ReadsAs (λ _. reading.new) result
-        (read_on number st (or_fault (faults.BadCrash number) (crash_of value.now))) }
+        (after_meaning number st (meaning_or_fault (faults.BadCrash number) (crash_of value.now))) }
 {
-    match read_form(alloc, value) {
+    match read_crash_form(alloc, value) {
         Some(CrashForm::Plain(plain)) => reading.crash.plain = Some(plain),
         Some(CrashForm::High(size)) => reading.crash.high = Some(size),
         Some(CrashForm::Low(size)) => reading.crash.low = Some(size),
@@ -189,27 +189,27 @@ fn read_crash(
 
 /// Adds the result of one map option, which is in the word `number`.
 fn take_map_option(option: &MapOption, number: u32, reading: &mut Reading)
-    ensures { (st : State) → IsReadTo reading.old st →
+    ensures { (st : ReadingState) → IsReadTo reading.old st →
         IsReadTo reading.new (after_map_option number st option.now) }
 {
     match option {
         MapOption::ExactMap => {
-            keep(&Some(Edit::Clear), &mut reading.edits);
+            append_item(&Some(Edit::Clear), &mut reading.edits);
             reading.user_map = Some(UserMap {
                 word: number,
                 wanting: 2,
             });
         }
         MapOption::Adding(edit) => {
-            keep(edit, &mut reading.edits);
-            reading.user_map = one_fewer(&reading.user_map);
+            append_item(edit, &mut reading.edits);
+            reading.user_map = user_map_less_one(&reading.user_map);
         }
-        MapOption::Other(edit) => keep(edit, &mut reading.edits),
+        MapOption::Other(edit) => append_item(edit, &mut reading.edits),
     }
 }
 
 /// Returns the user map with one map option fewer to come.
-fn one_fewer(map: &Option<UserMap>) -> Option<UserMap>
+fn user_map_less_one(map: &Option<UserMap>) -> Option<UserMap>
     ensures { result ≡ option_map one_fewer_wanted map.now }
 {
     map.map(|map| UserMap {

@@ -2,20 +2,20 @@
 use Rattle.std.proofs.Common.{◌≡◌, List, sym, subst}
 use Rattle.bm_base.specs.Range.{RangeView}
 use Rattle.phys_store.specs.Bytes.{byte_of}
-use Rattle.growth_model.specs.Bytes.{Filled, Follows, Holds}
+use Rattle.growth_model.specs.Bytes.{Fill, Follows, AreBytesFromHistory}
 use Rattle.growth_model.proofs.FillLaws.{holds-call}
-use Rattle.memblock_grow.specs.Contents.{Contents}
-use Rattle.memblock_grow.specs.Going.{GoesOn}
-use Rattle.boot_stages.specs.Boots.{HoldsWith}
+use Rattle.memblock_grow.specs.Contents.{MemblockView}
+use Rattle.memblock_grow.specs.Going.{ContinuesMemblock}
+use Rattle.boot_stages.specs.Boots.{HoldsFills}
 
-pub holds-on : (fills : List Filled) (old new : Contents) → new.kernel ≡ old.kernel
+pub holds-on : (fills : List Fill) (old new : MemblockView) → new.kernel ≡ old.kernel
     → Follows old.kernel old.journal.items new.journal.items (byte_of old.tables.store) (byte_of new.tables.store)
-    → HoldsWith fills old → HoldsWith fills new
+    → HoldsFills fills old → HoldsFills fills new
 holds-on fills old new kernel follows holds =
-    let At : RangeView → Type 0 = λ k. Holds k new.journal.items fills (byte_of new.tables.store) in
+    let At : RangeView → Type 0 = λ k. AreBytesFromHistory k new.journal.items fills (byte_of new.tables.store) in
     subst At (sym kernel)
     (holds-call old.kernel old.journal.items new.journal.items fills (byte_of old.tables.store) (byte_of new.tables.store) holds follows)
 
 -- the bytes hold after any memblock that `old` goes on to
-pub holds-behind : (fills : List Filled) (old new : Contents) → GoesOn old new → HoldsWith fills old → HoldsWith fills new
+pub holds-behind : (fills : List Fill) (old new : MemblockView) → ContinuesMemblock old new → HoldsFills fills old → HoldsFills fills new
 holds-behind fills old new goes holds = holds-on fills old new goes.kernel goes.bytes holds

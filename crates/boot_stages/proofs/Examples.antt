@@ -7,10 +7,10 @@ use Rattle.memblock_model.specs.declared.item.Item.{Item}
 use Rattle.memblock_model.specs.declared.item.Item.TheVariants as item
 use Rattle.growth_model.specs.declared.refusal.Refusal.TheVariants as refusal
 use Rattle.stage_model.specs.Causes.{refusal_for}
-use Rattle.stage_model.specs.Doing.{StageEnds}
-use Rattle.early_stages.specs.Early.{Early}
-use Rattle.boot_model.specs.First.{items_carried}
-use Rattle.boot_stages.specs.Parts.{beginning, ending, mapping}
+use Rattle.stage_model.specs.Doing.{EndsAsStage}
+use Rattle.early_stages.specs.Early.{EarlyInputs}
+use Rattle.boot_model.specs.First.{items_with_growths}
+use Rattle.boot_stages.specs.Parts.{items_before_memory, limit_items, map_memory_items}
 
 abbrev one_run : List (RunOf ℕ)
 one_run = record { base = 0x1000; size = 0x1000; value = 1 } ∷ []
@@ -20,23 +20,23 @@ one_run = record { base = 0x1000; size = 0x1000; value = 1 } ∷ []
 abbrev image : RangeView
 image = record { base = 0x1000000; size = 0x2000000 }
 
-abbrev early : Early
+abbrev early : EarlyInputs
 early = record { limit = 0x2000; kernel = image; initrd = None; mirrors = record { first = 1; count = 2 } ∷ []; upward = true }
 
 -- the items of the parts, if frames 1 and 2 are mirrored and searches go upward
-parts : (beginning early ≡ item.Claim image owner.Kernel ∷ item.Claim (record { base = 0; size = 0x10000 }) owner.Low64K
+parts : (items_before_memory early ≡ item.Claim image owner.Kernel ∷ item.Claim (record { base = 0; size = 0x10000 }) owner.Low64K
     ∷ item.Limit 0x100000 ∷ item.Upward true ∷ [])
-    × (mapping early one_run ≡ item.Mem (record { base = 0x1000; size = 0x1000 }) ∷ item.Trim
+    × (map_memory_items early one_run ≡ item.Mem (record { base = 0x1000; size = 0x1000 }) ∷ item.Trim
     ∷ item.Mirror (record { base = 0x1000; size = 0x2000 }) ∷ [])
-    × (ending 0x4000 ≡ item.Limit 0x4000 ∷ item.Claim (record { base = 0; size = 0x100000 }) owner.Low1M ∷ [])
+    × (limit_items 0x4000 ≡ item.Limit 0x4000 ∷ item.Claim (record { base = 0; size = 0x100000 }) owner.Low1M ∷ [])
 parts = (refl, refl, refl)
 
 -- this program may be out of memory before a first item
-wanting_first : StageEnds {A = Unit {0}} (items_carried (item.Trim ∷ [])) refusal_for (Err refusal.Memory) [] []
-unfolding items_carried
+wanting_first : EndsAsStage {A = Unit {0}} (items_with_growths (item.Trim ∷ [])) refusal_for (Err refusal.Memory) [] []
+unfolding items_with_growths
 wanting_first = inr (refl, record { count = 0; short = omega arith; stands = refl })
 
 -- it isn't out of memory if there are no items
-never_for_nothing : (old new : List Item) → StageEnds {A = Unit {0}} (items_carried []) refusal_for (Err refusal.Memory) old new → ⊥
-unfolding items_carried
+never_for_nothing : (old new : List Item) → EndsAsStage {A = Unit {0}} (items_with_growths []) refusal_for (Err refusal.Memory) old new → ⊥
+unfolding items_with_growths
 never_for_nothing old new ends = ⊎_elim (λ told. cc told.1) (λ cut. omega (arith, cut.1.short)) ends

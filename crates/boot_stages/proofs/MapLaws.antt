@@ -11,17 +11,17 @@ use Rattle.e820_model.specs.declared.entry.Edit.{Edit}
 use Rattle.e820_model.specs.Map.{TypeAt, kinds, map_of}
 use Rattle.e820_model.specs.Usable.{types_below}
 use Rattle.e820_sanitise.specs.declared.fault.MapFault.TheVariants as faults
-use Rattle.e820_sanitise.specs.Room.{in_room}
+use Rattle.e820_sanitise.specs.Room.{map_if_room}
 use Rattle.e820_sanitise.specs.declared.stop.MapStop.{MapStop}
 use Rattle.e820_sanitise.specs.Stop.{judge_frames}
 use Rattle.boot_model.specs.declared.stop.Cause.{Cause}
 use Rattle.boot_model.specs.declared.stop.Stop.{Stop}
 use Rattle.boot_model.specs.declared.stop.Stop.TheVariants as stops
-use Rattle.boot_model.specs.Boot.{Given, BootSoFar, added, begin, begin_with, boot, claims, has_frames, later_stages, map_judged, reach, Told, told, told_boot, types_in_reach, unless_stopped}
-use Rattle.boot_model.specs.Stages.{in_order}
+use Rattle.boot_model.specs.Boot.{InputsView, BootSoFar, added_entries, begin_boot, begin_with_map, boot, claims, usable_frames_stage, later_stages, judge_map, reach, BootedView, finish_boot, whole_boot, types_in_reach, unless_stopped}
+use Rattle.boot_model.specs.Stages.{run_each_stage}
 use Rattle.boot_model.specs.Stop.{stop_of}
 use Rattle.boot_stages.proofs.StagesLaws.{stopped}
-use Rattle.boot_stages.specs.Boots.{IsDecided, MapAnswer, judged_answer, goes_on_with}
+use Rattle.boot_stages.specs.Boots.{DecidesMapStages, MapAnswer, accept_map, map_unless_stopped}
 
 -- a last step that changes nothing
 answered : {A E : Type 0} (said : Result A E) → (said >>= λ x. Ok x) ≡ said
@@ -34,19 +34,19 @@ told_room : (full : Bool) (runs : ℕ) (map items : List (RunOf ℕ)) → (if fu
 told_room true runs map items is = absurd (cc)
 told_room false runs map items is = (refl, cc)
 
-told_full : (full : Bool) (runs : ℕ) (map : List (RunOf ℕ)) (told : ℕ) → (if full then Err (faults.MapFull runs) else Ok map)
-    ≡ Err (faults.MapFull told)
-    → (full ≡ true) × (runs ≡ told)
-told_full true runs map told is = (refl, cc)
-told_full false runs map told is = absurd (cc)
+told_full : (full : Bool) (runs : ℕ) (map : List (RunOf ℕ)) (finish_boot : ℕ) → (if full then Err (faults.MapFull runs) else Ok map)
+    ≡ Err (faults.MapFull finish_boot)
+    → (full ≡ true) × (runs ≡ finish_boot)
+told_full true runs map finish_boot is = (refl, cc)
+told_full false runs map finish_boot is = absurd (cc)
 
-pub decided : (given : Given) (answer : MapAnswer) → Answers faults.Memory (λ runs. runs.items) answer (in_room (map_of (claims given)))
-    → IsDecided given answer
+pub decided : (given : InputsView) (answer : MapAnswer) → Answers faults.Memory (λ runs. runs.items) answer (map_if_room (map_of (claims given)))
+    → DecidesMapStages given answer
 decided given (Ok runs) answers =
     let c : List (RunOf ℕ) = map_of (claims given) in
     let known = told_room (nat_lt E820_MAX_ENTRIES (length c)) (length c) c runs.items answers in
-    rw known.0 (answered (has_frames given (begin given)))
-    ∙ ap (λ (map : List (RunOf ℕ)). has_frames given (begin_with map given.options)) known.1
+    rw known.0 (answered (usable_frames_stage given (begin_boot given)))
+    ∙ ap (λ (map : List (RunOf ℕ)). usable_frames_stage given (begin_with_map map given.options)) known.1
 decided given (Err (faults.MapFull runs)) answers =
     let c : List (RunOf ℕ) = map_of (claims given) in
     let known = told_full (nat_lt E820_MAX_ENTRIES (length c)) (length c) c runs (answers (λ same. cc same)) in
@@ -54,29 +54,29 @@ decided given (Err (faults.MapFull runs)) answers =
 decided given (Err faults.Memory) answers = tt
 
 -- the map as the stages get it
-abbrev pub made_of : Given → Vec (RunOf ℕ) Global → BootSoFar
-made_of given runs = begin_with runs.items given.options
+abbrev pub made_of : InputsView → Vec (RunOf ℕ) Global → BootSoFar
+made_of given runs = begin_with_map runs.items given.options
 
-judged_same : (given : Given) (reason : Option MapStop) (runs : Vec (RunOf ℕ) Global) (result : Result (Vec (RunOf ℕ) Global) Stop)
-    → Answers stops.Memory (λ map. map.items) result (goes_on_with reason runs.items)
+judged_same : (given : InputsView) (reason : Option MapStop) (runs : Vec (RunOf ℕ) Global) (result : Result (Vec (RunOf ℕ) Global) Stop)
+    → Answers stops.Memory (λ map. map.items) result (map_unless_stopped reason runs.items)
     → Answers stops.Memory (made_of given) result (with_error stop_of (unless_stopped reason (made_of given runs)))
 judged_same given None runs (Ok map) answers =
     let same : runs.items ≡ map.items = cc in
-    ap (λ (items : List (RunOf ℕ)). Ok (begin_with items given.options)) same
+    ap (λ (items : List (RunOf ℕ)). Ok (begin_with_map items given.options)) same
 judged_same given None runs (Err stop) answers = λ other. absurd (cc (answers other))
 judged_same given (Some reason) runs (Ok map) answers = absurd (cc)
 judged_same given (Some reason) runs (Err stop) answers = λ other. cc (answers other)
 
 -- the table's answer, judged, ends the first stages
-pub map_answers : (given : Given) (answer : MapAnswer) → Answers faults.Memory (λ runs. runs.items) answer
-    (in_room (map_of (claims given)))
+pub map_answers : (given : InputsView) (answer : MapAnswer) → Answers faults.Memory (λ runs. runs.items) answer
+    (map_if_room (map_of (claims given)))
     → IfOk answer (λ runs. IsRunsOf (kinds (claims given)) runs.items) → (result : Result (Vec (RunOf ℕ) Global) Stop)
-    → Answers stops.Memory (λ map. map.items) result (judged_answer (reach given) answer)
-    → Answers stops.Memory (made_of given) result (with_error stop_of (map_judged given))
+    → Answers stops.Memory (λ map. map.items) result (accept_map (reach given) answer)
+    → Answers stops.Memory (made_of given) result (with_error stop_of (judge_map given))
 map_answers given (Ok runs) maps are result answers =
     let kinds_are : value_at runs.items ≡ kinds (claims given) = λ i x. are.each x i in
     let P : TypeAt → Type 0 = λ f. Answers stops.Memory (λ (map : Vec (RunOf ℕ) Global). map.items) result
-    (goes_on_with (judge_frames (types_below (reach given) f)) runs.items) in
+    (map_unless_stopped (judge_frames (types_below (reach given) f)) runs.items) in
     rw (decided given (Ok runs) maps) (judged_same given (judge_frames (types_in_reach given)) runs result (subst P kinds_are answers))
 map_answers given (Err (faults.MapFull runs)) maps are (Ok map) answers = absurd (cc)
 map_answers given (Err (faults.MapFull runs)) maps are (Err stop) answers =
@@ -90,29 +90,29 @@ told_ok f (Ok b) a is = let same : b ≡ a = cc in ap (λ (x : _). Ok x) same
 told_ok f (Err e) a is = absurd (cc)
 
 -- a stop of the boot is a stop of its report
-pub told_stops : {X : Type 0} (view : X → Told) (given : Given) (answer : Result X Stop) (stop : Stop) → answer ≡ Err stop
+pub told_stops : {X : Type 0} (view : X → BootedView) (given : InputsView) (answer : Result X Stop) (stop : Stop) → answer ≡ Err stop
     → (stop ≢ stops.Memory → with_error stop_of (boot given) ≡ Err stop)
-    → Answers stops.Memory view answer (with_error stop_of (told_boot given))
+    → Answers stops.Memory view answer (with_error stop_of (whole_boot given))
 told_stops view given answer stop is stops_so =
-    rw is (λ other. stopped (boot given) (λ made. Ok (told given made)) stop (stops_so other))
+    rw is (λ other. stopped (boot given) (λ made. Ok (finish_boot given made)) stop (stops_so other))
 
-pub boot_stops : (given : Given) (stop : Stop) → Answers stops.Memory (made_of given) (Err stop) (with_error stop_of (map_judged given))
+pub boot_stops : (given : InputsView) (stop : Stop) → Answers stops.Memory (made_of given) (Err stop) (with_error stop_of (judge_map given))
     → stop ≢ stops.Memory → with_error stop_of (boot given) ≡ Err stop
 unfolding boot
-boot_stops given stop answers other = stopped (map_judged given) (λ made. in_order (later_stages given) made) stop (answers other)
+boot_stops given stop answers other = stopped (judge_map given) (λ made. run_each_stage (later_stages given) made) stop (answers other)
 
 -- if the boot goes on with the map, the stages after it remain
-pub boot_left : (given : Given) (made : BootSoFar) → with_error stop_of (map_judged given) ≡ Ok made
-    → boot given ≡ in_order (later_stages given) made
+pub boot_left : (given : InputsView) (made : BootSoFar) → with_error stop_of (judge_map given) ≡ Ok made
+    → boot given ≡ run_each_stage (later_stages given) made
 unfolding boot
 boot_left given made judged =
-    ap (λ (said : Result BootSoFar Cause). said >>= λ m. in_order (later_stages given) m) (told_ok stop_of (map_judged given) made judged)
+    ap (λ (said : Result BootSoFar Cause). said >>= λ m. run_each_stage (later_stages given) m) (told_ok stop_of (judge_map given) made judged)
 
-pub boot_told : (given : Given) (made : BootSoFar) → boot given ≡ Ok made → told_boot given ≡ Ok (told given made)
-boot_told given made comes = ap (λ (said : Result BootSoFar Cause). said >>= λ m. Ok (told given m)) comes
+pub boot_told : (given : InputsView) (made : BootSoFar) → boot given ≡ Ok made → whole_boot given ≡ Ok (finish_boot given made)
+boot_told given made comes = ap (λ (said : Result BootSoFar Cause). said >>= λ m. Ok (finish_boot given m)) comes
 
 -- the claims of a finished table are those of the boot's map
-pub claims-told : (given : Given) (c : Claims) (entries extension : List Entry) (edits : List Edit) (more : List Entry)
+pub claims-told : (given : InputsView) (c : Claims) (entries extension : List Entry) (edits : List Edit) (more : List Entry)
     → c ≡ final_claims entries extension edits more
-    → entries ≡ given.entries → extension ≡ given.extension → edits ≡ given.options.edits → more ≡ added given → claims given ≡ c
+    → entries ≡ given.entries → extension ≡ given.extension → edits ≡ given.options.edits → more ≡ added_entries given → claims given ≡ c
 claims-told given c entries extension edits more is first second third fourth = cc

@@ -15,18 +15,18 @@ use Rattle.memblock_model.specs.Labels.{Labels}
 use Rattle.memblock_model.specs.Items.{memory_of}
 use Rattle.memblock_model.specs.Tables.{records_for, records_of}
 use Rattle.memblock_model.proofs.TableLaws.{records_for-runs}
-use Rattle.growth_model.specs.Carried.{carried_out}
+use Rattle.growth_model.specs.Carried.{carry_out_items}
 use Rattle.growth_model.proofs.MemoryItemLaws.{memory_of-same}
 use Rattle.growth_model.proofs.CarriedLaws.{carried-memory}
 use Rattle.early_stages.specs.declared.low.TheConstants.{ISA_END_ADDRESS}
-use Rattle.early_stages.specs.Early.{Early, FrameRange, bytes_of_frames}
-use Rattle.early_stages.specs.Memory.{end_behind, end_of_runs, memory_end, mirrored_memory, usable_memory}
+use Rattle.early_stages.specs.Early.{EarlyInputs, FrameRange, bytes_of_frames}
+use Rattle.early_stages.specs.Memory.{end_after_runs, end_of_runs, memory_end, mirrored_memory, usable_memory}
 use Rattle.early_stages.specs.Wanted.{direction_items, early_claims, first_items, items_of_map, items_of_run, mirror_items, part_below}
 use Rattle.early_stages.proofs.EndLaws.{runs_end_memory}
 use Rattle.early_stages.proofs.MemoryLaws.{mirrored-first}
-use Rattle.boot_model.specs.Mirrors.{IsMirror, frames_in}
+use Rattle.boot_model.specs.Mirrors.{IsMirror, frame_range_of}
 use Rattle.boot_model.proofs.MirrorLaws.{mirror-frames}
-use Rattle.boot_stages.specs.Parts.{beginning, ending, mapping}
+use Rattle.boot_stages.specs.Parts.{items_before_memory, limit_items, map_memory_items}
 
 -- the items of a run that firmware keeps for a driver: one claim
 pub soft_run : (limit : ℕ) (r : RunOf ℕ) → r.value ≡ 0xEFFFFFFF → items_of_run limit r ≡ item.Claim (extent_of r) owner.Soft ∷ []
@@ -44,7 +44,7 @@ high_run limit r kind high = grind (arith, nat_tests, kind)
 
 -- the end of a list's last run
 pub end_last : {X : Type 0} (at : ℕ) (r : RunOf X) (rs : List (RunOf X)) (d : RunOf X)
-    → end_behind at (r ∷ rs) ≡ run_end (get_or (r ∷ rs) (length rs) d)
+    → end_after_runs at (r ∷ rs) ≡ run_end (get_or (r ∷ rs) (length rs) d)
 end_last at r [] d = refl
 end_last at r (s ∷ ss) d = end_last (run_end r) s ss d
 
@@ -55,26 +55,26 @@ end_at {X} (r ∷ rs) n d long =
     end_last 0 r rs d ∙ ap (λ (k : ℕ). run_end (get_or (r ∷ rs) k d)) same
 
 -- the three parts of the items are all of them
-pub in_parts : (e : Early) (map : List (RunOf ℕ))
-    → beginning e ++ (mapping e map ++ ending (memory_end e.limit (value_at map))) ≡ first_items e map
+pub in_parts : (e : EarlyInputs) (map : List (RunOf ℕ))
+    → items_before_memory e ++ (map_memory_items e map ++ limit_items (memory_end e.limit (value_at map))) ≡ first_items e map
 in_parts e map =
-    let last : List Item = ending (memory_end e.limit (value_at map)) in
-    append_assoc (early_claims e.kernel e.initrd) (item.Limit ISA_END_ADDRESS ∷ direction_items e.upward) (mapping e map ++ last)
+    let last : List Item = limit_items (memory_end e.limit (value_at map)) in
+    append_assoc (early_claims e.kernel e.initrd) (item.Limit ISA_END_ADDRESS ∷ direction_items e.upward) (map_memory_items e map ++ last)
     ∙ ap (λ (t : List Item). early_claims e.kernel e.initrd ++ (item.Limit ISA_END_ADDRESS ∷ (direction_items e.upward ++ t)))
     (append_assoc (items_of_map e.limit map) (item.Trim ∷ mirror_items e.mirrors) last)
 
 -- after the first two parts memory is the usable frames, mirrored as asked, so its table gives its
 -- end
-pub mapped : (e : Early) (map : List (RunOf ℕ)) (items : List Item) → AreRuns map
-    → carried_out (beginning e ++ mapping e map) [] ≡ Ok items
+pub mapped : (e : EarlyInputs) (map : List (RunOf ℕ)) (items : List Item) → AreRuns map
+    → carry_out_items (items_before_memory e ++ map_memory_items e map) [] ≡ Ok items
     → memory_of items ≡ mirrored_memory e.mirrors (usable_memory e.limit (value_at map))
 mapped e map items runs ends =
-    memory_of-same items (beginning e ++ mapping e map) (carried-memory (beginning e ++ mapping e map) [] items ends)
-    ∙ ap memory_of (append_assoc (early_claims e.kernel e.initrd) (item.Limit ISA_END_ADDRESS ∷ direction_items e.upward) (mapping e map))
+    memory_of-same items (items_before_memory e ++ map_memory_items e map) (carried-memory (items_before_memory e ++ map_memory_items e map) [] items ends)
+    ∙ ap memory_of (append_assoc (early_claims e.kernel e.initrd) (item.Limit ISA_END_ADDRESS ∷ direction_items e.upward) (map_memory_items e map))
     ∙ (λ i x. mirrored-first e map runs x i)
 
-pub table_end : (e : Early) (map : List (RunOf ℕ)) (items : List Item) → AreRuns map
-    → carried_out (beginning e ++ mapping e map) [] ≡ Ok items → NothingFrom (2 ^ 64) (memory_of items)
+pub table_end : (e : EarlyInputs) (map : List (RunOf ℕ)) (items : List Item) → AreRuns map
+    → carry_out_items (items_before_memory e ++ map_memory_items e map) [] ≡ Ok items → NothingFrom (2 ^ 64) (memory_of items)
     → end_of_runs (records_of which.Memory items) ≡ memory_end e.limit (value_at map)
 unfolding records_of
 table_end e map items runs ends within =
@@ -91,12 +91,12 @@ mirrors-append [] rest = refl
 mirrors-append (r ∷ rs) rest = ap (λ (is : List Item). item.Mirror (bytes_of_frames r) ∷ is) (mirrors-append rs rest)
 
 pub mirrors_next : (rs : List RangeView) (i : ℕ) (r : RangeView) → i < length rs → r ≡ get_or rs i r → All IsMirror rs
-    → mirror_items (map frames_in (drop i rs)) ≡ item.Mirror r ∷ mirror_items (map frames_in (drop (i + 1) rs))
+    → mirror_items (map frame_range_of (drop i rs)) ≡ item.Mirror r ∷ mirror_items (map frame_range_of (drop (i + 1) rs))
 mirrors_next rs i r low is whole =
-    let rest : List Item = mirror_items (map frames_in (drop (i + 1) rs)) in
+    let rest : List Item = mirror_items (map frame_range_of (drop (i + 1) rs)) in
     let here : IsMirror r = subst IsMirror (sym is) (whole i r low) in
-    at_drop_more (λ (xs : List RangeView). mirror_items (map frames_in xs)) rs i r low
-    ∙ ap (λ (s : RangeView). item.Mirror (bytes_of_frames (frames_in s)) ∷ rest) (sym is)
+    at_drop_more (λ (xs : List RangeView). mirror_items (map frame_range_of xs)) rs i r low
+    ∙ ap (λ (s : RangeView). item.Mirror (bytes_of_frames (frame_range_of s)) ∷ rest) (sym is)
     ∙ ap (λ (s : RangeView). item.Mirror s ∷ rest) (mirror-frames r here)
 
 -- the items of the rest of a map begin with those of its first run

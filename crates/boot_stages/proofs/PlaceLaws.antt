@@ -7,26 +7,26 @@ use Rattle.memblock_grow.specs.declared.section.Section.{Section}
 use Rattle.memblock_grow.specs.declared.stop.StageStop.{StageStop}
 use Rattle.memblock_grow.specs.declared.stop.StageStop.TheVariants as stage
 use Rattle.stage_model.specs.Causes.{StageCause, stage_stop}
-use Rattle.stage_model.specs.Doing.{Doing, StageEnds, ◌>>=◌, ok_as, returns, listed}
+use Rattle.stage_model.specs.Doing.{StageStep, EndsAsStage, ◌>>=◌, view_of_result, return_value, read_into_list}
 use Rattle.stage_model.proofs.DoingLaws.{ends-first, ends-listed, ends-second, ends-wanting}
 use Rattle.sparse_sections.specs.Present.{present}
 use Rattle.sparse_sections.specs.declared.roots.Roots.{Roots}
-use Rattle.sparse_sections.specs.Roots.{RootsPlaced, roots}
+use Rattle.sparse_sections.specs.Roots.{RootsView, place_roots}
 use Rattle.section_maps.specs.declared.placed.Placed.{Placed}
-use Rattle.section_maps.specs.Maps.{maps}
-use Rattle.boot_model.specs.Sections.{SectionPlaces, places_of_sections, sections_placed}
+use Rattle.section_maps.specs.Maps.{place_maps}
+use Rattle.boot_model.specs.Sections.{SectionPlaces, place_present_sections, place_sections}
 use Rattle.boot_model.specs.View.{sections_view}
 
 -- the places as contracts see them
 abbrev pub places_view : Result (Roots × Vec Placed Global) StageStop → Result SectionPlaces StageStop
-places_view r = ok_as (λ places. sections_view places.0 places.1) r
+places_view r = view_of_result (λ places. sections_view places.0 places.1) r
 
-abbrev placed_of : RootsPlaced → List Placed → SectionPlaces
+abbrev placed_of : RootsView → List Placed → SectionPlaces
 placed_of table placed = record { roots = table; placed = placed }
 
 -- the section maps, once the roots are placed
-abbrev behind_roots : List Section → RootsPlaced → Doing StageCause SectionPlaces
-behind_roots sections table = maps sections >>= λ placed. returns (placed_of table placed)
+abbrev behind_roots : List Section → RootsView → StageStep StageCause SectionPlaces
+behind_roots sections table = place_maps sections >>= λ placed. return_value (placed_of table placed)
 
 abbrev sections_in : List Item → List Section
 sections_in items = present (memory_of items)
@@ -34,44 +34,44 @@ sections_in items = present (memory_of items)
 module _ (width : Width) where
   -- the stage of all sections ends as that of the sections in memory
   from_present : (r : Result SectionPlaces StageStop) (old new : List Item) (sections : List Section) → sections ≡ sections_in old
-      → StageEnds (sections_placed width sections) stage_stop r old new → StageEnds (places_of_sections width) stage_stop r old new
-  unfolding places_of_sections
+      → EndsAsStage (place_sections width sections) stage_stop r old new → EndsAsStage (place_present_sections width) stage_stop r old new
+  unfolding place_present_sections
   from_present r old new sections is ends =
-      ends-second (sections_in old) r stage_stop old old new (listed sections_in) (sections_placed width)
+      ends-second (sections_in old) r stage_stop old old new (read_into_list sections_in) (place_sections width)
       (ends-listed sections_in stage_stop old)
-      (subst (λ (ss : List Section). StageEnds (sections_placed width ss) stage_stop r old new) is ends)
+      (subst (λ (ss : List Section). EndsAsStage (place_sections width ss) stage_stop r old new) is ends)
 
   -- this program is out of memory for the list of the sections
   pub places-wanting : (r : Result (Roots × Vec Placed Global) StageStop) (old : List Item) → r ≡ Err stage.Memory
-      → StageEnds (places_of_sections width) stage_stop (places_view r) old old
-  unfolding places_of_sections
+      → EndsAsStage (place_present_sections width) stage_stop (places_view r) old old
+  unfolding place_present_sections
   places-wanting r old is =
-      rw is (ends-first stage.Memory stage_stop old old (listed sections_in) (sections_placed width)
+      rw is (ends-first stage.Memory stage_stop old old (read_into_list sections_in) (place_sections width)
       (ends-wanting sections_in stage_stop old))
 
   module _ (r : Result (Roots × Vec Placed Global) StageStop) (old new : List Item) (sections : List Section)
       (is : sections ≡ sections_in old) where
-    pub places-first : (e : StageStop) → r ≡ Err e → StageEnds {A = RootsPlaced} (roots width sections) stage_stop (Err e) old new
-        → StageEnds (places_of_sections width) stage_stop (places_view r) old new
+    pub places-first : (e : StageStop) → r ≡ Err e → EndsAsStage {A = RootsView} (place_roots width sections) stage_stop (Err e) old new
+        → EndsAsStage (place_present_sections width) stage_stop (places_view r) old new
     places-first e exits ends =
         rw exits (from_present (Err e) old new sections is
-        (ends-first e stage_stop old new (roots width sections) (behind_roots sections) ends))
+        (ends-first e stage_stop old new (place_roots width sections) (behind_roots sections) ends))
 
-    pub places-second : (e : StageStop) (mid : List Item) (table : RootsPlaced) → r ≡ Err e
-        → StageEnds (roots width sections) stage_stop (Ok table) old mid
-        → StageEnds {A = List Placed} (maps sections) stage_stop (Err e) mid new
-        → StageEnds (places_of_sections width) stage_stop (places_view r) old new
+    pub places-second : (e : StageStop) (mid : List Item) (table : RootsView) → r ≡ Err e
+        → EndsAsStage (place_roots width sections) stage_stop (Ok table) old mid
+        → EndsAsStage {A = List Placed} (place_maps sections) stage_stop (Err e) mid new
+        → EndsAsStage (place_present_sections width) stage_stop (places_view r) old new
     places-second e mid table exits first ends =
         rw exits (from_present (Err e) old new sections is
-        (ends-second table (Err e) stage_stop old mid new (roots width sections) (behind_roots sections) first
-        (ends-first e stage_stop mid new (maps sections) (λ placed. returns (placed_of table placed)) ends)))
+        (ends-second table (Err e) stage_stop old mid new (place_roots width sections) (behind_roots sections) first
+        (ends-first e stage_stop mid new (place_maps sections) (λ placed. return_value (placed_of table placed)) ends)))
 
-  pub places-all : (old mid new : List Item) (sections : List Section) (table : RootsPlaced) (placed : List Placed)
-      → sections ≡ sections_in old → StageEnds (roots width sections) stage_stop (Ok table) old mid
-      → StageEnds (maps sections) stage_stop (Ok placed) mid new
-      → StageEnds (places_of_sections width) stage_stop (Ok (placed_of table placed)) old new
+  pub places-all : (old mid new : List Item) (sections : List Section) (table : RootsView) (placed : List Placed)
+      → sections ≡ sections_in old → EndsAsStage (place_roots width sections) stage_stop (Ok table) old mid
+      → EndsAsStage (place_maps sections) stage_stop (Ok placed) mid new
+      → EndsAsStage (place_present_sections width) stage_stop (Ok (placed_of table placed)) old new
   places-all old mid new sections table placed present_is first ends =
       from_present (Ok (placed_of table placed)) old new sections present_is
-      (ends-second table (Ok (placed_of table placed)) stage_stop old mid new (roots width sections) (behind_roots sections) first
-      (ends-second placed (Ok (placed_of table placed)) stage_stop mid new new (maps sections)
-      (λ p. returns (placed_of table p)) ends (refl, refl)))
+      (ends-second table (Ok (placed_of table placed)) stage_stop old mid new (place_roots width sections) (behind_roots sections) first
+      (ends-second placed (Ok (placed_of table placed)) stage_stop mid new new (place_maps sections)
+      (λ p. return_value (placed_of table p)) ends (refl, refl)))

@@ -7,26 +7,26 @@ use Rattle.bm_base.specs.ResultSteps.{◌>>=◌, with_error}
 use Rattle.address_runs.specs.Runs.{RunOf}
 use Rattle.memblock_model.specs.declared.item.Item.{Item}
 use Rattle.memblock_model.specs.Labels.{Labels}
-use Rattle.growth_model.specs.Bytes.{Filled}
-use Rattle.memblock_grow.specs.Contents.{Contents}
+use Rattle.growth_model.specs.Bytes.{Fill}
+use Rattle.memblock_grow.specs.Contents.{MemblockView}
 use Rattle.script_reader.specs.declared.act.Line.{Line}
-use Rattle.stage_model.specs.Doing.{Doing, StageEnds}
-use Rattle.stage_model.specs.Noded.{IsNoded}
-use Rattle.memblock_grow.specs.Going.{GoesOn}
+use Rattle.stage_model.specs.Doing.{StageStep, EndsAsStage}
+use Rattle.stage_model.specs.Noded.{HasNodes}
+use Rattle.memblock_grow.specs.Going.{ContinuesMemblock}
 use Rattle.early_script.specs.declared.outcome.Answer.{Answer}
-use Rattle.early_script.specs.Ids.{Ids}
-use Rattle.early_script.specs.Stage.{LineStage as Script, Reaches, after_lines, stage_of}
+use Rattle.early_script.specs.Ids.{LiveView}
+use Rattle.early_script.specs.Stage.{ScriptSoFar as Script, HasReached, script_after_lines, script_so_far}
 use Rattle.boot_model.specs.declared.stop.Cause.{Cause}
 use Rattle.boot_model.specs.declared.stop.Stop.{Stop}
 use Rattle.boot_model.specs.declared.stop.Stop.TheVariants as stops
-use Rattle.boot_model.specs.Boot.{Given, BootSoFar, Stage, begin_with, behind_lines, by_steps, runs_lines}
-use Rattle.boot_model.specs.Stages.{in_order}
-use Rattle.boot_model.specs.Stop.{stop_by, stop_of}
-use Rattle.boot_stages.specs.Boots.{HoldsWith, made_by_lines}
+use Rattle.boot_model.specs.Boot.{InputsView, BootSoFar, Stage, begin_with_map, with_script_state, stage_of_steps, script_stage}
+use Rattle.boot_model.specs.Stages.{run_each_stage}
+use Rattle.boot_model.specs.Stop.{stop_of_error, stop_of}
+use Rattle.boot_stages.specs.Boots.{HoldsFills, made_after_lines}
 use Rattle.boot_stages.proofs.BytesLaws.{holds-behind}
 
 -- memory with nodes within one limit has them within every greater limit
-pub noded-within : (near far : ℕ) (f : Labels) → IsNoded near f → near ≤ far → IsNoded far f
+pub noded-within : (near far : ℕ) (f : Labels) → HasNodes near f → near ≤ far → HasNodes far f
 noded-within near far f noded low = record {
   frames = noded.frames;
   nodes = noded.nodes;
@@ -45,78 +45,78 @@ further : (said : Result BootSoFar Cause) (first rest all : BootSoFar → Result
 further (Ok next) first rest all each = each next
 further (Err cause) first rest all each = refl
 
-in_order-append : (stages more : List Stage) (made : BootSoFar)
-    → in_order (stages ++ more) made ≡ (in_order stages made >>= λ next. in_order more next)
-in_order-append [] more made = refl
-in_order-append (s ∷ stages) more made =
-    further (s made) (in_order stages) (in_order more) (in_order (stages ++ more)) (in_order-append stages more)
+run_each_stage-append : (stages more : List Stage) (made : BootSoFar)
+    → run_each_stage (stages ++ more) made ≡ (run_each_stage stages made >>= λ next. run_each_stage more next)
+run_each_stage-append [] more made = refl
+run_each_stage-append (s ∷ stages) more made =
+    further (s made) (run_each_stage stages) (run_each_stage more) (run_each_stage (stages ++ more)) (run_each_stage-append stages more)
 
 -- how a call that carries out a stage of steps ends
-module _ {E F A : Type 0} (cause : E → Cause) (put : A → BootSoFar → BootSoFar) (error : Option E → F) (doing : Doing E A)
+module _ {E F A : Type 0} (cause : E → Cause) (put : A → BootSoFar → BootSoFar) (error : Option E → F) (doing : StageStep E A)
     (made : BootSoFar) (new : List Item) where
-  pub steps-on : (a : A) → StageEnds doing error (Ok a) made.items new
-      → by_steps cause put doing made ≡ Ok (put a (record made { items = new }))
+  pub steps-on : (a : A) → EndsAsStage doing error (Ok a) made.items new
+      → stage_of_steps cause put doing made ≡ Ok (put a (record made { items = new }))
   steps-on a ends = rw (ends.0, ends.1) refl
 
-  pub steps-stop : (e : F) (stop : Stop) → StageEnds {A = A} doing error (Err e) made.items new
-      → ((why : Option E) → e ≡ error why → stop ≡ stop_by cause why) → stop ≢ stops.Memory
-      → with_error stop_of (by_steps cause put doing made) ≡ Err stop
+  pub steps-stop : (e : F) (stop : Stop) → EndsAsStage {A = A} doing error (Err e) made.items new
+      → ((why : Option E) → e ≡ error why → stop ≡ stop_of_error cause why) → stop ≢ stops.Memory
+      → with_error stop_of (stage_of_steps cause put doing made) ≡ Err stop
   steps-stop e stop ends told other = ⊎_elim
       (λ stopped. rw stopped.1 (ap (λ (s : Stop). Err s) (sym (told (Some stopped.0) stopped.2))))
       (λ cut. absurd (other (told None cut.0))) ends
 
 -- What is known where the stages `stages` have run. The value `base` has what they made, except
 -- for memblock, the live IDs and the answers.
-pub record Row (given : Given) (map : List (RunOf ℕ)) (stages : List Stage) (base : BootSoFar) (m : Contents) (ids : Ids)
+pub record Row (given : InputsView) (map : List (RunOf ℕ)) (stages : List Stage) (base : BootSoFar) (m : MemblockView) (ids : LiveView)
     (answers : List Answer) : Type 0 where
-  pub fills : List Filled
-  pub come : in_order stages (begin_with map given.options) ≡ Ok (made_by_lines base m ids fills answers)
+  pub fills : List Fill
+  pub come : run_each_stage stages (begin_with_map map given.options) ≡ Ok (made_after_lines base m ids fills answers)
   pub kernel : m.kernel ≡ given.kernel
-  pub holds : HoldsWith fills m
+  pub holds : HoldsFills fills m
 
-pub row-first : (given : Given) (map : List (RunOf ℕ)) (m : Contents) → m.journal.items ≡ [] → m.kernel ≡ given.kernel → HoldsWith [] m
-    → Row given map [] (begin_with map given.options) m [] []
+pub row-first : (given : InputsView) (map : List (RunOf ℕ)) (m : MemblockView) → m.journal.items ≡ [] → m.kernel ≡ given.kernel → HoldsFills [] m
+    → Row given map [] (begin_with_map map given.options) m [] []
 row-first given map m none kernel holds = record {
   fills = [];
-  come = ap (λ (items : List Item). Ok (record (begin_with map given.options) { items = items })) (sym none);
+  come = ap (λ (items : List Item). Ok (record (begin_with_map map given.options) { items = items })) (sym none);
   kernel = kernel;
   holds = holds;
 }
 
-module _ {given : Given} {map : List (RunOf ℕ)} {stages : List Stage} {base : BootSoFar} {m : Contents} {ids : Ids}
+module _ {given : InputsView} {map : List (RunOf ℕ)} {stages : List Stage} {base : BootSoFar} {m : MemblockView} {ids : LiveView}
     {answers : List Answer} (row : Row given map stages base m ids answers) where
-  one-more : (s : Stage) (next : BootSoFar) → s (made_by_lines base m ids row.fills answers) ≡ Ok next
-      → in_order (stages ++ s ∷ []) (begin_with map given.options) ≡ Ok next
+  one-more : (s : Stage) (next : BootSoFar) → s (made_after_lines base m ids row.fills answers) ≡ Ok next
+      → run_each_stage (stages ++ s ∷ []) (begin_with_map map given.options) ≡ Ok next
   one-more s next goes =
-      in_order-append stages (s ∷ []) (begin_with map given.options)
-      ∙ ap (λ (said : Result BootSoFar Cause). said >>= λ n. in_order (s ∷ []) n) row.come
+      run_each_stage-append stages (s ∷ []) (begin_with_map map given.options)
+      ∙ ap (λ (said : Result BootSoFar Cause). said >>= λ n. run_each_stage (s ∷ []) n) row.come
       ∙ ap (λ (said : Result BootSoFar Cause). said >>= λ n. Ok n) goes
 
   -- a further stage over memblock has run
-  pub row-next : (s : Stage) (later : BootSoFar) (n : Contents)
-      → ((fills : List Filled) → s (made_by_lines base m ids fills answers) ≡ Ok (made_by_lines later n ids fills answers))
-      → GoesOn m n → Row given map (stages ++ s ∷ []) later n ids answers
+  pub row-next : (s : Stage) (later : BootSoFar) (n : MemblockView)
+      → ((fills : List Fill) → s (made_after_lines base m ids fills answers) ≡ Ok (made_after_lines later n ids fills answers))
+      → ContinuesMemblock m n → Row given map (stages ++ s ∷ []) later n ids answers
   row-next s later n goes goes_on = record {
     fills = row.fills;
-    come = one-more s (made_by_lines later n ids row.fills answers) (goes row.fills);
+    come = one-more s (made_after_lines later n ids row.fills answers) (goes row.fills);
     kernel = goes_on.kernel ∙ row.kernel;
     holds = holds-behind row.fills m n goes_on row.holds;
   }
 
   -- the lines of a script have run
-  reached_is : (s : Script) (later : Ids) (n : Contents) (told : List Answer) → Reaches s later n told
-      → behind_lines (made_by_lines base m ids row.fills answers) s ≡ made_by_lines base n later s.fills told
+  reached_is : (s : Script) (later : LiveView) (n : MemblockView) (told : List Answer) → HasReached s later n told
+      → with_script_state (made_after_lines base m ids row.fills answers) s ≡ made_after_lines base n later s.fills told
   reached_is s later n told reached = cc (reached.state, reached.answers_are)
 
-  pub row-lines : (lines : List Line) (later : Ids) (n : Contents) (told : List Answer) → n.kernel ≡ m.kernel
-      → Reaches (after_lines (stage_of ids m row.fills answers) lines) later n told
-      → Row given map (stages ++ runs_lines given.kernel lines ∷ []) base n later told
+  pub row-lines : (lines : List Line) (later : LiveView) (n : MemblockView) (told : List Answer) → n.kernel ≡ m.kernel
+      → HasReached (script_after_lines (script_so_far ids m row.fills answers) lines) later n told
+      → Row given map (stages ++ script_stage given.kernel lines ∷ []) base n later told
   row-lines lines later n told same reached =
-      let s : Script = after_lines (stage_of ids m row.fills answers) lines in
+      let s : Script = script_after_lines (script_so_far ids m row.fills answers) lines in
       record {
         fills = s.fills;
-        come = one-more (runs_lines given.kernel lines) (made_by_lines base n later s.fills told)
-            (ap (λ (k : RangeView). runs_lines k lines (made_by_lines base m ids row.fills answers)) (sym row.kernel)
+        come = one-more (script_stage given.kernel lines) (made_after_lines base n later s.fills told)
+            (ap (λ (k : RangeView). script_stage k lines (made_after_lines base m ids row.fills answers)) (sym row.kernel)
             ∙ ap (λ (made : BootSoFar). Ok made) (reached_is s later n told reached));
         kernel = same ∙ row.kernel;
         holds = reached.holds;
@@ -124,12 +124,12 @@ module _ {given : Given} {map : List (RunOf ℕ)} {stages : List Stage} {base : 
 
   -- a stage that stops stops the boot
   pub row-stops : (s : Stage) (rest : List Stage) (stop : Stop)
-      → with_error stop_of (s (made_by_lines base m ids row.fills answers)) ≡ Err stop
-      → with_error stop_of (in_order (stages ++ s ∷ rest) (begin_with map given.options)) ≡ Err stop
+      → with_error stop_of (s (made_after_lines base m ids row.fills answers)) ≡ Err stop
+      → with_error stop_of (run_each_stage (stages ++ s ∷ rest) (begin_with_map map given.options)) ≡ Err stop
   row-stops s rest stop stops_so =
-      ap (with_error stop_of) (in_order-append stages (s ∷ rest) (begin_with map given.options)
-      ∙ ap (λ (said : Result BootSoFar Cause). said >>= λ n. in_order (s ∷ rest) n) row.come)
-      ∙ stopped (s (made_by_lines base m ids row.fills answers)) (λ n. in_order rest n) stop stops_so
+      ap (with_error stop_of) (run_each_stage-append stages (s ∷ rest) (begin_with_map map given.options)
+      ∙ ap (λ (said : Result BootSoFar Cause). said >>= λ n. run_each_stage (s ∷ rest) n) row.come)
+      ∙ stopped (s (made_after_lines base m ids row.fills answers)) (λ n. run_each_stage rest n) stop stops_so
 
 -- the error that a `?` returns satisfies what is known of the error
 pub stops-so : {T : Type 0} (r : Result T Stop) (Told P : Stop → Type 0) → IsErrAnd r Told → ((stop : Stop) → Told stop → P stop)

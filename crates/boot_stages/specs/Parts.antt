@@ -5,18 +5,18 @@ use Rattle.memblock_model.specs.declared.owner.Owner.TheVariants as owner
 use Rattle.memblock_model.specs.declared.item.Item.{Item}
 use Rattle.memblock_model.specs.declared.item.Item.TheVariants as item
 use Rattle.early_stages.specs.declared.low.TheConstants.{ISA_END_ADDRESS}
-use Rattle.early_stages.specs.Early.{Early}
-use Rattle.early_stages.specs.Wanted.{direction_items, early_claims, items_of_map, mirror_items, up_to}
+use Rattle.early_stages.specs.Early.{EarlyInputs}
+use Rattle.early_stages.specs.Wanted.{direction_items, early_claims, items_of_map, mirror_items, range_up_to}
 
 -- before memory is known: the first claims, the limit of the first MiB, and the direction of
 -- searches
-abbrev pub beginning : Early → List Item
-beginning e = early_claims e.kernel e.initrd ++ (item.Limit ISA_END_ADDRESS ∷ direction_items e.upward)
+abbrev pub items_before_memory : EarlyInputs → List Item
+items_before_memory e = early_claims e.kernel e.initrd ++ (item.Limit ISA_END_ADDRESS ∷ direction_items e.upward)
 
 -- the map's runs become memory, which is trimmed to whole frames, and some of which is mirrored
-abbrev pub mapping : Early → List (RunOf ℕ) → List Item
-mapping e map = items_of_map e.limit map ++ (item.Trim ∷ mirror_items e.mirrors)
+abbrev pub map_memory_items : EarlyInputs → List (RunOf ℕ) → List Item
+map_memory_items e map = items_of_map e.limit map ++ (item.Trim ∷ mirror_items e.mirrors)
 
 -- the limit at the end of memory, and the claim of the first MiB
-abbrev pub ending : ℕ → List Item
-ending end = item.Limit end ∷ item.Claim (up_to ISA_END_ADDRESS) owner.Low1M ∷ []
+abbrev pub limit_items : ℕ → List Item
+limit_items end = item.Limit end ∷ item.Claim (range_up_to ISA_END_ADDRESS) owner.Low1M ∷ []

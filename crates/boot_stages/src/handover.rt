@@ -5,16 +5,16 @@
 ghost use Rattle.std.specs.Prelude.{◌≡◌, ◌^◌, List, IfOk};
 ghost use Rattle.address_runs.specs.Edits.{NothingFrom};
 ghost use Rattle.memblock_model.specs.Items.{memory_of, owner_of};
-ghost use Rattle.memblock_model.specs.Tables.{reserved_of};
+ghost use Rattle.memblock_model.specs.Tables.{reserved_labels};
 ghost use Rattle.memblock_model.specs.declared.owner.Which.{Which};
 ghost use Rattle.memblock_ranges.specs.Tables.{table_in};
 ghost use Rattle.memblock_model.specs.declared.owner.Which.TheVariants as which;
-ghost use Rattle.growth_model.specs.Bytes.{Filled, table_for};
-ghost use Rattle.early_script.specs.Ids.{Ids};
-ghost use Rattle.stage_model.specs.Noded.{IsNoded};
-ghost use Rattle.boot_model.specs.Boot.{told};
+ghost use Rattle.growth_model.specs.Bytes.{Fill, table_for};
+ghost use Rattle.early_script.specs.Ids.{LiveView};
+ghost use Rattle.stage_model.specs.Noded.{HasNodes};
+ghost use Rattle.boot_model.specs.Boot.{finish_boot};
 ghost use Rattle.boot_model.specs.View.{booted_view, inputs_view};
-ghost use Rattle.boot_stages.specs.Boots.{IsSpelledFree, TableStands, made_behind};
+ghost use Rattle.boot_stages.specs.Boots.{IsFreeByStore, IsStoredTable, made_after_stages};
 
 use crate::later::Later;
 use bm_base::Memory;
@@ -23,7 +23,7 @@ use buddy_handover::hand_over;
 use e820_sanitise::Run;
 use memblock_grow::Memblock;
 use page_alloc::Pages;
-use slit_zonelists::{Lists, run_lines};
+use slit_zonelists::{Lists, run_page_lines};
 use std::alloc::Global;
 use zone_spans::spans;
 
@@ -43,23 +43,23 @@ pub fn hand_over_memory(
     later: Later,
 ) -> Result<Booted, Memory>
     requires kernel { memblock.kernel ≡ inputs.kernel }
-    requires noded { IsNoded (2 ^ 52) (memory_of memblock.journal.items) }
+    requires noded { HasNodes (2 ^ 52) (memory_of memblock.journal.items) }
     requires tables { (w : Which) → table_in w memblock.tables ≡ table_for w memblock.kernel memblock.journal.items }
-    requires within { NothingFrom (2 ^ 64) (reserved_of (owner_of memblock.journal.items)) }
-    ensures told { IfOk result (λ booted. (ids : Ids) (fills : List Filled) → booted_view booted
-        ≡ told (inputs_view inputs) (made_behind (inputs_view inputs) map.items memblock later ids fills)) }
+    requires within { NothingFrom (2 ^ 64) (reserved_labels (owner_of memblock.journal.items)) }
+    ensures told { IfOk result (λ booted. (ids : LiveView) (fills : List Fill) → booted_view booted
+        ≡ finish_boot (inputs_view inputs) (made_after_stages (inputs_view inputs) map.items memblock later ids fills)) }
     ensures map { IfOk result (λ booted. booted.map ≡ map) }
     ensures store { IfOk result (λ booted. booted.store ≡ memblock.tables.store) }
-    ensures memory { IfOk result (λ booted. TableStands which.Memory booted.journal.items booted.store booted.heads.memory) }
-    ensures reserved { IfOk result (λ booted. TableStands which.Reserved booted.journal.items booted.store booted.heads.reserved) }
-    ensures spelled { IfOk result (λ booted. IsSpelledFree booted.store booted.heads booted.buddy) }
+    ensures memory { IfOk result (λ booted. IsStoredTable which.Memory booted.journal.items booted.store booted.heads.memory) }
+    ensures reserved { IfOk result (λ booted. IsStoredTable which.Reserved booted.journal.items booted.store booted.heads.reserved) }
+    ensures spelled { IfOk result (λ booted. IsFreeByStore booted.store booted.heads booted.buddy) }
 {
     let (store, heads, journal) = memblock.into_parts();
     let spans = spans(alloc, &store, &heads)?;
     let buddy = hand_over(alloc, &store, &heads)?;
     let lists = Lists::new(alloc, inputs.slit.as_ref(), &later.nodes.domains, &spans)?;
     let mut after = Pages::new(alloc, buddy.copy()?);
-    let page_answers = run_lines(alloc, &mut after, &lists, &inputs.page_lines)?;
+    let page_answers = run_page_lines(alloc, &mut after, &lists, &inputs.page_lines)?;
     Ok(Booted {
         width: inputs.width,
         map,

@@ -1,6 +1,6 @@
 //! Runs the stages after the map in their order: memory, nodes, the crash area, and the early
 //! script. The sections are placed at the script's `sections` line, or after all its lines. Each
-//! stage is one call over memblock that ends as its definition says (`StageEnds`). Its error is
+//! stage is one call over memblock that ends as its definition says (`EndsAsStage`). Its error is
 //! turned into the boot's error here.
 
 ghost use Rattle.std.specs.Prelude.{◌≡◌, ◌^◌, [], Ok, IfOk, IfErr};
@@ -8,20 +8,20 @@ ghost use Rattle.address_runs.specs.Runs.{AreRuns};
 ghost use Rattle.memblock_model.specs.Items.{memory_of};
 ghost use Rattle.growth_model.specs.Sound.{HasBegun};
 ghost use Rattle.stage_model.specs.Causes.{stage_stop};
-ghost use Rattle.stage_model.specs.Doing.{StageEnds, ok_as};
-ghost use Rattle.stage_model.specs.Noded.{IsNoded};
-ghost use Rattle.memblock_grow.specs.Going.{GoesOn};
-ghost use Rattle.boot_model.specs.Boot.{begin_with, map_judged};
-ghost use Rattle.boot_model.specs.Sections.{places_of_sections};
+ghost use Rattle.stage_model.specs.Doing.{EndsAsStage, view_of_result};
+ghost use Rattle.stage_model.specs.Noded.{HasNodes};
+ghost use Rattle.memblock_grow.specs.Going.{ContinuesMemblock};
+ghost use Rattle.boot_model.specs.Boot.{begin_with_map, judge_map};
+ghost use Rattle.boot_model.specs.Sections.{place_present_sections};
 ghost use Rattle.boot_model.specs.View.{inputs_view, sections_view};
-ghost use Rattle.boot_stages.specs.Boots.{AreRun, AreStopped, HoldsWith};
+ghost use Rattle.boot_stages.specs.Boots.{StagesEndWith, StagesStopWith, HoldsFills};
 
 use crate::memory::make_memory;
 use bm_base::Width;
 use boot_model::{Inputs, Stop};
 use crash_kernel::{Crash, reserve};
 use e820_sanitise::Run;
-use early_script::{Answer, Live, run_lines, split_at_sections};
+use early_script::{Answer, Live, run_script_lines, split_at_sections};
 use memblock_grow::Memblock;
 use numa_nodes::{Nodes, assign};
 use section_maps::{Placed, place_maps};
@@ -47,10 +47,10 @@ fn place_sections(
     width: Width,
 ) -> Result<(Roots, Vec<Placed>), StageStop>
     requires begun { HasBegun memblock.old.journal.items }
-    requires noded { IsNoded (2 ^ 52) (memory_of memblock.old.journal.items) }
-    ensures ends { StageEnds (places_of_sections width) stage_stop (ok_as (λ places. sections_view places.0 places.1) result)
+    requires noded { HasNodes (2 ^ 52) (memory_of memblock.old.journal.items) }
+    ensures ends { EndsAsStage (place_present_sections width) stage_stop (view_of_result (λ places. sections_view places.0 places.1) result)
         memblock.old.journal.items memblock.new.journal.items }
-    ensures goes_on { GoesOn memblock.old memblock.new }
+    ensures goes_on { ContinuesMemblock memblock.old memblock.new }
 {
     let sections = present(alloc, memblock.tables())?;
     let roots = place_roots(alloc, memblock, &sections, width)?;
@@ -73,11 +73,11 @@ pub fn run_stages(
 ) -> Result<Later, Stop>
     requires first { memblock.old.journal.items ≡ [] }
     requires kernel { memblock.old.kernel ≡ inputs.now.kernel }
-    requires bytes { HoldsWith [] memblock.old }
+    requires bytes { HoldsFills [] memblock.old }
     requires runs { AreRuns map.now }
-    requires judged { map_judged (inputs_view inputs.now) ≡ Ok (begin_with map.now (inputs_view inputs.now).options) }
-    ensures run { IfOk result (λ later. AreRun (inputs_view inputs.now) map.now memblock.new later) }
-    ensures stopped { IfErr result (λ stop. AreStopped (inputs_view inputs.now) map.now stop) }
+    requires judged { judge_map (inputs_view inputs.now) ≡ Ok (begin_with_map map.now (inputs_view inputs.now).options) }
+    ensures run { IfOk result (λ later. StagesEndWith (inputs_view inputs.now) map.now memblock.new later) }
+    ensures stopped { IfErr result (λ stop. StagesStopWith (inputs_view inputs.now) map.now stop) }
 {
     make_memory(memblock, inputs, map)?;
     let nodes = assign(
@@ -90,9 +90,9 @@ pub fn run_stages(
     let mut live = Live::new(alloc);
     let mut answers = Vec::new(alloc);
     let (before, behind) = split_at_sections(&inputs.lines);
-    run_lines(&mut live, memblock, before, &mut answers)?;
+    run_script_lines(&mut live, memblock, before, &mut answers)?;
     let (roots, placed) = place_sections(alloc, memblock, inputs.width)?;
-    run_lines(&mut live, memblock, behind, &mut answers)?;
+    run_script_lines(&mut live, memblock, behind, &mut answers)?;
     Ok(Later {
         nodes,
         crash,

@@ -5,15 +5,15 @@
 ghost use Rattle.e820_model.specs.Map.{map_of};
 ghost use Rattle.bm_base.specs.Answers.{Answers};
 ghost use Rattle.e820_sanitise.specs.declared.fault.MapFault.TheVariants as faults;
-ghost use Rattle.e820_sanitise.specs.Room.{in_room};
-ghost use Rattle.boot_model.specs.Boot.{Given, claims};
-ghost use Rattle.boot_stages.specs.Boots.{IsDecided, MapAnswer};
+ghost use Rattle.e820_sanitise.specs.Room.{map_if_room};
+ghost use Rattle.boot_model.specs.Boot.{InputsView, claims};
+ghost use Rattle.boot_stages.specs.Boots.{DecidesMapStages, MapAnswer};
 
 /// Law: the table's answer for its map decides how the boot's first stages end. If it is a map,
 /// the map's frames are judged. If it is the number of runs of a map that the table has no room
 /// for, the boot stops with that number. If the table is out of memory, the law says nothing.
 pub fn map_is_judged()
-    ensures { (given : Given) (answer : MapAnswer) →
-        Answers faults.Memory (λ runs. runs.items) answer (in_room (map_of (claims given))) →
-        IsDecided given answer }
+    ensures { (given : InputsView) (answer : MapAnswer) →
+        Answers faults.Memory (λ runs. runs.items) answer (map_if_room (map_of (claims given))) →
+        DecidesMapStages given answer }
 {}

@@ -8,9 +8,9 @@ ghost use Rattle.e820_model.specs.Map.{claims_of};
 ghost use Rattle.bm_base.specs.Answers.{Answers};
 ghost use Rattle.e820_model.specs.Usable.{types_below};
 ghost use Rattle.e820_sanitise.specs.Stop.{judge_frames};
-ghost use Rattle.boot_model.specs.Boot.{added};
+ghost use Rattle.boot_model.specs.Boot.{added_entries};
 ghost use Rattle.boot_model.specs.View.{inputs_view};
-ghost use Rattle.boot_stages.specs.Boots.{judged_answer, goes_on_with};
+ghost use Rattle.boot_stages.specs.Boots.{accept_map, map_unless_stopped};
 
 use bm_base::Memory;
 use boot_model::{Cause, Inputs, Stop};
@@ -20,7 +20,7 @@ use e820_table::Entry;
 use std::alloc::Global;
 
 /// Returns the table of the finished map: the zero page's entries, the extension's entries, the
-/// options' edits, and the entries `added` after the edits. Each part is settled, and the BIOS
+/// options' edits, and the entries `added_entries` after the edits. Each part is settled, and the BIOS
 /// range is trimmed (`trim_bios_range`).
 ///
 /// # Errors
@@ -40,9 +40,9 @@ pub fn finished_table(
     ensures { IfOk result (λ table. claims_of table ≡ final_claims entries.now extension.now edits.now added.now) }
 {
     let mut table = Table::new(alloc);
-    append_settled(&mut table, entries)?;
-    append_settled(&mut table, extension)?;
-    edit_settled(&mut table, edits, added)?;
+    append_and_sanitise(&mut table, entries)?;
+    append_and_sanitise(&mut table, extension)?;
+    edit_and_sanitise(&mut table, edits, added)?;
     table.trim_bios()?;
     Ok(table)
 }
@@ -50,7 +50,7 @@ pub fn finished_table(
 /// Returns the entries of the firmware's own map if there is one and the command line asks for
 /// them; else none (`add_efi_memmap`).
 pub fn added_entries(inputs: &Inputs) -> &[Entry]
-    ensures value { result.now ≡ added (inputs_view inputs.now) }
+    ensures value { result.now ≡ added_entries (inputs_view inputs.now) }
     ensures space { EntriesFit result.now }
 {
     match &inputs.efi {
@@ -60,7 +60,7 @@ pub fn added_entries(inputs: &Inputs) -> &[Entry]
 }
 
 /// Appends `entries` and settles the table (`e820__memory_setup`, `e820__memory_setup_extended`).
-fn append_settled(table: &mut Table, entries: &[Entry]) -> Result<(), Memory>
+fn append_and_sanitise(table: &mut Table, entries: &[Entry]) -> Result<(), Memory>
     requires { EntriesFit entries.now }
     ensures { OnOk result (claims_of table.new ≡ with_extension entries.now (claims_of table.old)) }
 {
@@ -68,9 +68,9 @@ fn append_settled(table: &mut Table, entries: &[Entry]) -> Result<(), Memory>
     table.settle()
 }
 
-/// Makes the edits, appends the entries `added` (`do_add_efi_memmap`), and settles the table
+/// Makes the edits, appends the entries `added_entries` (`do_add_efi_memmap`), and settles the table
 /// (`e820__finish_early_params`).
-fn edit_settled(table: &mut Table, edits: &[Edit], added: &[Entry]) -> Result<(), Memory>
+fn edit_and_sanitise(table: &mut Table, edits: &[Edit], added: &[Entry]) -> Result<(), Memory>
     requires types { HaveTypes edits.now }
     requires added_end { EntriesFit added.now }
     ensures { OnOk result (claims_of table.new ≡ with_options edits.now added.now (claims_of table.old)) }
@@ -78,7 +78,7 @@ fn edit_settled(table: &mut Table, edits: &[Edit], added: &[Entry]) -> Result<()
     for edit in edits {
         table.edit(edit)?;
     }
-    append_settled(table, added)
+    append_and_sanitise(table, added)
 }
 
 /// Returns the map of the table's answer if the boot goes on with it: it has usable frames below
@@ -90,14 +90,14 @@ fn edit_settled(table: &mut Table, edits: &[Edit], added: &[Entry]) -> Result<()
 /// - `NoRam`: no frame below `reach` is usable
 /// - `TooMuchRam`: more than 2^32 frames below `reach` are usable
 /// - `Memory`: exactly if the table's answer was `Memory`
-pub fn judged_map(answer: Result<Vec<Run>, MapFault>, reach: u64) -> Result<Vec<Run>, Stop>
+pub fn accept_map(answer: Result<Vec<Run>, MapFault>, reach: u64) -> Result<Vec<Run>, Stop>
     requires { IfOk answer (λ runs. AreRuns runs.items) }
-    ensures answers { Answers Stop.Memory (λ runs. runs.items) result (judged_answer reach answer) }
+    ensures answers { Answers Stop.Memory (λ runs. runs.items) result (accept_map reach answer) }
     ensures wanting { IsErrOf result Stop.Memory ↔ IsErrOf answer MapFault.Memory }
     ensures runs { IfOk result (λ runs. AreRuns runs.items) }
 {
     match answer {
-        Ok(map) => go_on(map, reach),
+        Ok(map) => check_map(map, reach),
         Err(MapFault::MapFull { runs }) => Err(Stop::MapFull { runs }),
         Err(MapFault::Memory) => Err(Stop::Memory),
     }
@@ -110,10 +110,10 @@ pub fn judged_map(answer: Result<Vec<Run>, MapFault>, reach: u64) -> Result<Vec<
 ///
 /// - `NoRam`: no frame below `reach` is usable
 /// - `TooMuchRam`: more than 2^32 frames below `reach` are usable
-fn go_on(map: Vec<Run>, reach: u64) -> Result<Vec<Run>, Stop>
+fn check_map(map: Vec<Run>, reach: u64) -> Result<Vec<Run>, Stop>
     requires { AreRuns map.items }
     ensures answers { Answers Stop.Memory (λ runs. runs.items) result
-        (goes_on_with (judge_frames (types_below reach (value_at map.items))) map.items) }
+        (map_unless_stopped (judge_frames (types_below reach (value_at map.items))) map.items) }
     ensures always { ¬ IsErrOf result Stop.Memory }
     ensures runs { IfOk result (λ runs. AreRuns runs.items) }
 {

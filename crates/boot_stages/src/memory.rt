@@ -7,15 +7,15 @@ ghost use Rattle.std.specs.List.{All};
 ghost use Rattle.address_runs.specs.Runs.{AreRuns};
 ghost use Rattle.growth_model.specs.Sound.{HasBegun};
 ghost use Rattle.stage_model.specs.Causes.{refusal_for};
-ghost use Rattle.stage_model.specs.Doing.{StageEnds};
-ghost use Rattle.memblock_grow.specs.Going.{GoesOn};
+ghost use Rattle.stage_model.specs.Doing.{EndsAsStage};
+ghost use Rattle.memblock_grow.specs.Going.{ContinuesMemblock};
 ghost use Rattle.early_stages.specs.Memory.{end_of_runs};
-ghost use Rattle.early_stages.specs.Wanted.{direction_items, early_claims, first_items, items_of_map, items_of_run, mirror_items, up_to};
-ghost use Rattle.boot_model.specs.Boot.{early_of, mirrors_of};
-ghost use Rattle.boot_model.specs.First.{items_carried};
-ghost use Rattle.boot_model.specs.Mirrors.{IsMirror, frames_in};
+ghost use Rattle.early_stages.specs.Wanted.{direction_items, early_claims, first_items, items_of_map, items_of_run, mirror_items, range_up_to};
+ghost use Rattle.boot_model.specs.Boot.{early_inputs, all_mirrors};
+ghost use Rattle.boot_model.specs.First.{items_with_growths};
+ghost use Rattle.boot_model.specs.Mirrors.{IsMirror, frame_range_of};
 ghost use Rattle.boot_model.specs.View.{inputs_view};
-ghost use Rattle.boot_stages.specs.Parts.{beginning, ending, mapping};
+ghost use Rattle.boot_stages.specs.Parts.{items_before_memory, limit_items, map_memory_items};
 
 use bm_base::Range;
 use boot_journal::Owner;
@@ -30,7 +30,7 @@ use memblock_ranges::Tables;
 
 /// Returns the range of the addresses from 0 to below `at`.
 fn up_to(at: u64) -> Range
-    ensures { result ≡ up_to at }
+    ensures { result ≡ range_up_to at }
 {
     Range { base: 0, size: at }
 }
@@ -42,10 +42,10 @@ fn claim_early(memblock: &mut Memblock, kernel: Range, initrd: Option<Range>) ->
     requires kernel { kernel ≡ memblock.old.kernel }
     requires image { 0 < kernel.size }
     requires initrd { IfSome initrd (λ range. 0 < range.size) }
-    ensures ends { StageEnds (items_carried (early_claims kernel initrd)) refusal_for result
+    ensures ends { EndsAsStage (items_with_growths (early_claims kernel initrd)) refusal_for result
         memblock.old.journal.items memblock.new.journal.items }
     ensures begun { OnOk result (HasBegun memblock.new.journal.items) }
-    ensures goes_on { GoesOn memblock.old memblock.new }
+    ensures goes_on { ContinuesMemblock memblock.old memblock.new }
 {
     memblock.claim(kernel, Owner::Kernel)?;
     memblock.claim(up_to(LOW_END), Owner::Low64K)?;
@@ -61,10 +61,10 @@ fn claim_early(memblock: &mut Memblock, kernel: Range, initrd: Option<Range>) ->
 fn add_run(memblock: &mut Memblock, run: &Run, reach: u64) -> Result<(), Refusal>
     requires some { 0 < run.now.size }
     requires begun { HasBegun memblock.old.journal.items }
-    ensures ends { StageEnds (items_carried (items_of_run reach run.now)) refusal_for result
+    ensures ends { EndsAsStage (items_with_growths (items_of_run reach run.now)) refusal_for result
         memblock.old.journal.items memblock.new.journal.items }
     ensures begun { HasBegun memblock.new.journal.items }
-    ensures goes_on { GoesOn memblock.old memblock.new }
+    ensures goes_on { ContinuesMemblock memblock.old memblock.new }
 {
     no_items_no_change(memblock);
     let range = run.range;
@@ -96,10 +96,10 @@ fn below_limit(range: Range, reach: u64) -> Range
 fn add_map(memblock: &mut Memblock, map: &[Run], reach: u64) -> Result<(), Refusal>
     requires runs { AreRuns map.now }
     requires begun { HasBegun memblock.old.journal.items }
-    ensures ends { StageEnds (items_carried (items_of_map reach map.now)) refusal_for result
+    ensures ends { EndsAsStage (items_with_growths (items_of_map reach map.now)) refusal_for result
         memblock.old.journal.items memblock.new.journal.items }
     ensures begun { HasBegun memblock.new.journal.items }
-    ensures goes_on { GoesOn memblock.old memblock.new }
+    ensures goes_on { ContinuesMemblock memblock.old memblock.new }
 {
     no_items_no_change(memblock);
     for run in map {
@@ -124,9 +124,9 @@ fn end_of_memory(tables: &Tables) -> u64
 /// Changes nothing if it isn't.
 fn turn_upward(memblock: &mut Memblock, upward: bool) -> Result<(), Refusal>
     requires { HasBegun memblock.old.journal.items }
-    ensures ends { StageEnds (items_carried (direction_items upward)) refusal_for result
+    ensures ends { EndsAsStage (items_with_growths (direction_items upward)) refusal_for result
         memblock.old.journal.items memblock.new.journal.items }
-    ensures goes_on { GoesOn memblock.old memblock.new }
+    ensures goes_on { ContinuesMemblock memblock.old memblock.new }
 {
     no_items_no_change(memblock);
     if upward {
@@ -140,10 +140,10 @@ fn turn_upward(memblock: &mut Memblock, upward: bool) -> Result<(), Refusal>
 fn begin_memory(memblock: &mut Memblock, inputs: &Inputs) -> Result<(), Refusal>
     requires first { memblock.old.journal.items ≡ [] }
     requires kernel { inputs.now.kernel ≡ memblock.old.kernel }
-    ensures ends { StageEnds (items_carried (beginning (early_of (inputs_view inputs.now)))) refusal_for result
+    ensures ends { EndsAsStage (items_with_growths (items_before_memory (early_inputs (inputs_view inputs.now)))) refusal_for result
         memblock.old.journal.items memblock.new.journal.items }
     ensures begun { OnOk result (HasBegun memblock.new.journal.items) }
-    ensures goes_on { GoesOn memblock.old memblock.new }
+    ensures goes_on { ContinuesMemblock memblock.old memblock.new }
 {
     claim_early(memblock, inputs.kernel, inputs.zero.initrd)?;
     memblock.set_limit(ISA_END_ADDRESS)?;
@@ -155,10 +155,10 @@ fn begin_memory(memblock: &mut Memblock, inputs: &Inputs) -> Result<(), Refusal>
 fn add_mirrors(memblock: &mut Memblock, mirrors: &[Range]) -> Result<(), Refusal>
     requires whole { All IsMirror mirrors.now }
     requires begun { HasBegun memblock.old.journal.items }
-    ensures ends { StageEnds (items_carried (mirror_items (map frames_in mirrors.now))) refusal_for result
+    ensures ends { EndsAsStage (items_with_growths (mirror_items (map frame_range_of mirrors.now))) refusal_for result
         memblock.old.journal.items memblock.new.journal.items }
     ensures begun { HasBegun memblock.new.journal.items }
-    ensures goes_on { GoesOn memblock.old memblock.new }
+    ensures goes_on { ContinuesMemblock memblock.old memblock.new }
 {
     no_items_no_change(memblock);
     for mirror in mirrors {
@@ -171,10 +171,10 @@ fn add_mirrors(memblock: &mut Memblock, mirrors: &[Range]) -> Result<(), Refusal
 /// map.
 fn mirror_memory(memblock: &mut Memblock, inputs: &Inputs) -> Result<(), Refusal>
     requires { HasBegun memblock.old.journal.items }
-    ensures ends { StageEnds (items_carried (mirror_items (mirrors_of (inputs_view inputs.now)))) refusal_for result
+    ensures ends { EndsAsStage (items_with_growths (mirror_items (all_mirrors (inputs_view inputs.now)))) refusal_for result
         memblock.old.journal.items memblock.new.journal.items }
     ensures begun { HasBegun memblock.new.journal.items }
-    ensures goes_on { GoesOn memblock.old memblock.new }
+    ensures goes_on { ContinuesMemblock memblock.old memblock.new }
 {
     add_mirrors(memblock, &inputs.mirrors)?;
     match &inputs.efi {
@@ -188,10 +188,10 @@ fn mirror_memory(memblock: &mut Memblock, inputs: &Inputs) -> Result<(), Refusal
 fn map_memory(memblock: &mut Memblock, inputs: &Inputs, map: &[Run]) -> Result<(), Refusal>
     requires begun { HasBegun memblock.old.journal.items }
     requires runs { AreRuns map.now }
-    ensures ends { StageEnds (items_carried (mapping (early_of (inputs_view inputs.now)) map.now)) refusal_for result
+    ensures ends { EndsAsStage (items_with_growths (map_memory_items (early_inputs (inputs_view inputs.now)) map.now)) refusal_for result
         memblock.old.journal.items memblock.new.journal.items }
     ensures begun { OnOk result (HasBegun memblock.new.journal.items) }
-    ensures goes_on { GoesOn memblock.old memblock.new }
+    ensures goes_on { ContinuesMemblock memblock.old memblock.new }
 {
     add_map(memblock, map, inputs.reach())?;
     memblock.trim()?;
@@ -202,10 +202,10 @@ fn map_memory(memblock: &mut Memblock, inputs: &Inputs, map: &[Run]) -> Result<(
 /// first MiB (`reserve_real_mode`).
 fn limit_memory(memblock: &mut Memblock, end: u64) -> Result<(), Refusal>
     requires { HasBegun memblock.old.journal.items }
-    ensures ends { StageEnds (items_carried (ending end)) refusal_for result
+    ensures ends { EndsAsStage (items_with_growths (limit_items end)) refusal_for result
         memblock.old.journal.items memblock.new.journal.items }
     ensures begun { OnOk result (HasBegun memblock.new.journal.items) }
-    ensures goes_on { GoesOn memblock.old memblock.new }
+    ensures goes_on { ContinuesMemblock memblock.old memblock.new }
 {
     memblock.set_limit(end)?;
     memblock.claim(up_to(ISA_END_ADDRESS), Owner::Low1M)
@@ -222,10 +222,10 @@ pub fn make_memory(memblock: &mut Memblock, inputs: &Inputs, map: &[Run]) -> Res
     requires first { memblock.old.journal.items ≡ [] }
     requires kernel { inputs.now.kernel ≡ memblock.old.kernel }
     requires runs { AreRuns map.now }
-    ensures ends { StageEnds (items_carried (first_items (early_of (inputs_view inputs.now)) map.now)) refusal_for result
+    ensures ends { EndsAsStage (items_with_growths (first_items (early_inputs (inputs_view inputs.now)) map.now)) refusal_for result
         memblock.old.journal.items memblock.new.journal.items }
     ensures begun { OnOk result (HasBegun memblock.new.journal.items) }
-    ensures goes_on { GoesOn memblock.old memblock.new }
+    ensures goes_on { ContinuesMemblock memblock.old memblock.new }
 {
     begin_memory(memblock, inputs)?;
     map_memory(memblock, inputs, map)?;

@@ -4,21 +4,21 @@
 
 ghost use Rattle.std.specs.Prelude.{◌≡◌, ℕ, Ok, IfOk};
 ghost use Rattle.address_runs.specs.Runs.{AreRuns};
-ghost use Rattle.boot_model.specs.Boot.{BootSoFar, begin_with, boot, map_judged, told_boot};
+ghost use Rattle.boot_model.specs.Boot.{BootSoFar, begin_with_map, boot, judge_map, whole_boot};
 ghost use Rattle.boot_model.specs.View.{booted_view, inputs_view};
-ghost use Rattle.conservation.specs.Headline.{AllTouchedOrInOne, BlocksAreMaximal, BlocksAreWhole, NoOtherInABlock};
-ghost use Rattle.conservation.specs.Paged.{AllInOneOrHeld, NoOtherInOneOrHeld};
+ghost use Rattle.conservation.specs.Headline.{AllTouchedOrInOneBlock, BlocksAreMaximal, BlocksAreWhole, NoOtherInABlock};
+ghost use Rattle.conservation.specs.Paged.{AllInOneBlockOrHeld, NoOtherInABlockOrHeld};
 ghost use Rattle.bm_base.specs.Answers.{Answers};
 ghost use Rattle.bm_base.specs.ResultSteps.{with_error};
 ghost use Rattle.boot_model.specs.Stop.{stop_of};
 ghost use Rattle.memblock_model.specs.declared.owner.Which.TheVariants as which;
 ghost use Rattle.phys_store.specs.Bytes.{byte_of};
-ghost use Rattle.growth_model.specs.Bytes.{byte};
-ghost use Rattle.boot_stages.specs.Boots.{IsSpelledFree, TableStands};
+ghost use Rattle.growth_model.specs.Bytes.{byte_from_history};
+ghost use Rattle.boot_stages.specs.Boots.{IsFreeByStore, IsStoredTable};
 
 use crate::handover::hand_over_memory;
 use crate::later::run_stages;
-use crate::map::{added_entries, finished_table, judged_map};
+use crate::map::{added_entries, finished_table, accept_map};
 use boot_model::{Booted, Inputs, Stop};
 use e820_sanitise::Run;
 use memblock_grow::Memblock;
@@ -53,19 +53,19 @@ use std::alloc::Global;
 /// Out of memory may come in place of each of these, and of success.
 pub fn boot(alloc: Global, inputs: Inputs) -> Result<Booted, Stop>
     ensures boots { Answers Stop.Memory booted_view result
-        (with_error stop_of (told_boot (inputs_view inputs))) }
+        (with_error stop_of (whole_boot (inputs_view inputs))) }
     ensures bytes { IfOk result (λ booted. (made : BootSoFar) → boot (inputs_view inputs) ≡ Ok made →
-        (x : ℕ) → byte_of booted.store x ≡ byte inputs.kernel made.items made.fills x) }
+        (x : ℕ) → byte_of booted.store x ≡ byte_from_history inputs.kernel made.items made.fills x) }
     ensures runs { IfOk result (λ booted. AreRuns booted.map.items) }
-    ensures memory { IfOk result (λ booted. TableStands which.Memory booted.journal.items booted.store booted.heads.memory) }
-    ensures reserved { IfOk result (λ booted. TableStands which.Reserved booted.journal.items booted.store booted.heads.reserved) }
-    ensures spelled { IfOk result (λ booted. IsSpelledFree booted.store booted.heads booted.buddy) }
-    ensures each { IfOk result (λ booted. AllTouchedOrInOne (inputs_view inputs) (booted_view booted)) }
+    ensures memory { IfOk result (λ booted. IsStoredTable which.Memory booted.journal.items booted.store booted.heads.memory) }
+    ensures reserved { IfOk result (λ booted. IsStoredTable which.Reserved booted.journal.items booted.store booted.heads.reserved) }
+    ensures spelled { IfOk result (λ booted. IsFreeByStore booted.store booted.heads booted.buddy) }
+    ensures each { IfOk result (λ booted. AllTouchedOrInOneBlock (inputs_view inputs) (booted_view booted)) }
     ensures others { IfOk result (λ booted. NoOtherInABlock (inputs_view inputs) (booted_view booted)) }
     ensures whole { IfOk result (λ booted. BlocksAreWhole (inputs_view inputs) (booted_view booted)) }
     ensures maximal { IfOk result (λ booted. BlocksAreMaximal (inputs_view inputs) (booted_view booted)) }
-    ensures paged { IfOk result (λ booted. AllInOneOrHeld (booted_view booted)) }
-    ensures none_paged { IfOk result (λ booted. NoOtherInOneOrHeld (booted_view booted)) }
+    ensures paged { IfOk result (λ booted. AllInOneBlockOrHeld (booted_view booted)) }
+    ensures none_paged { IfOk result (λ booted. NoOtherInABlockOrHeld (booted_view booted)) }
 {
     let map = settled_map(alloc, &inputs)?;
     let mut memblock = Memblock::new(alloc, inputs.kernel)?;
@@ -77,10 +77,10 @@ pub fn boot(alloc: Global, inputs: Inputs) -> Result<Booted, Stop>
 ///
 /// # Errors
 ///
-/// The stops of `judged_map`, and out of memory.
+/// The stops of `accept_map`, and out of memory.
 fn settled_map(alloc: Global, inputs: &Inputs) -> Result<Vec<Run>, Stop>
-    ensures answers { Answers Stop.Memory (λ map. begin_with map.items (inputs_view inputs.now).options) result
-        (with_error stop_of (map_judged (inputs_view inputs.now))) }
+    ensures answers { Answers Stop.Memory (λ map. begin_with_map map.items (inputs_view inputs.now).options) result
+        (with_error stop_of (judge_map (inputs_view inputs.now))) }
     ensures runs { IfOk result (λ map. AreRuns map.items) }
 {
     let table = finished_table(
@@ -90,5 +90,5 @@ fn settled_map(alloc: Global, inputs: &Inputs) -> Result<Vec<Run>, Stop>
         &inputs.options.edits,
         added_entries(inputs),
     )?;
-    judged_map(table.runs(), inputs.reach())
+    accept_map(table.runs(), inputs.reach())
 }

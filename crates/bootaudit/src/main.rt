@@ -15,7 +15,7 @@
 #![tactic(auto)]
 
 use bm_io::{RealFiles, StdSink};
-pub use boot_audit::{Saved, Verdict, audit, judge, sound_is_conserved};
+pub use boot_audit::{Saved, Verdict, audit, judge, sound_verdict_conserves_memory};
 use std::env;
 use std::io::ErrorKind;
 use std::process::ExitCode;

@@ -3,37 +3,37 @@ use Rattle.std.proofs.Common.{◌≡◌, ◌≢◌, ℕ, List, Option, Some, Non
 use Rattle.std.specs.Prelude.{IfErr}
 use Rattle.bm_base.specs.ResultSteps.{with_error}
 use Rattle.bm_io.specs.MemFiles.{MemFileView, file_bytes}
-use Rattle.boot_inputs.specs.Input.{place}
-use Rattle.boot_inputs.specs.Reason.{NoInputs, Reason}
-use Rattle.program_end.specs.Causes.{ErrorHasCause, IsOfFile}
+use Rattle.boot_inputs.specs.Input.{input_place}
+use Rattle.boot_inputs.specs.Reason.{NoInputs, InputsReason}
+use Rattle.program_end.specs.Causes.{ErrorHasCause, IsFileError}
 use Rattle.program_end.specs.Fetches.{FitsError}
 use Rattle.boot_model.specs.declared.stop.Cause.{Cause}
 use Rattle.boot_model.specs.declared.stop.Stop.{Stop}
 use Rattle.boot_model.specs.declared.stop.Stop.TheVariants as stops
-use Rattle.boot_model.specs.Boot.{Given, Told, told_boot}
+use Rattle.boot_model.specs.Boot.{InputsView, BootedView, whole_boot}
 use Rattle.boot_model.specs.Stop.{cause_of, stop_of}
 use Rattle.conservation.proofs.HeadlineLaws.{all_touched_or_in_one, blocks_maximal, blocks_whole, no_other_in_a_block}
-use Rattle.program_run.specs.Outcome.{given_by, outcome, reported}
+use Rattle.program_run.specs.Outcome.{read_boot_inputs, bootmem_outcome, reports_on_boot}
 use Rattle.program_run.specs.Bootmem.{bootmem}
-use Rattle.program_run.specs.Stops.{no_report, no_report_by}
+use Rattle.program_run.specs.Stops.{no_report, reason_by_cause}
 use Rattle.program_run.proofs.BootedLaws.{boot_stopped, told_is}
 use Rattle.program_run.proofs.RunLaws.{inputs_fit}
-use Rattle.program_words.specs.Words.{Wanted}
+use Rattle.program_words.specs.Words.{BootmemArgsView}
 use Rattle.bootmem_c.specs.Boots.{FailsAs, IsBoot}
-use Rattle.bootmem_c.specs.Fetches.{LentState, faults_at}
+use Rattle.bootmem_c.specs.Fetches.{LentFilesView, faults_at}
 use Rattle.bootmem_c.proofs.ExactLaws.{fails_as}
 
 -- the inputs and what they boot to are those of the call
-pub is_boot : (files lent : List MemFileView) (wanted : Wanted) (given : Given) (told : Told) → files ≡ lent
-    → given_by (file_bytes files) wanted ≡ Ok given → with_error stop_of (told_boot given) ≡ Ok told
+pub is_boot : (files lent : List MemFileView) (wanted : BootmemArgsView) (given : InputsView) (told : BootedView) → files ≡ lent
+    → read_boot_inputs (file_bytes files) wanted ≡ Ok given → with_error stop_of (whole_boot given) ≡ Ok told
     → IsBoot (Some wanted) (file_bytes lent) told
 is_boot files lent wanted given told same inputs boots =
-    let is : told_boot given ≡ Ok told = told_is (told_boot given) told boots in
+    let is : whole_boot given ≡ Ok told = told_is (whole_boot given) told boots in
     record {
       wanted = wanted;
       given = given;
       words = refl;
-      inputs = subst (λ (f : List MemFileView). given_by (file_bytes f) wanted ≡ Ok given) same inputs;
+      inputs = subst (λ (f : List MemFileView). read_boot_inputs (file_bytes f) wanted ≡ Ok given) same inputs;
       boots = is;
       each = all_touched_or_in_one given told is;
       others = no_other_in_a_block given told is;
@@ -42,31 +42,31 @@ is_boot files lent wanted given told same inputs boots =
     }
 
 -- an error of the files is that of the outcome
-pub inputs_failed : {X : Type 0} (r : Result X NoInputs) (error : NoInputs) (old new : LentState) (lent : List MemFileView) (wanted : Wanted)
-    → r ≡ Err error → old.files ≡ lent → FitsError place error (given_by (file_bytes old.files) wanted)
-    → IsOfFile (faults_at old) (faults_at new) wanted.named error
-    → IfErr r (λ e. FailsAs e (outcome (Some wanted) (file_bytes lent)))
+pub inputs_failed : {X : Type 0} (r : Result X NoInputs) (error : NoInputs) (old new : LentFilesView) (lent : List MemFileView) (wanted : BootmemArgsView)
+    → r ≡ Err error → old.files ≡ lent → FitsError input_place error (read_boot_inputs (file_bytes old.files) wanted)
+    → IsFileError (faults_at old) (faults_at new) wanted.named error
+    → IfErr r (λ e. FailsAs e (bootmem_outcome (Some wanted) (file_bytes lent)))
 inputs_failed r error old new lent wanted is same fits cause =
     rw (is, ← same)
     (fails_as old new (Some wanted) error (of_words error cause) (inputs_fit (file_bytes old.files) wanted error fits))
   where
-    of_words : (error : NoInputs) → IsOfFile (faults_at old) (faults_at new) wanted.named error
+    of_words : (error : NoInputs) → IsFileError (faults_at old) (faults_at new) wanted.named error
         → ErrorHasCause bootmem (faults_at old) (faults_at new) (Some wanted) error
     of_words error cause = grind arith
 
 -- a stop of the boot is that of the outcome
-stop_by : (cause : Option Cause) (said : Result (List ℕ) Reason) → FitsError place (no_report_by cause) said
-    → FailsAs (no_report_by cause) said
+stop_by : (cause : Option Cause) (said : Result (List ℕ) InputsReason) → FitsError input_place (reason_by_cause cause) said
+    → FailsAs (reason_by_cause cause) said
 stop_by None said fits = tt
 stop_by (Some cause) said fits = fits
 
-pub boot_failed : (stop : Stop) (files lent : List MemFileView) (wanted : Wanted) (given : Given)
-    → files ≡ lent → given_by (file_bytes files) wanted ≡ Ok given
-    → (stop ≢ stops.Memory → with_error stop_of (told_boot given) ≡ Err stop)
-    → FailsAs (no_report stop) (outcome (Some wanted) (file_bytes lent))
+pub boot_failed : (stop : Stop) (files lent : List MemFileView) (wanted : BootmemArgsView) (given : InputsView)
+    → files ≡ lent → read_boot_inputs (file_bytes files) wanted ≡ Ok given
+    → (stop ≢ stops.Memory → with_error stop_of (whole_boot given) ≡ Err stop)
+    → FailsAs (no_report stop) (bootmem_outcome (Some wanted) (file_bytes lent))
 boot_failed stop files lent wanted given same inputs stops_so =
-    let fails : FailsAs (no_report stop) (reported wanted.reports given) =
-    stop_by (cause_of stop) (reported wanted.reports given) (boot_stopped stop given wanted.reports stops_so) in
-    let after : given_by (file_bytes lent) wanted ≡ Ok given =
-    subst (λ (f : List MemFileView). given_by (file_bytes f) wanted ≡ Ok given) same inputs in
+    let fails : FailsAs (no_report stop) (reports_on_boot wanted.reports given) =
+    stop_by (cause_of stop) (reports_on_boot wanted.reports given) (boot_stopped stop given wanted.reports stops_so) in
+    let after : read_boot_inputs (file_bytes lent) wanted ≡ Ok given =
+    subst (λ (f : List MemFileView). read_boot_inputs (file_bytes f) wanted ≡ Ok given) same inputs in
     rw after fails

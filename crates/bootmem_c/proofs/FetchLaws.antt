@@ -5,7 +5,7 @@ use Rattle.bm_io.specs.Counts.{Rose, RoseByMoreThan}
 use Rattle.bm_io.specs.MemFiles.{MemFileView, file_bytes}
 use Rattle.bm_io.specs.declared.reading.Fetch.{Fetch}
 use Rattle.bm_io.specs.declared.reading.Fetch.TheVariants as fetch
-use Rattle.bootmem_c.specs.Fetches.{LentState, faults_at, misses_of}
+use Rattle.bootmem_c.specs.Fetches.{LentFilesView, faults_at, misses_of}
 
 -- a counter at its greatest value counts as risen
 pub bytes_stay : (limit : ℕ) → RoseByMoreThan limit (2 ^ 64 - 1) (2 ^ 64 - 1)
@@ -28,11 +28,11 @@ at_rose : (held : Option (List ℕ)) (old new : ℕ) → IsNone held → new ≡
 at_rose None old new none grew few = omega (arith, grew, few)
 at_rose (Some bytes) old new none grew few = absurd (cc)
 
-same_held : (old new : LentState) → new.files ≡ old.files → (name : List ℕ)
+same_held : (old new : LentFilesView) → new.files ≡ old.files → (name : List ℕ)
     → faults_at new name ≡ at (file_bytes old.files name) new.misses
 same_held old new kept name = ap (λ (files : List MemFileView). at (file_bytes files name) new.misses) kept
 
-pub faults_rose : (answer : Result (Vec ℕ Global) Fetch) (old new : LentState) (name : List ℕ) → answer ≡ Err fetch.Failed
+pub faults_rose : (answer : Result (Vec ℕ Global) Fetch) (old new : LentFilesView) (name : List ℕ) → answer ≡ Err fetch.Failed
     → new.files ≡ old.files → IsNone (file_bytes old.files name) → new.misses ≡ old.misses + misses_of answer → new.misses < 2 ^ 32
     → Rose (faults_at old name) (faults_at new name)
 faults_rose answer old new name is kept none grew few =
@@ -40,12 +40,12 @@ faults_rose answer old new name is kept none grew few =
     let grew : new.misses ≡ old.misses + 1 = rw one at grew in
     omega (arith, at_rose (file_bytes old.files name) old.misses new.misses none grew few, same_held old new kept name)
 
-pub faults_stay : (answer : Result (Vec ℕ Global) Fetch) (old new : LentState) → new.files ≡ old.files
+pub faults_stay : (answer : Result (Vec ℕ Global) Fetch) (old new : LentFilesView) → new.files ≡ old.files
     → new.misses ≡ old.misses + misses_of answer → (any : List ℕ) → faults_at old any ≤ faults_at new any
 faults_stay answer old new kept grew any =
     omega (arith, at_stays (file_bytes old.files any) old.misses new.misses (omega (arith, grew)), same_held old new kept any)
 
-pub faults_fit : (state : LentState) (any : List ℕ) → faults_at state any < 2 ^ 64
+pub faults_fit : (state : LentFilesView) (any : List ℕ) → faults_at state any < 2 ^ 64
 faults_fit state any = at_fits (file_bytes state.files any) state.misses
 
 -- if the counter of a name rose, it isn't lent
@@ -57,7 +57,7 @@ below : (held : Option (List ℕ)) (misses : ℕ) → at held misses < 2 ^ 64 - 
 below None misses = omega arith
 below (Some bytes) misses = omega arith
 
-pub rose_unheld : (old new : LentState) (name : List ℕ) → Rose (faults_at old name) (faults_at new name)
+pub rose_unheld : (old new : LentFilesView) (name : List ℕ) → Rose (faults_at old name) (faults_at new name)
     → file_bytes old.files name ≡ None
 rose_unheld old new name rose =
     held_not_rose (file_bytes old.files name) old.misses (faults_at new name) (below (file_bytes new.files name) new.misses) rose

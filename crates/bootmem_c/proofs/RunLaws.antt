@@ -9,29 +9,29 @@ use Rattle.std.proofs.lemmas.Bool.{and_parts}
 use Rattle.bm_io.specs.Counts.{Rose}
 use Rattle.bm_io.specs.MemFiles.{MemFileView, file_bytes}
 use Rattle.bm_base.specs.ResultSteps.{◌>>=◌}
-use Rattle.boot_inputs.specs.Reason.{Reason}
-use Rattle.program_end.specs.Program.{Held}
+use Rattle.boot_inputs.specs.Reason.{InputsReason}
+use Rattle.program_end.specs.Program.{FileContents}
 use Rattle.boot_model.specs.declared.stop.Cause.{Cause}
-use Rattle.boot_model.specs.Boot.{Given, Told, told_boot}
+use Rattle.boot_model.specs.Boot.{InputsView, BootedView, whole_boot}
 use Rattle.debugfs_reports.specs.declared.report.Report.{Report}
-use Rattle.debugfs_reports.specs.ReportList.{text_of}
+use Rattle.debugfs_reports.specs.ReportList.{report_list_text}
 use Rattle.bm_io.specs.declared.writing.Put.TheVariants as put
 use Rattle.program_end.specs.declared.failure.Failure.{Failure}
 use Rattle.program_end.specs.declared.failure.Failure.TheVariants as failures
 use Rattle.program_end.specs.declared.failure.NoResult.TheVariants as errors
 use Rattle.program_end.specs.declared.failure.Reason.TheVariants as reasons
 use Rattle.program_end.specs.Causes.{FailureHasCause}
-use Rattle.program_end.specs.Ends.{EndFits}
+use Rattle.program_end.specs.Ends.{FitsFailure}
 use Rattle.program_end.specs.Line.{PutsLine}
-use Rattle.program_end.specs.Status.{status_of}
+use Rattle.program_end.specs.Status.{failure_status}
 use Rattle.program_run.specs.Bootmem.{bootmem}
-use Rattle.program_run.specs.Headline.{IsReported}
-use Rattle.program_run.specs.Line.{failure_line}
-use Rattle.program_run.specs.Outcome.{given_by, or_stopped, outcome, reported}
-use Rattle.program_words.specs.Words.{Wanted, accepted, texts}
-use Rattle.bootmem_c.specs.Call.{are_utf8, asked, line_by, status_said}
-use Rattle.bootmem_c.specs.Fetches.{LentState, faults_at}
-use Rattle.bootmem_c.specs.Taken.{IsTaken, Written, wants_of}
+use Rattle.program_run.specs.Headline.{AppendsReports}
+use Rattle.program_run.specs.Line.{bootmem_failure_line}
+use Rattle.program_run.specs.Outcome.{read_boot_inputs, or_stopped, bootmem_outcome, reports_on_boot}
+use Rattle.program_words.specs.Words.{BootmemArgsView, read_args, bytes_of_words}
+use Rattle.bootmem_c.specs.Call.{are_utf8, read_lent_args, outcome_line, outcome_status}
+use Rattle.bootmem_c.specs.Fetches.{LentFilesView, faults_at}
+use Rattle.bootmem_c.specs.Taken.{CopiesText, TextSinkView, wants_of}
 use Rattle.bootmem_c.specs.declared.crossing.Text.{Text}
 use Rattle.bootmem_c.specs.contracts.text_sink.TextSinkSink.TheImpl.{ghosts as text_sink}
 use Rattle.bootmem_c.proofs.ExactLaws.{fails_as}
@@ -52,113 +52,113 @@ all-utf8 (word ∷ words) is =
 no_rise : Rose 0 0 → ⊥
 no_rise rose = omega (arith, rose)
 
-text_is_zero : (said : Result (List ℕ) Reason) (P : List ℕ → Type 0) → IsOkAnd said P → status_said said ≡ 0
+text_is_zero : (said : Result (List ℕ) InputsReason) (P : List ℕ → Type 0) → IsOkAnd said P → outcome_status said ≡ 0
 text_is_zero (Ok text) P is = refl
 text_is_zero (Err reason) P is = absurd is
 
--- what the run says of its failure; `Told` says which line it put
-abbrev IsFailure : (old new : LentState) → Option Wanted → ℕ → (Failure Reason → Type 0) → Type 0
-IsFailure old new accepted status Told =
-    (failure : Failure Reason) × (status ≡ status_of failure) × Told failure
-    × FailureHasCause bootmem (faults_at old) (faults_at new) accepted failure
-    × EndFits bootmem failure (outcome accepted (file_bytes old.files))
+-- what the run says of its failure; `BootedView` says which line it put
+abbrev IsFailure : (old new : LentFilesView) → Option BootmemArgsView → ℕ → (Failure InputsReason → Type 0) → Type 0
+IsFailure old new read_args status BootedView =
+    (failure : Failure InputsReason) × (status ≡ failure_status failure) × BootedView failure
+    × FailureHasCause bootmem (faults_at old) (faults_at new) read_args failure
+    × FitsFailure bootmem failure (bootmem_outcome read_args (file_bytes old.files))
 
-status_by : (old new : LentState) (accepted : Option Wanted) (failure : Failure Reason) → status_of failure ≢ 4
-    → FailureHasCause bootmem (faults_at old) (faults_at new) accepted failure
-    → EndFits bootmem failure (outcome accepted (file_bytes old.files))
-    → (status_of failure ≡ status_said (outcome accepted (file_bytes old.files))) ⊎ (status_of failure ≡ 7)
-status_by old new accepted (failures.NoResult (errors.Reason reason)) other cause fits =
-    inl (sym (ap status_said (fails_as old new accepted (errors.Reason reason) cause fits)))
-status_by old new accepted (failures.NoResult errors.Memory) other cause fits = inr refl
-status_by old new accepted (failures.Output put.Failed) other cause fits = absurd (other refl)
-status_by old new accepted (failures.Output put.Memory) other cause fits = inr refl
+status_by : (old new : LentFilesView) (read_args : Option BootmemArgsView) (failure : Failure InputsReason) → failure_status failure ≢ 4
+    → FailureHasCause bootmem (faults_at old) (faults_at new) read_args failure
+    → FitsFailure bootmem failure (bootmem_outcome read_args (file_bytes old.files))
+    → (failure_status failure ≡ outcome_status (bootmem_outcome read_args (file_bytes old.files))) ⊎ (failure_status failure ≡ 7)
+status_by old new read_args (failures.NoResult (errors.Reason reason)) other cause fits =
+    inl (sym (ap outcome_status (fails_as old new read_args (errors.Reason reason) cause fits)))
+status_by old new read_args (failures.NoResult errors.Memory) other cause fits = inr refl
+status_by old new read_args (failures.Output put.Failed) other cause fits = absurd (other refl)
+status_by old new read_args (failures.Output put.Memory) other cause fits = inr refl
 
-pub ran_status : (old new : LentState) (accepted : Option Wanted) (P : List ℕ → Type 0) (Told : Failure Reason → Type 0) (status : ℕ)
-    → (status ≡ 4 → Rose 0 0) → (status ≡ 0 → IsOkAnd (outcome accepted (file_bytes old.files)) P)
-    → (status ≢ 0 → IsFailure old new accepted status Told)
-    → (status ≡ status_said (outcome accepted (file_bytes old.files))) ⊎ (status ≡ 7)
-ran_status old new accepted P Told zero unwritten written line =
-    inl (sym (text_is_zero (outcome accepted (file_bytes old.files)) P (written refl)))
-ran_status old new accepted P Told (suc n) unwritten written line =
+pub ran_status : (old new : LentFilesView) (read_args : Option BootmemArgsView) (P : List ℕ → Type 0) (BootedView : Failure InputsReason → Type 0) (status : ℕ)
+    → (status ≡ 4 → Rose 0 0) → (status ≡ 0 → IsOkAnd (bootmem_outcome read_args (file_bytes old.files)) P)
+    → (status ≢ 0 → IsFailure old new read_args status BootedView)
+    → (status ≡ outcome_status (bootmem_outcome read_args (file_bytes old.files))) ⊎ (status ≡ 7)
+ran_status old new read_args P BootedView zero unwritten written line =
+    inl (sym (text_is_zero (bootmem_outcome read_args (file_bytes old.files)) P (written refl)))
+ran_status old new read_args P BootedView (suc n) unwritten written line =
     let told = line (λ is. omega (arith, is)) in
-    rw told.1 (status_by old new accepted told.0 (λ four. no_rise (unwritten (told.1 ∙ four))) told.3 told.4)
+    rw told.1 (status_by old new read_args told.0 (λ four. no_rise (unwritten (told.1 ∙ four))) told.3 told.4)
 
 -- the text of the reports is that of the outcome
-told_text : (reports : List Report) (answer : Result Told Cause) (told : Told) (P : List ℕ → Type 0) → answer ≡ Ok told
-    → P (text_of reports told) → IsOkAnd (or_stopped answer >>= λ told. Ok (text_of reports told)) P
+told_text : (reports : List Report) (answer : Result BootedView Cause) (told : BootedView) (P : List ℕ → Type 0) → answer ≡ Ok told
+    → P (report_list_text reports told) → IsOkAnd (or_stopped answer >>= λ told. Ok (report_list_text reports told)) P
 told_text reports answer told P is holds =
-    subst (λ (a : Result Told Cause). IsOkAnd (or_stopped a >>= λ told. Ok (text_of reports told)) P) (sym is) holds
+    subst (λ (a : Result BootedView Cause). IsOkAnd (or_stopped a >>= λ told. Ok (report_list_text reports told)) P) (sym is) holds
 
-given_text : (reports : List Report) (answer : Result Given Reason) (given : Given) (P : List ℕ → Type 0) → answer ≡ Ok given
-    → IsOkAnd (reported reports given) P → IsOkAnd (answer >>= λ given. reported reports given) P
+given_text : (reports : List Report) (answer : Result InputsView InputsReason) (given : InputsView) (P : List ℕ → Type 0) → answer ≡ Ok given
+    → IsOkAnd (reports_on_boot reports given) P → IsOkAnd (answer >>= λ given. reports_on_boot reports given) P
 given_text reports answer given P is holds =
-    subst (λ (a : Result Given Reason). IsOkAnd (a >>= λ given. reported reports given) P) (sym is) holds
+    subst (λ (a : Result InputsView InputsReason). IsOkAnd (a >>= λ given. reports_on_boot reports given) P) (sym is) holds
 
-pub reported_text : (accepted : Option Wanted) (held : Held) (text : List ℕ) → IsReported accepted held (Some []) (Some text)
-    → IsOkAnd (outcome accepted held) (λ said. text ≡ said)
-reported_text accepted held text is =
+pub reported_text : (read_args : Option BootmemArgsView) (held : FileContents) (text : List ℕ) → AppendsReports read_args held (Some []) (Some text)
+    → IsOkAnd (bootmem_outcome read_args held) (λ said. text ≡ said)
+reported_text read_args held text is =
     let P : List ℕ → Type 0 = λ said. text ≡ said in
-    let last = told_text is.wanted.reports (told_boot is.given) is.told P is.boots is.written in
-    let middle = given_text is.wanted.reports (given_by held is.wanted) is.given P is.inputs last in
-    subst (λ (a : Option Wanted). IsOkAnd (outcome a held) P) (sym is.words) middle
+    let last = told_text is.wanted.reports (whole_boot is.given) is.told P is.boots is.written in
+    let middle = given_text is.wanted.reports (read_boot_inputs held is.wanted) is.given P is.inputs last in
+    subst (λ (a : Option BootmemArgsView). IsOkAnd (bootmem_outcome a held) P) (sym is.words) middle
 
-pub ran_reported : (accepted : Option Wanted) (held : Held) (before now : List ℕ) → before ≡ []
-    → IsReported accepted held (Some before) (Some now) → IsReported accepted held (Some []) (Some now)
-ran_reported accepted held before now empty is = subst (λ (b : List ℕ). IsReported accepted held (Some b) (Some now)) empty is
+pub ran_reported : (read_args : Option BootmemArgsView) (held : FileContents) (before now : List ℕ) → before ≡ []
+    → AppendsReports read_args held (Some before) (Some now) → AppendsReports read_args held (Some []) (Some now)
+ran_reported read_args held before now empty is = subst (λ (b : List ℕ). AppendsReports read_args held (Some b) (Some now)) empty is
 
-appended : (l0 l1 : Written) (line : List ℕ) → l1.is_short ≡ false → l0.text ≡ [] → l0.is_short ≡ false
+appended_text_is_line : (l0 l1 : TextSinkView) (line : List ℕ) → l1.is_short ≡ false → l0.text ≡ [] → l0.is_short ≡ false
     → (l1.text ≡ l0.text ++ line) ⊎ Rose 0 0 ⊎ Rose (wants_of l0) (wants_of l1) → l1.text ≡ line
-appended l0 l1 line short empty not_short (inl is) = rw empty at is
-appended l0 l1 line short empty not_short (inr (inl rose)) = absurd (no_rise rose)
-appended l0 l1 line short empty not_short (inr (inr rose)) = absurd (no_rise (rw (not_short, short) at rose))
+appended_text_is_line l0 l1 line short empty not_short (inl is) = rw empty at is
+appended_text_is_line l0 l1 line short empty not_short (inr (inl rose)) = absurd (no_rise rose)
+appended_text_is_line l0 l1 line short empty not_short (inr (inr rose)) = absurd (no_rise (rw (not_short, short) at rose))
 
-line_of : (accepted : Option Wanted) (said : Result (List ℕ) Reason) (reason : Reason) → said ≡ Err reason
-    → failure_line accepted (failures.NoResult (errors.Reason reason)) ≡ line_by accepted said
-line_of accepted said reason are = sym (ap (line_by accepted) are)
+line_of : (read_args : Option BootmemArgsView) (said : Result (List ℕ) InputsReason) (reason : InputsReason) → said ≡ Err reason
+    → bootmem_failure_line read_args (failures.NoResult (errors.Reason reason)) ≡ outcome_line read_args said
+line_of read_args said reason are = sym (ap (outcome_line read_args) are)
 
-line_ends : (old new : LentState) (accepted : Option Wanted) (failure : Failure Reason) (l0 l1 : Written) → status_of failure ≢ 4
-    → status_of failure ≢ 7 → l0.text ≡ [] → l0.is_short ≡ false → l1.is_short ≡ false → PutsLine text_sink l0 l1 (failure_line accepted failure)
-    → FailureHasCause bootmem (faults_at old) (faults_at new) accepted failure
-    → EndFits bootmem failure (outcome accepted (file_bytes old.files))
-    → l1.text ≡ line_by accepted (outcome accepted (file_bytes old.files))
-line_ends old new accepted (failures.NoResult (errors.Reason reason)) l0 l1 written other empty not_short short told cause fits =
-    appended l0 l1 (failure_line accepted (failures.NoResult (errors.Reason reason))) short empty not_short told.whole
-    ∙ line_of accepted (outcome accepted (file_bytes old.files)) reason
-    (fails_as old new accepted (errors.Reason reason) cause fits)
-line_ends old new accepted (failures.NoResult errors.Memory) l0 l1 written other empty not_short short told cause fits = absurd (other refl)
-line_ends old new accepted (failures.Output put.Failed) l0 l1 written other empty not_short short told cause fits = absurd (written refl)
-line_ends old new accepted (failures.Output put.Memory) l0 l1 written other empty not_short short told cause fits = absurd (other refl)
+line_ends : (old new : LentFilesView) (read_args : Option BootmemArgsView) (failure : Failure InputsReason) (l0 l1 : TextSinkView) → failure_status failure ≢ 4
+    → failure_status failure ≢ 7 → l0.text ≡ [] → l0.is_short ≡ false → l1.is_short ≡ false → PutsLine text_sink l0 l1 (bootmem_failure_line read_args failure)
+    → FailureHasCause bootmem (faults_at old) (faults_at new) read_args failure
+    → FitsFailure bootmem failure (bootmem_outcome read_args (file_bytes old.files))
+    → l1.text ≡ outcome_line read_args (bootmem_outcome read_args (file_bytes old.files))
+line_ends old new read_args (failures.NoResult (errors.Reason reason)) l0 l1 written other empty not_short short told cause fits =
+    appended_text_is_line l0 l1 (bootmem_failure_line read_args (failures.NoResult (errors.Reason reason))) short empty not_short told.whole
+    ∙ line_of read_args (bootmem_outcome read_args (file_bytes old.files)) reason
+    (fails_as old new read_args (errors.Reason reason) cause fits)
+line_ends old new read_args (failures.NoResult errors.Memory) l0 l1 written other empty not_short short told cause fits = absurd (other refl)
+line_ends old new read_args (failures.Output put.Failed) l0 l1 written other empty not_short short told cause fits = absurd (written refl)
+line_ends old new read_args (failures.Output put.Memory) l0 l1 written other empty not_short short told cause fits = absurd (other refl)
 
-pub ran_line : (old new : LentState) (accepted : Option Wanted) (l0 l1 : Written) (status : ℕ) → (status ≡ 4 → Rose 0 0)
+pub ran_line : (old new : LentFilesView) (read_args : Option BootmemArgsView) (l0 l1 : TextSinkView) (status : ℕ) → (status ≡ 4 → Rose 0 0)
     → l0.text ≡ [] → l0.is_short ≡ false
-    → (status ≢ 0 → IsFailure old new accepted status (λ failure. PutsLine text_sink l0 l1 (failure_line accepted failure)))
+    → (status ≢ 0 → IsFailure old new read_args status (λ failure. PutsLine text_sink l0 l1 (bootmem_failure_line read_args failure)))
     → status ≢ 0 → status ≢ 7 → l1.is_short ≡ false
-    → l1.text ≡ line_by accepted (outcome accepted (file_bytes old.files))
-ran_line old new accepted l0 l1 status unwritten empty not_short line some other short =
+    → l1.text ≡ outcome_line read_args (bootmem_outcome read_args (file_bytes old.files))
+ran_line old new read_args l0 l1 status unwritten empty not_short line some other short =
     let told = line some in
-    line_ends old new accepted told.0 l0 l1 (λ four. no_rise (unwritten (told.1 ∙ four))) (λ seven. other (told.1 ∙ seven)) empty not_short
+    line_ends old new read_args told.0 l0 l1 (λ four. no_rise (unwritten (told.1 ∙ four))) (λ seven. other (told.1 ∙ seven)) empty not_short
     short told.2 told.3 told.4
 
 -- the words that were read, and the lent files, are those of the call
 pub same_asked : (taken : List (String Global)) (words : List (List ℕ)) → map string_bytes taken ≡ words → All IsUtf8 words
-    → accepted (texts taken) ≡ asked words
-same_asked taken words are all = ap accepted are ∙ rw (are-utf8 words all) refl
+    → read_args (bytes_of_words taken) ≡ read_lent_args words
+same_asked taken words are all = ap read_args are ∙ rw (are-utf8 words all) refl
 
-pub same_outcome : (one other : Option Wanted) (files lent : List MemFileView) → one ≡ other → files ≡ lent
-    → outcome one (file_bytes files) ≡ outcome other (file_bytes lent)
+pub same_outcome : (one other : Option BootmemArgsView) (files lent : List MemFileView) → one ≡ other → files ≡ lent
+    → bootmem_outcome one (file_bytes files) ≡ bootmem_outcome other (file_bytes lent)
 same_outcome one other files lent same kept =
-    ap (λ (a : Option Wanted). outcome a (file_bytes files)) same ∙ ap (λ (f : List MemFileView). outcome other (file_bytes f)) kept
+    ap (λ (a : Option BootmemArgsView). bootmem_outcome a (file_bytes files)) same ∙ ap (λ (f : List MemFileView). bootmem_outcome other (file_bytes f)) kept
 
 -- if a word isn't UTF-8, the words aren't accepted
 not_utf8 : (words : List (List ℕ)) (b : Bool) → are_utf8 words ≡ b → ¬ All IsUtf8 words → are_utf8 words ≡ false
 not_utf8 words true is other = absurd (other (all-utf8 words is))
 not_utf8 words false is other = is
 
-pub nothing_said : (words : List (List ℕ)) (held : Held) → ¬ All IsUtf8 words → outcome (asked words) held ≡ Err reasons.Usage
+pub nothing_said : (words : List (List ℕ)) (held : FileContents) → ¬ All IsUtf8 words → bootmem_outcome (read_lent_args words) held ≡ Err reasons.Usage
 nothing_said words held other = rw (not_utf8 words (are_utf8 words) refl other) refl
 
-pub nothing_asked : (words : List (List ℕ)) (held : Held) → ¬ All IsUtf8 words → status_said (outcome (asked words) held) ≡ 2
-nothing_asked words held other = ap status_said (nothing_said words held other)
+pub nothing_asked : (words : List (List ℕ)) (held : FileContents) → ¬ All IsUtf8 words → outcome_status (bootmem_outcome (read_lent_args words) held) ≡ 2
+nothing_asked words held other = ap outcome_status (nothing_said words held other)
 
 pub line_asked : (words : List (List ℕ)) (line : List ℕ) → All IsUtf8 words → (if are_utf8 words then line else []) ≡ line
 line_asked words line all = rw (are-utf8 words all) refl
@@ -174,7 +174,7 @@ whole_run true ran status whole is_short other = absurd (other (is_short refl))
 whole_run false ran status whole is_short other = (refl, whole refl)
 
 -- a text that was copied is that of the outcome
-pub taken_by : (said : Result (List ℕ) Reason) (text : List ℕ) (old new : Text) → IsOkAnd said (λ s. text ≡ s) → IsTaken text old new
-    → IsOkAnd said (λ s. IsTaken s old new)
-taken_by (Ok s) text old new same taken = subst (λ (t : List ℕ). IsTaken t old new) same taken
+pub taken_by : (said : Result (List ℕ) InputsReason) (text : List ℕ) (old new : Text) → IsOkAnd said (λ s. text ≡ s) → CopiesText text old new
+    → IsOkAnd said (λ s. CopiesText s old new)
+taken_by (Ok s) text old new same taken = subst (λ (t : List ℕ). CopiesText t old new) same taken
 taken_by (Err reason) text old new same taken = same

@@ -1,28 +1,28 @@
 -- The boot that a call returns values of, and the ways in which such a call fails.
 use Rattle.std.specs.Prelude.{◌≡◌, ℕ, List, Option, Some, Result, Ok, Err}
-use Rattle.program_end.specs.Program.{Held}
-use Rattle.boot_model.specs.Boot.{Given, Told, told_boot}
-use Rattle.conservation.specs.Headline.{AllTouchedOrInOne, BlocksAreMaximal, BlocksAreWhole, NoOtherInABlock}
-use Rattle.boot_inputs.specs.Reason.{NoInputs, Reason}
+use Rattle.program_end.specs.Program.{FileContents}
+use Rattle.boot_model.specs.Boot.{InputsView, BootedView, whole_boot}
+use Rattle.conservation.specs.Headline.{AllTouchedOrInOneBlock, BlocksAreMaximal, BlocksAreWhole, NoOtherInABlock}
+use Rattle.boot_inputs.specs.Reason.{NoInputs, InputsReason}
 use Rattle.program_end.specs.declared.failure.NoResult.TheVariants as errors
-use Rattle.program_run.specs.Outcome.{given_by}
-use Rattle.program_words.specs.Words.{Wanted}
+use Rattle.program_run.specs.Outcome.{read_boot_inputs}
+use Rattle.program_words.specs.Words.{BootmemArgsView}
 
 -- `told` is what the one boot made that the words and the files' bytes determine. In it each
 -- usable frame is touched by a claim with a recorded owner, or is in exactly one block (`each`).
 -- No other frame is in a block (`others`). Each block is whole, and maximal.
-pub record IsBoot (accepted : Option Wanted) (held : Held) (told : Told) : Type 0 where
-  pub wanted : Wanted
-  pub given : Given
+pub record IsBoot (accepted : Option BootmemArgsView) (held : FileContents) (told : BootedView) : Type 0 where
+  pub wanted : BootmemArgsView
+  pub given : InputsView
   pub words : accepted ≡ Some wanted
-  pub inputs : given_by held wanted ≡ Ok given
-  pub boots : told_boot given ≡ Ok told
-  pub each : AllTouchedOrInOne given told
+  pub inputs : read_boot_inputs held wanted ≡ Ok given
+  pub boots : whole_boot given ≡ Ok told
+  pub each : AllTouchedOrInOneBlock given told
   pub others : NoOtherInABlock given told
   pub whole : BlocksAreWhole given told
   pub maximal : BlocksAreMaximal given told
 
 -- the reason is that of the outcome `said`; out of memory fits every outcome
-abbrev pub FailsAs : NoInputs → Result (List ℕ) Reason → Type 0
+abbrev pub FailsAs : NoInputs → Result (List ℕ) InputsReason → Type 0
 FailsAs (errors.Reason reason) said = said ≡ Err reason
 FailsAs errors.Memory said = Unit {0}

@@ -2,14 +2,14 @@
 use Rattle.std.specs.Prelude.{ℕ, Bool, true, if◌then◌else◌, ◌&&◌, List, [], ◌∷◌, Option, None, Result, Ok, Err}
 use Rattle.std.specs.Str.{is_utf8}
 use Rattle.bm_io.specs.MemFiles.{file_bytes}
-use Rattle.boot_inputs.specs.Reason.{Reason}
+use Rattle.boot_inputs.specs.Reason.{InputsReason}
 use Rattle.program_end.specs.declared.failure.Failure.TheVariants as failures
 use Rattle.program_end.specs.declared.failure.NoResult.TheVariants as errors
 use Rattle.program_end.specs.Line.{memory_line}
-use Rattle.program_run.specs.Line.{failure_line, program_name}
-use Rattle.program_run.specs.Outcome.{outcome}
+use Rattle.program_run.specs.Line.{bootmem_failure_line, bootmem_name}
+use Rattle.program_run.specs.Outcome.{bootmem_outcome}
 use Rattle.program_end.specs.Status.{reason_status}
-use Rattle.program_words.specs.Words.{Wanted, accepted}
+use Rattle.program_words.specs.Words.{BootmemArgsView, read_args}
 use Rattle.bootmem_c.specs.declared.crossing.Bytes.{Bytes}
 use Rattle.bootmem_c.specs.declared.crossing.File.{File}
 use Rattle.bootmem_c.specs.Lent.{lent_files, lent_words}
@@ -20,28 +20,28 @@ are_utf8 [] = true
 are_utf8 (word ∷ words) = is_utf8 word && are_utf8 words
 
 -- what the words ask for, if each is UTF-8 and they are accepted
-abbrev pub asked : List (List ℕ) → Option Wanted
-asked words = if are_utf8 words then accepted words else None
+abbrev pub read_lent_args : List (List ℕ) → Option BootmemArgsView
+read_lent_args words = if are_utf8 words then read_args words else None
 
 -- the outcome: the text that is written, or the reason why there is none
-abbrev pub outcome_of : List Bytes → List File → Result (List ℕ) Reason
-outcome_of words files = outcome (asked (lent_words words)) (file_bytes (lent_files files))
+abbrev pub outcome_of : List Bytes → List File → Result (List ℕ) InputsReason
+outcome_of words files = bootmem_outcome (read_lent_args (lent_words words)) (file_bytes (lent_files files))
 
 -- the exit status of an outcome
-abbrev pub status_said : Result (List ℕ) Reason → ℕ
-status_said (Ok text) = 0
-status_said (Err reason) = reason_status reason
+abbrev pub outcome_status : Result (List ℕ) InputsReason → ℕ
+outcome_status (Ok text) = 0
+outcome_status (Err reason) = reason_status reason
 
 -- the line of an outcome: empty for a text
-abbrev pub line_by : Option Wanted → Result (List ℕ) Reason → List ℕ
-line_by accepted (Ok text) = []
-line_by accepted (Err reason) = failure_line accepted (failures.NoResult (errors.Reason reason))
+abbrev pub outcome_line : Option BootmemArgsView → Result (List ℕ) InputsReason → List ℕ
+outcome_line read_args (Ok text) = []
+outcome_line read_args (Err reason) = bootmem_failure_line read_args (failures.NoResult (errors.Reason reason))
 
 -- the line of the call's outcome: empty for a text, and also if a word isn't UTF-8
-abbrev pub line_said : List Bytes → List File → List ℕ
-line_said words files =
-    if are_utf8 (lent_words words) then line_by (asked (lent_words words)) (outcome_of words files) else []
+abbrev pub call_line : List Bytes → List File → List ℕ
+call_line words files =
+    if are_utf8 (lent_words words) then outcome_line (read_lent_args (lent_words words)) (outcome_of words files) else []
 
 -- the line of out of memory
 abbrev pub memory_said : List ℕ
-memory_said = memory_line program_name
+memory_said = memory_line bootmem_name

@@ -8,7 +8,7 @@ use Rattle.bm_io.specs.MemFiles.{MemFileView, file_bytes}
 use Rattle.bootmem_c.specs.declared.crossing.File.{File}
 
 -- the lent files, and how many fetches failed because no file had the name
-pub record LentState : Type 0 where
+pub record LentFilesView : Type 0 where
   pub files : List MemFileView
   pub misses : ℕ
 
@@ -26,7 +26,7 @@ misses_of (Err fetch.Memory) = 0
 -- the counter of a name's faults. If the name isn't lent, it is the number of misses of all names
 -- (below 2^32). It is 2^64 - 2 for a lent name, whose fetches never fail; no counter here is
 -- greater.
-abbrev pub faults_at : LentState → List ℕ → ℕ
+abbrev pub faults_at : LentFilesView → List ℕ → ℕ
 faults_at state name = if is_some (file_bytes state.files name) then 2 ^ 64 - 2 else min state.misses (2 ^ 32)
 
 -- the name is lent, and its file contains more bytes than the limit

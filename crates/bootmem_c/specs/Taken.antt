@@ -8,16 +8,16 @@ IsFront text old new = new ≡ text ++ drop (length text) old
 
 -- `needed` is the length of the text; if the text fits, the buffer begins with it; otherwise the
 -- buffer is as it was
-pub record IsTaken (text : List ℕ) (old new : Text) : Type 0 where
+pub record CopiesText (text : List ℕ) (old new : Text) : Type 0 where
   pub needed : new.needed ≡ length text
   pub fits : length text ≤ length old.room.now → IsFront text old.room.now new.room.now
   pub short : length old.room.now < length text → new.room.now ≡ old.room.now
 
 -- the text so far, and whether memory ran out for a part of it
-pub record Written : Type 0 where
+pub record TextSinkView : Type 0 where
   pub text : List ℕ
   pub is_short : Bool
 
 -- the counter of puts that ran out of memory: at its greatest value from the first one on
-abbrev pub wants_of : Written → ℕ
+abbrev pub wants_of : TextSinkView → ℕ
 wants_of written = if written.is_short then 2 ^ 64 - 1 else 0

@@ -7,12 +7,12 @@ use Rattle.memblock_model.specs.Labels.{LabelView}
 use Rattle.memblock_model.specs.Tables.{records_of}
 use Rattle.memblock_model.specs.declared.owner.Which.TheVariants as which
 use Rattle.memblock_ranges.specs.declared.region.Region.{Region}
-use Rattle.memblock_ranges.specs.Spelling.{region_in, region_of}
+use Rattle.memblock_ranges.specs.Spelling.{decode_region, region_of}
 use Rattle.bm_base.specs.Range.{RangeView}
 use Rattle.bm_base.specs.declared.zone.Zone.{Zone}
 use Rattle.bm_base.specs.declared.zone.Zone.TheVariants as zone
-use Rattle.boot_model.specs.Boot.{Told}
-use Rattle.conservation.specs.Headline.{told_blocks}
+use Rattle.boot_model.specs.Boot.{BootedView}
+use Rattle.conservation.specs.Headline.{booted_blocks}
 use Rattle.crash_kernel.specs.declared.crash.Crash.{Crash}
 use Rattle.crash_kernel.specs.declared.crash.Crash.TheVariants as crash
 use Rattle.frame_blocks.specs.declared.block.Block.{Block}
@@ -26,7 +26,7 @@ use Rattle.bootmem_c.specs.declared.values.ZoneSpan.{ZoneSpan}
 
 -- `told` is the number of all values. The buffer begins with as many of them as it has room for,
 -- and the rest of it is as it was.
-pub record AreTaken {T : Type 0} (values old new : List T) (told : ℕ) : Type 0 where
+pub record CopiesValues {T : Type 0} (values old new : List T) (told : ℕ) : Type 0 where
   pub count : told ≡ length values
   pub front : new ≡ take (length old) values ++ drop (length values) old
 
@@ -35,7 +35,7 @@ abbrev pub run_value : RunOf ℕ → MapRun
 run_value run = record { base = run.base; size = run.size; kind = run.value }
 
 -- the runs of the map that the boot made
-abbrev pub map_values : Told → List MapRun
+abbrev pub map_values : BootedView → List MapRun
 map_values told = map run_value told.map
 
 -- one part of the crash area; base and size are 0 if there is none
@@ -70,26 +70,26 @@ area_value crash.InUse = parts_value (state_value crash.InUse) None None
 area_value crash.LowFailed = parts_value (state_value crash.LowFailed) None None
 
 -- the number of a zone (`enum zone_type`)
-abbrev pub zone_value : Zone → ℕ
-zone_value zone.Dma = 0
-zone_value zone.Dma32 = 1
-zone_value zone.Normal = 2
+abbrev pub zone_number : Zone → ℕ
+zone_number zone.Dma = 0
+zone_number zone.Dma32 = 1
+zone_number zone.Normal = 2
 
 -- a free block: its first frame, order, node and zone
 abbrev pub block_value : Block → FreeBlock
-block_value b = record { first = b.first; order = b.order; node = b.node; zone = zone_value b.zone }
+block_value b = record { first = b.first; order = b.order; node = b.node; zone = zone_number b.zone }
 
 -- the free blocks of the boot
-abbrev pub block_values : Told → List FreeBlock
-block_values told = map block_value (told_blocks told)
+abbrev pub block_values : BootedView → List FreeBlock
+block_values told = map block_value (booted_blocks told)
 
 -- the frames that a node spans in a zone: the first, the one after the last, and how many of those
 -- between are the node's; then its node and zone
 abbrev pub span_value : Span → ZoneSpan
-span_value s = record { start = s.start; end = s.end; present = s.present; node = s.node; zone = zone_value s.zone }
+span_value s = record { start = s.start; end = s.end; present = s.present; node = s.node; zone = zone_number s.zone }
 
 -- the spans of the boot
-abbrev pub zone_values : Told → List ZoneSpan
+abbrev pub zone_values : BootedView → List ZoneSpan
 zone_values told = map span_value told.spans
 
 -- a node with its domain; if the firmware's table isn't used there is none, and its number is 0
@@ -102,7 +102,7 @@ abbrev pub node_value : List ℕ → ℕ → MemoryNode
 node_value domains node = domain_value node (slice_get domains node)
 
 -- the nodes with memory of the boot
-abbrev pub node_values : Told → List MemoryNode
+abbrev pub node_values : BootedView → List MemoryNode
 node_values told = map (node_value told.nodes.domains) told.nodes.with_memory
 
 -- a record of memory: its range, its flags and its node (`struct memblock_region`)
@@ -112,12 +112,12 @@ region_value r = record { base = r.base; size = r.size; flags = r.flags; node = 
 -- the n records whose bytes begin at `place`
 abbrev pub regions_at : (ℕ → ℕ) → ℕ → ℕ → List MemoryRange
 regions_at f place zero = []
-regions_at f place (suc n) = region_value (region_in (bytes_at f place 24)) ∷ regions_at f (place + 24) n
+regions_at f place (suc n) = region_value (decode_region (bytes_at f place 24)) ∷ regions_at f (place + 24) n
 
 -- a record that the journal gives
 abbrev pub record_value : RunOf LabelView → MemoryRange
 record_value r = region_value (region_of r)
 
 -- the records of memory that the boot's journal gives
-abbrev pub memory_values : Told → List MemoryRange
+abbrev pub memory_values : BootedView → List MemoryRange
 memory_values told = map record_value (records_of which.Memory told.items)

@@ -3,22 +3,22 @@
 ghost use Rattle.std.specs.Prelude.{Some, IfOk, IfErr};
 ghost use Rattle.bm_io.specs.MemFiles.{file_bytes};
 ghost use Rattle.boot_model.specs.View.{booted_view};
-ghost use Rattle.boot_stages.specs.Boots.{TableStands};
+ghost use Rattle.boot_stages.specs.Boots.{IsStoredTable};
 ghost use Rattle.memblock_model.specs.declared.owner.Which.TheVariants as which;
-ghost use Rattle.program_run.specs.Outcome.{outcome};
-ghost use Rattle.program_words.specs.View.{wanted_view};
-ghost use Rattle.program_words.specs.Words.{accepted, texts};
+ghost use Rattle.program_run.specs.Outcome.{bootmem_outcome};
+ghost use Rattle.program_words.specs.View.{bootmem_args_view};
+ghost use Rattle.program_words.specs.Words.{read_args, bytes_of_words};
 ghost use Rattle.bootmem_c.specs.Boots.{FailsAs, IsBoot};
-ghost use Rattle.bootmem_c.specs.Call.{asked, outcome_of};
+ghost use Rattle.bootmem_c.specs.Call.{read_lent_args, outcome_of};
 ghost use Rattle.bootmem_c.specs.Lent.{lent_files, lent_words};
 
 use crate::crossing::{Bytes, File};
 use crate::lent_files::LentFiles;
-use crate::words::{NoTexts, words_in};
+use crate::words::{NoStrings, strings_of_words};
 use boot_model::Booted;
 use boot_stages::boot;
-use program_run::{NoReport, Reason, no_report, read_given};
-use program_words::{Wanted, WordError, read_words};
+use program_run::{NoReport, Reason, no_report, read_boot_inputs};
+use program_words::{BootmemArgs, ArgsError, read_args};
 use std::alloc::Global;
 
 /// Returns what the boot with these words and files made.
@@ -30,46 +30,46 @@ use std::alloc::Global;
 /// - `Memory` if this program is out of memory.
 pub fn boot_lent(alloc: Global, words: &[Bytes<'_>], files: &[File<'_>]) -> Result<Booted, NoReport>
     ensures boots { IfOk result (λ booted.
-        IsBoot (asked (lent_words words.now)) (file_bytes (lent_files files.now)) (booted_view booted)) }
+        IsBoot (read_lent_args (lent_words words.now)) (file_bytes (lent_files files.now)) (booted_view booted)) }
     ensures memory { IfOk result (λ booted.
-        TableStands which.Memory booted.journal.items booted.store booted.heads.memory) }
+        IsStoredTable which.Memory booted.journal.items booted.store booted.heads.memory) }
     ensures fails { IfErr result (λ failure. FailsAs failure (outcome_of words.now files.now)) }
 {
-    match words_in(alloc, words) {
-        Ok(texts) => boot_texts(alloc, &texts, files),
-        Err(NoTexts::NotUtf8) => Err(NoReport::Reason(Reason::Usage)),
-        Err(NoTexts::Memory) => Err(NoReport::Memory),
+    match strings_of_words(alloc, words) {
+        Ok(texts) => boot_with_strings(alloc, &texts, files),
+        Err(NoStrings::NotUtf8) => Err(NoReport::Reason(Reason::Usage)),
+        Err(NoStrings::Memory) => Err(NoReport::Memory),
     }
 }
 
 /// Returns what the boot with these words, which are UTF-8, and these files made. Errors are those
 /// of [`boot_lent`].
-fn boot_texts(alloc: Global, words: &[String], files: &[File<'_>]) -> Result<Booted, NoReport>
+fn boot_with_strings(alloc: Global, words: &[String], files: &[File<'_>]) -> Result<Booted, NoReport>
     ensures boots { IfOk result (λ booted.
-        IsBoot (accepted (texts words.now)) (file_bytes (lent_files files.now)) (booted_view booted)) }
+        IsBoot (read_args (bytes_of_words words.now)) (file_bytes (lent_files files.now)) (booted_view booted)) }
     ensures memory { IfOk result (λ booted.
-        TableStands which.Memory booted.journal.items booted.store booted.heads.memory) }
+        IsStoredTable which.Memory booted.journal.items booted.store booted.heads.memory) }
     ensures fails { IfErr result (λ failure.
-        FailsAs failure (outcome (accepted (texts words.now)) (file_bytes (lent_files files.now)))) }
+        FailsAs failure (bootmem_outcome (read_args (bytes_of_words words.now)) (file_bytes (lent_files files.now)))) }
 {
-    match read_words(alloc, words) {
-        Ok(wanted) => boot_wanted(alloc, &wanted, files),
-        Err(WordError::Usage) => Err(NoReport::Reason(Reason::Usage)),
-        Err(WordError::Memory) => Err(NoReport::Memory),
+    match read_args(alloc, words) {
+        Ok(wanted) => boot_with_args(alloc, &wanted, files),
+        Err(ArgsError::Usage) => Err(NoReport::Reason(Reason::Usage)),
+        Err(ArgsError::Memory) => Err(NoReport::Memory),
     }
 }
 
 /// Returns what the boot with these accepted words and these files made. Errors are those of
 /// [`boot_lent`].
-fn boot_wanted(alloc: Global, wanted: &Wanted<'_>, files: &[File<'_>]) -> Result<Booted, NoReport>
+fn boot_with_args(alloc: Global, wanted: &BootmemArgs<'_>, files: &[File<'_>]) -> Result<Booted, NoReport>
     ensures boots { IfOk result (λ booted.
-        IsBoot (Some (wanted_view wanted.now)) (file_bytes (lent_files files.now)) (booted_view booted)) }
+        IsBoot (Some (bootmem_args_view wanted.now)) (file_bytes (lent_files files.now)) (booted_view booted)) }
     ensures memory { IfOk result (λ booted.
-        TableStands which.Memory booted.journal.items booted.store booted.heads.memory) }
+        IsStoredTable which.Memory booted.journal.items booted.store booted.heads.memory) }
     ensures fails { IfErr result (λ failure.
-        FailsAs failure (outcome (Some (wanted_view wanted.now)) (file_bytes (lent_files files.now)))) }
+        FailsAs failure (bootmem_outcome (Some (bootmem_args_view wanted.now)) (file_bytes (lent_files files.now)))) }
 {
-    let inputs = read_given(alloc, wanted, &mut LentFiles::new(files))?;
+    let inputs = read_boot_inputs(alloc, wanted, &mut LentFiles::new(files))?;
     match boot(alloc, inputs) {
         Ok(booted) => Ok(booted),
         Err(stop) => Err(no_report(stop)),

@@ -2,7 +2,7 @@
 //! pointer and a length.
 
 ghost use Rattle.std.specs.Prelude.{◌≤◌, length};
-ghost use Rattle.bootmem_c.specs.Taken.{IsFront, IsTaken};
+ghost use Rattle.bootmem_c.specs.Taken.{IsFront, CopiesText};
 
 /// The bytes of a word that the caller passes.
 #[repr(C)]
@@ -30,8 +30,8 @@ pub struct Text<'a> {
 
 /// Copies the text to the beginning of the buffer if it fits, and sets `needed` to its length. The
 /// bytes after the text stay as they were; if the text doesn't fit, all bytes do.
-pub fn hand_over(text: &[u8], out: &mut Text<'_>)
-    ensures { IsTaken text.now out.old out.new }
+pub fn copy_text(text: &[u8], out: &mut Text<'_>)
+    ensures { CopiesText text.now out.old out.new }
 {
     out.needed = text.len();
     if text.len() <= out.room.len() {

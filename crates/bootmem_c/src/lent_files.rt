@@ -20,10 +20,10 @@ pub struct LentFiles<'a> {
 
 impl<'a> Model for LentFiles<'a> {
     ghost use Rattle.std.specs.Prelude.{◌^◌, ◌<◌};
-    ghost use Rattle.bootmem_c.specs.Fetches.{LentState};
+    ghost use Rattle.bootmem_c.specs.Fetches.{LentFilesView};
     ghost use Rattle.bootmem_c.specs.Lent.{lent_files};
 
-    ghost Value = { LentState };
+    ghost Value = { LentFilesView };
 
     ghost view = { λ s. record { files = lent_files s.files.now; misses = s.misses } };
 

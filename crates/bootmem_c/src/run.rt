@@ -2,15 +2,15 @@
 
 ghost use Rattle.std.specs.Prelude.{◌≡◌, ◌≢◌, ◌⊎◌, ℕ, IsOkAnd, List, [], false, true, Some};
 ghost use Rattle.bm_io.specs.MemFiles.{file_bytes};
-ghost use Rattle.program_run.specs.Headline.{IsReported};
+ghost use Rattle.program_run.specs.Headline.{AppendsReports};
 ghost use Rattle.bootmem_c.specs.Lent.{lent_files, lent_words};
-ghost use Rattle.bootmem_c.specs.Call.{asked, line_said, memory_said, outcome_of, status_said};
-ghost use Rattle.bootmem_c.specs.Taken.{IsTaken};
+ghost use Rattle.bootmem_c.specs.Call.{read_lent_args, call_line, memory_said, outcome_of, outcome_status};
+ghost use Rattle.bootmem_c.specs.Taken.{CopiesText};
 
-use crate::crossing::{Bytes, File, Text, hand_over};
+use crate::crossing::{Bytes, File, Text, copy_text};
 use crate::lent_files::LentFiles;
 use crate::text_sink::TextSink;
-use crate::words::{NoTexts, words_in};
+use crate::words::{NoStrings, strings_of_words};
 use program_run::run;
 use std::alloc::Global;
 
@@ -26,27 +26,27 @@ pub extern "C" fn bootmem_run(
     err: &mut Text<'_>,
 ) -> u8
     // The status is that of the one outcome that words and files determine, or 7.
-    ensures status { (result ≡ status_said (outcome_of words.now files.now)) ⊎ (result ≡ 7) }
+    ensures status { (result ≡ outcome_status (outcome_of words.now files.now)) ⊎ (result ≡ 7) }
 
     // With status 0 `out` has the text of the outcome, and the four facts of the headline hold for
     // it. With any other status `out` has the empty text.
-    ensures written { result ≡ 0 → IsOkAnd (outcome_of words.now files.now) (λ text. IsTaken text out.old out.new) }
-    ensures headline { result ≡ 0 → (text : List ℕ) × IsTaken text out.old out.new
-        × IsReported (asked (lent_words words.now)) (file_bytes (lent_files files.now)) (Some []) (Some text) }
-    ensures unwritten { result ≢ 0 → IsTaken [] out.old out.new }
+    ensures written { result ≡ 0 → IsOkAnd (outcome_of words.now files.now) (λ text. CopiesText text out.old out.new) }
+    ensures headline { result ≡ 0 → (text : List ℕ) × CopiesText text out.old out.new
+        × AppendsReports (read_lent_args (lent_words words.now)) (file_bytes (lent_files files.now)) (Some []) (Some text) }
+    ensures unwritten { result ≢ 0 → CopiesText [] out.old out.new }
 
     // With status 0 `err` has the empty text. With 7 it has the line of out of memory, and with
     // any other status the whole line of the outcome.
-    ensures silent { result ≡ 0 → IsTaken [] err.old err.new }
-    ensures line { result ≢ 0 → result ≢ 7 → IsTaken (line_said words.now files.now) err.old err.new }
-    ensures memory { result ≡ 7 → IsTaken memory_said err.old err.new }
+    ensures silent { result ≡ 0 → CopiesText [] err.old err.new }
+    ensures line { result ≢ 0 → result ≢ 7 → CopiesText (call_line words.now files.now) err.old err.new }
+    ensures memory { result ≡ 7 → CopiesText memory_said err.old err.new }
 {
     let mut report = TextSink::new(alloc);
     let mut line = TextSink::new(alloc);
     let ran = run_lent(alloc, words, files, &mut report, &mut line);
     let status = status_with(ran, &line);
-    hand_over(text_after(status, &report), out);
-    hand_over(line_after(status, &line), err);
+    copy_text(text_after(status, &report), out);
+    copy_text(line_after(status, &line), err);
     status
 }
 
@@ -62,17 +62,17 @@ fn run_lent(
     requires empty { report.old.text ≡ [] }
     requires no_line { line.old.text ≡ [] }
     requires not_short { line.old.is_short ≡ false }
-    ensures status { (result ≡ status_said (outcome_of words.now files.now)) ⊎ (result ≡ 7) }
+    ensures status { (result ≡ outcome_status (outcome_of words.now files.now)) ⊎ (result ≡ 7) }
     ensures written { result ≡ 0 → IsOkAnd (outcome_of words.now files.now) (λ text. report.new.text ≡ text) }
-    ensures headline { result ≡ 0 → IsReported
-        (asked (lent_words words.now)) (file_bytes (lent_files files.now)) (Some []) (Some report.new.text) }
+    ensures headline { result ≡ 0 → AppendsReports
+        (read_lent_args (lent_words words.now)) (file_bytes (lent_files files.now)) (Some []) (Some report.new.text) }
     ensures line { result ≢ 0 → result ≢ 7 → line.new.is_short ≡ false
-        → line.new.text ≡ line_said words.now files.now }
+        → line.new.text ≡ call_line words.now files.now }
 {
-    match words_in(alloc, words) {
+    match strings_of_words(alloc, words) {
         Ok(texts) => run(alloc, &texts, &mut LentFiles::new(files), report, line),
-        Err(NoTexts::NotUtf8) => 2,
-        Err(NoTexts::Memory) => 7,
+        Err(NoStrings::NotUtf8) => 2,
+        Err(NoStrings::Memory) => 7,
     }
 }
 

@@ -15,9 +15,9 @@ pub struct TextSink {
 }
 
 impl Model for TextSink {
-    ghost use Rattle.bootmem_c.specs.Taken.{Written};
+    ghost use Rattle.bootmem_c.specs.Taken.{TextSinkView};
 
-    ghost Value = { Written };
+    ghost Value = { TextSinkView };
 
     ghost view = { λ s. record { text = s.text.items; is_short = s.is_short } };
 }

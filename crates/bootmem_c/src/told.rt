@@ -6,17 +6,17 @@
 
 ghost use Rattle.std.specs.Prelude.{◌≡◌, ◌≢◌, ◌⊎◌, [], None, IfOk, IfErr};
 ghost use Rattle.bm_io.specs.MemFiles.{file_bytes};
-ghost use Rattle.boot_model.specs.Boot.{Told};
+ghost use Rattle.boot_model.specs.Boot.{BootedView};
 ghost use Rattle.bootmem_c.specs.Boots.{FailsAs, IsBoot};
-ghost use Rattle.bootmem_c.specs.Call.{asked, outcome_of, status_said};
+ghost use Rattle.bootmem_c.specs.Call.{read_lent_args, outcome_of, outcome_status};
 ghost use Rattle.bootmem_c.specs.Lent.{lent_files, lent_words};
-ghost use Rattle.bootmem_c.specs.Values.{AreTaken, area_value, block_values, map_values, memory_values, node_values, parts_value, zone_values};
+ghost use Rattle.bootmem_c.specs.Values.{CopiesValues, area_value, block_values, map_values, memory_values, node_values, parts_value, zone_values};
 
 use crate::boots::boot_lent;
 use crate::crossing::{Bytes, File};
 use crate::values::{
     CrashArea, FreeBlock, FreeBlocks, MapRun, MapRuns, MemoryNode, MemoryNodes, MemoryRange,
-    MemoryRanges, ZoneSpan, ZoneSpans, block_values, fill, map_values, memory_values, node_values,
+    MemoryRanges, ZoneSpan, ZoneSpans, block_values, copy_values, map_values, memory_values, node_values,
     zone_values,
 };
 use program_run::NoReport;
@@ -32,15 +32,15 @@ pub extern "C" fn bootmem_map(
     files: &[File<'_>],
     out: &mut MapRuns<'_>,
 ) -> u8
-    ensures status { (result ≡ status_said (outcome_of words.now files.now)) ⊎ (result ≡ 7) }
-    ensures runs { result ≡ 0 → (told : Told)
-        × IsBoot (asked (lent_words words.now)) (file_bytes (lent_files files.now)) told
-        × AreTaken (map_values told) out.old.room.now out.new.room.now out.new.count }
-    ensures none { result ≢ 0 → AreTaken [] out.old.room.now out.new.room.now out.new.count }
+    ensures status { (result ≡ outcome_status (outcome_of words.now files.now)) ⊎ (result ≡ 7) }
+    ensures runs { result ≡ 0 → (told : BootedView)
+        × IsBoot (read_lent_args (lent_words words.now)) (file_bytes (lent_files files.now)) told
+        × CopiesValues (map_values told) out.old.room.now out.new.room.now out.new.count }
+    ensures none { result ≢ 0 → CopiesValues [] out.old.room.now out.new.room.now out.new.count }
 {
     match map_lent(alloc, words, files) {
         Ok(runs) => {
-            out.count = fill(&runs, out.room);
+            out.count = copy_values(&runs, out.room);
             0
         }
         Err(failure) => {
@@ -60,15 +60,15 @@ pub extern "C" fn bootmem_crash(
     files: &[File<'_>],
     out: &mut CrashArea,
 ) -> u8
-    ensures status { (result ≡ status_said (outcome_of words.now files.now)) ⊎ (result ≡ 7) }
-    ensures area { result ≡ 0 → (told : Told)
-        × IsBoot (asked (lent_words words.now)) (file_bytes (lent_files files.now)) told
+    ensures status { (result ≡ outcome_status (outcome_of words.now files.now)) ⊎ (result ≡ 7) }
+    ensures area { result ≡ 0 → (told : BootedView)
+        × IsBoot (read_lent_args (lent_words words.now)) (file_bytes (lent_files files.now)) told
         × (out.new ≡ area_value told.crash) }
     ensures none { result ≢ 0 → out.new ≡ parts_value 0 None None }
 {
     match boot_lent(alloc, words, files) {
         Ok(booted) => {
-            *out = CrashArea::of(&booted.crash);
+            *out = CrashArea::crash_area_value(&booted.crash);
             0
         }
         Err(failure) => {
@@ -89,15 +89,15 @@ pub extern "C" fn bootmem_blocks(
     files: &[File<'_>],
     out: &mut FreeBlocks<'_>,
 ) -> u8
-    ensures status { (result ≡ status_said (outcome_of words.now files.now)) ⊎ (result ≡ 7) }
-    ensures blocks { result ≡ 0 → (told : Told)
-        × IsBoot (asked (lent_words words.now)) (file_bytes (lent_files files.now)) told
-        × AreTaken (block_values told) out.old.room.now out.new.room.now out.new.count }
-    ensures none { result ≢ 0 → AreTaken [] out.old.room.now out.new.room.now out.new.count }
+    ensures status { (result ≡ outcome_status (outcome_of words.now files.now)) ⊎ (result ≡ 7) }
+    ensures blocks { result ≡ 0 → (told : BootedView)
+        × IsBoot (read_lent_args (lent_words words.now)) (file_bytes (lent_files files.now)) told
+        × CopiesValues (block_values told) out.old.room.now out.new.room.now out.new.count }
+    ensures none { result ≢ 0 → CopiesValues [] out.old.room.now out.new.room.now out.new.count }
 {
     match blocks_lent(alloc, words, files) {
         Ok(blocks) => {
-            out.count = fill(&blocks, out.room);
+            out.count = copy_values(&blocks, out.room);
             0
         }
         Err(failure) => {
@@ -118,15 +118,15 @@ pub extern "C" fn bootmem_zones(
     files: &[File<'_>],
     out: &mut ZoneSpans<'_>,
 ) -> u8
-    ensures status { (result ≡ status_said (outcome_of words.now files.now)) ⊎ (result ≡ 7) }
-    ensures zones { result ≡ 0 → (told : Told)
-        × IsBoot (asked (lent_words words.now)) (file_bytes (lent_files files.now)) told
-        × AreTaken (zone_values told) out.old.room.now out.new.room.now out.new.count }
-    ensures none { result ≢ 0 → AreTaken [] out.old.room.now out.new.room.now out.new.count }
+    ensures status { (result ≡ outcome_status (outcome_of words.now files.now)) ⊎ (result ≡ 7) }
+    ensures zones { result ≡ 0 → (told : BootedView)
+        × IsBoot (read_lent_args (lent_words words.now)) (file_bytes (lent_files files.now)) told
+        × CopiesValues (zone_values told) out.old.room.now out.new.room.now out.new.count }
+    ensures none { result ≢ 0 → CopiesValues [] out.old.room.now out.new.room.now out.new.count }
 {
     match zones_lent(alloc, words, files) {
         Ok(zones) => {
-            out.count = fill(&zones, out.room);
+            out.count = copy_values(&zones, out.room);
             0
         }
         Err(failure) => {
@@ -146,15 +146,15 @@ pub extern "C" fn bootmem_memory(
     files: &[File<'_>],
     out: &mut MemoryRanges<'_>,
 ) -> u8
-    ensures status { (result ≡ status_said (outcome_of words.now files.now)) ⊎ (result ≡ 7) }
-    ensures memory { result ≡ 0 → (told : Told)
-        × IsBoot (asked (lent_words words.now)) (file_bytes (lent_files files.now)) told
-        × AreTaken (memory_values told) out.old.room.now out.new.room.now out.new.count }
-    ensures none { result ≢ 0 → AreTaken [] out.old.room.now out.new.room.now out.new.count }
+    ensures status { (result ≡ outcome_status (outcome_of words.now files.now)) ⊎ (result ≡ 7) }
+    ensures memory { result ≡ 0 → (told : BootedView)
+        × IsBoot (read_lent_args (lent_words words.now)) (file_bytes (lent_files files.now)) told
+        × CopiesValues (memory_values told) out.old.room.now out.new.room.now out.new.count }
+    ensures none { result ≢ 0 → CopiesValues [] out.old.room.now out.new.room.now out.new.count }
 {
     match memory_lent(alloc, words, files) {
         Ok(ranges) => {
-            out.count = fill(&ranges, out.room);
+            out.count = copy_values(&ranges, out.room);
             0
         }
         Err(failure) => {
@@ -174,15 +174,15 @@ pub extern "C" fn bootmem_nodes(
     files: &[File<'_>],
     out: &mut MemoryNodes<'_>,
 ) -> u8
-    ensures status { (result ≡ status_said (outcome_of words.now files.now)) ⊎ (result ≡ 7) }
-    ensures nodes { result ≡ 0 → (told : Told)
-        × IsBoot (asked (lent_words words.now)) (file_bytes (lent_files files.now)) told
-        × AreTaken (node_values told) out.old.room.now out.new.room.now out.new.count }
-    ensures none { result ≢ 0 → AreTaken [] out.old.room.now out.new.room.now out.new.count }
+    ensures status { (result ≡ outcome_status (outcome_of words.now files.now)) ⊎ (result ≡ 7) }
+    ensures nodes { result ≡ 0 → (told : BootedView)
+        × IsBoot (read_lent_args (lent_words words.now)) (file_bytes (lent_files files.now)) told
+        × CopiesValues (node_values told) out.old.room.now out.new.room.now out.new.count }
+    ensures none { result ≢ 0 → CopiesValues [] out.old.room.now out.new.room.now out.new.count }
 {
     match nodes_lent(alloc, words, files) {
         Ok(nodes) => {
-            out.count = fill(&nodes, out.room);
+            out.count = copy_values(&nodes, out.room);
             0
         }
         Err(failure) => {
@@ -195,8 +195,8 @@ pub extern "C" fn bootmem_nodes(
 /// Returns the runs of the map of the boot with these words and files. Errors are those of
 /// [`boot_lent`].
 fn map_lent(alloc: Global, words: &[Bytes<'_>], files: &[File<'_>]) -> Result<Vec<MapRun>, NoReport>
-    ensures runs { IfOk result (λ runs. (told : Told)
-        × IsBoot (asked (lent_words words.now)) (file_bytes (lent_files files.now)) told
+    ensures runs { IfOk result (λ runs. (told : BootedView)
+        × IsBoot (read_lent_args (lent_words words.now)) (file_bytes (lent_files files.now)) told
         × (runs.items ≡ map_values told)) }
     ensures fails { IfErr result (λ failure. FailsAs failure (outcome_of words.now files.now)) }
 {
@@ -211,8 +211,8 @@ fn blocks_lent(
     words: &[Bytes<'_>],
     files: &[File<'_>],
 ) -> Result<Vec<FreeBlock>, NoReport>
-    ensures blocks { IfOk result (λ blocks. (told : Told)
-        × IsBoot (asked (lent_words words.now)) (file_bytes (lent_files files.now)) told
+    ensures blocks { IfOk result (λ blocks. (told : BootedView)
+        × IsBoot (read_lent_args (lent_words words.now)) (file_bytes (lent_files files.now)) told
         × (blocks.items ≡ block_values told)) }
     ensures fails { IfErr result (λ failure. FailsAs failure (outcome_of words.now files.now)) }
 {
@@ -227,8 +227,8 @@ fn zones_lent(
     words: &[Bytes<'_>],
     files: &[File<'_>],
 ) -> Result<Vec<ZoneSpan>, NoReport>
-    ensures zones { IfOk result (λ zones. (told : Told)
-        × IsBoot (asked (lent_words words.now)) (file_bytes (lent_files files.now)) told
+    ensures zones { IfOk result (λ zones. (told : BootedView)
+        × IsBoot (read_lent_args (lent_words words.now)) (file_bytes (lent_files files.now)) told
         × (zones.items ≡ zone_values told)) }
     ensures fails { IfErr result (λ failure. FailsAs failure (outcome_of words.now files.now)) }
 {
@@ -243,8 +243,8 @@ fn nodes_lent(
     words: &[Bytes<'_>],
     files: &[File<'_>],
 ) -> Result<Vec<MemoryNode>, NoReport>
-    ensures nodes { IfOk result (λ nodes. (told : Told)
-        × IsBoot (asked (lent_words words.now)) (file_bytes (lent_files files.now)) told
+    ensures nodes { IfOk result (λ nodes. (told : BootedView)
+        × IsBoot (read_lent_args (lent_words words.now)) (file_bytes (lent_files files.now)) told
         × (nodes.items ≡ node_values told)) }
     ensures fails { IfErr result (λ failure. FailsAs failure (outcome_of words.now files.now)) }
 {
@@ -259,8 +259,8 @@ fn memory_lent(
     words: &[Bytes<'_>],
     files: &[File<'_>],
 ) -> Result<Vec<MemoryRange>, NoReport>
-    ensures memory { IfOk result (λ ranges. (told : Told)
-        × IsBoot (asked (lent_words words.now)) (file_bytes (lent_files files.now)) told
+    ensures memory { IfOk result (λ ranges. (told : BootedView)
+        × IsBoot (read_lent_args (lent_words words.now)) (file_bytes (lent_files files.now)) told
         × (ranges.items ≡ memory_values told)) }
     ensures fails { IfErr result (λ failure. FailsAs failure (outcome_of words.now files.now)) }
 {

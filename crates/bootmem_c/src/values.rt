@@ -2,7 +2,7 @@
 
 ghost use Rattle.std.specs.Prelude.{◌≡◌, ◌+◌, ◌*◌, ◌^◌, ◌<◌, IfOk, None, map};
 ghost use Rattle.phys_store.specs.Bytes.{byte_of};
-ghost use Rattle.bootmem_c.specs.Values.{AreTaken, area_value, block_value, node_value, parts_value, region_value, regions_at, run_value, span_value, state_value, zone_value};
+ghost use Rattle.bootmem_c.specs.Values.{CopiesValues, area_value, block_value, node_value, parts_value, region_value, regions_at, run_value, span_value, state_value, zone_number};
 
 use bm_base::{Memory, Range, Zone};
 use buddy_handover::Block;
@@ -137,7 +137,7 @@ pub struct MemoryRanges<'a> {
 }
 
 impl MapRun {
-    fn of(run: &Run) -> MapRun
+    fn from_map_run(run: &Run) -> MapRun
         ensures { result ≡ run_value run.now }
     {
         MapRun {
@@ -162,7 +162,7 @@ impl CrashArea {
         }
     }
 
-    pub fn of(crash: &Crash) -> CrashArea
+    pub fn crash_area_value(crash: &Crash) -> CrashArea
         ensures { result ≡ area_value crash.now }
     {
         let Crash::At { main, low } = crash else {
@@ -194,7 +194,7 @@ fn crash_state(crash: &Crash) -> u32
 
 /// Returns the number of the zone (`enum zone_type`).
 fn zone_number(zone: Zone) -> u32
-    ensures { result ≡ zone_value zone }
+    ensures { result ≡ zone_number zone }
 {
     match zone {
         Zone::Dma => 0,
@@ -204,7 +204,7 @@ fn zone_number(zone: Zone) -> u32
 }
 
 impl FreeBlock {
-    fn of(block: &Block) -> FreeBlock
+    fn from_block(block: &Block) -> FreeBlock
         ensures { result ≡ block_value block.now }
     {
         FreeBlock {
@@ -301,20 +301,20 @@ pub fn node_values(alloc: Global, nodes: &Nodes) -> Result<Vec<MemoryNode>, Memo
 pub fn map_values(alloc: Global, runs: &[Run]) -> Result<Vec<MapRun>, Memory>
     ensures { IfOk result (λ values. values.items ≡ map run_value runs.now) }
 {
-    Ok(runs.iter().map(MapRun::of).collect(alloc)?)
+    Ok(runs.iter().map(MapRun::from_map_run).collect(alloc)?)
 }
 
 /// Returns the blocks as values for C. Fails only if out of memory.
 pub fn block_values(alloc: Global, blocks: &[Block]) -> Result<Vec<FreeBlock>, Memory>
     ensures { IfOk result (λ values. values.items ≡ map block_value blocks.now) }
 {
-    Ok(blocks.iter().map(FreeBlock::of).collect(alloc)?)
+    Ok(blocks.iter().map(FreeBlock::from_block).collect(alloc)?)
 }
 
 /// Copies values to the beginning of the buffer, as many as it has room for, and returns the
 /// number of all values. The rest of the buffer stays as it was.
-pub fn fill<T: Copy>(values: &[T], room: &mut [T]) -> usize
-    ensures { AreTaken values.now room.old room.new result }
+pub fn copy_values<T: Copy>(values: &[T], room: &mut [T]) -> usize
+    ensures { CopiesValues values.now room.old room.new result }
 {
     let taken = values.len().min(room.len());
     room[..taken].copy_from_slice(&values[..taken]);

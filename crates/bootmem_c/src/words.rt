@@ -9,32 +9,32 @@ use std::alloc::{AllocError, AllocFailed, Global};
 
 /// Why reading the words failed.
 #[derive(Clone, Copy, Debug, PartialEq, Eq)]
-pub enum NoTexts {
+pub enum NoStrings {
     /// One of them isn't UTF-8.
     NotUtf8,
     /// This program is out of memory.
     Memory,
 }
 
-impl From<AllocError> for NoTexts {
+impl From<AllocError> for NoStrings {
     ghost use Rattle.std.specs.Prelude.{◌≡◌};
-    ghost use Rattle.bootmem_c.specs.declared.words.NoTexts.TheVariants as errors;
+    ghost use Rattle.bootmem_c.specs.declared.words.NoStrings.TheVariants as errors;
 
     ghost from_gives = { λ _ error. error ≡ errors.Memory };
 
-    fn from(_error: AllocError) -> NoTexts {
-        NoTexts::Memory
+    fn from(_error: AllocError) -> NoStrings {
+        NoStrings::Memory
     }
 }
 
-impl<T: Drop> From<AllocFailed<T>> for NoTexts {
+impl<T: Drop> From<AllocFailed<T>> for NoStrings {
     ghost use Rattle.std.specs.Prelude.{◌≡◌};
-    ghost use Rattle.bootmem_c.specs.declared.words.NoTexts.TheVariants as errors;
+    ghost use Rattle.bootmem_c.specs.declared.words.NoStrings.TheVariants as errors;
 
     ghost from_gives = { λ _ error. error ≡ errors.Memory };
 
-    fn from(_error: AllocFailed<T>) -> NoTexts {
-        NoTexts::Memory
+    fn from(_error: AllocFailed<T>) -> NoStrings {
+        NoStrings::Memory
     }
 }
 
@@ -42,28 +42,28 @@ impl<T: Drop> From<AllocFailed<T>> for NoTexts {
 ///
 /// # Errors
 ///
-/// - [`NoTexts::NotUtf8`] only if a word isn't UTF-8.
-/// - [`NoTexts::Memory`] if this program is out of memory.
-pub fn words_in(alloc: Global, words: &[Bytes<'_>]) -> Result<Vec<String>, NoTexts>
+/// - [`NoStrings::NotUtf8`] only if a word isn't UTF-8.
+/// - [`NoStrings::Memory`] if this program is out of memory.
+pub fn strings_of_words(alloc: Global, words: &[Bytes<'_>]) -> Result<Vec<String>, NoStrings>
     ensures texts { IfOk result (λ texts. map string_bytes texts.items ≡ lent_words words.now) }
     ensures utf8 { IfOk result (λ texts. All IsUtf8 (lent_words words.now)) }
-    ensures other { IsErrOf result NoTexts.NotUtf8 → ¬ All IsUtf8 (lent_words words.now) }
+    ensures other { IsErrOf result NoStrings.NotUtf8 → ¬ All IsUtf8 (lent_words words.now) }
 {
     let mut texts = Vec::new(alloc);
     for word in words {
-        texts.push(text_in(alloc, word.bytes)?)?;
+        texts.push(string_of_word(alloc, word.bytes)?)?;
     }
     Ok(texts)
 }
 
-/// Returns the word as a string. Errors are those of [`words_in`].
-fn text_in(alloc: Global, word: &[u8]) -> Result<String, NoTexts>
+/// Returns the word as a string. Errors are those of [`strings_of_words`].
+fn string_of_word(alloc: Global, word: &[u8]) -> Result<String, NoStrings>
     ensures text { IfOk result (λ text. string_bytes text ≡ word.now) }
     ensures utf8 { IfOk result (λ text. IsUtf8 word.now) }
-    ensures other { IsErrOf result NoTexts.NotUtf8 → ¬ IsUtf8 word.now }
+    ensures other { IsErrOf result NoStrings.NotUtf8 → ¬ IsUtf8 word.now }
 {
     let Ok(text) = str::from_utf8(word) else {
-        return Err(NoTexts::NotUtf8);
+        return Err(NoStrings::NotUtf8);
     };
     Ok(String::from_str(alloc, text)?)
 }

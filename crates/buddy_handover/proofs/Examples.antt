@@ -3,13 +3,13 @@ use Rattle.std.proofs.Common.{◌≡◌, Some, None, [], ◌∷◌, refl}
 use Rattle.memblock_model.specs.Labels.{Labels}
 use Rattle.frame_blocks.specs.Frames.{Frames}
 use Rattle.table_frames.proofs.ClaimLaws.{unclaimed_bare}
-use Rattle.buddy_handover.specs.Contents.{Contents, free}
-use Rattle.buddy_handover.specs.Handover.{freed, unclaimed}
+use Rattle.buddy_handover.specs.Contents.{BuddyView, buddy_frames}
+use Rattle.buddy_handover.specs.Handover.{free_unclaimed_frames, unclaimed_frames}
 
-abbrev some_frames : Contents
+abbrev some_frames : BuddyView
 some_frames = record { runs = record { base = 4; size = 2; value = 7 } ∷ []; spare = 0 }
 
-free_examples : (free some_frames 5 ≡ Some 7) × (free some_frames 6 ≡ None)
+free_examples : (buddy_frames some_frames 5 ≡ Some 7) × (buddy_frames some_frames 6 ≡ None)
 free_examples = (refl, refl)
 
 -- this and the next: no label, and no free frame
@@ -20,9 +20,9 @@ abbrev none_free : Frames
 none_free x = None
 
 -- without a reserved byte the frames become free, and others stay as they were
-freed_examples : (freed 4 6 7 nobody none_free 5 ≡ Some 7) × (freed 4 6 7 nobody none_free 6 ≡ None)
+freed_examples : (free_unclaimed_frames 4 6 7 nobody none_free 5 ≡ Some 7) × (free_unclaimed_frames 4 6 7 nobody none_free 6 ≡ None)
 freed_examples = (rw (unclaimed_bare nobody 5 (λ y above below. refl)) refl, refl)
 
 -- what isn't memory isn't free
-unclaimed_example : unclaimed nobody nobody 5 ≡ None
+unclaimed_example : unclaimed_frames nobody nobody 5 ≡ None
 unclaimed_example = rw (unclaimed_bare nobody 5 (λ y above below. refl)) refl

@@ -10,9 +10,9 @@ use Rattle.address_runs.specs.Edits.{NothingFrom}
 use Rattle.frame_blocks.specs.declared.block.Block.{Block}
 use Rattle.frame_blocks.specs.declared.run.TheConstants.{MAX_FRAMES}
 use Rattle.frame_blocks.specs.Frames.{Frames, IsInSet, AreFree, IsBlock, IsInBlock}
-use Rattle.frame_blocks.specs.Listed.{block_of, blocks_of, is_of, count_of}
-use Rattle.frame_blocks.specs.Picked.{IsPicked, NoneServes, picked_up, picked, first_picked}
-use Rattle.frame_blocks.specs.Buddies.{without_set, with_set, IsWithout}
+use Rattle.frame_blocks.specs.Listed.{block_of, blocks_of, is_block_of, count_blocks}
+use Rattle.frame_blocks.specs.Picked.{IsPicked, NoneServes, picked_block_from, picked_block, picked_first_frame}
+use Rattle.frame_blocks.specs.Buddies.{without_set, with_set, RemovesFrameSet}
 use Rattle.frame_blocks.proofs.GoodLaws.{up_most}
 use Rattle.frame_blocks.proofs.BlockLaws.{block_found}
 use Rattle.frame_blocks.proofs.BuddyLaws.{set_covers, without_is, with_is}
@@ -20,11 +20,11 @@ use Rattle.frame_blocks.proofs.PickLaws.{picked_is, picked_none}
 
 -- the block that the index returns is the one that is picked
 pub first_is : (f : Frames) (n : ℕ) (z : Zone) (o : ℕ) (b : Block) → NothingFrom MAX_FRAMES f → IsPicked f n z o b
-    → first_picked f n z o ≡ Some b.first
+    → picked_first_frame f n z o ≡ Some b.first
 first_is f n z o b low is = ap (option_map (λ (c : Block). c.first)) (picked_is f n z o b low is)
 
 -- if no block serves, none is picked
-pub first_none : (f : Frames) (n : ℕ) (z : Zone) (o : ℕ) → NothingFrom MAX_FRAMES f → NoneServes f n z o → first_picked f n z o ≡ None
+pub first_none : (f : Frames) (n : ℕ) (z : Zone) (o : ℕ) → NothingFrom MAX_FRAMES f → NoneServes f n z o → picked_first_frame f n z o ≡ None
 first_none f n z o low none = ap (option_map (λ (c : Block). c.first)) (picked_none f n z o low none)
 
 -- without a block of an order, none is found there
@@ -38,38 +38,38 @@ some_left p [] some = absurd (omega (arith, some))
 some_left p (b ∷ bs) some = grind (arith, some_left p bs)
 
 -- an order without a block is passed over
-pub passed_by : (f : Frames) (n : ℕ) (z : Zone) (o k : ℕ) → count_of f n z o ≡ 0 → picked_up f n z o (suc k) ≡ picked_up f n z (o + 1) k
-unfolding count_of
-passed_by f n z o k none = grind (arith, none_left (is_of n z o) (blocks_of f), length-filter (is_of n z o) (blocks_of f), none)
+pub passed_by : (f : Frames) (n : ℕ) (z : Zone) (o k : ℕ) → count_blocks f n z o ≡ 0 → picked_block_from f n z o (suc k) ≡ picked_block_from f n z (o + 1) k
+unfolding count_blocks
+passed_by f n z o k none = grind (arith, none_left (is_block_of n z o) (blocks_of f), length-filter (is_block_of n z o) (blocks_of f), none)
 
 -- an order with a block serves
-pub serves_at : (f : Frames) (n : ℕ) (z : Zone) (o k : ℕ) → 0 < count_of f n z o → IsSome (picked_up f n z o (suc k))
-unfolding count_of
+pub serves_at : (f : Frames) (n : ℕ) (z : Zone) (o k : ℕ) → 0 < count_blocks f n z o → IsSome (picked_block_from f n z o (suc k))
+unfolding count_blocks
 serves_at f n z o k some =
-    let there = some_left (is_of n z o) (blocks_of f) (rw length-filter some) in
+    let there = some_left (is_block_of n z o) (blocks_of f) (rw length-filter some) in
     grind (arith, there)
 
 first_there : (o : Option Block) → is_some (option_map (λ (c : Block). c.first) o) ≡ is_some o
 first_there o = grind arith
 
-pub serves_is : (f : Frames) (n : ℕ) (z : Zone) (o : ℕ) → is_some (first_picked f n z o) ≡ is_some (picked_up f n z o (11 - o))
-unfolding picked
-serves_is f n z o = first_there (picked_up f n z o (11 - o))
+pub serves_is : (f : Frames) (n : ℕ) (z : Zone) (o : ℕ) → is_some (picked_first_frame f n z o) ≡ is_some (picked_block_from f n z o (11 - o))
+unfolding picked_block
+serves_is f n z o = first_there (picked_block_from f n z o (11 - o))
 
 -- a set is gone from two lists of the same frames
-same_without : (f g h : Frames) (o x : ℕ) → IsWithout f g o x → ((y : ℕ) → h y ≡ g y) → IsWithout f h o x
+same_without : (f g h : Frames) (o x : ℕ) → RemovesFrameSet f g o x → ((y : ℕ) → h y ≡ g y) → RemovesFrameSet f h o x
 same_without f g h o x without same = record {
   gone = λ y in_it. same y ∙ without.gone y in_it;
   kept = λ y other. same y ∙ without.kept y other;
 }
 
 -- the runs without a set are those of the frames without it
-pub runs_without : (f : Frames) (rs : List (RunOf ℕ)) (o x : ℕ) → IsRunsOf (without_set o x f) rs → IsWithout f (value_at rs) o x
+pub runs_without : (f : Frames) (rs : List (RunOf ℕ)) (o x : ℕ) → IsRunsOf (without_set o x f) rs → RemovesFrameSet f (value_at rs) o x
 runs_without f rs o x runs = same_without f (without_set o x f) (value_at rs) o x (without_is o x f) runs.each
 
 -- a set came back: without it, the runs give the frames of before
 pub runs_with : (g : Frames) (rs : List (RunOf ℕ)) (o x n : ℕ) → ((y : ℕ) → IsInSet o x y → g y ≡ None) → IsRunsOf (with_set o x n g) rs
-    → IsWithout (value_at rs) g o x
+    → RemovesFrameSet (value_at rs) g o x
 runs_with g rs o x n held runs =
     let with = with_is o x n g held in
     record { gone = with.gone; kept = λ y other. with.kept y other ∙ sym (runs.each y) }

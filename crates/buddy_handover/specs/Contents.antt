@@ -5,10 +5,10 @@ use Rattle.frame_blocks.specs.Frames.{Frames}
 
 -- the runs of free frames, ascending, each of one node, and the number of further entries that
 -- there is room for
-pub record Contents : Type 0 where
+pub record BuddyView : Type 0 where
   pub runs : List (RunOf ℕ)
   pub spare : ℕ
 
 -- the node of each free frame, or `None`
-abbrev pub free : Contents → Frames
-free b = value_at b.runs
+abbrev pub buddy_frames : BuddyView → Frames
+buddy_frames b = value_at b.runs

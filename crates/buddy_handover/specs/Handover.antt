@@ -6,9 +6,9 @@ use Rattle.table_frames.specs.Frames.{node_of_frame, is_unclaimed}
 
 -- the frames from `first` to below `end` that are unclaimed get the node; the others stay as they
 -- are
-abbrev pub freed : ℕ → ℕ → ℕ → Labels → Frames → Frames
-freed first end node reserved f x = if (nat_le first x && nat_lt x end) && is_unclaimed reserved x then Some node else f x
+abbrev pub free_unclaimed_frames : ℕ → ℕ → ℕ → Labels → Frames → Frames
+free_unclaimed_frames first end node reserved f x = if (nat_le first x && nat_lt x end) && is_unclaimed reserved x then Some node else f x
 
 -- the node of each unclaimed frame, or `None`
-abbrev pub unclaimed : Labels → Labels → Frames
-unclaimed memory reserved x = if is_unclaimed reserved x then node_of_frame memory x else None
+abbrev pub unclaimed_frames : Labels → Labels → Frames
+unclaimed_frames memory reserved x = if is_unclaimed reserved x then node_of_frame memory x else None

@@ -9,16 +9,16 @@
 ghost use Rattle.std.specs.Prelude.{◌≡◌, ℕ, ◌+◌, ◌-◌, ◌%◌, ◌^◌, ◌<◌, ◌≤◌, max, is_some, Some, None, IsSome, [], IsOk, OnOk, OnErr, IfOk, IfErr, vec_len, vec_capacity};
 ghost use Rattle.address_runs.specs.Runs.{IsRunsOf};
 ghost use Rattle.address_runs.specs.Edits.{replace_in_range, NothingFrom};
-ghost use Rattle.frame_blocks.specs.Listed.{block_of, blocks_of, count_of};
+ghost use Rattle.frame_blocks.specs.Listed.{block_of, blocks_of, count_blocks};
 ghost use Rattle.frame_blocks.specs.Rows.{blocks_of_rows, AreRows};
 ghost use Rattle.frame_blocks.specs.Frames.{IsInSet};
-ghost use Rattle.frame_blocks.specs.Picked.{first_picked};
+ghost use Rattle.frame_blocks.specs.Picked.{picked_first_frame};
 ghost use Rattle.frame_blocks.specs.Buddies.{without_set, with_set};
-ghost use Rattle.free_areas.specs.Areas.{AreAreas};
-ghost use Rattle.buddy_handover.specs.Contents.{free};
+ghost use Rattle.free_areas.specs.Areas.{IndexesFreeBlocks};
+ghost use Rattle.buddy_handover.specs.Contents.{buddy_frames};
 
-use crate::cache::{join, split};
-use crate::runs::{cut, put, set_around};
+use crate::cache::{index_after_free, index_after_alloc};
+use crate::runs::{remove_frames, insert_frames, set_around};
 use crate::taking::Take;
 use bm_base::{Memory, Range, Zone};
 use frame_blocks::{Block, BlockRow, FrameRun, MAX_FRAMES, MAX_ORDER};
@@ -43,16 +43,16 @@ impl Model for Buddy {
     ghost use Rattle.address_runs.specs.Runs.{AreRuns, value_at};
     ghost use Rattle.address_runs.specs.Edits.{NothingFrom};
     ghost use Rattle.frame_blocks.specs.declared.run.TheConstants.{MAX_FRAMES};
-    ghost use Rattle.free_areas.specs.Areas.{AreAreas};
-    ghost use Rattle.buddy_handover.specs.Contents.{Contents};
+    ghost use Rattle.free_areas.specs.Areas.{IndexesFreeBlocks};
+    ghost use Rattle.buddy_handover.specs.Contents.{BuddyView};
 
-    ghost Value = { Contents };
+    ghost Value = { BuddyView };
 
     ghost view = { λ b. record { runs = b.runs.items; spare = b.spare } };
 
     ghost invariant = { λ b.
         (vec_len b.runs + b.spare ≤ vec_capacity b.runs) × AreRuns b.runs.items × NothingFrom MAX_FRAMES (value_at b.runs.items)
-        × IfSome b.areas (λ areas. AreAreas (value_at b.runs.items) areas) };
+        × IfSome b.areas (λ areas. IndexesFreeBlocks (value_at b.runs.items) areas) };
 }
 
 impl Buddy {
@@ -83,8 +83,8 @@ impl Buddy {
     }
 
     /// Law: no frame at or above [`MAX_FRAMES`] is free.
-    pub fn lies_low(&self)
-        ensures { NothingFrom MAX_FRAMES (free self.now) }
+    pub fn free_frames_are_below_limit(&self)
+        ensures { NothingFrom MAX_FRAMES (buddy_frames self.now) }
     {
         let _ = &self.runs; // the invariant says so
     }
@@ -118,13 +118,13 @@ impl Buddy {
     /// Out of memory, never if `spare` was 32 or more. Nothing has changed then.
     pub fn free_frames(&mut self, first: u64, count: u64, node: u32) -> Result<(), Memory>
         requires low { first + count ≤ MAX_FRAMES }
-        requires held { (x : ℕ) → first ≤ x → x < first + count → free self.old x ≡ None }
-        ensures runs { OnOk result (IsRunsOf (replace_in_range (record { base = first; size = count }) node (free self.old)) self.new.runs) }
+        requires held { (x : ℕ) → first ≤ x → x < first + count → buddy_frames self.old x ≡ None }
+        ensures runs { OnOk result (IsRunsOf (replace_in_range (record { base = first; size = count }) node (buddy_frames self.old)) self.new.runs) }
         ensures enough { 32 ≤ self.old.spare → IsOk result }
         ensures spare { OnOk result (self.new.spare ≡ max self.old.spare 2 - 2) }
         ensures err { OnErr result (self.new ≡ self.old) }
     {
-        self.note(first, count, node)
+        self.mark_free(first, count, node)
     }
 
     /// Frees `count` frames from `first` on, for node `node`, whether they were free before or
@@ -134,9 +134,9 @@ impl Buddy {
     ///
     /// Out of memory, only if there was room for fewer than two more entries. Nothing has changed
     /// then.
-    pub(crate) fn note(&mut self, first: u64, count: u64, node: u32) -> Result<(), Memory>
+    pub(crate) fn mark_free(&mut self, first: u64, count: u64, node: u32) -> Result<(), Memory>
         requires low { first + count ≤ MAX_FRAMES }
-        ensures runs { OnOk result (IsRunsOf (replace_in_range (record { base = first; size = count }) node (free self.old)) self.new.runs) }
+        ensures runs { OnOk result (IsRunsOf (replace_in_range (record { base = first; size = count }) node (buddy_frames self.old)) self.new.runs) }
         ensures memory { OnErr result (self.old.spare < 2) }
         ensures spare { OnOk result (self.new.spare ≡ max self.old.spare 2 - 2) }
         ensures err { OnErr result (self.new ≡ self.old) }
@@ -147,7 +147,7 @@ impl Buddy {
             size: count,
         };
         self.areas = None;
-        put(&mut self.runs, &frames, node);
+        insert_frames(&mut self.runs, &frames, node);
         self.spare -= ENTRIES;
         Ok(())
     }
@@ -164,27 +164,27 @@ impl Buddy {
     /// Nothing has changed after either.
     pub fn take(&mut self, node: u32, zone: Zone, order: u32) -> Result<u64, Take>
         requires { order ≤ 10 }
-        ensures first { IfOk result (λ first. first_picked (free self.old) node zone order ≡ Some first) }
-        ensures runs { IfOk result (λ first. IsRunsOf (without_set order first (free self.old)) self.new.runs) }
-        ensures none { IfErr result (λ refusal. refusal ≡ Take.NoBlock → first_picked (free self.old) node zone order ≡ None) }
-        ensures memory { IfErr result (λ refusal. refusal ≡ Take.Memory → IsSome (first_picked (free self.old) node zone order)) }
+        ensures first { IfOk result (λ first. picked_first_frame (buddy_frames self.old) node zone order ≡ Some first) }
+        ensures runs { IfOk result (λ first. IsRunsOf (without_set order first (buddy_frames self.old)) self.new.runs) }
+        ensures none { IfErr result (λ refusal. refusal ≡ Take.NoBlock → picked_first_frame (buddy_frames self.old) node zone order ≡ None) }
+        ensures memory { IfErr result (λ refusal. refusal ≡ Take.Memory → IsSome (picked_first_frame (buddy_frames self.old) node zone order)) }
         ensures err { OnErr result (self.new ≡ self.old) }
     {
-        let Ok(areas) = self.sorted() else {
-            return Err(if self.serves(node, zone, order) {
+        let Ok(areas) = self.take_or_make_index() else {
+            return Err(if self.has_block(node, zone, order) {
                 Take::Memory
             } else {
                 Take::NoBlock
             });
         };
-        let Some(block) = areas.least(node, zone, order) else {
+        let Some(block) = areas.find_picked_block(node, zone, order) else {
             self.areas = Some(areas);
             return Err(Take::NoBlock);
         };
         self.ready(ENTRIES)?;
         let behind = self.block_of(set_around(block.order, block.first).end());
-        let rest = split(areas, &block, behind, order);
-        cut(&mut self.runs, &set_around(order, block.first));
+        let rest = index_after_alloc(areas, &block, behind, order);
+        remove_frames(&mut self.runs, &set_around(order, block.first));
         self.spare -= ENTRIES;
         self.areas = rest;
         Ok(block.first)
@@ -193,9 +193,9 @@ impl Buddy {
     /// Returns whether the node and the zone have a block of `order` or a greater order. Takes no
     /// memory, and looks at all runs for each order. So it is for the result of a call that is out
     /// of memory.
-    pub fn serves(&self, node: u32, zone: Zone, order: u32) -> bool
+    pub fn has_block(&self, node: u32, zone: Zone, order: u32) -> bool
         requires { order ≤ 10 }
-        ensures { result ≡ is_some (first_picked (free self.now) node zone order) }
+        ensures { result ≡ is_some (picked_first_frame (buddy_frames self.now) node zone order) }
     {
         for at in order..MAX_ORDER + 1 {
             if self.count(node, zone, at) > 0 {
@@ -216,27 +216,27 @@ impl Buddy {
         requires small { order ≤ 10 }
         requires aligned { first % 2 ^ order ≡ 0 }
         requires low { first + 2 ^ order ≤ MAX_FRAMES }
-        requires held { (x : ℕ) → IsInSet order first x → free self.old x ≡ None }
-        ensures runs { OnOk result (IsRunsOf (with_set order first node (free self.old)) self.new.runs) }
+        requires held { (x : ℕ) → IsInSet order first x → buddy_frames self.old x ≡ None }
+        ensures runs { OnOk result (IsRunsOf (with_set order first node (buddy_frames self.old)) self.new.runs) }
         ensures err { OnErr result (self.new ≡ self.old) }
     {
         self.ready(ENTRIES)?;
         let areas = self.areas.take();
-        put(&mut self.runs, &set_around(order, first), node);
+        insert_frames(&mut self.runs, &set_around(order, first), node);
         self.spare -= ENTRIES;
         let block = frame_blocks::block_of(&self.runs, first);
-        self.areas = join(areas, block, order, first);
+        self.areas = index_after_free(areas, block, order, first);
         Ok(())
     }
 
     /// The index, which is made where there is none. It is out of the cache then.
-    fn sorted(&mut self) -> Result<Areas, Memory>
-        ensures areas { IfOk result (λ areas. AreAreas (free self.old) areas) }
+    fn take_or_make_index(&mut self) -> Result<Areas, Memory>
+        ensures areas { IfOk result (λ areas. IndexesFreeBlocks (buddy_frames self.old) areas) }
         ensures stays { self.new ≡ self.old }
     {
         match self.areas.take() {
             Some(areas) => Ok(areas),
-            None => Areas::of(*self.runs.allocator(), &self.runs),
+            None => Areas::index_free_runs(*self.runs.allocator(), &self.runs),
         }
     }
 
@@ -247,10 +247,10 @@ impl Buddy {
     ///
     /// Out of memory.
     pub fn blocks(&self) -> Result<Vec<Block>, Memory>
-        ensures list { IfOk result (λ blocks. blocks.items ≡ blocks_of (free self.now)) }
-        ensures low { NothingFrom MAX_FRAMES (free self.now) }
+        ensures list { IfOk result (λ blocks. blocks.items ≡ blocks_of (buddy_frames self.now)) }
+        ensures low { NothingFrom MAX_FRAMES (buddy_frames self.now) }
     {
-        frame_blocks::blocks(*self.runs.allocator(), &self.runs)
+        frame_blocks::blocks_of(*self.runs.allocator(), &self.runs)
     }
 
     /// Returns the same blocks as [`Buddy::blocks`], in rows: about twenty rows for each run of
@@ -260,24 +260,24 @@ impl Buddy {
     /// # Errors
     ///
     /// Out of memory.
-    pub fn rows(&self) -> Result<Vec<BlockRow>, Memory>
-        ensures blocks { IfOk result (λ rows. blocks_of_rows rows.items ≡ blocks_of (free self.now)) }
+    pub fn block_rows(&self) -> Result<Vec<BlockRow>, Memory>
+        ensures blocks { IfOk result (λ rows. blocks_of_rows rows.items ≡ blocks_of (buddy_frames self.now)) }
         ensures longest { IfOk result (λ rows. AreRows rows.items) }
     {
-        frame_blocks::rows(*self.runs.allocator(), &self.runs)
+        frame_blocks::block_rows(*self.runs.allocator(), &self.runs)
     }
 
     /// Returns the number of blocks of the node, the zone and the order (`nr_free` of `struct
     /// free_area`). Takes no memory.
     pub fn count(&self, node: u32, zone: Zone, order: u32) -> u64
-        ensures { result ≡ count_of (free self.now) node zone order }
+        ensures { result ≡ count_blocks (buddy_frames self.now) node zone order }
     {
         frame_blocks::count_blocks(&self.runs, node, zone, order)
     }
 
     /// Returns the block that has the frame, or `None` if the frame isn't free. Takes no memory.
     pub fn block_of(&self, frame: u64) -> Option<Block>
-        ensures { result ≡ block_of (free self.now) frame }
+        ensures { result ≡ block_of (buddy_frames self.now) frame }
     {
         frame_blocks::block_of(&self.runs, frame)
     }

@@ -3,8 +3,8 @@
 ghost use Rattle.std.specs.Prelude.{◌≡◌, ℕ, ◌+◌, ◌^◌, ◌<◌, ◌≤◌, Some, IfSome};
 ghost use Rattle.frame_blocks.specs.Frames.{Frames, IsBlock, IsInBlock};
 ghost use Rattle.frame_blocks.specs.Listed.{block_of};
-ghost use Rattle.frame_blocks.specs.Buddies.{IsWithout};
-ghost use Rattle.free_areas.specs.Areas.{AreAreas};
+ghost use Rattle.frame_blocks.specs.Buddies.{RemovesFrameSet};
+ghost use Rattle.free_areas.specs.Areas.{IndexesFreeBlocks};
 
 use frame_blocks::{Block, MAX_FRAMES};
 use free_areas::Areas;
@@ -12,14 +12,14 @@ use free_areas::Areas;
 /// Returns the index after the first `2^order` frames of `block` have left it, or `None` if there
 /// is no memory for it. `behind` must be the block that has the frame after `block`, or `None` if
 /// that frame isn't free.
-pub fn split(areas: Areas, block: &Block, behind: Option<Block>, order: u32) -> Option<Areas>
+pub fn index_after_alloc(areas: Areas, block: &Block, behind: Option<Block>, order: u32) -> Option<Areas>
     requires small { block.now.order ≤ 10 }
     requires low { block.now.first < MAX_FRAMES }
-    ensures { IfSome result (λ rest. (f g : Frames) → AreAreas f areas → IsWithout f g order block.now.first → IsBlock f block.now →
-        order ≤ block.now.order → behind ≡ block_of f (block.now.first + 2 ^ block.now.order) → AreAreas g rest) }
+    ensures { IfSome result (λ rest. (f g : Frames) → IndexesFreeBlocks f areas → RemovesFrameSet f g order block.now.first → IsBlock f block.now →
+        order ≤ block.now.order → behind ≡ block_of f (block.now.first + 2 ^ block.now.order) → IndexesFreeBlocks g rest) }
 {
     let mut areas = areas;
-    match areas.split(block, behind, order, block.first) {
+    match areas.split_block(block, behind, order, block.first) {
         Ok(()) => Some(areas),
         Err(_) => None,
     }
@@ -27,15 +27,15 @@ pub fn split(areas: Areas, block: &Block, behind: Option<Block>, order: u32) -> 
 
 /// Returns the index after `2^order` frames from `frame` on have come back into `block`, or `None`
 /// if there was no index or no block, or if there is no memory for it.
-pub fn join(areas: Option<Areas>, block: Option<Block>, order: u32, frame: u64) -> Option<Areas>
+pub fn index_after_free(areas: Option<Areas>, block: Option<Block>, order: u32, frame: u64) -> Option<Areas>
     requires small { IfSome block (λ block. block.order ≤ 10) }
     requires low { frame < MAX_FRAMES }
-    ensures { IfSome result (λ all. (f g : Frames) → IfSome areas (λ areas. AreAreas g areas) → IsWithout f g order frame →
-        IfSome block (λ block. IsBlock f block × IsInBlock block frame × (order ≤ block.order)) → AreAreas f all) }
+    ensures { IfSome result (λ all. (f g : Frames) → IfSome areas (λ areas. IndexesFreeBlocks g areas) → RemovesFrameSet f g order frame →
+        IfSome block (λ block. IsBlock f block × IsInBlock block frame × (order ≤ block.order)) → IndexesFreeBlocks f all) }
 {
     let mut areas = areas?;
     let block = block?;
-    match areas.join(&block, order, frame) {
+    match areas.merge_block(&block, order, frame) {
         Ok(()) => Some(areas),
         Err(_) => None,
     }

@@ -5,11 +5,11 @@
 
 ghost use Rattle.std.specs.Prelude.{◌≡◌, ℕ, ◌+◌, ◌*◌, ◌^◌, ◌<◌, ◌≤◌, IfOk};
 ghost use Rattle.address_runs.specs.Runs.{value_at};
-ghost use Rattle.memblock_ranges.specs.Tables.{list_in};
+ghost use Rattle.memblock_ranges.specs.Tables.{records_of_head};
 ghost use Rattle.table_frames.specs.Frames.{free_node_in, IsPassed};
 ghost use Rattle.table_frames.specs.Tables.{HasRecords, AreWholeFrames};
-ghost use Rattle.buddy_handover.specs.Contents.{free};
-ghost use Rattle.buddy_handover.specs.Handover.{freed};
+ghost use Rattle.buddy_handover.specs.Contents.{buddy_frames};
+ghost use Rattle.buddy_handover.specs.Handover.{free_unclaimed_frames};
 
 use crate::buddy::Buddy;
 use bm_base::{FRAME_SIZE, Memory};
@@ -17,7 +17,7 @@ use frame_blocks::MAX_FRAMES;
 use memblock_ranges::{Head, Heads};
 use phys_store::Store;
 use std::alloc::Global;
-use table_frames::{frames_at, next_claim};
+use table_frames::{frames_of_record, next_claimed_frames};
 
 /// Returns the free frames by the bytes of both tables: all frames that are memory and have no
 /// reserved byte, each with the node of its memory record. The memory records must be whole frames
@@ -28,15 +28,15 @@ use table_frames::{frames_at, next_claim};
 /// Out of memory.
 pub fn hand_over(alloc: Global, store: &Store, heads: &Heads) -> Result<Buddy, Memory>
     requires memory { HasRecords store.now heads.now.memory (FRAME_SIZE * MAX_FRAMES) }
-    requires whole { AreWholeFrames (list_in store.now heads.now.memory) }
+    requires whole { AreWholeFrames (records_of_head store.now heads.now.memory) }
     requires reserved { HasRecords store.now heads.now.reserved (2 ^ 64) }
-    ensures { IfOk result (λ buddy. (frame : ℕ) → free buddy frame ≡
-        free_node_in (value_at (list_in store.now heads.now.memory)) (value_at (list_in store.now heads.now.reserved)) frame) }
+    ensures { IfOk result (λ buddy. (frame : ℕ) → buddy_frames buddy frame ≡
+        free_node_in (value_at (records_of_head store.now heads.now.memory)) (value_at (records_of_head store.now heads.now.reserved)) frame) }
 {
     let mut buddy = Buddy::new(alloc);
     let mut next = 0;
     for i in 0..heads.memory.count {
-        let frames = frames_at(store, &heads.memory, i);
+        let frames = frames_of_record(store, &heads.memory, i);
         if let Some(node) = frames.node {
             next = free_unclaimed(
                 &mut buddy,
@@ -69,20 +69,20 @@ fn free_unclaimed(
 ) -> Result<u64, Memory>
     requires table { HasRecords store.now reserved.now (2 ^ 64) }
     requires index { index ≤ reserved.now.count }
-    requires passed { IsPassed (list_in store.now reserved.now) index first }
+    requires passed { IsPassed (records_of_head store.now reserved.now) index first }
     requires order { first ≤ end }
     requires low { end ≤ MAX_FRAMES }
     ensures free { IfOk result (λ next. (x : ℕ) →
-        free buddy.new x ≡ freed first end node (value_at (list_in store.now reserved.now)) (free buddy.old) x) }
+        buddy_frames buddy.new x ≡ free_unclaimed_frames first end node (value_at (records_of_head store.now reserved.now)) (buddy_frames buddy.old) x) }
     ensures index { IfOk result (λ next. next ≤ reserved.now.count) }
-    ensures passed { IfOk result (λ next. IsPassed (list_in store.now reserved.now) next end) }
+    ensures passed { IfOk result (λ next. IsPassed (records_of_head store.now reserved.now) next end) }
 {
     let mut next = index;
     let mut at = first;
     while at < end {
-        let claim = next_claim(store, reserved, next, at);
+        let claim = next_claimed_frames(store, reserved, next, at);
         next = claim.index;
-        buddy.note(at, claim.first.min(end) - at, node)?;
+        buddy.mark_free(at, claim.first.min(end) - at, node)?;
         at = claim.end.min(end);
     }
     Ok(next)

@@ -3,7 +3,7 @@
 //!
 //! [`hand_over`] reads memblock's two tables from the bytes in which they lie, in one pass. It
 //! frees each frame that is memory, has a node, and has no reserved byte. The result is a
-//! [`Buddy`]: the free frames, each with its node. [`Buddy::blocks`], [`Buddy::rows`],
+//! [`Buddy`]: the free frames, each with its node. [`Buddy::blocks`], [`Buddy::block_rows`],
 //! [`Buddy::count`] and [`Buddy::block_of`] return its blocks (`frame_blocks`).
 //!
 //! After the handover [`Buddy::free_frames`] frees more frames, [`Buddy::take`] allocates a block,

@@ -15,7 +15,7 @@ use run_edits::{Replace, Uncover, amend};
 
 /// Makes the frames of the range free, for node `node`, whatever they were. An empty range changes
 /// nothing. Takes no memory, and looks only at runs that meet or touch the range.
-pub fn put(runs: &mut Vec<FrameRun>, frames: &Range, node: u32)
+pub fn insert_frames(runs: &mut Vec<FrameRun>, frames: &Range, node: u32)
     requires low { frames.now.base + frames.now.size ≤ MAX_FRAMES }
     requires runs { AreRuns runs.old.items }
     requires within { NothingFrom MAX_FRAMES (value_at runs.old.items) }
@@ -33,7 +33,7 @@ pub fn put(runs: &mut Vec<FrameRun>, frames: &Range, node: u32)
 
 /// Makes the frames of the range not free. The range must not be empty. Takes no memory, and looks
 /// only at runs that meet or touch the range.
-pub fn cut(runs: &mut Vec<FrameRun>, frames: &Range)
+pub fn remove_frames(runs: &mut Vec<FrameRun>, frames: &Range)
     requires some { 0 < frames.now.size }
     requires runs { AreRuns runs.old.items }
     requires within { NothingFrom MAX_FRAMES (value_at runs.old.items) }

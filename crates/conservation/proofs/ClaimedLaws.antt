@@ -12,16 +12,16 @@ use Rattle.memblock_model.specs.Items.{Owners, no_owners, owner_of, owners_after
 use Rattle.memblock_model.specs.declared.owner.Owner.{Owner}
 use Rattle.memblock_model.specs.declared.item.Item.{Item}
 use Rattle.memblock_model.specs.declared.item.Item.TheVariants as item
-use Rattle.conservation.specs.Claimed.{decides, IsRecorded, IsTouched, IsUntouched}
+use Rattle.conservation.specs.Claimed.{decides_owner, IsRecorded, IsTouched, IsUntouched}
 
 -- where an owner comes from: it was there before the items and none of them decides, or one of
 -- them is the claim
 abbrev pub ComesFrom : Owners → List Item → ℕ → Owner → Type 0
-ComesFrom f items x who = ((f x ≡ Some who) × (list_any (λ i. decides i x) items ≡ false)) ⊎ IsRecorded items x who
+ComesFrom f items x who = ((f x ≡ Some who) × (list_any (λ i. decides_owner i x) items ≡ false)) ⊎ IsRecorded items x who
 
 -- the owner that the first item gives to the byte, if no later item decides
 first : (f : Owners) (i : Item) (items : List Item) (x : ℕ) (who : Owner) → owners_after f i x ≡ Some who
-    → (list_any (λ j. decides j x) items ≡ false) → ComesFrom f (i ∷ items) x who
+    → (list_any (λ j. decides_owner j x) items ≡ false) → ComesFrom f (i ∷ items) x who
 first f (item.Claim range owner) items x who has none =
     elim (cases_Bool (covers range x)) as (λ _. ComesFrom f (item.Claim range owner ∷ items) x who) [
       | inl inside ↦

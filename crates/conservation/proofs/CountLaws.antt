@@ -7,12 +7,12 @@ use Rattle.address_runs.specs.Edits.{NothingFrom}
 use Rattle.frame_blocks.specs.declared.block.Block.{Block}
 use Rattle.frame_blocks.specs.declared.run.TheConstants.{MAX_FRAMES}
 use Rattle.frame_blocks.specs.Frames.{Frames, IsBlock, IsInBlock, IsInSet}
-use Rattle.frame_blocks.specs.Listed.{AscendFrom, Lists, block_around, block_for, block_of, blocks_of, order_up_to}
+use Rattle.frame_blocks.specs.Listed.{AscendFrom, ListsBlock, block_around, block_for, block_of, blocks_of, greatest_free_order}
 use Rattle.frame_blocks.proofs.BlockLaws.{block_found, found_block, listed_ascends, listed_complete, listed_sound}
 use Rattle.frame_blocks.proofs.SetLaws.{in_set, set_from, set_until}
 use Rattle.frame_blocks.proofs.PickLaws.{ascend_behind}
 use Rattle.table_frames.proofs.TakeLaws.{both_tests, tests_both}
-use Rattle.conservation.specs.Headline.{has_frame, blocks_with, with_buddy}
+use Rattle.conservation.specs.Headline.{has_frame, count_blocks_with, block_with_buddy}
 
 -- the frames of an aligned block are those of its set
 pub in_block : (b : Block) (frame : ℕ) → b.first % 2 ^ b.order ≡ 0 → has_frame b frame ≡ true → IsInBlock b frame
@@ -28,7 +28,7 @@ in_range order first frame same =
     (set_until (2 ^ order) first frame (pow_pos order) same)
 
 -- the frames of the set of twice as many are those of a block and its buddy
-pub in_buddies : (b : Block) (frame : ℕ) → IsInSet (b.order + 1) b.first frame → has_frame (with_buddy b) frame ≡ true
+pub in_buddies : (b : Block) (frame : ℕ) → IsInSet (b.order + 1) b.first frame → has_frame (block_with_buddy b) frame ≡ true
 in_buddies b frame same = in_range (b.order + 1) b.first frame same
 
 -- one more block counts as one if it passes the test, else not at all
@@ -37,14 +37,14 @@ counted : (p : Block → Bool) (c : Block) (cs : List Block) (passes : Bool) →
 counted p c cs passes is = sum_by-cons (λ (d : Block). cond (p d) 1 0) c cs ∙ ap (λ t. cond t 1 0 + count_by p cs) is
 
 -- blocks of which none passes the test
-none_counted : (p : Block → Bool) (bs : List Block) → ((b : Block) → Lists bs b → p b ≡ false) → count_by p bs ≡ 0
+none_counted : (p : Block → Bool) (bs : List Block) → ((b : Block) → ListsBlock bs b → p b ≡ false) → count_by p bs ≡ 0
 none_counted p [] fails = refl
 none_counted p (c ∷ cs) fails =
     counted p c cs false (fails c (inl refl)) ∙ ap (λ n. 0 + n) (none_counted p cs (λ b listed. fails b (inr listed)))
 
 -- blocks of which exactly one passes the test
-one_counted : (p : Block → Bool) (b : Block) (from : ℕ) (bs : List Block) → AscendFrom from bs → Lists bs b → p b ≡ true
-    → ((c : Block) → Lists bs c → p c ≡ true → c ≡ b) → count_by p bs ≡ 1
+one_counted : (p : Block → Bool) (b : Block) (from : ℕ) (bs : List Block) → AscendFrom from bs → ListsBlock bs b → p b ≡ true
+    → ((c : Block) → ListsBlock bs c → p c ≡ true → c ≡ b) → count_by p bs ≡ 1
 one_counted p b from [] ascend listed holds only = absurd listed
 one_counted p b from (c ∷ cs) ascend (inl same) holds only =
     counted p c cs true (ap p same ∙ holds) ∙ ap (λ n. 1 + n) (none_counted p cs (λ d in_rest. false_from_ne_true (p d) (λ passes.
@@ -59,20 +59,20 @@ one_counted p b from (c ∷ cs) ascend (inr in_rest) holds only =
     ∙ ap (λ n. 0 + n) (one_counted p b (c.first + 1) cs ascend.1 in_rest holds (λ d listed. only d (inr listed)))
 
 -- a frame of a block is free, with the block's node
-pub free_inside : (f : Frames) (b : Block) (frame : ℕ) → Lists (blocks_of f) b → has_frame b frame ≡ true → f frame ≡ Some b.node
+pub free_inside : (f : Frames) (b : Block) (frame : ℕ) → ListsBlock (blocks_of f) b → has_frame b frame ≡ true → f frame ≡ Some b.node
 free_inside f b frame listed inside =
     let block = listed_sound f b listed in
     (block.good frame (in_block b frame block.aligned inside)).0
 
 -- a frame that isn't free is in no block
-pub no_block_with : (f : Frames) (frame : ℕ) → f frame ≡ None → blocks_with (blocks_of f) frame ≡ 0
+pub no_block_with : (f : Frames) (frame : ℕ) → f frame ≡ None → count_blocks_with (blocks_of f) frame ≡ 0
 no_block_with f frame none = none_counted (λ b. has_frame b frame) (blocks_of f) (λ b listed.
     false_from_ne_true (has_frame b frame) (λ inside. cc (sym none ∙ free_inside f b frame listed inside)))
 
 -- a free frame is in exactly one block
-pub one_block_with : (f : Frames) (frame node : ℕ) → NothingFrom MAX_FRAMES f → f frame ≡ Some node → blocks_with (blocks_of f) frame ≡ 1
+pub one_block_with : (f : Frames) (frame node : ℕ) → NothingFrom MAX_FRAMES f → f frame ≡ Some node → count_blocks_with (blocks_of f) frame ≡ 1
 one_block_with f frame node none free =
-    let b : Block = block_around (order_up_to f frame node 10) frame node in
+    let b : Block = block_around (greatest_free_order f frame node 10) frame node in
     let made : block_of f frame ≡ Some b = ap (block_for f frame) free in
     let found = block_found f frame b made in
     let aligned = found.0.aligned in
@@ -85,9 +85,9 @@ one_block_with f frame node none free =
     cc (sym same ∙ made)))
 
 -- a frame in a block is free
-some_free : (f : Frames) (frame : ℕ) (o : Option ℕ) → f frame ≡ o → 0 < blocks_with (blocks_of f) frame → (node : ℕ) × (f frame ≡ Some node)
+some_free : (f : Frames) (frame : ℕ) (o : Option ℕ) → f frame ≡ o → 0 < count_blocks_with (blocks_of f) frame → (node : ℕ) × (f frame ≡ Some node)
 some_free f frame None is some = (let none = no_block_with f frame is in absurd (omega (arith, some, none)))
 some_free f frame (Some node) is some = (node, is)
 
-pub free_with_block : (f : Frames) (frame : ℕ) → 0 < blocks_with (blocks_of f) frame → (node : ℕ) × (f frame ≡ Some node)
+pub free_with_block : (f : Frames) (frame : ℕ) → 0 < count_blocks_with (blocks_of f) frame → (node : ℕ) × (f frame ≡ Some node)
 free_with_block f frame some = some_free f frame (f frame) refl some

@@ -13,14 +13,14 @@ use Rattle.memblock_model.specs.declared.item.Item.TheVariants as item
 use Rattle.frame_blocks.specs.declared.block.Block.{Block}
 use Rattle.frame_blocks.specs.declared.run.TheConstants.{MAX_FRAMES}
 use Rattle.frame_blocks.specs.Frames.{Frames}
-use Rattle.frame_blocks.specs.Listed.{Lists, blocks_of}
+use Rattle.frame_blocks.specs.Listed.{ListsBlock, blocks_of}
 use Rattle.frame_blocks.proofs.BlockLaws.{listed_complete, listed_sound}
-use Rattle.page_alloc.specs.Pages.{State, begun}
-use Rattle.boot_model.specs.Boot.{Given, Told}
-use Rattle.conservation.specs.ByMap.{IsUsableBy}
+use Rattle.page_alloc.specs.Pages.{PageState, first_page_state}
+use Rattle.boot_model.specs.Boot.{InputsView, BootedView}
+use Rattle.conservation.specs.ByMap.{IsUsableByMap}
 use Rattle.conservation.specs.Claimed.{IsRecorded, IsTouched, IsUntouched}
-use Rattle.conservation.specs.Headline.{AllTouchedOrInOne, BlocksAreMaximal, BlocksAreWhole, IsFreeFor, IsMaximal, IsUsable, IsWhole, NoOtherInABlock, blocks_with, has_frame, with_buddy}
-use Rattle.conservation.specs.Paged.{AllInOneOrHeld, NoOtherInOneOrHeld}
+use Rattle.conservation.specs.Headline.{AllTouchedOrInOneBlock, BlocksAreMaximal, BlocksAreWhole, IsFreeFor, IsMaximal, IsUsable, IsWhole, NoOtherInABlock, count_blocks_with, has_frame, block_with_buddy}
+use Rattle.conservation.specs.Paged.{AllInOneBlockOrHeld, NoOtherInABlockOrHeld}
 use Rattle.conservation.proofs.CountLaws.{no_block_with, one_block_with}
 
 -- this and the next two: a byte of frame 4 and one of frame 5 are claimed, and the claim of frame
@@ -67,28 +67,28 @@ has_examples = (refl, refl, refl, refl)
 
 -- frame 7 is in one of the blocks and frame 5 in none; the frames of a block that is listed twice
 -- are in two
-with_examples : (blocks_with (one ∷ (two ∷ [])) 7 ≡ 1) × (blocks_with (one ∷ (two ∷ [])) 5 ≡ 0) × (blocks_with (two ∷ (two ∷ [])) 6 ≡ 2)
+with_examples : (count_blocks_with (one ∷ (two ∷ [])) 7 ≡ 1) × (count_blocks_with (one ∷ (two ∷ [])) 5 ≡ 0) × (count_blocks_with (two ∷ (two ∷ [])) 6 ≡ 2)
 with_examples = (refl, refl, refl)
 
 -- the buddy of a block lies below it or above it
-buddy_examples : (with_buddy two ≡ record { order = 2; first = 4; node = 0; zone = zone.Dma })
-    × (with_buddy one ≡ record { order = 1; first = 4; node = 0; zone = zone.Dma })
+buddy_examples : (block_with_buddy two ≡ record { order = 2; first = 4; node = 0; zone = zone.Dma })
+    × (block_with_buddy one ≡ record { order = 1; first = 4; node = 0; zone = zone.Dma })
 buddy_examples = (refl, refl)
 
 -- this and the next: a block whose first frame isn't a multiple of its number of frames isn't
 -- whole, nor is a block of order 11
-odd_example : (given : Given) (items : List Item) → IsWhole given items (record { order = 1; first = 5; node = 0; zone = zone.Dma }) → ⊥
+odd_example : (given : InputsView) (items : List Item) → IsWhole given items (record { order = 1; first = 5; node = 0; zone = zone.Dma }) → ⊥
 odd_example given items whole = let wrong : 1 ≡ 0 = whole.aligned in absurd (omega (arith, wrong))
 
-great_example : (given : Given) (items : List Item) → IsWhole given items (record { order = 11; first = 0; node = 0; zone = zone.Dma }) → ⊥
+great_example : (given : InputsView) (items : List Item) → IsWhole given items (record { order = 11; first = 0; node = 0; zone = zone.Dma }) → ⊥
 great_example given items whole = let wrong : 11 ≤ 10 = whole.small in absurd (omega (arith, wrong))
 
 -- this and the next: a block of the greatest order is maximal, and so is one whose buddy is
 -- touched
-greatest_example : (given : Given) (items : List Item) → IsMaximal given items (record { order = 10; first = 0; node = 0; zone = zone.Dma })
+greatest_example : (given : InputsView) (items : List Item) → IsMaximal given items (record { order = 10; first = 0; node = 0; zone = zone.Dma })
 greatest_example given items less = absurd (omega (arith, less))
 
-touched_buddy_example : (given : Given) → IsMaximal given journal one
+touched_buddy_example : (given : InputsView) → IsMaximal given journal one
 touched_buddy_example given less all = five_not_untouched (all 5 refl).untouched
 
 -- a map of two runs: RAM, and then a reserved one
@@ -96,19 +96,19 @@ abbrev two_runs : List (RunOf ℕ)
 two_runs = record { base = 0x1000; size = 0x1000; value = 1 } ∷ (record { base = 0x2000; size = 0x1000; value = 2 } ∷ [])
 
 -- frame 1 is usable by this map
-usable_by_runs : IsUsableBy (2 ^ 46) two_runs 1
+usable_by_runs : IsUsableByMap (2 ^ 46) two_runs 1
 usable_by_runs = (omega arith, λ x inside. grind (arith, nat_tests))
 
 -- frame 2 isn't usable, since it is reserved
-reserved_by_runs : IsUsableBy (2 ^ 46) two_runs 2 → ⊥
+reserved_by_runs : IsUsableByMap (2 ^ 46) two_runs 2 → ⊥
 reserved_by_runs usable = let wrong : false ≡ true = usable.1 0x2000 refl in cc wrong
 
 -- the frame at 64 TiB isn't usable, since that is the limit of physical addresses
-out_of_reach : (map : List (RunOf ℕ)) → IsUsableBy (2 ^ 46) map 17179869184 → ⊥
+out_of_reach : (map : List (RunOf ℕ)) → IsUsableByMap (2 ^ 46) map 17179869184 → ⊥
 out_of_reach map usable = let low = usable.0 in absurd (omega (arith, low))
 
 -- a boot that reports these items and these free frames, whatever else it reports
-abbrev telling : Told → List Item → Frames → Told
+abbrev telling : BootedView → List Item → Frames → BootedView
 telling told items free = record told { items = items; free = free }
 
 -- frames 4 and 5 are memory of node 1
@@ -124,23 +124,23 @@ five_alone : (node : ℕ) → NothingFrom MAX_FRAMES (five node)
 five_alone node frame far = let other : (frame == 5) ≡ false = grind (arith, nat_tests) in rw other refl
 
 -- a boot is refused if a usable frame is untouched and in no block
-lost_frame : (given : Given) (told : Told) → IsUsable given 4 → AllTouchedOrInOne given (telling told pair_of_node_one (five 1)) → ⊥
+lost_frame : (given : InputsView) (told : BootedView) → IsUsable given 4 → AllTouchedOrInOneBlock given (telling told pair_of_node_one (five 1)) → ⊥
 lost_frame given told usable all = elim (all 4 usable) as (λ _. ⊥) [
   | inl touched ↦ cc (touched.0.owned)
   | inr in_one ↦ (let none = no_block_with (five 1) 4 refl in omega (arith, none, in_one.1))
 ]
 
 -- a boot is refused if a claim touches a frame of a block
-handed_claim : (given : Given) (told : Told) → NoOtherInABlock given (telling told journal (five 1)) → ⊥
+handed_claim : (given : InputsView) (told : BootedView) → NoOtherInABlock given (telling told journal (five 1)) → ⊥
 handed_claim given told none =
-    let count : blocks_with (blocks_of (five 1)) 5 ≡ 1 = one_block_with (five 1) 5 1 (five_alone 1) refl in
+    let count : count_blocks_with (blocks_of (five 1)) 5 ≡ 1 = one_block_with (five 1) 5 1 (five_alone 1) refl in
     five_not_untouched (none 5 (omega (arith, count))).1
 
 -- frame 5 is a block by itself
 abbrev five_block : ℕ → Block
 five_block node = record { order = 0; first = 5; node = node; zone = zone.Dma }
 
-five_listed : (node : ℕ) → Lists (blocks_of (five node)) (five_block node)
+five_listed : (node : ℕ) → ListsBlock (blocks_of (five node)) (five_block node)
 five_listed node = listed_complete (five node) (five_block node) (five_alone node) (record {
   small = omega arith;
   aligned = refl;
@@ -149,14 +149,14 @@ five_listed node = listed_complete (five node) (five_block node) (five_alone nod
 })
 
 -- frame 5 as a block of another node than its memory's is refused
-other_node : (given : Given) (told : Told) → BlocksAreWhole given (telling told pair_of_node_one (five 0)) → ⊥
+other_node : (given : InputsView) (told : BootedView) → BlocksAreWhole given (telling told pair_of_node_one (five 0)) → ⊥
 other_node given told whole =
     let same : Some 1 ≡ Some 0 = ((whole (five_block 0) (five_listed 0)).frames 5 refl).node 0x5000 refl in
     cc same
 
 -- the two frames are free for the set of frame 5 and its buddy
-pair_free : (given : Given) (frame : ℕ) → 4 ≤ frame → frame < 6 → IsUsable given frame → zone_of frame ≡ zone.Dma
-    → IsFreeFor given pair_of_node_one (with_buddy (five_block 1)) frame
+pair_free : (given : InputsView) (frame : ℕ) → 4 ≤ frame → frame < 6 → IsUsable given frame → zone_of frame ≡ zone.Dma
+    → IsFreeFor given pair_of_node_one (block_with_buddy (five_block 1)) frame
 pair_free given frame above below usable low = record {
   usable = usable;
   untouched = λ x inside. refl;
@@ -166,11 +166,11 @@ pair_free given frame above below usable low = record {
 }
 
 -- frame 5 as a block by itself is refused, since its buddy is free too
-half_alone : (given : Given) (told : Told) → IsUsable given 4 → IsUsable given 5
+half_alone : (given : InputsView) (told : BootedView) → IsUsable given 4 → IsUsable given 5
     → BlocksAreMaximal given (telling told pair_of_node_one (five 1)) → ⊥
 half_alone given told four_usable five_usable maximal =
     maximal (five_block 1) (five_listed 1) (omega arith) (λ frame inside.
-    elim (cases_Bool (frame == 4)) as (λ _. IsFreeFor given pair_of_node_one (with_buddy (five_block 1)) frame) [
+    elim (cases_Bool (frame == 4)) as (λ _. IsFreeFor given pair_of_node_one (block_with_buddy (five_block 1)) frame) [
       | inl lower ↦
           (let is : frame ≡ 4 = grind (arith, nat_tests) in
           rw is (pair_free given 4 (omega arith) (omega arith) four_usable refl))
@@ -180,17 +180,17 @@ half_alone given told four_usable five_usable maximal =
     ])
 
 -- a boot that reports these frames as handed over, and this state after the page script
-abbrev paged : Told → Frames → State → Told
+abbrev paged : BootedView → Frames → PageState → BootedView
 paged told free after = record told { free = free; after = after }
 
 -- a frame that was handed over and is afterwards in no block and not held is refused
-lost_page : (told : Told) → AllInOneOrHeld (paged told (five 1) (begun (λ frame. None))) → ⊥
+lost_page : (told : BootedView) → AllInOneBlockOrHeld (paged told (five 1) (first_page_state (λ frame. None))) → ⊥
 lost_page told all = elim (all 5 1 refl) as (λ _. ⊥) [
   | inl in_block ↦ cc ((in_block.0.is.good 5 in_block.0.has).0)
   | inr held ↦ cc (held.0.holds.is)
 ]
 
 -- a frame of a block that wasn't handed over is refused
-page_from_nowhere : (told : Told) → NoOtherInOneOrHeld (paged told (λ frame. None) (begun (five 1))) → ⊥
+page_from_nowhere : (told : BootedView) → NoOtherInABlockOrHeld (paged told (λ frame. None) (first_page_state (five 1))) → ⊥
 page_from_nowhere told none =
     (none 5 refl).0 (five_block 1) (listed_sound (five 1) (five_block 1) (five_listed 1)) refl

@@ -12,17 +12,17 @@ use Rattle.address_runs.specs.Edits.{NothingFrom}
 use Rattle.e820_model.specs.Usable.{is_usable_frame}
 use Rattle.memblock_model.specs.Labels.{LabelView, tag_for, node_of_tag}
 use Rattle.memblock_model.specs.Items.{memory_of, owner_of}
-use Rattle.memblock_model.specs.Tables.{reserved_of, without_owner}
+use Rattle.memblock_model.specs.Tables.{reserved_labels, without_owner}
 use Rattle.memblock_model.specs.declared.owner.Owner.{Owner}
-use Rattle.stage_model.specs.Noded.{IsNoded}
-use Rattle.table_frames.specs.Frames.{free_node_in, node_below, node_of_frame, node_told}
+use Rattle.stage_model.specs.Noded.{HasNodes}
+use Rattle.table_frames.specs.Frames.{free_node_in, valid_node, node_of_frame, node_of_label}
 use Rattle.table_frames.specs.declared.frames.TheConstants.{MAX_NODES}
 use Rattle.frame_blocks.specs.declared.run.TheConstants.{MAX_FRAMES}
 use Rattle.frame_blocks.specs.declared.block.Block.{Block}
 use Rattle.frame_blocks.specs.Frames.{Frames}
-use Rattle.page_alloc.specs.Pages.{begun as nothing_taken}
-use Rattle.slit_zonelists.specs.Near.{after_with}
-use Rattle.boot_model.specs.Boot.{Given, Told, handed_over, reach, types_in_reach}
+use Rattle.page_alloc.specs.Pages.{first_page_state as nothing_taken}
+use Rattle.slit_zonelists.specs.Near.{page_state_after}
+use Rattle.boot_model.specs.Boot.{InputsView, BootedView, handover_frames, reach, types_in_reach}
 use Rattle.boot_model.proofs.ReachLaws.{reach-small}
 use Rattle.conservation.specs.Claimed.{IsUntouched}
 use Rattle.conservation.specs.Headline.{IsFreeFor, IsUsable}
@@ -30,11 +30,11 @@ use Rattle.conservation.proofs.ClaimedLaws.{covers_frame, frame_covers}
 
 -- what is known of a report: the bytes of memory are those of the usable frames, and each has a
 -- node
-pub record IsTold (given : Given) (t : Told) : Type 0 where
+pub record IsTold (given : InputsView) (t : BootedView) : Type 0 where
   pub memory : (x : ℕ) → is_some (memory_of t.items x) ≡ is_usable_frame (types_in_reach given) (x / 4096)
-  pub noded : IsNoded (reach given) (memory_of t.items)
-  pub free : t.free ≡ handed_over t.items
-  pub after : t.after ≡ after_with t.lists (nothing_taken t.free) given.page_lines
+  pub noded : HasNodes (reach given) (memory_of t.items)
+  pub free : t.free ≡ handover_frames t.items
+  pub after : t.after ≡ page_state_after t.lists (nothing_taken t.free) given.page_lines
 
 -- each byte of a frame has the frame's number
 number : (frame x : ℕ) → covers (bytes_of_frame frame) x ≡ true → x / 4096 ≡ frame
@@ -60,7 +60,7 @@ some_label (Some label) is = (label, refl)
 abbrev pub alone : ℕ → ℕ → Block
 alone frame node = record { order = 0; first = frame; node = node; zone = zone_of frame }
 
-module _ (given : Given) (t : Told) (known : IsTold given t) where
+module _ (given : InputsView) (t : BootedView) (known : IsTold given t) where
   -- the bytes of a usable frame are memory
   held : (frame x : ℕ) → IsUsable given frame → covers (bytes_of_frame frame) x ≡ true → is_some (memory_of t.items x) ≡ true
   held frame x usable inside =
@@ -71,23 +71,23 @@ module _ (given : Given) (t : Told) (known : IsTold given t) where
   same_labels frame x inside = known.noded.frames x ∙ ap (λ k. memory_of t.items (4096 * k)) (number frame x inside)
 
   -- the reported node of a byte is that of its tag
-  same_node : (x : ℕ) (o : Option LabelView) → memory_of t.items x ≡ o → node_told o ≡ node_of_tag (tag_for o)
+  same_node : (x : ℕ) (o : Option LabelView) → memory_of t.items x ≡ o → node_of_label o ≡ node_of_tag (tag_for o)
   same_node x None is = refl
   same_node x (Some label) is =
       let one = known.noded.nodes x label is in
       let low : nat_lt one.0 MAX_NODES ≡ true = grind (arith, nat_tests, one.2) in
-      ap node_below one.1 ∙ rw low (sym one.1)
+      ap valid_node one.1 ∙ rw low (sym one.1)
 
   -- a frame that is reported as free is usable, and no claim touches it
   pub told_is_free : (b : Block) (frame : ℕ) → t.free frame ≡ Some b.node → zone_of frame ≡ b.zone → IsFreeFor given t.items b frame
   unfolding free_node_in
   told_is_free b frame told zone =
-      let both : ℕ → Bool = λ x. is_some (memory_of t.items x) && is_none (reserved_of (owner_of t.items) x) in
+      let both : ℕ → Bool = λ x. is_some (memory_of t.items x) && is_none (reserved_labels (owner_of t.items) x) in
       let parts = if_some (each_in (bytes_of_frame frame) both) (node_of_frame (memory_of t.items) frame) b.node
       (ap (λ (f : Frames). f frame) (sym known.free) ∙ told) in
       let each = λ (x : ℕ) (inside : covers (bytes_of_frame frame) x ≡ true).
       (let ends = covers_frame frame x inside in
-      and_parts (is_some (memory_of t.items x)) (is_none (reserved_of (owner_of t.items) x))
+      and_parts (is_some (memory_of t.items x)) (is_none (reserved_labels (owner_of t.items) x))
       (each_in-each (bytes_of_frame frame) both parts.0 x ends.0 ends.1)) in
       record {
         usable = ap (λ k. is_usable_frame (types_in_reach given) k) (sym (number frame (4096 * frame) (first_byte frame)))
@@ -102,10 +102,10 @@ module _ (given : Given) (t : Told) (known : IsTold given t) where
   pub free_is_told : (b : Block) (frame : ℕ) → IsFreeFor given t.items b frame → t.free frame ≡ Some b.node
   unfolding free_node_in
   free_is_told b frame free =
-      let both : ℕ → Bool = λ x. is_some (memory_of t.items x) && is_none (reserved_of (owner_of t.items) x) in
+      let both : ℕ → Bool = λ x. is_some (memory_of t.items x) && is_none (reserved_labels (owner_of t.items) x) in
       let each = each_in-all (bytes_of_frame frame) both (λ x above below.
       (let inside = frame_covers frame x above below in
-      and_from (is_some (memory_of t.items x)) (is_none (reserved_of (owner_of t.items) x)) (held frame x free.usable inside)
+      and_from (is_some (memory_of t.items x)) (is_none (reserved_labels (owner_of t.items) x)) (held frame x free.usable inside)
       (ap (λ o. is_none (without_owner o)) (free.untouched x inside)))) in
       ap (λ (f : Frames). f frame) known.free
       ∙ rw each (same_node (4096 * frame) (memory_of t.items (4096 * frame)) refl ∙ free.node (4096 * frame) (first_byte frame))
@@ -130,4 +130,4 @@ module _ (given : Given) (t : Told) (known : IsTold given t) where
   told_below frame far =
       let small = reach-small given in
       let none = known.noded.within (4096 * frame) (omega (arith, far, small)) in
-      ap (λ (f : Frames). f frame) known.free ∙ grind (arith, ap node_told none)
+      ap (λ (f : Frames). f frame) known.free ∙ grind (arith, ap node_of_label none)

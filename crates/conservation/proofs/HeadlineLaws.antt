@@ -3,27 +3,27 @@ use Rattle.std.proofs.Common.{◌≡◌, ℕ, Option, Some, None, Ok, refl, subs
 use Rattle.address_runs.specs.Edits.{NothingFrom}
 use Rattle.frame_blocks.specs.declared.run.TheConstants.{MAX_FRAMES}
 use Rattle.frame_blocks.proofs.BlockLaws.{listed_sound}
-use Rattle.boot_model.specs.Boot.{Given, Told, told_boot}
+use Rattle.boot_model.specs.Boot.{InputsView, BootedView, whole_boot}
 use Rattle.boot_model.proofs.MemoryLaws.{memory_told}
 use Rattle.boot_model.proofs.NodedLaws.{noded_told}
 use Rattle.conservation.specs.Claimed.{IsTouched}
-use Rattle.conservation.specs.Headline.{BlocksAreMaximal, AllTouchedOrInOne, BlocksAreWhole, IsTouchedOrInOne, NoOtherInABlock, with_buddy}
+use Rattle.conservation.specs.Headline.{BlocksAreMaximal, AllTouchedOrInOneBlock, BlocksAreWhole, IsTouchedOrInOneBlock, NoOtherInABlock, block_with_buddy}
 use Rattle.conservation.proofs.ClaimedLaws.{touched_apart, touched_or_not}
 use Rattle.conservation.proofs.CountLaws.{in_block, in_buddies, no_block_with, one_block_with, free_with_block}
 use Rattle.conservation.proofs.ToldLaws.{is_told_of}
 use Rattle.conservation.proofs.FreeLaws.{IsTold, alone, free_is_told, free_of_some, told_below, told_is_free}
 
-pub is_told : (given : Given) (t : Told) → told_boot given ≡ Ok t → IsTold given t
+pub is_told : (given : InputsView) (t : BootedView) → whole_boot given ≡ Ok t → IsTold given t
 is_told given t ends =
     let of = is_told_of given t ends in
-    subst (λ (u : Told). IsTold given u) of.tells (record {
+    subst (λ (u : BootedView). IsTold given u) of.tells (record {
       memory = λ x. memory_told given of.made x of.boots;
       noded = noded_told given of.made of.boots;
       free = refl;
       after = refl;
     })
 
-module _ (given : Given) (t : Told) (ends : told_boot given ≡ Ok t) where
+module _ (given : InputsView) (t : BootedView) (ends : whole_boot given ≡ Ok t) where
   known : IsTold given t
   known = is_told given t ends
 
@@ -36,8 +36,8 @@ module _ (given : Given) (t : Told) (ends : told_boot given ≡ Ok t) where
   not_free frame (Some node) touched is =
       absurd (touched_apart t.items frame touched (told_is_free given t known (alone frame node) frame is refl).untouched)
 
-  pub all_touched_or_in_one : AllTouchedOrInOne given t
-  all_touched_or_in_one frame usable = elim (touched_or_not t.items frame) as (λ _. IsTouchedOrInOne t frame) [
+  pub all_touched_or_in_one : AllTouchedOrInOneBlock given t
+  all_touched_or_in_one frame usable = elim (touched_or_not t.items frame) as (λ _. IsTouchedOrInOneBlock t frame) [
     | inl touched ↦ inl (touched, no_block_with t.free frame (not_free frame (t.free frame) touched refl))
     | inr bare ↦
         (let some = free_of_some given t known frame usable bare in
@@ -65,4 +65,4 @@ module _ (given : Given) (t : Told) (ends : told_boot given ≡ Ok t) where
   blocks_maximal b listed less all =
       (listed_sound t.free b listed).whole less (λ frame same.
       (let is = all frame (in_buddies b frame same) in
-      (free_is_told given t known (with_buddy b) frame is, is.zone)))
+      (free_is_told given t known (block_with_buddy b) frame is, is.zone)))

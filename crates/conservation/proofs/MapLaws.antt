@@ -4,28 +4,28 @@ use Rattle.std.proofs.lemmas.Bool.Decides.{nat_tests}
 use Rattle.bm_base.specs.Frames.{bytes_of_frame}
 use Rattle.bm_base.proofs.EachLaws.{each_in-all, each_in-each}
 use Rattle.e820_model.specs.Map.{kinds}
-use Rattle.boot_model.specs.Boot.{Given, Told, claims, lies_in_memory, reach, reach_told, told_boot, types_in_reach}
+use Rattle.boot_model.specs.Boot.{InputsView, BootedView, claims, lies_in_memory, reach, booted_address_limit, whole_boot, types_in_reach}
 use Rattle.e820_model.proofs.UsableLaws.{memory_reached, usable_each}
 use Rattle.boot_model.proofs.BootLaws.{usable_lies}
-use Rattle.conservation.specs.ByMap.{IsUsableBy}
+use Rattle.conservation.specs.ByMap.{IsUsableByMap}
 use Rattle.conservation.specs.Headline.{IsUsable}
 use Rattle.conservation.proofs.ClaimedLaws.{covers_frame, frame_covers}
 use Rattle.conservation.proofs.ToldLaws.{is_told_of}
 
 -- a usable frame lies below the limit of physical addresses
-in_reach : (given : Given) (frame : ℕ) → IsUsable given frame → 4096 * frame + 4096 ≤ reach given
+in_reach : (given : InputsView) (frame : ℕ) → IsUsable given frame → 4096 * frame + 4096 ≤ reach given
 in_reach given frame usable =
     let x : ℕ = 4096 * frame + 4095 in
     let last = usable_each (types_in_reach given) frame usable x (omega arith) (omega arith) in
     let both = sym (memory_reached (reach given) (kinds (claims given)) x) ∙ last in
     grind (arith, nat_tests, both)
 
-pub usable_mapped : (given : Given) (t : Told) (frame : ℕ) → told_boot given ≡ Ok t
-    → (IsUsable given frame ↔ IsUsableBy (reach_told t) t.map frame)
+pub usable_mapped : (given : InputsView) (t : BootedView) (frame : ℕ) → whole_boot given ≡ Ok t
+    → (IsUsable given frame ↔ IsUsableByMap (booted_address_limit t) t.map frame)
 usable_mapped given t frame ends =
     let of = is_told_of given t ends in
     let lies : ℕ → Bool = lies_in_memory of.made.map in
-    subst (λ (u : Told). IsUsable given frame ↔ IsUsableBy (reach_told u) u.map frame) of.tells (
+    subst (λ (u : BootedView). IsUsable given frame ↔ IsUsableByMap (booted_address_limit u) u.map frame) of.tells (
       λ usable.
           (let low = in_reach given frame usable in
           let each = sym (usable_lies given of.made frame of.boots low) ∙ usable in (

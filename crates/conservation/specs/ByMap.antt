@@ -8,7 +8,7 @@ use Rattle.boot_model.specs.Boot.{lies_in_memory}
 
 -- the frame lies below `reach`, the limit of physical addresses, and all its bytes lie in runs of
 -- RAM or of the kernel's own memory
-abbrev pub IsUsableBy : ℕ → List (RunOf ℕ) → ℕ → Type 0
-IsUsableBy reach map frame =
+abbrev pub IsUsableByMap : ℕ → List (RunOf ℕ) → ℕ → Type 0
+IsUsableByMap reach map frame =
     (FRAME_SIZE * frame + FRAME_SIZE ≤ reach)
     × ((x : ℕ) → covers (bytes_of_frame frame) x ≡ true → lies_in_memory map x ≡ true)

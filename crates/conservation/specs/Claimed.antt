@@ -10,10 +10,10 @@ use Rattle.memblock_model.specs.declared.item.Item.{Item}
 use Rattle.memblock_model.specs.declared.item.Item.TheVariants as item
 
 -- whether the item decides who owns the byte: it claims or frees a range with the byte
-abbrev pub decides : Item → ℕ → Bool
-decides (item.Claim range who) x = covers range x
-decides (item.Free range) x = covers range x
-decides i x = false
+abbrev pub decides_owner : Item → ℕ → Bool
+decides_owner (item.Claim range who) x = covers range x
+decides_owner (item.Free range) x = covers range x
+decides_owner i x = false
 
 -- the journal has a claim of the byte for the owner, and no later item claims the byte again or
 -- frees it
@@ -23,7 +23,7 @@ pub record IsRecorded (items : List Item) (x : ℕ) (who : Owner) : Type 0 where
   pub behind : List Item
   pub recorded : items ≡ before ++ (item.Claim range who ∷ behind)
   pub covered : covers range x ≡ true
-  pub stands : list_any (λ i. decides i x) behind ≡ false
+  pub stands : list_any (λ i. decides_owner i x) behind ≡ false
 
 -- a claim touches the frame: some byte of it has an owner, and the journal has the claim for that
 -- owner

@@ -13,13 +13,13 @@ use Rattle.memblock_model.specs.Items.{tag_of}
 use Rattle.memblock_model.specs.declared.item.Item.{Item}
 use Rattle.frame_blocks.specs.declared.block.Block.{Block}
 use Rattle.frame_blocks.specs.declared.block.TheConstants.{MAX_ORDER}
-use Rattle.frame_blocks.specs.Listed.{Lists, blocks_of}
-use Rattle.boot_model.specs.Boot.{Given, Told, types_in_reach}
+use Rattle.frame_blocks.specs.Listed.{ListsBlock, blocks_of}
+use Rattle.boot_model.specs.Boot.{InputsView, BootedView, types_in_reach}
 use Rattle.conservation.specs.Claimed.{IsTouched, IsUntouched}
 
 -- each byte of the frame is RAM, or the kernel's own memory, in the finished map, and the frame
 -- lies below the limit of physical addresses (`e820__memblock_setup`, `memblock_trim_memory`)
-abbrev pub IsUsable : Given → ℕ → Type 0
+abbrev pub IsUsable : InputsView → ℕ → Type 0
 IsUsable given frame = is_usable_frame (types_in_reach given) frame ≡ true
 
 -- whether the frame is one of the block's 2^order frames, from its first frame on
@@ -27,61 +27,61 @@ abbrev pub has_frame : Block → ℕ → Bool
 has_frame b frame = nat_le b.first frame && nat_lt frame (b.first + 2 ^ b.order)
 
 -- the number of the blocks that have the frame
-abbrev pub blocks_with : List Block → ℕ → ℕ
-blocks_with blocks frame = count_by (λ b. has_frame b frame) blocks
+abbrev pub count_blocks_with : List Block → ℕ → ℕ
+count_blocks_with blocks frame = count_by (λ b. has_frame b frame) blocks
 
 -- the blocks of the buddy lists: those of the frames that a boot reports as free
-abbrev pub told_blocks : Told → List Block
-told_blocks told = blocks_of told.free
+abbrev pub booted_blocks : BootedView → List Block
+booted_blocks told = blocks_of told.free
 
 -- a usable frame in which no byte is claimed, with memory of the block's node, in the block's zone
-pub record IsFreeFor (given : Given) (items : List Item) (b : Block) (frame : ℕ) : Type 0 where
+pub record IsFreeFor (given : InputsView) (items : List Item) (b : Block) (frame : ℕ) : Type 0 where
   pub usable : IsUsable given frame
   pub untouched : IsUntouched items frame
   pub node : (x : ℕ) → covers (bytes_of_frame frame) x ≡ true → node_of_tag (tag_of items x) ≡ Some b.node
   pub zone : zone_of frame ≡ b.zone
 
 -- every frame of the block is free for it
-abbrev pub AreAllFree : Given → List Item → Block → Type 0
+abbrev pub AreAllFree : InputsView → List Item → Block → Type 0
 AreAllFree given items b = (frame : ℕ) → has_frame b frame ≡ true → IsFreeFor given items b frame
 
 -- the frames of the block and of its buddy: the set of twice as many frames that has the block's
 -- (`__find_buddy_pfn`)
-abbrev pub with_buddy : Block → Block
-with_buddy b = record b { order = b.order + 1; first = b.first - b.first % 2 ^ (b.order + 1) }
+abbrev pub block_with_buddy : Block → Block
+block_with_buddy b = record b { order = b.order + 1; first = b.first - b.first % 2 ^ (b.order + 1) }
 
 -- the block has an order that the lists have and begins at a multiple of its number of frames; all
 -- its frames are free for it, so it lies in one node and one zone
-pub record IsWhole (given : Given) (items : List Item) (b : Block) : Type 0 where
+pub record IsWhole (given : InputsView) (items : List Item) (b : Block) : Type 0 where
   pub small : b.order ≤ MAX_ORDER
   pub aligned : b.first % 2 ^ b.order ≡ 0
   pub frames : AreAllFree given items b
 
 -- if the block's order is below the greatest, not all frames of it and its buddy are free for it
-abbrev pub IsMaximal : Given → List Item → Block → Type 0
-IsMaximal given items b = b.order < MAX_ORDER → ¬ AreAllFree given items (with_buddy b)
+abbrev pub IsMaximal : InputsView → List Item → Block → Type 0
+IsMaximal given items b = b.order < MAX_ORDER → ¬ AreAllFree given items (block_with_buddy b)
 
 -- a usable frame that a claim touches is in no block, and one that no claim touches is in exactly
 -- one
-abbrev pub IsTouchedOrInOne : Told → ℕ → Type 0
-IsTouchedOrInOne told frame =
-    (IsTouched told.items frame × (blocks_with (told_blocks told) frame ≡ 0))
-    ⊎ (IsUntouched told.items frame × (blocks_with (told_blocks told) frame ≡ 1))
+abbrev pub IsTouchedOrInOneBlock : BootedView → ℕ → Type 0
+IsTouchedOrInOneBlock told frame =
+    (IsTouched told.items frame × (count_blocks_with (booted_blocks told) frame ≡ 0))
+    ⊎ (IsUntouched told.items frame × (count_blocks_with (booted_blocks told) frame ≡ 1))
 
 -- each usable frame is touched by a claim with a recorded owner, or is in exactly one block, and
 -- not both
-abbrev pub AllTouchedOrInOne : Given → Told → Type 0
-AllTouchedOrInOne given told = (frame : ℕ) → IsUsable given frame → IsTouchedOrInOne told frame
+abbrev pub AllTouchedOrInOneBlock : InputsView → BootedView → Type 0
+AllTouchedOrInOneBlock given told = (frame : ℕ) → IsUsable given frame → IsTouchedOrInOneBlock told frame
 
 -- no other frame is in a block: one that is in a block is usable, and no claim touches it
-abbrev pub NoOtherInABlock : Given → Told → Type 0
+abbrev pub NoOtherInABlock : InputsView → BootedView → Type 0
 NoOtherInABlock given told =
-    (frame : ℕ) → 0 < blocks_with (told_blocks told) frame → IsUsable given frame × IsUntouched told.items frame
+    (frame : ℕ) → 0 < count_blocks_with (booted_blocks told) frame → IsUsable given frame × IsUntouched told.items frame
 
 -- each block is aligned, free, in one node and in one zone
-abbrev pub BlocksAreWhole : Given → Told → Type 0
-BlocksAreWhole given told = (b : Block) → Lists (told_blocks told) b → IsWhole given told.items b
+abbrev pub BlocksAreWhole : InputsView → BootedView → Type 0
+BlocksAreWhole given told = (b : Block) → ListsBlock (booted_blocks told) b → IsWhole given told.items b
 
 -- each block is as great as it can be
-abbrev pub BlocksAreMaximal : Given → Told → Type 0
-BlocksAreMaximal given told = (b : Block) → Lists (told_blocks told) b → IsMaximal given told.items b
+abbrev pub BlocksAreMaximal : InputsView → BootedView → Type 0
+BlocksAreMaximal given told = (b : Block) → ListsBlock (booted_blocks told) b → IsMaximal given told.items b

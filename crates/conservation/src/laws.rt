@@ -3,44 +3,44 @@
 //! boot that returns what the definition says.
 
 ghost use Rattle.std.specs.Prelude.{◌≡◌, ◌↔◌, ℕ, Ok};
-ghost use Rattle.page_alloc.specs.Pages.{HaveOrders};
-ghost use Rattle.boot_model.specs.Boot.{Given, Told, reach_told, told_boot};
-ghost use Rattle.conservation.specs.Headline.{AllTouchedOrInOne, BlocksAreMaximal, BlocksAreWhole, IsUsable, NoOtherInABlock};
-ghost use Rattle.conservation.specs.ByMap.{IsUsableBy};
-ghost use Rattle.conservation.specs.Paged.{AllInOneOrHeld, NoOtherInOneOrHeld};
+ghost use Rattle.page_alloc.specs.Pages.{HaveValidOrders};
+ghost use Rattle.boot_model.specs.Boot.{InputsView, BootedView, booted_address_limit, whole_boot};
+ghost use Rattle.conservation.specs.Headline.{AllTouchedOrInOneBlock, BlocksAreMaximal, BlocksAreWhole, IsUsable, NoOtherInABlock};
+ghost use Rattle.conservation.specs.ByMap.{IsUsableByMap};
+ghost use Rattle.conservation.specs.Paged.{AllInOneBlockOrHeld, NoOtherInABlockOrHeld};
 
 /// Law: each usable frame is either touched by a claim with a recorded owner and in no block, or
 /// untouched and in exactly one block.
 pub fn usable_frames_are_touched_or_in_one_block()
-    ensures { (given : Given) (told : Told) → told_boot given ≡ Ok told → AllTouchedOrInOne given told }
+    ensures { (given : InputsView) (told : BootedView) → whole_boot given ≡ Ok told → AllTouchedOrInOneBlock given told }
 {}
 
 /// Law: each frame of a block is usable, and no claim touches it.
 pub fn no_other_frame_is_in_a_block()
-    ensures { (given : Given) (told : Told) → told_boot given ≡ Ok told → NoOtherInABlock given told }
+    ensures { (given : InputsView) (told : BootedView) → whole_boot given ≡ Ok told → NoOtherInABlock given told }
 {}
 
 /// Law: each block has an order of at most 10, begins at a multiple of its number of frames, and
 /// lies in one node and one zone.
 pub fn blocks_are_whole()
-    ensures { (given : Given) (told : Told) → told_boot given ≡ Ok told → BlocksAreWhole given told }
+    ensures { (given : InputsView) (told : BootedView) → whole_boot given ≡ Ok told → BlocksAreWhole given told }
 {}
 
 /// Law: no block of an order below 10 lies in a set of twice as many frames that could be a block
 /// too.
 pub fn blocks_are_maximal()
-    ensures { (given : Given) (told : Told) → told_boot given ≡ Ok told → BlocksAreMaximal given told }
+    ensures { (given : InputsView) (told : BootedView) → whole_boot given ≡ Ok told → BlocksAreMaximal given told }
 {}
 
 /// Law: after the page script each frame that was handed over is in exactly one block, or held by
 /// exactly one ID, and not both. No other frame is in a block or held.
 pub fn handed_frames_stay_in_one_block_or_held()
-    ensures each { (given : Given) (told : Told) → told_boot given ≡ Ok told → HaveOrders given.page_lines → AllInOneOrHeld told }
-    ensures others { (given : Given) (told : Told) → told_boot given ≡ Ok told → HaveOrders given.page_lines → NoOtherInOneOrHeld told }
+    ensures each { (given : InputsView) (told : BootedView) → whole_boot given ≡ Ok told → HaveValidOrders given.page_lines → AllInOneBlockOrHeld told }
+    ensures others { (given : InputsView) (told : BootedView) → whole_boot given ≡ Ok told → HaveValidOrders given.page_lines → NoOtherInABlockOrHeld told }
 {}
 
 /// Law: the map that a boot reports determines which frames are usable.
-pub fn map_tells_usable_frames()
-    ensures { (given : Given) (told : Told) (frame : ℕ) → told_boot given ≡ Ok told →
-        (IsUsable given frame ↔ IsUsableBy (reach_told told) told.map frame) }
+pub fn map_determines_usable_frames()
+    ensures { (given : InputsView) (told : BootedView) (frame : ℕ) → whole_boot given ≡ Ok told →
+        (IsUsable given frame ↔ IsUsableByMap (booted_address_limit told) told.map frame) }
 {}

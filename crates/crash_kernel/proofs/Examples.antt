@@ -14,15 +14,15 @@ use Rattle.memblock_model.specs.Items.{memory_of}
 use Rattle.memblock_model.specs.Labels.{LabelView, plain_label, with_node}
 use Rattle.memblock_model.specs.Search.{fits, fits_in}
 use Rattle.boot_options.specs.declared.crash.CrashRange.{CrashRange}
-use Rattle.boot_options.specs.Crash.{CrashWords as Asked, no_crash, one_range}
-use Rattle.stage_model.specs.Doing.{returns}
-use Rattle.crash_kernel.specs.declared.area.Spot.TheVariants as spot
+use Rattle.boot_options.specs.Crash.{CrashOptionView as Asked, no_crash, one_range}
+use Rattle.stage_model.specs.Doing.{return_value}
+use Rattle.crash_kernel.specs.declared.area.Placement.TheVariants as spot
 use Rattle.crash_kernel.specs.declared.crash.Crash.TheVariants as crash
 use Rattle.crash_kernel.specs.Total.{memory_bytes}
-use Rattle.crash_kernel.specs.Area.{area_for, is_in, size_for}
-use Rattle.crash_kernel.specs.Places.{fixed_range, low_size, main_range, needs_low}
-use Rattle.crash_kernel.specs.Reserved.{reserved}
-use Rattle.crash_kernel.specs.Told.{HasLowPart, IsArea, IsFree}
+use Rattle.crash_kernel.specs.Area.{request_for, is_in_total_range, size_for_total}
+use Rattle.crash_kernel.specs.Places.{fixed_range, low_size, main_range, needs_low_part}
+use Rattle.crash_kernel.specs.Reserved.{reserve_crash_area}
+use Rattle.crash_kernel.specs.Told.{HasLowPartIfNeeded, IsCrashArea, IsFreeMemory}
 use Rattle.crash_kernel.proofs.TotalLaws.{runs-bytes}
 
 -- 636 KiB and, of two nodes, 512 KiB and 512 KiB with 2 bytes more: not rounded
@@ -61,26 +61,26 @@ middle = record { start = 0x10000000; end = Some 0x20000000; size = 0x1000000 }
 abbrev open_range : CrashRange
 open_range = record { start = 0x20000000; end = None; size = 0x4000000 }
 
-in_examples : (is_in 0xFFFFFFF middle ≡ false) × (is_in 0x10000000 middle ≡ true) × (is_in 0x1FFFFFFF middle ≡ true)
-    × (is_in 0x20000000 middle ≡ false) × (is_in 0xFFFFFFFFFFFF open_range ≡ true)
+in_examples : (is_in_total_range 0xFFFFFFF middle ≡ false) × (is_in_total_range 0x10000000 middle ≡ true) × (is_in_total_range 0x1FFFFFFF middle ≡ true)
+    × (is_in_total_range 0x20000000 middle ≡ false) × (is_in_total_range 0xFFFFFFFFFFFF open_range ≡ true)
 in_examples = (refl, refl, refl, refl, refl)
 
 -- the first range that has the total counts; if there is none, nothing is requested
-size_examples : (size_for 0x18000000 (middle ∷ (record { start = 0; end = None; size = 7 } ∷ [])) ≡ 0x1000000)
-    × (size_for 0x20000000 (middle ∷ (open_range ∷ [])) ≡ 0x4000000) × (size_for 0x1000 (middle ∷ (open_range ∷ [])) ≡ 0)
+size_examples : (size_for_total 0x18000000 (middle ∷ (record { start = 0; end = None; size = 7 } ∷ [])) ≡ 0x1000000)
+    × (size_for_total 0x20000000 (middle ∷ (open_range ∷ [])) ≡ 0x4000000) × (size_for_total 0x1000 (middle ∷ (open_range ∷ [])) ≡ 0)
 size_examples = (refl, refl, refl)
 
 -- the high form counts only if the plain form requests no byte
 abbrev both_forms : Asked
 both_forms = record { plain = Some (one_range 0x4000000 0); high = Some 0x8000000; low = None }
 
-area_examples : (area_for 0x40000000 both_forms ≡ Some (record { size = 0x4000000; spot = spot.Automatic }))
-    × (area_for 0x40000000 (record both_forms { plain = Some (one_range 0 0x2000000) })
-    ≡ Some (record { size = 0x8000000; spot = spot.High }))
-    × (area_for 0x1000 (record both_forms { plain = Some (record { ranges = middle ∷ []; base = 0 }) })
-    ≡ Some (record { size = 0x8000000; spot = spot.High }))
-    × (area_for 0x40000000 (record { plain = None; high = Some 0; low = Some 0x1000 }) ≡ None)
-unfolding area_for
+area_examples : (request_for 0x40000000 both_forms ≡ Some (record { size = 0x4000000; placement = spot.Automatic }))
+    × (request_for 0x40000000 (record both_forms { plain = Some (one_range 0 0x2000000) })
+    ≡ Some (record { size = 0x8000000; placement = spot.High }))
+    × (request_for 0x1000 (record both_forms { plain = Some (record { ranges = middle ∷ []; base = 0 }) })
+    ≡ Some (record { size = 0x8000000; placement = spot.High }))
+    × (request_for 0x40000000 (record { plain = None; high = Some 0; low = Some 0x1000 }) ≡ None)
+unfolding request_for
 area_examples = (refl, refl, refl, refl)
 
 -- memory at 1 MiB for a request of two bytes: three bytes; three of which one is claimed; and two
@@ -107,43 +107,43 @@ fixed_examples = (refl, refl, refl, refl, refl, refl, refl)
 abbrev two_bytes : RangeView
 two_bytes = record { base = 0x100000; size = 2 }
 
-two_are_free : IsFree three two_bytes
+two_are_free : IsFreeMemory three two_bytes
 two_are_free = record {
   label = plain_label;
   memory = λ x at. let inside : covers (record { base = 0x100000; size = 3 }) x ≡ true = grind (arith, nat_tests, at) in rw inside refl;
   free = λ x at. refl;
 }
 
-claimed_is_not_free : IsFree claimed_one two_bytes → ⊥
+claimed_is_not_free : IsFreeMemory claimed_one two_bytes → ⊥
 claimed_is_not_free known = let free : Some owner.Initrd ≡ None = known.free 0x100001 refl in cc
 
 abbrev two_asked : Asked
 two_asked = record { plain = Some (one_range 2 0x100000); high = None; low = None }
 
-two_are_asked : (total : ℕ) → area_for total two_asked ≡ Some (record { size = 2; spot = spot.Fixed 0x100000 })
-unfolding area_for
+two_are_asked : (total : ℕ) → request_for total two_asked ≡ Some (record { size = 2; placement = spot.Fixed 0x100000 })
+unfolding request_for
 two_are_asked total = let any : nat_le 0 total ≡ true = grind (arith, nat_tests) in rw any refl
 
-two_told : IsArea two_asked three two_bytes None
+two_told : IsCrashArea two_asked three two_bytes None
 two_told = record {
-  spot = spot.Fixed 0x100000;
+  placement = spot.Fixed 0x100000;
   size = two_are_asked (memory_bytes (memory_of three));
   free = two_are_free;
   aligned = refl;
   low_part = refl;
 }
 
-low_part_wanting : HasLowPart two_asked three (record { base = 0x100000000; size = 2 }) None → ⊥
+low_part_wanting : HasLowPartIfNeeded two_asked three (record { base = 0x100000000; size = 2 }) None → ⊥
 low_part_wanting known = let clash : true ≡ false = known in cc
 
 -- a low part is needed from 4 GiB on, of 256 MiB by default, and not if its size is 0
-low_examples : (needs_low (record { base = 0xFF000000; size = 0x2000000 }) 0x10000000 ≡ false)
-    × (needs_low (record { base = 0x100000000; size = 0x2000000 }) 1 ≡ true)
-    × (needs_low (record { base = 0x100000000; size = 0x2000000 }) 0 ≡ false)
+low_examples : (needs_low_part (record { base = 0xFF000000; size = 0x2000000 }) 0x10000000 ≡ false)
+    × (needs_low_part (record { base = 0x100000000; size = 0x2000000 }) 1 ≡ true)
+    × (needs_low_part (record { base = 0x100000000; size = 0x2000000 }) 0 ≡ false)
     × (low_size no_crash ≡ 0x10000000) × (low_size (record no_crash { low = Some 0 }) ≡ 0)
 low_examples = (refl, refl, refl, refl, refl)
 
 -- if nothing is requested, nothing is done, whatever the items
-nothing_asked : (items : List Item) → reserved no_crash items ≡ returns crash.Nothing items
-unfolding reserved area_for
+nothing_asked : (items : List Item) → reserve_crash_area no_crash items ≡ return_value crash.Nothing items
+unfolding reserve_crash_area request_for
 nothing_asked items = refl

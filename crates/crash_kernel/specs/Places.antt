@@ -6,9 +6,9 @@ use Rattle.bm_base.specs.Range.{RangeView}
 use Rattle.memblock_model.specs.declared.query.Query.{Query}
 use Rattle.memblock_model.specs.declared.item.Item.{Item}
 use Rattle.memblock_model.specs.Search.{best_place, fits}
-use Rattle.boot_options.specs.Crash.{CrashWords as Asked}
-use Rattle.crash_kernel.specs.declared.area.Spot.{Spot}
-use Rattle.crash_kernel.specs.declared.area.Spot.TheVariants as spot
+use Rattle.boot_options.specs.Crash.{CrashOptionView as Asked}
+use Rattle.crash_kernel.specs.declared.area.Placement.{Placement}
+use Rattle.crash_kernel.specs.declared.area.Placement.TheVariants as spot
 use Rattle.crash_kernel.specs.declared.crash.Crash.{Crash}
 use Rattle.crash_kernel.specs.declared.crash.Crash.TheVariants as crash
 
@@ -32,16 +32,16 @@ high_range size items = best_range size 0x1000000 (2 ^ 46) items
 
 -- the range of the crash area: the requested one, or a free one; without `,high` memory below 4
 -- GiB (`CRASH_ADDR_LOW_MAX`) is searched first
-unfoldable pub main_range : ℕ → Spot → List Item → Option RangeView
+unfoldable pub main_range : ℕ → Placement → List Item → Option RangeView
 main_range size (spot.Fixed base) items = fixed_range base size items
 main_range size spot.Automatic items = option_or (best_range size 0x1000000 (2 ^ 32) items) (high_range size items)
 main_range size spot.High items = high_range size items
 
 -- the outcome if no range was found
-abbrev pub unplaced : Spot → Crash
-unplaced (spot.Fixed base) = crash.InUse
-unplaced spot.Automatic = crash.NoArea
-unplaced spot.High = crash.NoArea
+abbrev pub search_failure : Placement → Crash
+search_failure (spot.Fixed base) = crash.InUse
+search_failure spot.Automatic = crash.NoArea
+search_failure spot.High = crash.NoArea
 
 -- the size of the low part: that of `SIZE,low`, else 256 MiB (`reserve_crashkernel_low`)
 abbrev pub low_size : Asked → ℕ
@@ -49,8 +49,8 @@ low_size asked = unwrap_or asked.low 0x10000000
 
 -- whether the area needs a low part of that size: it lies at or above 4 GiB, and the size isn't 0
 -- (`crashkernel=0,low`)
-abbrev pub needs_low : RangeView → ℕ → Bool
-needs_low main low = nat_le (2 ^ 32) main.base && nat_lt 0 low
+abbrev pub needs_low_part : RangeView → ℕ → Bool
+needs_low_part main low = nat_le (2 ^ 32) main.base && nat_lt 0 low
 
 -- the range of the low part, below 4 GiB
 unfoldable pub low_range : ℕ → List Item → Option RangeView

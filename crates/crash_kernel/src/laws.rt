@@ -5,25 +5,25 @@ ghost use Rattle.std.specs.Prelude.{◌≡◌, Option, List, Ok};
 ghost use Rattle.bm_base.specs.Range.{RangeView};
 ghost use Rattle.memblock_model.specs.declared.item.Item.{Item as AnyItem};
 ghost use Rattle.memblock_model.specs.Items.{limit_of, memory_of};
-ghost use Rattle.boot_options.specs.Crash.{CrashWords as Asked};
-ghost use Rattle.stage_model.specs.Doing.{after};
+ghost use Rattle.boot_options.specs.Crash.{CrashOptionView as Asked};
+ghost use Rattle.stage_model.specs.Doing.{items_after_step};
 ghost use Rattle.crash_kernel.specs.declared.crash.Crash.TheVariants as crash;
-ghost use Rattle.crash_kernel.specs.Reserved.{reserved};
-ghost use Rattle.crash_kernel.specs.Told.{IsArea};
+ghost use Rattle.crash_kernel.specs.Reserved.{reserve_crash_area};
+ghost use Rattle.crash_kernel.specs.Told.{IsCrashArea};
 
 /// Law: the stage changes neither memory nor the limit, whatever its outcome.
-pub fn crash_area_leaves_memory()
+pub fn reserve_keeps_memory_and_limit()
     ensures memory { (asked : Asked) (items : List AnyItem) →
-        memory_of (after items (reserved asked items)) ≡ memory_of items }
+        memory_of (items_after_step items (reserve_crash_area asked items)) ≡ memory_of items }
     ensures limit { (asked : Asked) (items : List AnyItem) →
-        limit_of (after items (reserved asked items)) ≡ limit_of items }
+        limit_of (items_after_step items (reserve_crash_area asked items)) ≡ limit_of items }
 {}
 
 /// Law: a reserved area was free memory of one node, has the requested size, and begins at a
 /// multiple of 1 MiB. It has a low part exactly if it lies at or above 4 GiB and the low size
 /// isn't 0. The low part was still free memory of one node once the area was claimed, and ends at
 /// or below 4 GiB.
-pub fn areas_were_free()
+pub fn reserved_area_was_free()
     ensures { (asked : Asked) (items : List AnyItem) (main : RangeView) (low : Option RangeView) →
-        (reserved asked items).answer ≡ Ok (crash.At main low) → IsArea asked items main low }
+        (reserve_crash_area asked items).answer ≡ Ok (crash.At main low) → IsCrashArea asked items main low }
 {}

@@ -16,8 +16,8 @@
 //! - `specs/Told.antt`: what is true of an area that was reserved.
 //!
 //! Later stages may rest on two laws. The stage changes neither memory nor the limit
-//! ([`crash_area_leaves_memory`]). An area that was reserved was free memory of the requested size
-//! ([`areas_were_free`]). A law is an empty function whose contract is a proven fact. In
+//! ([`reserve_keeps_memory_and_limit`]). An area that was reserved was free memory of the requested size
+//! ([`reserved_area_was_free`]). A law is an empty function whose contract is a proven fact. In
 //! contracts, a name means the definition in `specs/`.
 #![tactic(auto)]
 
@@ -29,5 +29,5 @@ mod stage;
 mod total;
 
 pub use crash::Crash;
-pub use laws::{areas_were_free, crash_area_leaves_memory};
+pub use laws::{reserved_area_was_free, reserve_keeps_memory_and_limit};
 pub use stage::reserve;

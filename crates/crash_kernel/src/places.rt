@@ -4,62 +4,62 @@
 
 ghost use Rattle.std.specs.Prelude.{◌≡◌, ℕ, ◌+◌, ◌^◌, ◌<◌, ◌≤◌, IfSome};
 ghost use Rattle.bm_base.specs.Range.{RangeView};
-ghost use Rattle.growth_model.specs.Sound.{HasBegun, IsAway};
-ghost use Rattle.crash_kernel.specs.Places.{best_range, fixed_range, low_range, main_range, needs_low, unplaced};
+ghost use Rattle.growth_model.specs.Sound.{HasBegun, TouchesNoTable};
+ghost use Rattle.crash_kernel.specs.Places.{best_range, fixed_range, low_range, main_range, needs_low_part, search_failure};
 
-use crate::area::{Area, Spot};
+use crate::area::{AreaRequest, Placement};
 use crate::crash::Crash;
 use bm_base::Range;
 use memblock_grow::Memblock;
 use memblock_model::Query;
 
 /// The alignment of a range that is searched for, 16 MiB (`CRASH_ALIGN`).
-const ALIGN: u64 = 1 << 24;
+const CRASH_ALIGN: u64 = 1 << 24;
 
 /// The alignment of a requested base, 1 MiB (`SZ_1M`).
-const FIXED_ALIGN: u64 = 1 << 20;
+const SZ_1M: u64 = 1 << 20;
 
 /// The end of the memory that every device can address, 4 GiB (`CRASH_ADDR_LOW_MAX`).
-const LOW_END: u64 = 1 << 32;
+const CRASH_ADDR_LOW_MAX: u64 = 1 << 32;
 
 /// The end of the memory that a crash kernel can use, 64 TiB (`CRASH_ADDR_HIGH_MAX`).
-const HIGH_END: u64 = 1 << 46;
+const CRASH_ADDR_HIGH_MAX: u64 = 1 << 46;
 
 /// Returns the range for the crash area, or `None` if no free range fits the request.
 #[tactic(auto, unfolding(crate::specs::Places::main_range))]
-pub fn main_range(memblock: &Memblock, area: &Area) -> Option<Range>
+pub fn main_range(memblock: &Memblock, area: &AreaRequest) -> Option<Range>
     requires begun { HasBegun memblock.now.journal.items }
     requires some { 0 < area.now.size }
-    ensures range { result ≡ main_range area.now.size area.now.spot memblock.now.journal.items }
+    ensures range { result ≡ main_range area.now.size area.now.placement memblock.now.journal.items }
     ensures some { IfSome result (λ range. 0 < range.size) }
-    ensures away { IfSome result (λ range. IsAway memblock.now.kernel range memblock.now.journal.items) }
+    ensures away { IfSome result (λ range. TouchesNoTable memblock.now.kernel range memblock.now.journal.items) }
 {
     let size = area.size;
-    match area.spot {
-        Spot::Fixed(base) => fixed_range(memblock, base, size),
-        Spot::Automatic => best_range(memblock, size, ALIGN, LOW_END).or_else(|| best_range(
-            memblock, size, ALIGN, HIGH_END,
+    match area.placement {
+        Placement::Fixed(base) => fixed_range(memblock, base, size),
+        Placement::Automatic => best_range(memblock, size, CRASH_ALIGN, CRASH_ADDR_LOW_MAX).or_else(|| best_range(
+            memblock, size, CRASH_ALIGN, CRASH_ADDR_HIGH_MAX,
         )),
-        Spot::High => best_range(memblock, size, ALIGN, HIGH_END),
+        Placement::High => best_range(memblock, size, CRASH_ALIGN, CRASH_ADDR_HIGH_MAX),
     }
 }
 
 /// Returns the outcome if no free range fits an area with this placement.
-pub fn unplaced(spot: Spot) -> Crash
-    ensures { result ≡ unplaced spot }
+pub fn search_failure(placement: Placement) -> Crash
+    ensures { result ≡ search_failure spot }
 {
     match spot {
-        Spot::Fixed(_) => Crash::InUse,
-        Spot::Automatic | Spot::High => Crash::NoArea,
+        Placement::Fixed(_) => Crash::InUse,
+        Placement::Automatic | Placement::High => Crash::NoArea,
     }
 }
 
 /// Tests whether the area at `main` needs a low part of `low` bytes: it lies at or above 4 GiB,
 /// and `low` isn't 0.
-pub fn needs_low(main: &Range, low: u64) -> bool
-    ensures { result ≡ needs_low main.now low }
+pub fn needs_low_part(main: &Range, low: u64) -> bool
+    ensures { result ≡ needs_low_part main.now low }
 {
-    LOW_END <= main.base && 0 < low
+    CRASH_ADDR_LOW_MAX <= main.base && 0 < low
 }
 
 /// Returns the range for the low part, or `None` if no free range below 4 GiB fits.
@@ -70,7 +70,7 @@ pub fn low_range(memblock: &Memblock, size: u64) -> Option<Range>
     ensures range { result ≡ low_range size memblock.now.journal.items }
     ensures some { IfSome result (λ range. 0 < range.size) }
 {
-    best_range(memblock, size, 0, LOW_END)
+    best_range(memblock, size, 0, CRASH_ADDR_LOW_MAX)
 }
 
 /// Returns the free range of `size` bytes that memblock picks between `lo` and `hi`, on any node
@@ -80,13 +80,13 @@ fn best_range(memblock: &Memblock, size: u64, lo: u64, hi: u64) -> Option<Range>
     requires some { 0 < size }
     ensures range { result ≡ best_range size lo hi memblock.now.journal.items }
     ensures some { IfSome result (λ range. 0 < range.size) }
-    ensures away { IfSome result (λ range. IsAway memblock.now.kernel range memblock.now.journal.items) }
+    ensures away { IfSome result (λ range. TouchesNoTable memblock.now.kernel range memblock.now.journal.items) }
 {
     let query = Query {
         lo,
         hi,
         size,
-        align: ALIGN,
+        align: CRASH_ALIGN,
         node: None,
     };
     let base = memblock.find(&query)?;
@@ -100,9 +100,9 @@ fn fixed_range(memblock: &Memblock, base: u64, size: u64) -> Option<Range>
     requires some { 0 < size }
     ensures range { result ≡ fixed_range base size memblock.now.journal.items }
     ensures some { IfSome result (λ range. 0 < range.size) }
-    ensures away { IfSome result (λ range. IsAway memblock.now.kernel range memblock.now.journal.items) }
+    ensures away { IfSome result (λ range. TouchesNoTable memblock.now.kernel range memblock.now.journal.items) }
 {
-    if base % FIXED_ALIGN != 0 {
+    if base % SZ_1M != 0 {
         return None;
     }
     let range = Range::new(base, size)?;

@@ -1,18 +1,18 @@
 //! Claims the crash area and its low part, or frees the area again if the low part doesn't fit.
 
 ghost use Rattle.std.specs.Prelude.{◌≡◌, ◌≢◌, ◌<◌, IfErr, Ok};
-ghost use Rattle.growth_model.specs.Sound.{HasBegun, IsAway};
+ghost use Rattle.growth_model.specs.Sound.{HasBegun, TouchesNoTable};
 ghost use Rattle.growth_model.specs.declared.refusal.Refusal.TheVariants as refusals;
 ghost use Rattle.stage_model.specs.Causes.{refusal_for};
-ghost use Rattle.stage_model.specs.Doing.{StageEnds, returns};
-ghost use Rattle.memblock_grow.specs.Going.{GoesOn};
-ghost use Rattle.boot_options.specs.Crash.{crash_view};
+ghost use Rattle.stage_model.specs.Doing.{EndsAsStage, return_value};
+ghost use Rattle.memblock_grow.specs.Going.{ContinuesMemblock};
+ghost use Rattle.boot_options.specs.Crash.{crash_option_view};
 ghost use Rattle.crash_kernel.specs.declared.crash.Crash.{Crash as AnyCrash};
-ghost use Rattle.crash_kernel.specs.Reserved.{low_part, reserved};
+ghost use Rattle.crash_kernel.specs.Reserved.{reserve_low_part, reserve_crash_area};
 
-use crate::area::area_for;
+use crate::area::request_for;
 use crate::crash::Crash;
-use crate::places::{low_range, main_range, needs_low, unplaced};
+use crate::places::{low_range, main_range, needs_low_part, search_failure};
 use crate::total::total_memory;
 use bm_base::Range;
 use boot_options::CrashOption;
@@ -22,7 +22,7 @@ use memblock_model::Owner;
 
 /// The size of the low part without `crashkernel=SIZE,low`, 256 MiB (`reserve_crashkernel_low`).
 /// The kernel takes more if `swiotlb=` requests larger bounce buffers; this doesn't.
-const DEFAULT_LOW: u64 = 1 << 28;
+const DEFAULT_LOW_SIZE: u64 = 1 << 28;
 
 /// Reserves the crash area that `option` requests, and its low part if it needs one
 /// (`reserve_crashkernel`). Returns the outcome, which may be that nothing fits. The kernel's
@@ -37,24 +37,24 @@ const DEFAULT_LOW: u64 = 1 << 28;
 /// - `Memory` if this program is out of memory.
 pub fn reserve(memblock: &mut Memblock, option: &CrashOption) -> Result<Crash, Refusal>
     requires begun { HasBegun memblock.old.journal.items }
-    ensures ends { StageEnds (reserved (crash_view option.now)) refusal_for result
+    ensures ends { EndsAsStage (reserve_crash_area (crash_option_view option.now)) refusal_for result
         memblock.old.journal.items memblock.new.journal.items }
     ensures idle { (crash : AnyCrash) →
-        reserved (crash_view option.now) memblock.old.journal.items ≡ returns crash memblock.old.journal.items → result ≡ Ok crash }
+        reserve_crash_area (crash_option_view option.now) memblock.old.journal.items ≡ return_value crash memblock.old.journal.items → result ≡ Ok crash }
     ensures found { IfErr result (λ refusal. refusal ≢ refusals.NoGap) }
-    ensures goes_on { GoesOn memblock.old memblock.new }
+    ensures goes_on { ContinuesMemblock memblock.old memblock.new }
 {
     let total = total_memory(memblock.tables());
-    let Some(area) = area_for(total, option) else {
+    let Some(area) = request_for(total, option) else {
         return Ok(Crash::Nothing);
     };
     let Some(main) = main_range(memblock, &area) else {
-        return Ok(unplaced(area.spot));
+        return Ok(search_failure(area.placement));
     };
     memblock.claim(main, Owner::Crash)?;
-    let low = option.low.unwrap_or(DEFAULT_LOW);
-    if needs_low(&main, low) {
-        reserve_low(memblock, main, low)
+    let low = option.low.unwrap_or(DEFAULT_LOW_SIZE);
+    if needs_low_part(&main, low) {
+        reserve_low_part(memblock, main, low)
     } else {
         Ok(Crash::At { main, low: None })
     }
@@ -62,15 +62,15 @@ pub fn reserve(memblock: &mut Memblock, option: &CrashOption) -> Result<Crash, R
 
 /// Reserves a low part of `size` bytes for the claimed area at `main`, or frees the area if
 /// nothing fits (`reserve_crashkernel_low`).
-fn reserve_low(memblock: &mut Memblock, main: Range, size: u64) -> Result<Crash, Refusal>
+fn reserve_low_part(memblock: &mut Memblock, main: Range, size: u64) -> Result<Crash, Refusal>
     requires begun { HasBegun memblock.old.journal.items }
     requires main { 0 < main.size }
-    requires away { IsAway memblock.old.kernel main memblock.old.journal.items }
+    requires away { TouchesNoTable memblock.old.kernel main memblock.old.journal.items }
     requires some { 0 < size }
-    ensures ends { StageEnds (low_part main size) refusal_for result
+    ensures ends { EndsAsStage (reserve_low_part main size) refusal_for result
         memblock.old.journal.items memblock.new.journal.items }
     ensures found { IfErr result (λ refusal. refusal ≢ refusals.NoGap) }
-    ensures goes_on { GoesOn memblock.old memblock.new }
+    ensures goes_on { ContinuesMemblock memblock.old memblock.new }
 {
     match low_range(memblock, size) {
         Some(low) => {

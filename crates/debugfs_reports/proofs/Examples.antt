@@ -10,13 +10,13 @@ use Rattle.early_script.specs.declared.outcome.Outcome.TheVariants as outcomes
 use Rattle.crash_kernel.specs.declared.crash.Crash.TheVariants as crash
 use Rattle.frame_blocks.specs.Frames.{Frames}
 use Rattle.bm_base.specs.declared.width.Width.TheVariants.{Bits46}
-use Rattle.page_alloc.specs.Pages.{begun}
-use Rattle.slit_zonelists.specs.Lists.{Known, known}
-use Rattle.boot_model.specs.Boot.{Told, no_nodes}
+use Rattle.page_alloc.specs.Pages.{first_page_state}
+use Rattle.slit_zonelists.specs.Lists.{ListsView, zonelists_from_slit}
+use Rattle.boot_model.specs.Boot.{BootedView, no_nodes}
 use Rattle.boot_model.specs.Sections.{no_sections}
 use Rattle.debugfs_reports.specs.declared.report.Report.TheVariants as reports
-use Rattle.debugfs_reports.specs.Report.{TableRecords, report_named, report_text, shown_text}
-use Rattle.debugfs_reports.specs.ReportList.{are_reports, names_in, reports_in, text_of}
+use Rattle.debugfs_reports.specs.Report.{TableRecords, report_named, report_text, render}
+use Rattle.debugfs_reports.specs.ReportList.{are_reports, report_names_in, reports_in, report_list_text}
 
 reserved : RunOf ℕ
 reserved = record { base = 0x7FE0000; size = 0x20000; value = 2 }
@@ -32,10 +32,10 @@ abbrev no_frames : Frames
 no_frames frame = None
 
 -- no table of distances, and no zones
-abbrev no_lists : Known
-no_lists = known None [] []
+abbrev no_lists : ListsView
+no_lists = zonelists_from_slit None [] []
 
-nothing : Told
+nothing : BootedView
 nothing = record {
   width = Bits46;
   map = [];
@@ -50,10 +50,10 @@ nothing = record {
   free = no_frames;
   lists = no_lists;
   page_answers = [];
-  after = begun no_frames;
+  after = first_page_state no_frames;
 }
 
-made : Told
+made : BootedView
 made = record nothing {
   map = reserved ∷ [];
   options = record { edits = edits.Clear ∷ []; crash = no_crash; numa_off = true; add_efi = false };
@@ -68,15 +68,15 @@ page_at base = record { base = base; size = 0x1000; value = plain_label }
 abbrev standing : TableRecords
 standing = record { memory = page_at 0x1000 ∷ page_at 0x2000 ∷ []; reserved = page_at 0x2000 ∷ [] }
 
-table_examples : (shown_text reports.Memory made standing
+table_examples : (render reports.Memory made standing
     ≡ codes "   0: 0x0000000000001000..0x0000000000001fff\n   1: 0x0000000000002000..0x0000000000002fff\n")
-    × (shown_text reports.Reserved made standing ≡ codes "   0: 0x0000000000002000..0x0000000000002fff\n")
+    × (render reports.Reserved made standing ≡ codes "   0: 0x0000000000002000..0x0000000000002fff\n")
 unfolding made nothing reserved digits
 table_examples = (refl, refl)
 
 -- a list has one name more than commas; a name may occur twice; no report has an empty name
-list_examples : (names_in (codes "map,,map") ≡ codes "map" ∷ [] ∷ codes "map" ∷ [])
-    × (names_in [] ≡ [] ∷ [])
+list_examples : (report_names_in (codes "map,,map") ≡ codes "map" ∷ [] ∷ codes "map" ∷ [])
+    × (report_names_in [] ≡ [] ∷ [])
     × (are_reports (codes "map,options,map") ≡ true)
     × (are_reports (codes "map,") ≡ false)
     × (are_reports (codes "map, options") ≡ false)
@@ -87,11 +87,11 @@ list_examples = (refl, refl, refl, refl, refl, refl, refl, refl)
 
 -- a single report has no line with its name; if there are two, each has one, even a report without
 -- lines
-part_examples : (text_of (reports.Options ∷ []) made ≡ codes "clear\nnuma off\n")
-    × (text_of (reports.Map ∷ reports.Options ∷ []) made
+part_examples : (report_list_text (reports.Options ∷ []) made ≡ codes "clear\nnuma off\n")
+    × (report_list_text (reports.Map ∷ reports.Options ∷ []) made
     ≡ codes "== map\n0x0000000007fe0000..0x0000000007ffffff 2 reserved\n== options\nclear\nnuma off\n")
-    × (text_of (reports.Options ∷ reports.Options ∷ []) nothing ≡ codes "== options\n== options\n")
-    × (text_of [] made ≡ [])
+    × (report_list_text (reports.Options ∷ reports.Options ∷ []) nothing ≡ codes "== options\n== options\n")
+    × (report_list_text [] made ≡ [])
 unfolding made nothing reserved digits
 part_examples = (refl, refl, refl, refl)
 

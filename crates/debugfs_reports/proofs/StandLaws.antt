@@ -1,44 +1,44 @@
 -- Lemmas: the reports of tables that are stored in the bytes show the records of these tables.
 use Rattle.std.proofs.Common.{◌≡◌, ℕ, Bool, List, [], ◌∷◌, nat_lt, length, refl, arith}
 use Rattle.std.specs.List.{flat_map}
-use Rattle.memblock_ranges.specs.Tables.{StandsIn, Table, head_of}
-use Rattle.boot_model.specs.Boot.{Told}
+use Rattle.memblock_ranges.specs.Tables.{IsInStore, TableView, head_of}
+use Rattle.boot_model.specs.Boot.{BootedView}
 use Rattle.boot_model.specs.declared.booted.Booted.{Booted}
 use Rattle.report_texts.specs.RecordsText.{records_text}
 use Rattle.report_texts.proofs.RecordLaws.{standing_text}
 use Rattle.table_frames.proofs.StandLaws.{stands_ascending}
 use Rattle.debugfs_reports.specs.declared.report.Report.{Report}
-use Rattle.debugfs_reports.specs.Report.{TableRecords, shown_text}
-use Rattle.debugfs_reports.specs.ReportList.{shown_list, shown_part}
-use Rattle.debugfs_reports.specs.Stand.{TablesStand, records_at_heads}
+use Rattle.debugfs_reports.specs.Report.{TableRecords, render}
+use Rattle.debugfs_reports.specs.ReportList.{render_list, render_part}
+use Rattle.debugfs_reports.specs.Stand.{HeadsHaveRecords, records_at_heads}
 
 -- both tables are stored where the heads of the boot point
-pub record HaveTables (b : Booted) (memory reserved : Table) : Type 0 where
-  pub memory_stands : StandsIn memory b.store
+pub record HaveTables (b : Booted) (memory reserved : TableView) : Type 0 where
+  pub memory_stands : IsInStore memory b.store
   pub memory_told : b.heads.memory ≡ head_of memory
-  pub reserved_stands : StandsIn reserved b.store
+  pub reserved_stands : IsInStore reserved b.store
   pub reserved_told : b.heads.reserved ≡ head_of reserved
 
-pub tables_stand : (b : Booted) (memory reserved : Table) → HaveTables b memory reserved → TablesStand b
+pub tables_stand : (b : Booted) (memory reserved : TableView) → HaveTables b memory reserved → HeadsHaveRecords b
 tables_stand b memory reserved have = record {
   memory = rw have.memory_told (stands_ascending memory b.store have.memory_stands);
   reserved = rw have.reserved_told (stands_ascending reserved b.store have.reserved_stands);
 }
 
 -- records with the same lines have the same reports
-text_alike : (report : Report) (told : Told) (these those : TableRecords) → records_text these.memory ≡ records_text those.memory
-    → records_text these.reserved ≡ records_text those.reserved → shown_text report told these ≡ shown_text report told those
+text_alike : (report : Report) (told : BootedView) (these those : TableRecords) → records_text these.memory ≡ records_text those.memory
+    → records_text these.reserved ≡ records_text those.reserved → render report told these ≡ render report told those
 text_alike report told these those memory reserved = grind (arith, memory, reserved)
 
-list_alike : (several : Bool) (told : Told) (these those : TableRecords) (list : List Report)
+list_alike : (several : Bool) (told : BootedView) (these those : TableRecords) (list : List Report)
     → records_text these.memory ≡ records_text those.memory → records_text these.reserved ≡ records_text those.reserved
-    → flat_map (shown_part several told these) list ≡ flat_map (shown_part several told those) list
+    → flat_map (render_part several told these) list ≡ flat_map (render_part several told those) list
 list_alike several told these those [] memory reserved = refl
 list_alike several told these those (report ∷ list) memory reserved =
     rw (text_alike report told these those memory reserved, list_alike several told these those list memory reserved) refl
 
-pub tables_shown : (b : Booted) (memory reserved : Table) (told : Told) (list : List Report) → HaveTables b memory reserved
-    → shown_list list told (records_at_heads b) ≡ shown_list list told (record { memory = memory.records; reserved = reserved.records })
+pub tables_shown : (b : Booted) (memory reserved : TableView) (told : BootedView) (list : List Report) → HaveTables b memory reserved
+    → render_list list told (records_at_heads b) ≡ render_list list told (record { memory = memory.records; reserved = reserved.records })
 tables_shown b memory reserved told list have =
     list_alike (nat_lt 1 (length list)) told (records_at_heads b) (record { memory = memory.records; reserved = reserved.records }) list
     (rw have.memory_told (standing_text memory b.store have.memory_stands))

@@ -12,19 +12,19 @@ use Rattle.frame_blocks.specs.Listed.{blocks_of}
 use Rattle.frame_blocks.specs.Rows.{blocks_of_row, blocks_of_rows, row_from}
 use Rattle.stage_texts.proofs.BlockLaws.{AreInBounds, listed_few, listed_in_bounds}
 use Rattle.stage_texts.proofs.RowLaws.{rows_left}
-use Rattle.debugfs_reports.specs.Summary.{frames_in}
+use Rattle.debugfs_reports.specs.Summary.{total_frames_of_blocks}
 
-few_in : (bs : List Block) → AreInBounds bs → frames_in bs ≤ 1024 * length bs
+few_in : (bs : List Block) → AreInBounds bs → total_frames_of_blocks bs ≤ 1024 * length bs
 few_in [] all = omega arith
 few_in (b ∷ bs) all =
     let one : 2 ^ b.order ≤ 2 ^ 10 = pow_mono all.0.order in
     omega (arith, one, few_in bs all.1, sum_by-cons (λ (c : Block). 2 ^ c.order) b bs)
 
-pub listed_frames : (f : Frames) → frames_in (blocks_of f) ≤ 2 ^ 50
+pub listed_frames : (f : Frames) → total_frames_of_blocks (blocks_of f) ≤ 2 ^ 50
 listed_frames f = omega (arith, few_in (blocks_of f) (listed_in_bounds f), listed_few f)
 
 -- the number of frames in a row
-row_frames : (o x n k : ℕ) (z : Zone) → frames_in (row_from o x n z k) ≡ k * 2 ^ o
+row_frames : (o x n k : ℕ) (z : Zone) → total_frames_of_blocks (row_from o x n z k) ≡ k * 2 ^ o
 unfolding row_from
 row_frames o x n zero z = omega arith
 row_frames o x n (suc k) z =
@@ -35,8 +35,8 @@ row_frames o x n (suc k) z =
 
 -- the rows that are left are one row and the others
 pub row_left : (rs : List BlockRow) (i : ℕ) (d : BlockRow) → i < length rs
-    → (frames_in (blocks_of_rows (drop i rs))
-    ≡ (get_or rs i d).count * 2 ^ (get_or rs i d).order + frames_in (blocks_of_rows (drop (i + 1) rs)))
+    → (total_frames_of_blocks (blocks_of_rows (drop i rs))
+    ≡ (get_or rs i d).count * 2 ^ (get_or rs i d).order + total_frames_of_blocks (blocks_of_rows (drop (i + 1) rs)))
     × (length (blocks_of_rows (drop i rs)) ≡ (get_or rs i d).count + length (blocks_of_rows (drop (i + 1) rs)))
 row_left rs i d within =
     let r : BlockRow = get_or rs i d in
@@ -49,7 +49,7 @@ row_left rs i d within =
 
 -- the counts so far, with those of the rows that are left, are the totals
 pub record Counted (rs : List BlockRow) (i free blocks : ℕ) : Type 0 where
-  pub all_frames : free + frames_in (blocks_of_rows (drop i rs)) ≡ frames_in (blocks_of_rows rs)
+  pub all_frames : free + total_frames_of_blocks (blocks_of_rows (drop i rs)) ≡ total_frames_of_blocks (blocks_of_rows rs)
   pub all_blocks : blocks + length (blocks_of_rows (drop i rs)) ≡ length (blocks_of_rows rs)
 
 pub row_more : (rs : List BlockRow) (i free blocks frames : ℕ) (d : BlockRow) → i < length rs
@@ -60,7 +60,7 @@ row_more rs i free blocks frames d within is so_far =
     record { all_frames = omega (arith, left.0, is); all_blocks = omega (arith, left.1) }
 
 pub counted_few : (rs : List BlockRow) (i free blocks : ℕ) (f : Frames) → blocks_of_rows rs ≡ blocks_of f → Counted rs i free blocks
-    → (free + frames_in (blocks_of_rows (drop i rs)) ≤ 2 ^ 50) × (blocks + length (blocks_of_rows (drop i rs)) ≤ 2 ^ 40)
+    → (free + total_frames_of_blocks (blocks_of_rows (drop i rs)) ≤ 2 ^ 50) × (blocks + length (blocks_of_rows (drop i rs)) ≤ 2 ^ 40)
 counted_few rs i free blocks f is so_far =
     (omega (arith, listed_frames f, rw is at so_far.all_frames), omega (arith, listed_few f, rw is at so_far.all_blocks))
 

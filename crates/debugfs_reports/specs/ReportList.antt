@@ -3,37 +3,37 @@ use Rattle.std.specs.Prelude.{ℕ, Bool, is_some, nat_lt, if◌then◌else◌, L
 use Rattle.std.specs.List.{filter_map, flat_map, list_all}
 use Rattle.text_words.specs.declared.separators.Separators.TheVariants.{Byte}
 use Rattle.text_words.specs.Parts.{parts_in}
-use Rattle.boot_model.specs.Boot.{Told}
+use Rattle.boot_model.specs.Boot.{BootedView}
 use Rattle.debugfs_reports.specs.declared.report.Report.{Report}
-use Rattle.debugfs_reports.specs.Report.{TableRecords, name_of, records_told, report_named, shown_text}
+use Rattle.debugfs_reports.specs.Report.{TableRecords, report_name, journal_records, report_named, render}
 
 -- the names in a list, with commas between them; the empty text is one empty name
-abbrev pub names_in : List ℕ → List (List ℕ)
-names_in list = parts_in (Byte 44) list
+abbrev pub report_names_in : List ℕ → List (List ℕ)
+report_names_in list = parts_in (Byte 44) list
 
 -- each name is that of a report
 abbrev pub are_reports : List ℕ → Bool
-are_reports list = list_all (λ name. is_some (report_named name)) (names_in list)
+are_reports list = list_all (λ name. is_some (report_named name)) (report_names_in list)
 
 -- the reports with these names, in the order of the list
 abbrev pub reports_in : List ℕ → List Report
-reports_in list = filter_map report_named (names_in list)
+reports_in list = filter_map report_named (report_names_in list)
 
 -- the line before a report, if it is one of several
-abbrev pub title : Bool → Report → List ℕ
-title several report = if several then codes "== " ++ name_of report ++ codes "\n" else []
+abbrev pub report_title : Bool → Report → List ℕ
+report_title several report = if several then codes "== " ++ report_name report ++ codes "\n" else []
 
 -- the part of a report in the whole text, for the records at the heads; and for the records that
 -- the journal gives
-abbrev pub shown_part : Bool → Told → TableRecords → Report → List ℕ
-shown_part several told records report = title several report ++ shown_text report told records
+abbrev pub render_part : Bool → BootedView → TableRecords → Report → List ℕ
+render_part several told records report = report_title several report ++ render report told records
 
-abbrev pub part : Bool → Told → Report → List ℕ
-part several told report = shown_part several told (records_told told) report
+abbrev pub report_part : Bool → BootedView → Report → List ℕ
+report_part several told report = render_part several told (journal_records told) report
 
 -- the whole text of a list of reports: the parts one after another, in the order of the list
-abbrev pub shown_list : List Report → Told → TableRecords → List ℕ
-shown_list reports told records = flat_map (shown_part (nat_lt 1 (length reports)) told records) reports
+abbrev pub render_list : List Report → BootedView → TableRecords → List ℕ
+render_list reports told records = flat_map (render_part (nat_lt 1 (length reports)) told records) reports
 
-abbrev pub text_of : List Report → Told → List ℕ
-text_of reports told = shown_list reports told (records_told told)
+abbrev pub report_list_text : List Report → BootedView → List ℕ
+report_list_text reports told = render_list reports told (journal_records told)

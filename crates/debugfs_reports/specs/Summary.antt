@@ -8,11 +8,11 @@ use Rattle.frame_blocks.specs.Listed.{blocks_of}
 use Rattle.memblock_ranges.specs.declared.region.Head.{Head}
 use Rattle.stage_texts.specs.declared.summary.Fullness.{Fullness}
 use Rattle.stage_texts.specs.declared.summary.Summary.{Summary}
-use Rattle.boot_model.specs.Boot.{Told, reach_told}
+use Rattle.boot_model.specs.Boot.{BootedView, booted_address_limit}
 
 -- the number of frames in these blocks; a block has 2^order
-abbrev pub frames_in : List Block → ℕ
-frames_in blocks = sum_by (λ b. 2 ^ b.order) blocks
+abbrev pub total_frames_of_blocks : List Block → ℕ
+total_frames_of_blocks blocks = sum_by (λ b. 2 ^ b.order) blocks
 
 -- how full a table is (`cnt` and `max` of `struct memblock_type`)
 abbrev pub fullness_of : Head → Fullness
@@ -20,11 +20,11 @@ fullness_of head = record { records = head.count; room = head.room }
 
 -- the totals. Usable are the frames of the map that the kernel can address
 -- (`e820__memblock_setup`), free those that the page allocator gets (`memblock_free_all`).
-abbrev pub summary_of : Told → Summary
+abbrev pub summary_of : BootedView → Summary
 summary_of told = record {
   runs = length told.map;
-  usable = usable_frames (types_below (reach_told told) (value_at told.map));
-  free = frames_in (blocks_of told.free);
+  usable = usable_frames (types_below (booted_address_limit told) (value_at told.map));
+  free = total_frames_of_blocks (blocks_of told.free);
   memory = fullness_of told.heads.memory;
   reserved = fullness_of told.heads.reserved;
   blocks = length (blocks_of told.free);

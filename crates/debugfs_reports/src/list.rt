@@ -4,8 +4,8 @@ ghost use Rattle.std.specs.Prelude.{◌≡◌, IfOk, length, map, nat_lt};
 ghost use Rattle.std.specs.List.{flat_map};
 ghost use Rattle.bm_base.specs.PutsText.{PutsText};
 ghost use Rattle.boot_model.specs.View.{booted_view};
-ghost use Rattle.debugfs_reports.specs.ReportList.{are_reports, reports_in, shown_list, shown_part, title};
-ghost use Rattle.debugfs_reports.specs.Stand.{TablesStand, records_at_heads};
+ghost use Rattle.debugfs_reports.specs.ReportList.{are_reports, reports_in, render_list, render_part, report_title};
+ghost use Rattle.debugfs_reports.specs.Stand.{HeadsHaveRecords, records_at_heads};
 ghost use Rattle.address_runs.specs.Ascend.{Ascend};
 
 use crate::report::{Report, put_report, report_named};
@@ -61,13 +61,13 @@ pub fn render_all(
     reports: &[Report],
     booted: &Booted,
 ) -> Result<Vec<Vec<u8>>, Memory>
-    requires tables { TablesStand booted.now }
+    requires tables { HeadsHaveRecords booted.now }
     requires map { Ascend booted.now.map.items }
     ensures each { IfOk result (λ texts. map (λ text. text.items) texts.items
-        ≡ map (shown_part (nat_lt 1 (length reports.now)) (booted_view booted.now)
+        ≡ map (render_part (nat_lt 1 (length reports.now)) (booted_view booted.now)
         (records_at_heads booted.now)) reports.now) }
     ensures whole { IfOk result (λ texts. flat_map (λ text. text.items) texts.items
-        ≡ shown_list reports.now (booted_view booted.now) (records_at_heads booted.now)) }
+        ≡ render_list reports.now (booted_view booted.now) (records_at_heads booted.now)) }
 {
     let several = reports.len() > 1;
     let mut texts = Vec::new(alloc);
@@ -84,20 +84,20 @@ fn render_part(
     several: bool,
     booted: &Booted,
 ) -> Result<Vec<u8>, Memory>
-    requires tables { TablesStand booted.now }
+    requires tables { HeadsHaveRecords booted.now }
     requires map { Ascend booted.now.map.items }
     ensures { IfOk result (λ text. text.items
-        ≡ shown_part several (booted_view booted.now) (records_at_heads booted.now) report) }
+        ≡ render_part several (booted_view booted.now) (records_at_heads booted.now) report) }
 {
     let mut text = Vec::new(alloc);
-    put_title(&mut text, several, report)?;
+    put_report_title(&mut text, several, report)?;
     put_report(&mut text, report, booted)?;
     Ok(text)
 }
 
 /// Appends the `== NAME` line of a report, if there are several reports.
-fn put_title(text: &mut Vec<u8>, several: bool, report: Report) -> Result<(), Memory>
-    ensures { PutsText text.old text.new result (title several report) }
+fn put_report_title(text: &mut Vec<u8>, several: bool, report: Report) -> Result<(), Memory>
+    ensures { PutsText text.old text.new result (report_title several report) }
 {
     if !several {
         return Ok(());

@@ -4,8 +4,8 @@
 ghost use Rattle.std.specs.Prelude.{◌≡◌, ◌++◌, IfOk, OnOk};
 ghost use Rattle.std.specs.Str.{bytes_eq};
 ghost use Rattle.boot_model.specs.View.{booted_view};
-ghost use Rattle.debugfs_reports.specs.Report.{name_of, report_named, report_text, shown_text};
-ghost use Rattle.debugfs_reports.specs.Stand.{TablesStand, records_at_heads};
+ghost use Rattle.debugfs_reports.specs.Report.{report_name, report_named, report_text, render};
+ghost use Rattle.debugfs_reports.specs.Stand.{HeadsHaveRecords, records_at_heads};
 ghost use Rattle.address_runs.specs.Ascend.{Ascend};
 
 use crate::summary::summary_of;
@@ -62,7 +62,7 @@ pub enum Report {
 impl Report {
     /// Returns the name of the report, as a list of reports has it.
     pub fn name(self) -> &'static str
-        ensures { result.now ≡ name_of self }
+        ensures { result.now ≡ report_name self }
     {
         match self {
             Report::Map => "map",
@@ -111,7 +111,7 @@ const REPORTS: [Report; 18] = [
 
 /// Tests whether this is the name of the report.
 fn is_named(report: Report, name: &[u8]) -> bool
-    ensures { result ≡ bytes_eq name.now (name_of report) }
+    ensures { result ≡ bytes_eq name.now (report_name report) }
 {
     name == report.name().as_bytes()
 }
@@ -138,10 +138,10 @@ pub fn report_named(name: &[u8]) -> Option<Report>
 ///
 /// - `Memory`: the program ran out of memory.
 pub fn render(alloc: Global, report: Report, booted: &Booted) -> Result<Vec<u8>, Memory>
-    requires tables { TablesStand booted.now }
+    requires tables { HeadsHaveRecords booted.now }
     requires map { Ascend booted.now.map.items }
     ensures { IfOk result (λ text. text.items
-        ≡ shown_text report (booted_view booted.now) (records_at_heads booted.now)) }
+        ≡ render report (booted_view booted.now) (records_at_heads booted.now)) }
 {
     let mut text = Vec::new(alloc);
     put_report(&mut text, report, booted)?;
@@ -154,10 +154,10 @@ pub fn render(alloc: Global, report: Report, booted: &Booted) -> Result<Vec<u8>,
 ///
 /// - `Memory`: the program ran out of memory; the text is incomplete.
 pub fn put_report(text: &mut Vec<u8>, report: Report, booted: &Booted) -> Result<(), Memory>
-    requires tables { TablesStand booted.now }
+    requires tables { HeadsHaveRecords booted.now }
     requires map { Ascend booted.now.map.items }
     ensures { OnOk result (text.new.items
-        ≡ text.old.items ++ shown_text report (booted_view booted.now) (records_at_heads booted.now)) }
+        ≡ text.old.items ++ render report (booted_view booted.now) (records_at_heads booted.now)) }
 {
     match report {
         Report::Map => put_map(text, &booted.map),
@@ -177,12 +177,12 @@ pub fn put_report(text: &mut Vec<u8>, report: Report, booted: &Booted) -> Result
         Report::Pages => put_pages(text, &booted.page_answers),
         Report::Pagesinfo => put_buddyinfo(text, &booted.spans, booted.after.buddy()),
         Report::Zonelists => put_zonelists(text, &booted.lists),
-        Report::Summary => put_numbers(text, booted),
+        Report::Summary => put_booted_summary(text, booted),
     }
 }
 
 /// Appends the text of the summary.
-fn put_numbers(text: &mut Vec<u8>, booted: &Booted) -> Result<(), Memory>
+fn put_booted_summary(text: &mut Vec<u8>, booted: &Booted) -> Result<(), Memory>
     requires { Ascend booted.now.map.items }
     ensures { OnOk result (text.new.items ≡ text.old.items ++ report_text Report.Summary (booted_view booted.now)) }
 {

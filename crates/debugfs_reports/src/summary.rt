@@ -25,7 +25,7 @@ pub fn summary_of(booted: &Booted) -> Result<Summary, Memory>
     requires { Ascend booted.now.map.items }
     ensures { IfOk result (λ summary. summary ≡ summary_of (booted_view booted.now)) }
 {
-    let rows = booted.buddy.rows()?;
+    let rows = booted.buddy.block_rows()?;
     let mut free = 0;
     let mut blocks = 0;
     for row in &rows {

@@ -10,29 +10,29 @@ use Rattle.e820_model.specs.Map.{claims_of, AreClaims}
 use Rattle.e820_model.specs.declared.entry.Entry.{Entry}
 use Rattle.e820_model.specs.declared.entry.Edit.TheVariants as edit
 use Rattle.e820_model.proofs.ClaimLaws.{is_value, claims_append_at, claims_append, are_append}
-use Rattle.e820_sanitise.specs.Cuts.{between, between_if, parts, is_meant, left_inside, cut_out, claim_of}
+use Rattle.e820_sanitise.specs.Cuts.{claim_between, claim_between_if_typed, parts_of_claim, is_type_to_cut, type_inside, cut_out, type_claim_of_entry}
 
 -- the claim on the addresses of one part
-between_test : (from until kind x k : ℕ) → claims_of (between from until kind) x k ≡ (nat_le from x && nat_lt x until && k == kind)
+between_test : (from until kind x k : ℕ) → claims_of (claim_between from until kind) x k ≡ (nat_le from x && nat_lt x until && k == kind)
 between_test from until kind x k =
-    elim (cases_Bool (nat_lt from until)) as (λ _. claims_of (between from until kind) x k
+    elim (cases_Bool (nat_lt from until)) as (λ _. claims_of (claim_between from until kind) x k
     ≡ (nat_le from x && nat_lt x until && k == kind)) [
       | inl some ↦ rw some (grind (arith, nat_tests))
       | inr none ↦ rw none (grind (arith, nat_tests))
     ]
 
 between_if_test : (from until : ℕ) (kind : Option ℕ) (x k : ℕ)
-    → claims_of (between_if from until kind) x k ≡ (nat_le from x && nat_lt x until && is_value kind k)
+    → claims_of (claim_between_if_typed from until kind) x k ≡ (nat_le from x && nat_lt x until && is_value kind k)
 between_if_test from until None x k = grind (arith, nat_tests)
 between_if_test from until (Some kind) x k = between_test from until kind x k
 
 -- the claims of the parts: the claim's own addresses, with the type `inner` inside the range
 parts_test : (range : RangeView) (inner : Option ℕ) (r : RunOf ℕ) (x k : ℕ)
-    → claims_of (parts range inner r) x k ≡ (lies_in r x && (if covers range x then is_value inner k else (k == r.value)))
+    → claims_of (parts_of_claim range inner r) x k ≡ (lies_in r x && (if covers range x then is_value inner k else (k == r.value)))
 parts_test range inner r x k =
-    let first : List (RunOf ℕ) = between r.base (min range.base (run_end r)) r.value in
-    let second : List (RunOf ℕ) = between_if (max range.base r.base) (min (end_of range) (run_end r)) inner in
-    let third : List (RunOf ℕ) = between (max (end_of range) r.base) (run_end r) r.value in
+    let first : List (RunOf ℕ) = claim_between r.base (min range.base (run_end r)) r.value in
+    let second : List (RunOf ℕ) = claim_between_if_typed (max range.base r.base) (min (end_of range) (run_end r)) inner in
+    let third : List (RunOf ℕ) = claim_between (max (end_of range) r.base) (run_end r) r.value in
     claims_append_at (first ++ second) third x k
     ∙ rw (
       claims_append_at first second x k,
@@ -73,54 +73,54 @@ pub remove_same : (range : RangeView) (kind : ℕ) (rs : List (RunOf ℕ))
     → claims_of (cut_out range (Some kind) None rs) ≡ after_edit (edit.Remove range kind) (claims_of rs)
 remove_same range kind [] = refl
 remove_same range kind (r ∷ rs) =
-    alike _ _ (λ x k. claims_append_at (parts range (left_inside (Some kind) None r.value) r) (cut_out range (Some kind) None rs) x k
-    ∙ rw (parts_test range (left_inside (Some kind) None r.value) r x k, remove_same range kind rs)
+    alike _ _ (λ x k. claims_append_at (parts_of_claim range (type_inside (Some kind) None r.value) r) (cut_out range (Some kind) None rs) x k
+    ∙ rw (parts_test range (type_inside (Some kind) None r.value) r x k, remove_same range kind rs)
     (remove_step (lies_in r x) (covers range x) (claims_of rs x k) r.value kind k))
 
 pub remove_all_same : (range : RangeView) (rs : List (RunOf ℕ))
     → claims_of (cut_out range None None rs) ≡ after_edit (edit.RemoveAll range) (claims_of rs)
 remove_all_same range [] = refl
 remove_all_same range (r ∷ rs) =
-    alike _ _ (λ x k. claims_append_at (parts range None r) (cut_out range None None rs) x k
+    alike _ _ (λ x k. claims_append_at (parts_of_claim range None r) (cut_out range None None rs) x k
     ∙ rw (parts_test range None r x k, remove_all_same range rs) (grind (arith, nat_tests)))
 
 pub change_same : (range : RangeView) (from to : ℕ) (rs : List (RunOf ℕ))
     → claims_of (cut_out range (Some from) (Some to) rs) ≡ after_edit (edit.Change range from to) (claims_of rs)
 change_same range from to [] = alike _ _ (λ x k. grind (arith, nat_tests))
 change_same range from to (r ∷ rs) =
-    alike _ _ (λ x k. claims_append_at (parts range (left_inside (Some from) (Some to) r.value) r)
+    alike _ _ (λ x k. claims_append_at (parts_of_claim range (type_inside (Some from) (Some to) r.value) r)
     (cut_out range (Some from) (Some to) rs) x k
-    ∙ rw (parts_test range (left_inside (Some from) (Some to) r.value) r x k, change_same range from to rs)
+    ∙ rw (parts_test range (type_inside (Some from) (Some to) r.value) r x k, change_same range from to rs)
     (change_step (lies_in r x) (covers range x) (claims_of rs x k) (claims_of rs x from) r.value from to k))
 
 pub add_same : (range : RangeView) (kind : ℕ) (rs : List (RunOf ℕ))
-    → claims_of (rs ++ between range.base (end_of range) kind) ≡ after_edit (edit.Add range kind) (claims_of rs)
+    → claims_of (rs ++ claim_between range.base (end_of range) kind) ≡ after_edit (edit.Add range kind) (claims_of rs)
 add_same range kind rs =
-    alike _ _ (λ x k. claims_append_at rs (between range.base (end_of range) kind) x k
+    alike _ _ (λ x k. claims_append_at rs (claim_between range.base (end_of range) kind) x k
     ∙ ap (λ b. claims_of rs x k || b) (between_test range.base (end_of range) kind x k))
 
 -- the claims of entries
-claim_test : (e : Entry) (x k : ℕ) → claims_of (claim_of e) x k ≡ (is_covered_by e x && nat_lt 0 k && k == e.kind)
+claim_test : (e : Entry) (x k : ℕ) → claims_of (type_claim_of_entry e) x k ≡ (is_covered_by e x && nat_lt 0 k && k == e.kind)
 claim_test e x k =
-    elim (cases_Bool (nat_lt 0 e.kind)) as (λ _. claims_of (claim_of e) x k ≡ (is_covered_by e x && nat_lt 0 k && k == e.kind)) [
+    elim (cases_Bool (nat_lt 0 e.kind)) as (λ _. claims_of (type_claim_of_entry e) x k ≡ (is_covered_by e x && nat_lt 0 k && k == e.kind)) [
       | inl some ↦ rw some (between_test e.addr (e.addr + e.size) e.kind x k ∙ grind (arith, nat_tests))
       | inr none ↦ rw none (grind (arith, nat_tests))
     ]
 
-entries_test : (es : List Entry) (x k : ℕ) → claims_of (flat_map claim_of es) x k ≡ claims_of_entries es x k
+entries_test : (es : List Entry) (x k : ℕ) → claims_of (flat_map type_claim_of_entry es) x k ≡ claims_of_entries es x k
 entries_test [] x k = refl
-entries_test (e ∷ es) x k = claims_append_at (claim_of e) (flat_map claim_of es) x k ∙ rw (claim_test e x k, entries_test es x k) refl
+entries_test (e ∷ es) x k = claims_append_at (type_claim_of_entry e) (flat_map type_claim_of_entry es) x k ∙ rw (claim_test e x k, entries_test es x k) refl
 
 pub entries_same : (rs : List (RunOf ℕ)) (es : List Entry)
-    → claims_of (rs ++ flat_map claim_of es) ≡ with_claims (claims_of rs) (claims_of_entries es)
+    → claims_of (rs ++ flat_map type_claim_of_entry es) ≡ with_claims (claims_of rs) (claims_of_entries es)
 entries_same rs es =
-    claims_append rs (flat_map claim_of es) ∙ (λ i x k. claims_of rs x k || entries_test es x k i)
+    claims_append rs (flat_map type_claim_of_entry es) ∙ (λ i x k. claims_of rs x k || entries_test es x k i)
 
 -- the parts of valid claims are valid claims: they aren't empty, end below 2^64, and have types
 -- above 0
-pub are_between : (from until kind : ℕ) → until < 2 ^ 64 → 0 < kind → kind < 2 ^ 32 → AreClaims (between from until kind)
+pub are_between : (from until kind : ℕ) → until < 2 ^ 64 → 0 < kind → kind < 2 ^ 32 → AreClaims (claim_between from until kind)
 are_between from until kind space some small =
-    elim (cases_Bool (nat_lt from until)) as (λ _. AreClaims (between from until kind)) [
+    elim (cases_Bool (nat_lt from until)) as (λ _. AreClaims (claim_between from until kind)) [
       | inl above ↦
           let lt : from < until = grind (arith, nat_tests) in rw above (omega arith, omega arith, some, small, tt)
       | inr none ↦ rw none tt
@@ -131,13 +131,13 @@ abbrev pub IsType : Option ℕ → Type 0
 IsType None = Unit {0}
 IsType (Some kind) = (0 < kind) × (kind < 2 ^ 32)
 
-are_between_if : (from until : ℕ) (kind : Option ℕ) → until < 2 ^ 64 → IsType kind → AreClaims (between_if from until kind)
+are_between_if : (from until : ℕ) (kind : Option ℕ) → until < 2 ^ 64 → IsType kind → AreClaims (claim_between_if_typed from until kind)
 are_between_if from until None space type = tt
 are_between_if from until (Some kind) space type = are_between from until kind space type.0 type.1
 
-inside_is_type : (meant instead : Option ℕ) (kind : ℕ) → IsType instead → 0 < kind → kind < 2 ^ 32 → IsType (left_inside meant instead kind)
+inside_is_type : (meant instead : Option ℕ) (kind : ℕ) → IsType instead → 0 < kind → kind < 2 ^ 32 → IsType (type_inside meant instead kind)
 inside_is_type meant instead kind type some small =
-    elim (cases_Bool (is_meant meant kind)) as (λ _. IsType (left_inside meant instead kind)) [
+    elim (cases_Bool (is_type_to_cut meant kind)) as (λ _. IsType (type_inside meant instead kind)) [
       | inl one ↦ rw one type
       | inr other ↦ rw other (some, small)
     ]
@@ -147,7 +147,7 @@ pub are_cut : (range : RangeView) (meant instead : Option ℕ) (rs : List (RunOf
 are_cut range meant instead [] type claims = tt
 are_cut range meant instead (r ∷ rs) type claims =
     are_append _ _ (are_append _ _ (are_append _ _ (are_between r.base (min range.base (run_end r)) r.value (omega arith) claims.2 claims.3)
-    (are_between_if (max range.base r.base) (min (end_of range) (run_end r)) (left_inside meant instead r.value) (omega arith)
+    (are_between_if (max range.base r.base) (min (end_of range) (run_end r)) (type_inside meant instead r.value) (omega arith)
     (inside_is_type meant instead r.value type claims.2 claims.3)))
     (are_between (max (end_of range) r.base) (run_end r) r.value (omega arith) claims.2 claims.3))
     (are_cut range meant instead rs type claims.4)

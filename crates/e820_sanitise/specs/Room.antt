@@ -7,5 +7,5 @@ use Rattle.e820_sanitise.specs.declared.fault.MapFault.TheVariants as faults
 
 -- the map, or the fault with the number of its runs if they don't fit into the kernel's table
 -- (`E820_MAX_ENTRIES`)
-abbrev pub in_room : List (RunOf ℕ) → Result (List (RunOf ℕ)) MapFault
-in_room map = if nat_lt E820_MAX_ENTRIES (length map) then Err (faults.MapFull (length map)) else Ok map
+abbrev pub map_if_room : List (RunOf ℕ) → Result (List (RunOf ℕ)) MapFault
+map_if_room map = if nat_lt E820_MAX_ENTRIES (length map) then Err (faults.MapFull (length map)) else Ok map

@@ -12,7 +12,7 @@ ghost use Rattle.bm_base.specs.Range.{end_of};
 ghost use Rattle.e820_model.specs.Claims.{EntriesFit, HasTypes, with_claims, claims_of_entries, after_edit, after_bios_trim};
 ghost use Rattle.e820_model.specs.declared.entry.Edit.TheVariants as edits;
 ghost use Rattle.e820_model.specs.Map.{AreClaims, claims_of};
-ghost use Rattle.e820_sanitise.specs.Cuts.{between, between_if, claim_of, cut_out, left_inside, parts};
+ghost use Rattle.e820_sanitise.specs.Cuts.{claim_between, claim_between_if_typed, type_claim_of_entry, cut_out, type_inside, parts_of_claim};
 
 use bm_base::{FRAME_SIZE, Memory, Range};
 use e820_model::{E820_TYPE_RAM, E820_TYPE_RESERVED, Edit, Entry, Run};
@@ -25,7 +25,7 @@ use std::alloc::Global;
 ///
 /// - `Memory`: the program ran out of memory; the list is unchanged.
 fn push_between(claims: &mut Vec<Run>, from: u64, until: u64, kind: u32) -> Result<(), Memory>
-    ensures added { OnOk result (claims.new.items ≡ claims.old.items ++ between from until kind) }
+    ensures added { OnOk result (claims.new.items ≡ claims.old.items ++ claim_between from until kind) }
     ensures claims { 0 < kind → AreClaims claims.old.items → AreClaims claims.new.items }
     ensures err { OnErr result (claims.new.items ≡ claims.old.items) }
 {
@@ -46,7 +46,7 @@ fn push_between_if(
     until: u64,
     kind: Option<u32>,
 ) -> Result<(), Memory>
-    ensures { OnOk result (claims.new.items ≡ claims.old.items ++ between_if from until kind) }
+    ensures { OnOk result (claims.new.items ≡ claims.old.items ++ claim_between_if_typed from until kind) }
 {
     let Some(kind) = kind else {
         return Ok(());
@@ -66,7 +66,7 @@ fn push_parts(
     inner: Option<u32>,
     claim: &Run,
 ) -> Result<(), Memory>
-    ensures { OnOk result (claims.new.items ≡ claims.old.items ++ parts range.now inner claim.now) }
+    ensures { OnOk result (claims.new.items ≡ claims.old.items ++ parts_of_claim range.now inner claim.now) }
 {
     if is_apart(range, claim) {
         claims.push(*claim)?;
@@ -82,7 +82,7 @@ fn push_parts(
 /// Tests whether the claim has addresses, and all of them lie below the range or all above it.
 /// Such a claim is its own only part.
 fn is_apart(range: &Range, claim: &Run) -> bool
-    ensures { IsTrue result → (inner : Option ℕ) → parts range.now inner claim.now ≡ claim.now ∷ [] }
+    ensures { IsTrue result → (inner : Option ℕ) → parts_of_claim range.now inner claim.now ≡ claim.now ∷ [] }
 {
     let start = claim.range.base;
     let end = claim.range.end();
@@ -96,7 +96,7 @@ fn is_apart(range: &Range, claim: &Run) -> bool
 /// # Errors
 ///
 /// - `Memory`: the program ran out of memory.
-fn cut_claims(
+fn cut_each_claim(
     alloc: Global,
     claims: &[Run],
     range: &Range,
@@ -107,7 +107,7 @@ fn cut_claims(
 {
     let mut left = Vec::with_capacity(alloc, claims.len())?;
     for claim in claims {
-        let inner = inside_kind(meant, instead, claim.kind);
+        let inner = type_inside(meant, instead, claim.kind);
         push_parts(&mut left, range, inner, claim)?;
     }
     Ok(left)
@@ -115,8 +115,8 @@ fn cut_claims(
 
 /// Returns the type that a claim of type `kind` has inside the range after the cut, or `None` if
 /// it is dropped there.
-fn inside_kind(meant: Option<u32>, instead: Option<u32>, kind: u32) -> Option<u32>
-    ensures { result ≡ left_inside meant instead kind }
+fn type_inside(meant: Option<u32>, instead: Option<u32>, kind: u32) -> Option<u32>
+    ensures { result ≡ type_inside meant instead kind }
 {
     match meant {
         Some(meant) if kind != meant => Some(kind),
@@ -132,7 +132,7 @@ fn inside_kind(meant: Option<u32>, instead: Option<u32>, kind: u32) -> Option<u3
 /// - `Memory`: the program ran out of memory.
 fn push_entry(claims: &mut Vec<Run>, entry: &Entry) -> Result<(), Memory>
     requires { entry.now.addr + entry.now.size < 2 ^ 64 }
-    ensures added { OnOk result (claims.new.items ≡ claims.old.items ++ claim_of entry.now) }
+    ensures added { OnOk result (claims.new.items ≡ claims.old.items ++ type_claim_of_entry entry.now) }
     ensures claims { OnOk result (AreClaims claims.old.items → AreClaims claims.new.items) }
 {
     if entry.kind == 0 {
@@ -176,9 +176,9 @@ pub fn edit_claims(claims: &mut Vec<Run>, edit: &Edit) -> Result<(), Memory>
 {
     match edit {
         Edit::Add { range, kind } => push_between(claims, range.base, range.end(), *kind),
-        Edit::Remove { range, kind } => cut(claims, range, Some(*kind), None),
-        Edit::RemoveAll { range } => cut(claims, range, None, None),
-        Edit::Change { range, from, to } => cut(claims, range, Some(*from), Some(*to)),
+        Edit::Remove { range, kind } => replace_with_cut(claims, range, Some(*kind), None),
+        Edit::RemoveAll { range } => replace_with_cut(claims, range, None, None),
+        Edit::Change { range, from, to } => replace_with_cut(claims, range, Some(*from), Some(*to)),
         Edit::Clear => {
             claims.clear();
             Ok(())
@@ -186,12 +186,12 @@ pub fn edit_claims(claims: &mut Vec<Run>, edit: &Edit) -> Result<(), Memory>
     }
 }
 
-/// Cuts the range out of each claim, like [`cut_claims`].
+/// Cuts the range out of each claim, like [`cut_each_claim`].
 ///
 /// # Errors
 ///
 /// - `Memory`: the program ran out of memory; the claims are unchanged.
-fn cut(
+fn replace_with_cut(
     claims: &mut Vec<Run>,
     range: &Range,
     meant: Option<u32>,
@@ -201,7 +201,7 @@ fn cut(
     ensures err { OnErr result (claims.new.items ≡ claims.old.items) }
 {
     let alloc = *claims.allocator();
-    *claims = cut_claims(alloc, claims, range, meant, instead)?;
+    *claims = cut_each_claim(alloc, claims, range, meant, instead)?;
     Ok(())
 }
 
@@ -211,7 +211,7 @@ fn cut(
 /// # Errors
 ///
 /// - `Memory`: the program ran out of memory.
-pub fn bios_trimmed(alloc: Global, claims: &[Run]) -> Result<Vec<Run>, Memory>
+pub fn trim_bios_claims(alloc: Global, claims: &[Run]) -> Result<Vec<Run>, Memory>
     requires { AreClaims claims.now }
     ensures same { IfOk result (λ left. claims_of left.items ≡ after_bios_trim (claims_of claims.now)) }
     ensures claims { IfOk result (λ left. AreClaims left.items) }
@@ -224,12 +224,12 @@ pub fn bios_trimmed(alloc: Global, claims: &[Run]) -> Result<Vec<Run>, Memory>
         base: 0xA0000,
         size: 0x60000,
     };
-    let reserved = cut_claims(
+    let reserved = cut_each_claim(
         alloc,
         claims,
         &first_page,
         Some(E820_TYPE_RAM),
         Some(E820_TYPE_RESERVED),
     )?;
-    cut_claims(alloc, &reserved, &bios_area, Some(E820_TYPE_RAM), None)
+    cut_each_claim(alloc, &reserved, &bios_area, Some(E820_TYPE_RAM), None)
 }

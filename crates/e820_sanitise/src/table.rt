@@ -8,7 +8,7 @@ ghost use Rattle.e820_model.specs.Claims.{EntriesFit, HasTypes, with_claims, cla
 ghost use Rattle.e820_model.specs.declared.entry.Edit.TheVariants as edits;
 ghost use Rattle.e820_model.specs.Map.{claims_of, kinds, map_of};
 ghost use Rattle.bm_base.specs.Answers.{Answers};
-ghost use Rattle.e820_sanitise.specs.Room.{in_room};
+ghost use Rattle.e820_sanitise.specs.Room.{map_if_room};
 
 use crate::fault::MapFault;
 use crate::{cuts, settle};
@@ -104,7 +104,7 @@ impl Table {
         ensures err { OnErr result (self.new ≡ self.old) }
     {
         let alloc = *self.claims.allocator();
-        self.claims = cuts::bios_trimmed(alloc, &self.claims)?;
+        self.claims = cuts::trim_bios_claims(alloc, &self.claims)?;
         Ok(())
     }
 
@@ -124,10 +124,10 @@ impl Table {
     pub fn runs(&self) -> Result<Vec<Run>, MapFault>
         ensures relation { IfOk result (λ runs. IsRunsOf (kinds (claims_of self.now)) runs.items) }
         ensures answers { Answers MapFault.Memory (λ runs. runs.items) result
-            (in_room (map_of (claims_of self.now))) }
+            (map_if_room (map_of (claims_of self.now))) }
     {
         let alloc = *self.claims.allocator();
-        limited(settle::runs_of_claims(alloc, &self.claims)?)
+        map_if_room(settle::runs_of_claims(alloc, &self.claims)?)
     }
 }
 
@@ -136,8 +136,8 @@ impl Table {
 /// # Errors
 ///
 /// - `MapFull`: there are more than [`E820_MAX_ENTRIES`] runs.
-fn limited(runs: Vec<Run>) -> Result<Vec<Run>, MapFault>
-    ensures answers { Answers MapFault.Memory (λ runs. runs.items) result (in_room runs.items) }
+fn map_if_room(runs: Vec<Run>) -> Result<Vec<Run>, MapFault>
+    ensures answers { Answers MapFault.Memory (λ runs. runs.items) result (map_if_room runs.items) }
     ensures always { IfErr result (λ fault. fault ≢ MapFault.Memory) }
 {
     let count = runs.len() as u64;

@@ -4,10 +4,10 @@ use Rattle.std.specs.Prelude.{replicate}
 use Rattle.e820_model.specs.declared.entry.Entry.{Entry}
 use Rattle.e820_table.specs.declared.zero_page.ZeroFault.TheVariants as zero_faults
 use Rattle.e820_table.specs.declared.extension.ExtFault.TheVariants as ext_faults
-use Rattle.e820_table.specs.Entries.{entry_at, nth_entry, first_entries, is_too_far, first_far}
-use Rattle.e820_table.specs.Extension.{has_header, has_length, ext_entries_of, ext_fault}
+use Rattle.e820_table.specs.Entries.{entry_at, nth_entry, first_entries, is_entry_too_far, first_far_entry}
+use Rattle.e820_table.specs.Extension.{has_ext_header, has_ext_length, ext_entries_of, ext_fault}
 use Rattle.e820_table.specs.Initrd.{is_initrd_far}
-use Rattle.e820_table.specs.ZeroPage.{entry_count, table_offset, entries_of, zero_fault}
+use Rattle.e820_table.specs.ZeroPage.{zero_page_entry_count, table_offset, zero_page_entries, zero_fault}
 
 -- the 20 bytes of an entry: 1 MiB of RAM at 1 MiB
 abbrev ram_bytes : List ℕ
@@ -48,13 +48,13 @@ unfolding entry_at
 first_entries_examples = (refl, refl)
 
 -- the sum 2^64 - 1 isn't too far, and 2^64 is
-too_far_examples : (is_too_far last ≡ false) × (is_too_far (record { addr = 0x1000; size = 0xFFFFFFFFFFFFF000; kind = 2 }) ≡ true)
+too_far_examples : (is_entry_too_far last ≡ false) × (is_entry_too_far (record { addr = 0x1000; size = 0xFFFFFFFFFFFFF000; kind = 2 }) ≡ true)
 too_far_examples = (refl, refl)
 
 -- the least index of two that are too far; none if the one that is too far is third of the two
 -- requested
-first_far_examples : (first_far 0 3 (last_bytes ++ far_bytes ++ far_bytes) ≡ Some 1)
-    × (first_far 0 2 (ram_bytes ++ last_bytes ++ far_bytes) ≡ None)
+first_far_examples : (first_far_entry 0 3 (last_bytes ++ far_bytes ++ far_bytes) ≡ Some 1)
+    × (first_far_entry 0 2 (ram_bytes ++ last_bytes ++ far_bytes) ≡ None)
 unfolding entry_at
 first_far_examples = (refl, refl)
 
@@ -75,12 +75,12 @@ no_entries : (ext_fault (header 1 0) ≡ None) × (ext_entries_of (header 1 0) �
 no_entries = (refl, refl)
 
 -- a fault of the header wins over one of the length: 15 bytes, and another type
-other_header : (has_header (replicate 15 1) ≡ false) × (ext_fault (replicate 15 1) ≡ Some ext_faults.ExtHeader)
-    × (has_header (header 2 7) ≡ false) × (ext_fault (header 2 7) ≡ Some ext_faults.ExtHeader)
+other_header : (has_ext_header (replicate 15 1) ≡ false) × (ext_fault (replicate 15 1) ≡ Some ext_faults.ExtHeader)
+    × (has_ext_header (header 2 7) ≡ false) × (ext_fault (header 2 7) ≡ Some ext_faults.ExtHeader)
 other_header = (refl, refl, refl, refl)
 
 -- wrong lengths: not the length of the data, and not a multiple of 20
-other_length : (has_length (header 1 20) ≡ false) × (ext_fault (header 1 20) ≡ Some ext_faults.ExtLength)
+other_length : (has_ext_length (header 1 20) ≡ false) × (ext_fault (header 1 20) ≡ Some ext_faults.ExtLength)
     × (ext_fault (header 1 19 ++ replicate 19 0) ≡ Some ext_faults.ExtLength)
 other_length = (refl, refl, refl)
 
@@ -106,10 +106,10 @@ unfolding entry_at is_initrd_far
 zero_fault_examples = (refl, refl, refl, refl, refl, refl, refl)
 
 -- entries come in their order, and no more of them than the page states
-entries_of_examples : (entries_of (page 2 (ram_bytes ++ last_bytes)) ≡ ram ∷ last ∷ [])
-    × (entries_of (page 1 (ram_bytes ++ last_bytes)) ≡ nth_entry table_offset 0 (page 1 (ram_bytes ++ last_bytes)) ∷ [])
+entries_of_examples : (zero_page_entries (page 2 (ram_bytes ++ last_bytes)) ≡ ram ∷ last ∷ [])
+    × (zero_page_entries (page 1 (ram_bytes ++ last_bytes)) ≡ nth_entry table_offset 0 (page 1 (ram_bytes ++ last_bytes)) ∷ [])
 unfolding entry_at
 entries_of_examples = (refl, refl)
 
-stated_number : (entry_count (page 200 (ram_bytes ++ last_bytes)) ≡ 200) × (table_offset ≡ 720)
+stated_number : (zero_page_entry_count (page 200 (ram_bytes ++ last_bytes)) ≡ 200) × (table_offset ≡ 720)
 stated_number = (refl, refl)

@@ -4,8 +4,8 @@ use Rattle.std.specs.Prelude.{replicate}
 use Rattle.bm_base.specs.Range.{RangeView}
 use Rattle.e820_table.specs.declared.zero_page.ZeroFault.TheVariants as faults
 use Rattle.e820_table.specs.Entries.{entry_at}
-use Rattle.e820_table.specs.Initrd.{IsInitrd, has_initrd, image_of, initrd_of, is_far, is_initrd_far, to_frame_end}
-use Rattle.e820_table.specs.ZeroPage.{entries_of, initrd_fault, page_of, zero_fault}
+use Rattle.e820_table.specs.Initrd.{IsInitrd, has_initrd, image_of, initrd_of, is_initrd_too_far, is_initrd_far, to_frame_end}
+use Rattle.e820_table.specs.ZeroPage.{zero_page_entries, initrd_fault, zero_page_of, zero_fault}
 
 abbrev range : ℕ → ℕ → RangeView
 range base size = record { base = base; size = size }
@@ -47,8 +47,8 @@ to_the_end : (to_frame_end (range 0x7D00000 0x123457) ≡ range 0x7D00000 0x1240
 to_the_end = (refl, refl, refl, refl)
 
 -- the sum 2^64 - 4,096 isn't too far, and a byte more is
-last_byte : (is_far 0xB0 (range (2 ^ 64 - 8192) 4096) ≡ false) × (is_far 0xB0 (range (2 ^ 64 - 8192) 4097) ≡ true)
-    × (is_far 0 (range (2 ^ 64 - 8192) 4097) ≡ false)
+last_byte : (is_initrd_too_far 0xB0 (range (2 ^ 64 - 8192) 4096) ≡ false) × (is_initrd_too_far 0xB0 (range (2 ^ 64 - 8192) 4097) ≡ true)
+    × (is_initrd_too_far 0 (range (2 ^ 64 - 8192) 4097) ≡ false)
 last_byte = (refl, refl, refl)
 
 is_an_initrd : IsInitrd (range 0x7D00000 0x124000)
@@ -78,7 +78,7 @@ initrd_goes_last : zero_fault (page 1 top_halves (top_image 1)) ≡ Some faults.
 unfolding entry_at is_initrd_far
 initrd_goes_last = refl
 
-whole_page : page_of (page 1 high_halves low_image)
-    ≡ record { entries = entries_of (page 1 high_halves low_image); initrd = Some (range 0x107D00000 0x200124000) }
+whole_page : zero_page_of (page 1 high_halves low_image)
+    ≡ record { entries = zero_page_entries (page 1 high_halves low_image); initrd = Some (range 0x107D00000 0x200124000) }
 unfolding initrd_of
 whole_page = refl

@@ -1,13 +1,13 @@
 -- Worked examples of made tables. The expected entries come from an independent program.
 use Rattle.std.proofs.Common.{◌≡◌, ℕ, [], ◌∷◌, refl}
 use Rattle.e820_model.specs.declared.entry.Entry.{Entry}
-use Rattle.e820_table.specs.Made.{entries_behind, frames_of_entry, made_entries, next_of}
+use Rattle.e820_table.specs.Made.{made_entries_from, frames_of_entry, made_entries, next_generator_state}
 
 abbrev entry : ℕ → ℕ → ℕ → Entry
 entry addr size kind = record { addr = addr; size = size; kind = kind }
 
 -- the successors of 2 and of the largest number
-next_numbers : (next_of 2 ≡ 59559187) × (next_of 2147483647 ≡ 1043980748)
+next_numbers : (next_generator_state 2 ≡ 59559187) × (next_generator_state 2147483647 ≡ 1043980748)
 next_numbers = (refl, refl)
 
 -- from 1 to 16 frames
@@ -19,5 +19,5 @@ frames = (refl, refl, refl, refl, refl)
 made_examples : (made_entries 2 ≡ entry 0 655360 1 ∷ entry 1048576 134217728 1 ∷ [])
     × (made_entries 5
     ≡ entry 0 655360 1 ∷ entry 1048576 134217728 1 ∷ entry 135266304 65536 2 ∷ entry 135331840 40960 1 ∷ entry 135372800 36864 2 ∷ [])
-unfolding entries_behind
+unfolding made_entries_from
 made_examples = (refl, refl)

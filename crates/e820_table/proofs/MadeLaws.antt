@@ -7,16 +7,16 @@ use Rattle.std.proofs.Math.Seq.{drop_at, take_at}
 use Rattle.e820_model.specs.declared.entry.Entry.{Entry}
 use Rattle.e820_model.specs.Claims.{EntriesFit}
 use Rattle.e820_table.proofs.EntryLaws.{space_push}
-use Rattle.e820_table.specs.Made.{entries_behind, made_entry, next_of}
+use Rattle.e820_table.specs.Made.{made_entries_from, made_entry, next_generator_state}
 
 -- if at least one entry is left, the first is the one made now, and the others come after it
-pub one_more : (n left index base x y : ℕ) (e : Entry) → n ≡ suc left → y ≡ next_of x → e ≡ made_entry index base y
-    → entries_behind n index base x ≡ e ∷ entries_behind left (index + 1) (base + e.size) y
-unfolding entries_behind
+pub one_more : (n left index base x y : ℕ) (e : Entry) → n ≡ suc left → y ≡ next_generator_state x → e ≡ made_entry index base y
+    → made_entries_from n index base x ≡ e ∷ made_entries_from left (index + 1) (base + e.size) y
+unfolding made_entries_from
 one_more n left index base x y e some next is = rw (some, is, next) refl
 
-pub none_more : (n index base x : ℕ) → n ≡ 0 → entries_behind n index base x ≡ []
-unfolding entries_behind
+pub none_more : (n index base x : ℕ) → n ≡ 0 → made_entries_from n index base x ≡ []
+unfolding made_entries_from
 none_more n index base x none = rw none refl
 
 -- a list of at most n members, followed by others only if it has n: the first n members of both

@@ -4,24 +4,24 @@ use Rattle.std.specs.Prelude.{ℕ, ◌-◌, ◌/◌, ◌%◌, ◌==◌, Bool, �
 use Rattle.e820_model.specs.declared.entry.Entry.{Entry}
 use Rattle.e820_table.specs.declared.extension.ExtFault.{ExtFault}
 use Rattle.e820_table.specs.declared.extension.ExtFault.TheVariants as faults
-use Rattle.e820_table.specs.Entries.{number_at, first_entries, first_far}
+use Rattle.e820_table.specs.Entries.{little_endian_at, first_entries, first_far_entry}
 
 -- the number of bytes after the header of 16 bytes
-abbrev pub data_length : List ℕ → ℕ
-data_length bytes = length bytes - 16
+abbrev pub ext_data_length : List ℕ → ℕ
+ext_data_length bytes = length bytes - 16
 
 -- the header is whole, and its type, the u32 at offset 8, is 1 (`SETUP_E820_EXT`)
-abbrev pub has_header : List ℕ → Bool
-has_header bytes = not (nat_lt (length bytes) 16) && number_at 4 8 bytes == 1
+abbrev pub has_ext_header : List ℕ → Bool
+has_ext_header bytes = not (nat_lt (length bytes) 16) && little_endian_at 4 8 bytes == 1
 
 -- the length that the header states (the u32 at offset 12) is that of the data, and the data are
 -- whole entries
-abbrev pub has_length : List ℕ → Bool
-has_length bytes = number_at 4 12 bytes == data_length bytes && data_length bytes % 20 == 0
+abbrev pub has_ext_length : List ℕ → Bool
+has_ext_length bytes = little_endian_at 4 12 bytes == ext_data_length bytes && ext_data_length bytes % 20 == 0
 
 -- the number of entries in the extension
 abbrev pub ext_count : List ℕ → ℕ
-ext_count bytes = data_length bytes / 20
+ext_count bytes = ext_data_length bytes / 20
 
 -- all entries of the extension, in their order
 abbrev pub ext_entries_of : List ℕ → List Entry
@@ -36,6 +36,6 @@ ext_entry_fault (Some index) = Some (faults.EntryTooFar index)
 -- index 0 on
 abbrev pub ext_fault : List ℕ → Option ExtFault
 ext_fault bytes =
-    if not (has_header bytes) then Some faults.ExtHeader
-    else (if not (has_length bytes) then Some faults.ExtLength
-    else ext_entry_fault (first_far 16 (ext_count bytes) bytes))
+    if not (has_ext_header bytes) then Some faults.ExtHeader
+    else (if not (has_ext_length bytes) then Some faults.ExtLength
+    else ext_entry_fault (first_far_entry 16 (ext_count bytes) bytes))

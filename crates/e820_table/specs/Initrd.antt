@@ -5,7 +5,7 @@ use Rattle.std.specs.Prelude.{◌≡◌, ℕ, ◌+◌, ◌-◌, ◌*◌, ◌%◌
 use Rattle.bm_base.specs.Range.{RangeView, end_of}
 use Rattle.bm_base.specs.Frames.{frame_around}
 use Rattle.bm_base.specs.declared.range.TheConstants.{FRAME_SIZE}
-use Rattle.e820_table.specs.Entries.{number_at}
+use Rattle.e820_table.specs.Entries.{little_endian_at}
 
 -- the boot loader's type, the byte `type_of_loader`; 0 if no loader is named
 abbrev pub loader_of : List ℕ → ℕ
@@ -14,7 +14,7 @@ loader_of bytes = slice_index bytes 0x210
 -- the 64-bit number whose lower four bytes are at offset `lower`, and whose upper four bytes are
 -- at `upper`
 abbrev pub halves_at : ℕ → ℕ → List ℕ → ℕ
-halves_at lower upper bytes = number_at 4 lower bytes + 2 ^ 32 * number_at 4 upper bytes
+halves_at lower upper bytes = little_endian_at 4 lower bytes + 2 ^ 32 * little_endian_at 4 upper bytes
 
 -- the bytes of the image, from its address (`get_ramdisk_image`) and its size (`get_ramdisk_size`)
 abbrev pub image_of : List ℕ → RangeView
@@ -29,19 +29,19 @@ abbrev pub to_frame_end : RangeView → RangeView
 to_frame_end image = record { base = image.base; size = end_of (frame_around (end_of image - 1)) - image.base }
 
 -- the range that is reserved for the initrd, or None if there is no initrd
-abbrev pub placed : ℕ → RangeView → Option RangeView
-placed loader image = if has_initrd loader image then Some (to_frame_end image) else None
+abbrev pub reserved_initrd_range : ℕ → RangeView → Option RangeView
+reserved_initrd_range loader image = if has_initrd loader image then Some (to_frame_end image) else None
 
 unfoldable pub initrd_of : List ℕ → Option RangeView
-initrd_of bytes = placed (loader_of bytes) (image_of bytes)
+initrd_of bytes = reserved_initrd_range (loader_of bytes) (image_of bytes)
 
 -- there is an initrd, and its address plus size exceeds 2^64 minus one frame, so rounding its end
 -- up to a frame could exceed 64 bits
-abbrev pub is_far : ℕ → RangeView → Bool
-is_far loader image = has_initrd loader image && nat_lt (2 ^ 64 - FRAME_SIZE) (end_of image)
+abbrev pub is_initrd_too_far : ℕ → RangeView → Bool
+is_initrd_too_far loader image = has_initrd loader image && nat_lt (2 ^ 64 - FRAME_SIZE) (end_of image)
 
 unfoldable pub is_initrd_far : List ℕ → Bool
-is_initrd_far bytes = is_far (loader_of bytes) (image_of bytes)
+is_initrd_far bytes = is_initrd_too_far (loader_of bytes) (image_of bytes)
 
 -- what is true of the range of every initrd: it isn't empty, and ends at the end of a frame
 pub record IsInitrd (r : RangeView) : Type 0 where

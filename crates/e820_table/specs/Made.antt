@@ -8,8 +8,8 @@ use Rattle.e820_model.specs.declared.entry.Entry.{Entry}
 use Rattle.e820_model.specs.declared.entry.TheConstants.{E820_TYPE_RAM, E820_TYPE_RESERVED}
 
 -- the successor of a number in the generator's sequence
-abbrev pub next_of : ℕ → ℕ
-next_of x = (1103515245 * x + 12345) % 2 ^ 31
+abbrev pub next_generator_state : ℕ → ℕ
+next_generator_state x = (1103515245 * x + 12345) % 2 ^ 31
 
 -- the number of frames of the entry that is made with the generator's number `x`
 abbrev pub frames_of_entry : ℕ → ℕ
@@ -23,8 +23,8 @@ abbrev pub high_ram : Entry
 high_ram = record { addr = 0x100000; size = 0x8000000; kind = E820_TYPE_RAM }
 
 -- the address at which the third entry begins: the end of the second
-abbrev pub behind_ram : ℕ
-behind_ram = high_ram.addr + high_ram.size
+abbrev pub third_entry_start : ℕ
+third_entry_start = high_ram.addr + high_ram.size
 
 -- the entry with this index, from 2 on, at address `base`, made with the generator's number `x`
 abbrev pub made_entry : ℕ → ℕ → ℕ → Entry
@@ -36,11 +36,11 @@ made_entry index base x = record {
 
 -- the next n entries, from this index and this address on; `x` is the generator's number of the
 -- entry before them
-unfoldable pub entries_behind : ℕ → ℕ → ℕ → ℕ → List Entry
-entries_behind zero index base x = []
-entries_behind (suc n) index base x =
-    made_entry index base (next_of x) ∷ entries_behind n (index + 1) (base + FRAME_SIZE * frames_of_entry (next_of x)) (next_of x)
+unfoldable pub made_entries_from : ℕ → ℕ → ℕ → ℕ → List Entry
+made_entries_from zero index base x = []
+made_entries_from (suc n) index base x =
+    made_entry index base (next_generator_state x) ∷ made_entries_from n (index + 1) (base + FRAME_SIZE * frames_of_entry (next_generator_state x)) (next_generator_state x)
 
 -- all entries of the made table of `count` entries; the generator is seeded with `count`
 abbrev pub made_entries : ℕ → List Entry
-made_entries count = low_ram ∷ high_ram ∷ entries_behind (count - 2) 2 behind_ram count
+made_entries count = low_ram ∷ high_ram ∷ made_entries_from (count - 2) 2 third_entry_start count

@@ -6,33 +6,33 @@ use Rattle.e820_model.specs.declared.entry.Entry.{Entry}
 use Rattle.e820_table.specs.declared.zero_page.ZeroFault.{ZeroFault}
 use Rattle.e820_table.specs.declared.zero_page.ZeroFault.TheVariants as faults
 use Rattle.e820_table.specs.declared.zero_page.ZeroPage.{ZeroPage}
-use Rattle.e820_table.specs.Entries.{first_entries, first_far}
+use Rattle.e820_table.specs.Entries.{first_entries, first_far_entry}
 use Rattle.e820_table.specs.Initrd.{initrd_of, is_initrd_far}
 
 -- the number of entries: the byte `e820_entries`, at offset 0x1E8
-abbrev pub entry_count : List ℕ → ℕ
-entry_count bytes = slice_index bytes 0x1E8
+abbrev pub zero_page_entry_count : List ℕ → ℕ
+zero_page_entry_count bytes = slice_index bytes 0x1E8
 
 -- the offset of the first entry: `e820_table`
 abbrev pub table_offset : ℕ
 table_offset = 0x2D0
 
 -- the entries of the page, in the order of the table
-abbrev pub entries_of : List ℕ → List Entry
-entries_of bytes = first_entries table_offset (entry_count bytes) bytes
+abbrev pub zero_page_entries : List ℕ → List Entry
+zero_page_entries bytes = first_entries table_offset (zero_page_entry_count bytes) bytes
 
 -- the information about memory in a zero page: its entries, and the range of its initrd, if there
 -- is one
-pub record Page : Type 0 where
+pub record ZeroPageView : Type 0 where
   pub entries : List Entry
   pub initrd : Option RangeView
 
-abbrev pub page_of : List ℕ → Page
-page_of bytes = record { entries = entries_of bytes; initrd = initrd_of bytes }
+abbrev pub zero_page_of : List ℕ → ZeroPageView
+zero_page_of bytes = record { entries = zero_page_entries bytes; initrd = initrd_of bytes }
 
 -- what contracts see of the code's `ZeroPage`
-abbrev pub page_view : ZeroPage → Page
-page_view page = record { entries = page.entries.items; initrd = page.initrd }
+abbrev pub zero_page_view : ZeroPage → ZeroPageView
+zero_page_view page = record { entries = page.entries.items; initrd = page.initrd }
 
 -- the fault of an initrd that is too far, if the page has one
 abbrev pub initrd_fault : List ℕ → Option ZeroFault
@@ -40,9 +40,9 @@ initrd_fault bytes = if is_initrd_far bytes then Some faults.InitrdTooFar else N
 
 -- the fault for the index of an entry that is too far; if there is no such index, the fault of
 -- what is tested after the entries
-abbrev pub entry_fault : Option ℕ → Option ZeroFault → Option ZeroFault
-entry_fault None behind = behind
-entry_fault (Some index) behind = Some (faults.EntryTooFar index)
+abbrev pub zero_page_entry_fault : Option ℕ → Option ZeroFault → Option ZeroFault
+zero_page_entry_fault None behind = behind
+zero_page_entry_fault (Some index) behind = Some (faults.EntryTooFar index)
 
 -- the first fault of the bytes. The tests are, in this order: the number of bytes; at least two
 -- entries (`append_e820_table` refuses a table of fewer); at most 128 entries; no entry beyond
@@ -50,6 +50,6 @@ entry_fault (Some index) behind = Some (faults.EntryTooFar index)
 abbrev pub zero_fault : List ℕ → Option ZeroFault
 zero_fault bytes =
     if not (length bytes == 4096) then Some faults.WrongLength
-    else (if nat_lt (entry_count bytes) 2 then Some faults.TooFew
-    else (if nat_lt 128 (entry_count bytes) then Some faults.TooMany
-    else entry_fault (first_far table_offset (entry_count bytes) bytes) (initrd_fault bytes)))
+    else (if nat_lt (zero_page_entry_count bytes) 2 then Some faults.TooFew
+    else (if nat_lt 128 (zero_page_entry_count bytes) then Some faults.TooMany
+    else zero_page_entry_fault (first_far_entry table_offset (zero_page_entry_count bytes) bytes) (initrd_fault bytes)))

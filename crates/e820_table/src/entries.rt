@@ -2,7 +2,7 @@
 //! both readers use this file.
 
 ghost use Rattle.std.specs.Prelude.{◌≡◌, ℕ, ◌+◌, ◌*◌, ◌≤◌, length};
-ghost use Rattle.e820_table.specs.Entries.{entry_at, nth_entry, first_far};
+ghost use Rattle.e820_table.specs.Entries.{entry_at, nth_entry, first_far_entry};
 
 use byteorder::{ByteOrder, LittleEndian};
 use e820_model::Entry;
@@ -12,7 +12,7 @@ pub const ENTRY_BYTES: usize = 20;
 
 /// Returns the entry whose 20 bytes begin at `offset`. The numbers are little-endian.
 #[tactic(auto, unfolding(crate::specs::Entries::entry_at))]
-fn read_entry(bytes: &[u8], offset: usize) -> Entry
+fn entry_at(bytes: &[u8], offset: usize) -> Entry
     requires { offset + 20 ≤ length bytes.now }
     ensures { result ≡ entry_at offset bytes.now }
 {
@@ -24,21 +24,21 @@ fn read_entry(bytes: &[u8], offset: usize) -> Entry
 }
 
 /// Returns the entry with this index, counted from 0, of the table that begins at byte `start`.
-pub fn read_nth(bytes: &[u8], start: usize, index: usize) -> Entry
+pub fn nth_entry(bytes: &[u8], start: usize, index: usize) -> Entry
     requires { start + 20 * index + 20 ≤ length bytes.now }
     ensures { result ≡ nth_entry start index bytes.now }
 {
-    read_entry(bytes, start + ENTRY_BYTES * index)
+    entry_at(bytes, start + ENTRY_BYTES * index)
 }
 
 /// Returns the least index of an entry whose address plus size exceeds 2^64 - 1, among the first
 /// `count` entries, or `None` if there is no such entry.
-pub fn find_far(bytes: &[u8], start: usize, count: u32) -> Option<u32>
+pub fn first_far_entry(bytes: &[u8], start: usize, count: u32) -> Option<u32>
     requires { start + 20 * count ≤ length bytes.now }
-    ensures { result ≡ first_far start count bytes.now }
+    ensures { result ≡ first_far_entry start count bytes.now }
 {
     for index in 0..count {
-        let entry = read_nth(bytes, start, index as usize);
+        let entry = nth_entry(bytes, start, index as usize);
         if entry.addr.checked_add(entry.size).is_none() {
             return Some(index);
         }

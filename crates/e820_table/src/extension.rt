@@ -4,9 +4,9 @@
 ghost use Rattle.std.specs.Prelude.{◌≡◌, ◌≢◌, ℕ, ◌+◌, ◌*◌, ◌<◌, ◌≤◌, length, IfOk, IfErr, IfSome, IsErr, OnOk, SomeIff, IsTrue};
 ghost use Rattle.e820_model.specs.Claims.{EntriesFit};
 ghost use Rattle.e820_table.specs.Entries.{first_entries};
-ghost use Rattle.e820_table.specs.Extension.{ext_count, ext_entries_of, ext_fault, has_header, has_length};
+ghost use Rattle.e820_table.specs.Extension.{ext_count, ext_entries_of, ext_fault, has_ext_header, has_ext_length};
 
-use crate::entries::{find_far, read_nth};
+use crate::entries::{first_far_entry, nth_entry};
 use bm_base::Memory;
 use byteorder::{ByteOrder, LittleEndian};
 use e820_model::Entry;
@@ -59,19 +59,19 @@ pub fn read_ext(alloc: Global, bytes: &[u8]) -> Result<Vec<Entry>, ExtFault>
     ensures value { IfOk result (λ entries. entries.items ≡ ext_entries_of bytes.now) }
     ensures space { IfOk result (λ entries. EntriesFit entries.items) }
 {
-    if !is_extension(bytes) {
+    if !has_ext_header(bytes) {
         return Err(ExtFault::ExtHeader);
     }
     let count = stated_entries(bytes).ok_or(ExtFault::ExtLength)?;
-    if let Some(index) = find_far(bytes, HEADER_BYTES, count) {
+    if let Some(index) = first_far_entry(bytes, HEADER_BYTES, count) {
         return Err(ExtFault::EntryTooFar { index });
     }
-    Ok(read_entries(alloc, bytes, count)?)
+    Ok(read_ext_entries(alloc, bytes, count)?)
 }
 
 /// Tests whether the bytes have a whole header with the type of an extension.
-fn is_extension(bytes: &[u8]) -> bool
-    ensures { result ≡ has_header bytes.now }
+fn has_ext_header(bytes: &[u8]) -> bool
+    ensures { result ≡ has_ext_header bytes.now }
 {
     bytes.len() >= HEADER_BYTES && LittleEndian::read_u32(&bytes[8..]) == EXTENSION_TYPE
 }
@@ -79,8 +79,8 @@ fn is_extension(bytes: &[u8]) -> bool
 /// Returns the number of entries. Returns `None` if the length in the header isn't the length of
 /// the data, or if the data aren't whole entries. The header must be whole.
 fn stated_entries(bytes: &[u8]) -> Option<u32>
-    requires { IsTrue (has_header bytes.now) }
-    ensures count { SomeIff result (IsTrue (has_length bytes.now)) (ext_count bytes.now) }
+    requires { IsTrue (has_ext_header bytes.now) }
+    ensures count { SomeIff result (IsTrue (has_ext_length bytes.now)) (ext_count bytes.now) }
     ensures whole { IfSome result (λ count. 16 + 20 * count ≤ length bytes.now) }
 {
     let data = bytes.len() - HEADER_BYTES;
@@ -96,14 +96,14 @@ fn stated_entries(bytes: &[u8]) -> Option<u32>
 /// # Errors
 ///
 /// - `Memory`: the program ran out of memory; `count` is above 0.
-fn read_entries(alloc: Global, bytes: &[u8], count: u32) -> Result<Vec<Entry>, Memory>
+fn read_ext_entries(alloc: Global, bytes: &[u8], count: u32) -> Result<Vec<Entry>, Memory>
     requires { 16 + 20 * count ≤ length bytes.now }
     ensures entries { IfOk result (λ entries. entries.items ≡ first_entries 16 count bytes.now) }
     ensures some { IsErr result → 0 < count }
 {
     let mut entries = Vec::new(alloc);
     for index in 0..count {
-        entries.push(read_nth(bytes, HEADER_BYTES, index as usize))?;
+        entries.push(nth_entry(bytes, HEADER_BYTES, index as usize))?;
     }
     Ok(entries)
 }

@@ -3,7 +3,7 @@
 
 ghost use Rattle.std.specs.Prelude.{◌≡◌, ℕ, ◌+◌, ◌*◌, ◌^◌, ◌<◌, ◌≤◌, [], ◌∷◌, ◌++◌, length, take, drop, min, None, IfOk, IsErr, OnOk};
 ghost use Rattle.e820_model.specs.Claims.{EntriesFit};
-ghost use Rattle.e820_table.specs.Made.{frames_of_entry, made_entries, made_entry, next_of};
+ghost use Rattle.e820_table.specs.Made.{frames_of_entry, made_entries, made_entry, next_generator_state};
 
 use crate::made_input::Made;
 use crate::zero_page::{ZERO_PAGE_ENTRIES, ZeroPage};
@@ -48,8 +48,8 @@ pub fn made(alloc: Global, n: u32) -> Result<Made, Memory>
     let mut base = HIGH_RAM.addr + HIGH_RAM.size;
     let mut number = n;
     for index in 2..n {
-        number = next_number(number);
-        let entry = make_entry(index, base, number);
+        number = next_generator_state(number);
+        let entry = made_entry(index, base, number);
         put_entry(entry, &mut page, &mut ext)?;
         base += entry.size;
     }
@@ -89,7 +89,7 @@ fn put_entry(
 
 /// Returns the entry with this index, from 2 on, at address `base`. The generator's `number`
 /// determines its size, and the index its type.
-fn make_entry(index: u32, base: u64, number: u32) -> Entry
+fn made_entry(index: u32, base: u64, number: u32) -> Entry
     ensures { result ≡ made_entry index base number }
 {
     Entry {
@@ -104,8 +104,8 @@ fn make_entry(index: u32, base: u64, number: u32) -> Entry
 }
 
 /// Returns the successor of `number` in the generator's sequence.
-fn next_number(number: u32) -> u32
-    ensures { result ≡ next_of number }
+fn next_generator_state(number: u32) -> u32
+    ensures { result ≡ next_generator_state number }
 {
     ((1_103_515_245 * u64::from(number) + 12_345) % (1 << 31)) as u32
 }

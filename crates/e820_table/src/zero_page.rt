@@ -6,9 +6,9 @@ ghost use Rattle.std.specs.Prelude.{◌≡◌, ℕ, ◌+◌, ◌*◌, ◌≤◌,
 ghost use Rattle.e820_model.specs.Claims.{EntriesFit};
 ghost use Rattle.e820_table.specs.Entries.{first_entries};
 ghost use Rattle.e820_table.specs.Initrd.{initrd_of, IsInitrd};
-ghost use Rattle.e820_table.specs.ZeroPage.{entries_of, zero_fault};
+ghost use Rattle.e820_table.specs.ZeroPage.{zero_page_entries, zero_fault};
 
-use crate::entries::{find_far, read_nth};
+use crate::entries::{first_far_entry, nth_entry};
 use crate::initrd::read_initrd;
 use arrayvec::ArrayVec;
 use bm_base::Range;
@@ -61,7 +61,7 @@ pub enum ZeroFault {
 pub fn read_zero_page(bytes: &[u8]) -> Result<ZeroPage, ZeroFault>
     ensures fault { IfErr result (λ fault. zero_fault bytes.now ≡ Some fault) }
     ensures well_formed { OnOk result (zero_fault bytes.now ≡ None) }
-    ensures value { IfOk result (λ page. page.entries.items ≡ entries_of bytes.now) }
+    ensures value { IfOk result (λ page. page.entries.items ≡ zero_page_entries bytes.now) }
     ensures initrd { IfOk result (λ page. page.initrd ≡ initrd_of bytes.now) }
     ensures space { IfOk result (λ page. EntriesFit page.entries.items) }
     ensures frames { IfOk result (λ page. IfSome page.initrd IsInitrd) }
@@ -76,25 +76,25 @@ pub fn read_zero_page(bytes: &[u8]) -> Result<ZeroPage, ZeroFault>
     if count as usize > ZERO_PAGE_ENTRIES {
         return Err(ZeroFault::TooMany);
     }
-    if let Some(index) = find_far(bytes, TABLE_OFFSET, count) {
+    if let Some(index) = first_far_entry(bytes, TABLE_OFFSET, count) {
         return Err(ZeroFault::EntryTooFar { index });
     }
     let initrd = read_initrd(bytes)?;
     Ok(ZeroPage {
-        entries: read_entries(bytes, count),
+        entries: read_ext_entries(bytes, count),
         initrd,
     })
 }
 
 /// Returns the first `count` entries of the page, at most 128.
-fn read_entries(bytes: &[u8], count: u32) -> ArrayVec<Entry, ZERO_PAGE_ENTRIES>
+fn read_ext_entries(bytes: &[u8], count: u32) -> ArrayVec<Entry, ZERO_PAGE_ENTRIES>
     requires room { count ≤ 128 }
     requires whole { 0x2D0 + 20 * count ≤ length bytes.now }
     ensures { result.items ≡ first_entries 0x2D0 count bytes.now }
 {
     let mut entries = ArrayVec::new();
     for index in 0..count {
-        entries.push(read_nth(bytes, TABLE_OFFSET, index as usize));
+        entries.push(nth_entry(bytes, TABLE_OFFSET, index as usize));
     }
     entries
 }

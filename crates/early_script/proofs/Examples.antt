@@ -10,16 +10,16 @@ use Rattle.memblock_model.specs.declared.item.Item.TheVariants as item
 use Rattle.memblock_model.specs.Items.{owner_of}
 use Rattle.script_reader.specs.declared.act.Act.TheVariants as acts
 use Rattle.script_reader.specs.declared.act.Line.{Line}
-use Rattle.growth_model.specs.Outcome.{Refused}
-use Rattle.growth_model.specs.Bytes.{Filled, Holds}
-use Rattle.memblock_grow.specs.Contents.{Contents}
+use Rattle.growth_model.specs.Outcome.{RefusedGrowth}
+use Rattle.growth_model.specs.Bytes.{Fill, AreBytesFromHistory}
+use Rattle.memblock_grow.specs.Contents.{MemblockView}
 use Rattle.early_script.specs.declared.outcome.Answer.{Answer}
 use Rattle.early_script.specs.declared.outcome.Outcome.TheVariants as outcomes
-use Rattle.early_script.specs.Ids.{Ids, range_of, is_live, with_range, without}
-use Rattle.early_script.specs.Owned.{is_owned, meets, touches}
-use Rattle.early_script.specs.Acted.{State, IsAmid, answers, alloc_at, reserve_deed, free_whole, free_deed, trim_deed, fill_whole, fill_deed, deed, answer_to, ids_to}
-use Rattle.early_script.specs.Found.{state_of, bytes_in}
-use Rattle.early_script.specs.Stage.{LineStage, EndsAmid, deed_at, after_lines}
+use Rattle.early_script.specs.Ids.{LiveView, range_of_id, is_live, with_range, without_id}
+use Rattle.early_script.specs.Owned.{is_owned_by, is_overlap, is_over_table}
+use Rattle.early_script.specs.Acted.{ScriptState, RunsOutDuringLine, answer_only, alloc_effect_at, reserve_effect, free_whole, free_effect, trim_effect, fill_whole, fill_effect, act_effect, outcome_unless_refused, ids_unless_refused}
+use Rattle.early_script.specs.Found.{state_of_memblock, memblock_bytes}
+use Rattle.early_script.specs.Stage.{ScriptSoFar, RunsOutDuringLines, line_effect, script_after_lines}
 
 abbrev at_base : ℕ → ℕ → RangeView
 at_base base size = record { base = base; size = size }
@@ -30,14 +30,14 @@ first = at_base 0x100 4
 abbrev second : RangeView
 second = at_base 0x200 2
 
-abbrev ids : Ids
+abbrev ids : LiveView
 ids = (1, first) ∷ (5, second) ∷ []
 
 -- a new ID is inserted at its position, and a live one gets the new range
-ids_examples : (range_of ids 5 ≡ Some second) × (range_of ids 2 ≡ None) × (is_live ids 1 ≡ true) × (is_live ids 2 ≡ false)
+ids_examples : (range_of_id ids 5 ≡ Some second) × (range_of_id ids 2 ≡ None) × (is_live ids 1 ≡ true) × (is_live ids 2 ≡ false)
     × (with_range ids 3 second ≡ (1, first) ∷ (3, second) ∷ (5, second) ∷ [])
     × (with_range ids 1 second ≡ (1, second) ∷ (5, second) ∷ [])
-    × (without ids 1 ≡ (5, second) ∷ []) × (without ids 2 ≡ ids)
+    × (without_id ids 1 ≡ (5, second) ∷ []) × (without_id ids 2 ≡ ids)
 ids_examples = (refl, refl, refl, refl, refl, refl, refl, refl)
 
 -- both IDs own what they claimed, except one byte of the second that was freed
@@ -49,50 +49,50 @@ items = item.Claim kernel owner.Kernel ∷ item.Claim first (owner.Script 1) ∷
     ∷ item.Free (at_base 0x201 1)
     ∷ []
 
-owned_examples : (is_owned (owner_of items) (owner.Script 1) first ≡ true) × (is_owned (owner_of items) (owner.Script 5) second ≡ false)
-    × (is_owned (owner_of items) (owner.Script 5) first ≡ false)
-unfolding is_owned each_in each_from
+owned_examples : (is_owned_by (owner_of items) (owner.Script 1) first ≡ true) × (is_owned_by (owner_of items) (owner.Script 5) second ≡ false)
+    × (is_owned_by (owner_of items) (owner.Script 5) first ≡ false)
+unfolding is_owned_by each_in each_from
 owned_examples = (refl, refl, refl)
 
 -- the memory table is at 0x12000 and the reserved one at 0x13000, with 3,072 bytes each
-touches_examples : (meets first (at_base 0x103 9) ≡ true) × (meets first (at_base 0x104 9) ≡ false)
-    × (touches kernel items (at_base 0x11FFF 1) ≡ false) × (touches kernel items (at_base 0x12BFF 1) ≡ true)
-    × (touches kernel items (at_base 0x12C00 0x400) ≡ false) × (touches kernel items (at_base 0x12C00 0x401) ≡ true)
+touches_examples : (is_overlap first (at_base 0x103 9) ≡ true) × (is_overlap first (at_base 0x104 9) ≡ false)
+    × (is_over_table kernel items (at_base 0x11FFF 1) ≡ false) × (is_over_table kernel items (at_base 0x12BFF 1) ≡ true)
+    × (is_over_table kernel items (at_base 0x12C00 0x400) ≡ false) × (is_over_table kernel items (at_base 0x12C00 0x401) ≡ true)
 touches_examples = (refl, refl, refl, refl, refl, refl)
 
-abbrev found : State
+abbrev found : ScriptState
 found = record { kernel = kernel; items = items; ids = ids }
 
 -- the tests in order
-alloc_examples : (alloc_at found 2 8 None ≡ answers found outcomes.NoGap)
-    × ((alloc_at found 2 8 (Some 0x300)).answer ≡ outcomes.At 0x300)
-    × ((alloc_at found 2 8 (Some 0x300)).ids ≡ (1, first) ∷ (2, at_base 0x300 8) ∷ (5, second) ∷ [])
-    × (reserve_deed found 1 second ≡ answers found outcomes.Taken)
-    × (reserve_deed found 2 (at_base 0x12000 1) ≡ answers found outcomes.TableInUse)
-    × ((reserve_deed found 2 first).answer ≡ outcomes.Done)
+alloc_examples : (alloc_effect_at found 2 8 None ≡ answer_only found outcomes.NoGap)
+    × ((alloc_effect_at found 2 8 (Some 0x300)).answer ≡ outcomes.At 0x300)
+    × ((alloc_effect_at found 2 8 (Some 0x300)).ids ≡ (1, first) ∷ (2, at_base 0x300 8) ∷ (5, second) ∷ [])
+    × (reserve_effect found 1 second ≡ answer_only found outcomes.Taken)
+    × (reserve_effect found 2 (at_base 0x12000 1) ≡ answer_only found outcomes.TableInUse)
+    × ((reserve_effect found 2 first).answer ≡ outcomes.Done)
 alloc_examples = (refl, refl, refl, refl, refl, refl)
 
-whole_examples : (free_deed found 2 ≡ answers found outcomes.Unknown) × (free_deed found 5 ≡ answers found outcomes.NotWhole)
-    × (free_deed found 1 ≡ free_whole found 1 first) × ((free_deed found 1).ids ≡ (5, second) ∷ [])
-    × (trim_deed found 1 4 ≡ answers found outcomes.TooLargeKeep) × (trim_deed found 5 9 ≡ answers found outcomes.NotWhole)
-    × ((trim_deed found 1 3).ids ≡ (1, at_base 0x100 3) ∷ (5, second) ∷ [])
-    × ((fill_deed found 1 7).fill ≡ Some (record { range = first; byte = 7; at = 4 }))
-    × (fill_whole found 7 (at_base 0 65537) ≡ answers found outcomes.TooLargeFill)
+whole_examples : (free_effect found 2 ≡ answer_only found outcomes.Unknown) × (free_effect found 5 ≡ answer_only found outcomes.NotWhole)
+    × (free_effect found 1 ≡ free_whole found 1 first) × ((free_effect found 1).ids ≡ (5, second) ∷ [])
+    × (trim_effect found 1 4 ≡ answer_only found outcomes.TooLargeKeep) × (trim_effect found 5 9 ≡ answer_only found outcomes.NotWhole)
+    × ((trim_effect found 1 3).ids ≡ (1, at_base 0x100 3) ∷ (5, second) ∷ [])
+    × ((fill_effect found 1 7).fill ≡ Some (record { range = first; byte = 7; at = 4 }))
+    × (fill_whole found 7 (at_base 0 65537) ≡ answer_only found outcomes.TooLargeFill)
     × ((fill_whole found 7 (at_base 0 65536)).answer ≡ outcomes.Done)
-unfolding is_owned each_in each_from
+unfolding is_owned_by each_in each_from
 whole_examples = (refl, refl, refl, refl, refl, refl, refl, refl, refl, refl)
 
 -- if a growth was refused, that is the outcome, and the IDs stay
-abbrev no_place : Refused
+abbrev no_place : RefusedGrowth
 no_place = record { which = which.Reserved; room = 128 }
 
-refused_examples : (answer_to (Some no_place) outcomes.Done ≡ outcomes.NoGapForTable which.Reserved 128)
-    × (answer_to None outcomes.Done ≡ outcomes.Done)
-    × (ids_to (Some no_place) ids [] ≡ ids)
-    × (ids_to None ids [] ≡ [])
+refused_examples : (outcome_unless_refused (Some no_place) outcomes.Done ≡ outcomes.NoGapForTable which.Reserved 128)
+    × (outcome_unless_refused None outcomes.Done ≡ outcomes.Done)
+    × (ids_unless_refused (Some no_place) ids [] ≡ ids)
+    × (ids_unless_refused None ids [] ≡ [])
 refused_examples = (refl, refl, refl, refl)
 
-abbrev sevens : Filled
+abbrev sevens : Fill
 sevens = record { range = first; byte = 7; at = 4 }
 
 -- two lines: one that fills, and one for an ID that isn't live
@@ -102,39 +102,39 @@ fills_first = record { number = 3; act = acts.Fill 1 7 }
 abbrev frees_none : Line
 frees_none = record { number = 8; act = acts.Free 2 }
 
-lines_example : after_lines (record { state = found; fills = []; answers = [] }) (fills_first ∷ frees_none ∷ [])
+lines_example : script_after_lines (record { state = found; fills = []; answers = [] }) (fills_first ∷ frees_none ∷ [])
     ≡ record {
       state = found;
       fills = sevens ∷ [];
       answers = record { line = 3; outcome = outcomes.Done } ∷ record { line = 8; outcome = outcomes.Unknown } ∷ [];
     }
-unfolding deed is_owned each_in each_from
+unfolding act_effect is_owned_by each_in each_from
 lines_example = refl
 
 -- out of memory may happen during the line that fills, and never during the other, which only
 -- returns an outcome
-abbrev begun : LineStage
+abbrev begun : ScriptSoFar
 begun = record { state = found; fills = []; answers = [] }
 
-fill_wants : (m : Contents) → state_of ids m ≡ found → Holds m.kernel m.journal.items [] (bytes_in m) →
-    EndsAmid begun (frees_none ∷ fills_first ∷ []) ids m (record { line = 8; outcome = outcomes.Unknown } ∷ [])
-unfolding deed is_owned each_in each_from
+fill_wants : (m : MemblockView) → state_of_memblock ids m ≡ found → AreBytesFromHistory m.kernel m.journal.items [] (memblock_bytes m) →
+    RunsOutDuringLines begun (frees_none ∷ fills_first ∷ []) ids m (record { line = 8; outcome = outcomes.Unknown } ∷ [])
+unfolding act_effect is_owned_by each_in each_from
 fill_wants m same holds = record {
   count = 1;
   line = fills_first;
   next = refl;
   answers_are = refl;
-  amid = subst (λ (t : State). IsAmid found t (fill_deed found 1 7)) (sym same) (inr (refl, refl, refl), refl, refl);
+  amid = subst (λ (t : ScriptState). RunsOutDuringLine found t (fill_effect found 1 7)) (sym same) (inr (refl, refl, refl), refl, refl);
   holds = holds;
 }
 
-free_out : (later : State) (count : ℕ) (line : Line) → take (count + 1) (frees_none ∷ []) ≡ take count (frees_none ∷ []) ++ line ∷ [] →
-    IsAmid (after_lines begun (take count (frees_none ∷ []))).state later
-    (deed_at (after_lines begun (take count (frees_none ∷ []))) line) → ⊥
-unfolding deed
+free_out : (later : ScriptState) (count : ℕ) (line : Line) → take (count + 1) (frees_none ∷ []) ≡ take count (frees_none ∷ []) ++ line ∷ [] →
+    RunsOutDuringLine (script_after_lines begun (take count (frees_none ∷ []))).state later
+    (line_effect (script_after_lines begun (take count (frees_none ∷ []))) line) → ⊥
+unfolding act_effect
 free_out later zero line next amid =
     let same : line ≡ frees_none = cc next in
-    let here = subst (λ (l : Line). IsAmid found later (deed_at begun l)) same amid in
+    let here = subst (λ (l : Line). RunsOutDuringLine found later (line_effect begun l)) same amid in
     elim here.0 [
       | inl cut ↦ absurd (omega (arith, cut.short))
       | inr behind ↦ true≢false (sym behind.0)
@@ -142,6 +142,6 @@ free_out later zero line next amid =
 free_out later (suc k) line next amid =
     absurd (omega (arith, simp (length-take, length-append) at (ap (λ (ls : List Line). length ls) next)))
 
-free_wants_none : (m : Contents) (later : Ids) (answers : List Answer) → ¬ EndsAmid begun (frees_none ∷ []) later m answers
-unfolding deed
-free_wants_none m later answers ends = free_out (state_of later m) ends.count ends.line ends.next ends.amid
+free_wants_none : (m : MemblockView) (later : LiveView) (answer_only : List Answer) → ¬ RunsOutDuringLines begun (frees_none ∷ []) later m answer_only
+unfolding act_effect
+free_wants_none m later answer_only ends = free_out (state_of_memblock later m) ends.count ends.line ends.next ends.amid

@@ -15,7 +15,7 @@ use Rattle.memblock_model.specs.Items.{Owners}
 use Rattle.memblock_model.specs.Tables.{table_bytes}
 use Rattle.memblock_model.proofs.SameLaws.{owner_self, owner_tells}
 use Rattle.memblock_grow.specs.Touch.{TouchesTable}
-use Rattle.early_script.specs.Owned.{is_owned, meets, touches}
+use Rattle.early_script.specs.Owned.{is_owned_by, is_overlap, is_over_table}
 
 agrees : (o : Option Owner) (who : Owner) → o ≡ Some who → agree same_owner o (Some who) ≡ true
 agrees o who is = rw is (owner_self who)
@@ -24,46 +24,46 @@ agreed : (o : Option Owner) (who : Owner) → agree same_owner o (Some who) ≡ 
 agreed None who h = cc h
 agreed (Some a) who h = ap (λ (b : Owner). Some b) (owner_tells.true_is_equal a who h)
 
-pub owned-each : (own : Owners) (who : Owner) (range : RangeView) → is_owned own who range ≡ true → (x : ℕ) → range.base ≤ x → x < end_of
+pub owned-each : (own : Owners) (who : Owner) (range : RangeView) → is_owned_by own who range ≡ true → (x : ℕ) → range.base ≤ x → x < end_of
     range →
     own x ≡ Some who
-unfolding is_owned
+unfolding is_owned_by
 owned-each own who range h x low high = agreed (own x) who (each_in-each range (λ y. agree same_owner (own y) (Some who)) h x low high)
 
 pub owned-is : (own : Owners) (who : Owner) (range : RangeView) (b : Bool) →
-    (IsTrue b ↔ ((x : ℕ) → range.base ≤ x → x < end_of range → own x ≡ Some who)) → is_owned own who range ≡ b
-unfolding is_owned
+    (IsTrue b ↔ ((x : ℕ) → range.base ≤ x → x < end_of range → own x ≡ Some who)) → is_owned_by own who range ≡ b
+unfolding is_owned_by
 owned-is own who range true tells =
     each_in-all range (λ y. agree same_owner (own y) (Some who)) (λ y low high. agrees (own y) who (tells.0 refl y low high))
 owned-is own who range false tells =
     false_from_ne_true _ (λ holds. false≢true (tells.1 (λ x low high. owned-each own who range holds x low high)))
 
 -- ranges that meet have a byte in common, and conversely
-meets-meet : (r s : RangeView) → meets r s ≡ true → Meet s r
-meets-meet r s h =
+is_overlap-meet : (r s : RangeView) → is_overlap r s ≡ true → Meet s r
+is_overlap-meet r s h =
     let x = max r.base s.base in
     let below : x < min (end_of r) (end_of s) = grind (arith, nat_tests) in
     let here : covers s x ≡ true = grind (arith, nat_tests) in
     let too : covers r x ≡ true = grind (arith, nat_tests) in
     (x, and_from (covers s x) (covers r x) here too)
 
-meet-meets : (r s : RangeView) → Meet s r → meets r s ≡ true
+meet-meets : (r s : RangeView) → Meet s r → is_overlap r s ≡ true
 meet-meets r s both = grind (arith, nat_tests, both.1)
 
 met : (kernel : RangeView) (items : List Item) (range : RangeView) → (w : Which) × Meet (table_bytes w kernel items) range →
-    touches kernel items range ≡ true
+    is_over_table kernel items range ≡ true
 met kernel items range (which.Memory, both) = rw (meet-meets range (table_bytes which.Memory kernel items) both) refl
 met kernel items range (which.Reserved, both) = or_right _ _ (meet-meets range (table_bytes which.Reserved kernel items) both)
 
-touched : (kernel : RangeView) (items : List Item) (range : RangeView) → touches kernel items range ≡ true →
+touched : (kernel : RangeView) (items : List Item) (range : RangeView) → is_over_table kernel items range ≡ true →
     (w : Which) × Meet (table_bytes w kernel items) range
-touched kernel items range h = elim (cases_Bool (meets range (table_bytes which.Memory kernel items))) [
-  | inl first ↦ (which.Memory, meets-meet range (table_bytes which.Memory kernel items) first)
-  | inr none ↦ (which.Reserved, meets-meet range (table_bytes which.Reserved kernel items) (rw none at h))
+touched kernel items range h = elim (cases_Bool (is_overlap range (table_bytes which.Memory kernel items))) [
+  | inl first ↦ (which.Memory, is_overlap-meet range (table_bytes which.Memory kernel items) first)
+  | inr none ↦ (which.Reserved, is_overlap-meet range (table_bytes which.Reserved kernel items) (rw none at h))
 ]
 
-pub touches-is : (kernel : RangeView) (items : List Item) (range : RangeView) (b : Bool) →
-    (IsTrue b ↔ TouchesTable kernel range items) → touches kernel items range ≡ b
-touches-is kernel items range true tells = met kernel items range (tells.0 refl)
-touches-is kernel items range false tells =
+pub is_over_table-is : (kernel : RangeView) (items : List Item) (range : RangeView) (b : Bool) →
+    (IsTrue b ↔ TouchesTable kernel range items) → is_over_table kernel items range ≡ b
+is_over_table-is kernel items range true tells = met kernel items range (tells.0 refl)
+is_over_table-is kernel items range false tells =
     false_from_ne_true _ (λ holds. false≢true (tells.1 (touched kernel items range holds)))

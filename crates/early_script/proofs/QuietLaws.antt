@@ -7,52 +7,52 @@ use Rattle.memblock_model.specs.declared.item.Item.{Item}
 use Rattle.memblock_model.specs.Items.{memory_of, limit_of}
 use Rattle.script_reader.specs.declared.act.Act.{Act}
 use Rattle.script_reader.specs.declared.act.Act.TheVariants as acts
-use Rattle.growth_model.specs.Carried.{AreQuiet}
-use Rattle.growth_model.specs.Outcome.{Outcome as Steps, after, nothing}
+use Rattle.growth_model.specs.Carried.{StepsKeepMemory}
+use Rattle.growth_model.specs.Outcome.{ChangeEffect as Steps, items_after_change, no_change}
 use Rattle.growth_model.proofs.MemoryItemLaws.{quiet-take}
-use Rattle.growth_model.proofs.QuietLaws.{IsQuiet, claimed-quiet, freed-quiet, quiet-memory, quiet-limit}
+use Rattle.growth_model.proofs.QuietLaws.{IsQuiet, claim_range-quiet, free_range-quiet, quiet-memory, quiet-limit}
 use Rattle.early_script.specs.declared.outcome.Outcome.{Outcome}
 use Rattle.early_script.specs.declared.outcome.Outcome.TheVariants as outcomes
-use Rattle.early_script.specs.Acted.{State, Deed, Acts, answers, alloc_at, on_range, deed}
+use Rattle.early_script.specs.Acted.{ScriptState, LineEffect, EndsAsLine, answer_only, alloc_effect_at, act_on_owned_range, act_effect}
 use Rattle.early_script.proofs.RunLaws.{ran-cut}
 
-pub record IsQuietDeed (d : Deed) : Type 0 where
+pub record IsQuietDeed (d : LineEffect) : Type 0 where
   pub change : IsQuiet d.change
 
-by_change : (d : Deed) → IsQuiet d.change → IsQuietDeed d
+by_change : (d : LineEffect) → IsQuiet d.change → IsQuietDeed d
 by_change d change = record { change = change }
 
-nothing-quiet : IsQuiet nothing
-nothing-quiet = record { each = λ items. tt }
+no_change-quiet : IsQuiet no_change
+no_change-quiet = record { each = λ items. tt }
 
-either : (b : Bool) (d e : Deed) → IsQuietDeed d → IsQuietDeed e → IsQuietDeed (if b then d else e)
+either : (b : Bool) (d e : LineEffect) → IsQuietDeed d → IsQuietDeed e → IsQuietDeed (if b then d else e)
 either true d e first second = first
 either false d e first second = second
 
-alloc_at-quiet : (s : State) (id size : ℕ) (place : Option ℕ) → IsQuietDeed (alloc_at s id size place)
-alloc_at-quiet s id size None = by_change (answers s outcomes.NoGap) nothing-quiet
-alloc_at-quiet s id size (Some place) = record { change = claimed-quiet (record { base = place; size = size }) (owner.Script id) }
+alloc_effect_at-quiet : (s : ScriptState) (id size : ℕ) (place : Option ℕ) → IsQuietDeed (alloc_effect_at s id size place)
+alloc_effect_at-quiet s id size None = by_change (answer_only s outcomes.NoGap) no_change-quiet
+alloc_effect_at-quiet s id size (Some place) = record { change = claim_range-quiet (record { base = place; size = size }) (owner.Script id) }
 
-whole-quiet : (s : State) (id : ℕ) (deed : RangeView → Deed) (range : Option RangeView) → ((r : RangeView) → IsQuietDeed (deed r)) →
-    IsQuietDeed (on_range s id deed range)
-whole-quiet s id deed None quiet = by_change (answers s outcomes.Unknown) nothing-quiet
-whole-quiet s id deed (Some range) quiet = search (either, quiet, by_change, nothing-quiet)
+whole-quiet : (s : ScriptState) (id : ℕ) (act_effect : RangeView → LineEffect) (range : Option RangeView) → ((r : RangeView) → IsQuietDeed (act_effect r)) →
+    IsQuietDeed (act_on_owned_range s id act_effect range)
+whole-quiet s id act_effect None quiet = by_change (answer_only s outcomes.Unknown) no_change-quiet
+whole-quiet s id act_effect (Some range) quiet = search (either, quiet, by_change, no_change-quiet)
 
-pub deed-quiet : (s : State) (bytes : ℕ → ℕ) (a : Act) → IsQuietDeed (deed s bytes a)
-unfolding deed
-deed-quiet s bytes (acts.Alloc id request) = search (either, alloc_at-quiet, by_change, nothing-quiet)
-deed-quiet s bytes (acts.Reserve id range) = search (either, by_change, nothing-quiet, claimed-quiet)
-deed-quiet s bytes (acts.Free id) = search (whole-quiet, by_change, freed-quiet)
-deed-quiet s bytes (acts.Trim id keep) = search (whole-quiet, either, by_change, nothing-quiet, freed-quiet)
-deed-quiet s bytes (acts.Fill id byte) = search (whole-quiet, either, by_change, nothing-quiet)
-deed-quiet s bytes a = by_change _ nothing-quiet
+pub act_effect-quiet : (s : ScriptState) (bytes : ℕ → ℕ) (a : Act) → IsQuietDeed (act_effect s bytes a)
+unfolding act_effect
+act_effect-quiet s bytes (acts.Alloc id request) = search (either, alloc_effect_at-quiet, by_change, no_change-quiet)
+act_effect-quiet s bytes (acts.Reserve id range) = search (either, by_change, no_change-quiet, claim_range-quiet)
+act_effect-quiet s bytes (acts.Free id) = search (whole-quiet, by_change, free_range-quiet)
+act_effect-quiet s bytes (acts.Trim id keep) = search (whole-quiet, either, by_change, no_change-quiet, free_range-quiet)
+act_effect-quiet s bytes (acts.Fill id byte) = search (whole-quiet, either, by_change, no_change-quiet)
+act_effect-quiet s bytes a = by_change _ no_change-quiet
 
 -- what quiet steps don't change, an act doesn't change, however it ends
 pub acts-keep : {X : Type 0} (f : List Item → X) →
-    ((items : List Item) (o : Steps) → AreQuiet o.steps → f (after items o) ≡ f items) →
-    (r : Result Outcome Memory) (old new : State) (d : Deed) → IsQuietDeed d → Acts r old new d → f new.items ≡ f old.items
+    ((items : List Item) (o : Steps) → StepsKeepMemory o.steps → f (items_after_change items o) ≡ f items) →
+    (r : Result Outcome Memory) (old new : ScriptState) (d : LineEffect) → IsQuietDeed d → EndsAsLine r old new d → f new.items ≡ f old.items
 acts-keep f keeps (Ok answer) old new d quiet acts =
-    ap (λ (s : State). f s.items) acts.1 ∙ keeps old.items (d.change old.items) (quiet.change.each old.items)
+    ap (λ (s : ScriptState). f s.items) acts.1 ∙ keeps old.items (d.change old.items) (quiet.change.each old.items)
 acts-keep f keeps (Err memory) old new d quiet acts =
     let cut = ran-cut d.takes old.items new.items (d.change old.items) acts.0 in
     let steps = take cut.count (d.change old.items).steps in
@@ -60,10 +60,10 @@ acts-keep f keeps (Err memory) old new d quiet acts =
     ∙ keeps old.items (record { steps = steps; refused = None })
     (quiet-take cut.count (d.change old.items).steps (quiet.change.each old.items))
 
-pub acts-memory : (r : Result Outcome Memory) (old new : State) (d : Deed) → IsQuietDeed d → Acts r old new d →
+pub acts-memory : (r : Result Outcome Memory) (old new : ScriptState) (d : LineEffect) → IsQuietDeed d → EndsAsLine r old new d →
     memory_of new.items ≡ memory_of old.items
 acts-memory = acts-keep memory_of quiet-memory
 
-pub acts-limit : (r : Result Outcome Memory) (old new : State) (d : Deed) → IsQuietDeed d → Acts r old new d →
+pub acts-limit : (r : Result Outcome Memory) (old new : ScriptState) (d : LineEffect) → IsQuietDeed d → EndsAsLine r old new d →
     limit_of new.items ≡ limit_of old.items
 acts-limit = acts-keep limit_of quiet-limit

@@ -10,13 +10,13 @@ use Rattle.text_words.specs.declared.separators.Separators.TheVariants as separa
 use Rattle.script_reader.specs.declared.act.Act.{Act}
 use Rattle.script_reader.specs.declared.act.Line.{Line}
 use Rattle.script_reader.specs.declared.fault.Wrong.{Wrong}
-use Rattle.script_reader.specs.Numbers.{Words, number}
-use Rattle.script_reader.specs.Forms.{by_name}
-use Rattle.script_reader.specs.Lines.{is_comment, asked_by, seen_behind, asked, line_at, lines_from}
+use Rattle.script_reader.specs.Numbers.{Words, number_in_word}
+use Rattle.script_reader.specs.Forms.{act_by_name}
+use Rattle.script_reader.specs.Lines.{is_comment, act_by_forms, has_once_command, read_line, script_line_at, script_lines_from}
 use Rattle.script_reader.specs.Script.{is_sections, script_lines, script_of}
 use Rattle.script_reader.proofs.ScriptSpellingLaws.{script_read}
 use Rattle.early_script.specs.Acted.{CanBeRun}
-use Rattle.early_script.specs.Stage.{PlaceOnce}
+use Rattle.early_script.specs.Stage.{PlacesSectionsOnce}
 use Rattle.early_script.proofs.StageLaws.{is_run}
 
 -- an act that was read doesn't place the sections
@@ -41,8 +41,8 @@ if-clean : (b : Bool) (r s : Result Act Wrong) → Clean r → Clean s → Clean
 if-clean true r s first second = first
 if-clean false r s first second = second
 
-by_name-clean : (name : List ℕ) (words : Words) → Clean (by_name true name words)
-by_name-clean name words = search (if-clean, bind-clean, ok-clean, err-clean) depth 24
+act_by_name-clean : (name : List ℕ) (words : Words) → Clean (act_by_name true name words)
+act_by_name-clean name words = search (if-clean, bind-clean, ok-clean, err-clean) depth 24
 
 -- a line that was read doesn't either
 abbrev IsCleanLine : Result (Option Act) Wrong → Type 0
@@ -58,9 +58,9 @@ comment-clean : (comment : Bool) (r : Result (Option Act) Wrong) → IsCleanLine
 comment-clean true r clean = tt
 comment-clean false r clean = clean
 
-asked-clean : (words : Words) → IsCleanLine (asked_by (by_name true) words)
-asked-clean [] = tt
-asked-clean (name ∷ words) = comment-clean (is_comment name) _ (some-clean (by_name true name words) (by_name-clean name words).known)
+read_line-clean : (words : Words) → IsCleanLine (act_by_forms (act_by_name true) words)
+read_line-clean [] = tt
+read_line-clean (name ∷ words) = comment-clean (is_comment name) _ (some-clean (act_by_name true name words) (act_by_name-clean name words).known)
 
 -- nor do the lines after the one that did
 abbrev AreClean : Result (List Line) (ℕ × Wrong) → Type 0
@@ -68,58 +68,58 @@ AreClean (Ok lines) = All (λ l. CanBeRun l.act) lines
 AreClean (Err fault) = Unit {0}
 
 abbrev then_line : ℕ → Result (Option Act) Wrong → (Option Act → Result (List Line) (ℕ × Wrong)) → Result (List Line) (ℕ × Wrong)
-then_line number r rest =
-    with_error (λ wrong. (number, wrong)) r >>= λ act. rest act >>= λ lines. Ok (cons_option (line_at script_lines number act) lines)
+then_line number_in_word r rest =
+    with_error (λ wrong. (number_in_word, wrong)) r >>= λ act. rest act >>= λ lines. Ok (cons_option (script_line_at script_lines number_in_word act) lines)
 
-line-clean : (number : ℕ) (r : Result (Option Act) Wrong) (rest : Result (List Line) (ℕ × Wrong)) → IsCleanLine r → AreClean rest →
-    AreClean (then_line number r (λ act. rest))
-line-clean number (Ok None) (Ok lines) clean known = known
-line-clean number (Ok (Some a)) (Ok lines) clean known =
-    All-cons (λ l. CanBeRun l.act) (record { number = number; act = a }) lines (is_run a clean) known
-line-clean number r rest clean known = tt
+line-clean : (number_in_word : ℕ) (r : Result (Option Act) Wrong) (rest : Result (List Line) (ℕ × Wrong)) → IsCleanLine r → AreClean rest →
+    AreClean (then_line number_in_word r (λ act. rest))
+line-clean number_in_word (Ok None) (Ok lines) clean known = known
+line-clean number_in_word (Ok (Some a)) (Ok lines) clean known =
+    All-cons (λ l. CanBeRun l.act) (record { number = number_in_word; act = a }) lines (is_run a clean) known
+line-clean number_in_word r rest clean known = tt
 
-lines-clean : (number : ℕ) (texts : List (List ℕ)) → AreClean (lines_from script_lines true number texts)
-lines-clean number [] = All-nil (λ l. CanBeRun l.act)
-lines-clean number (text ∷ texts) =
-    line-clean number (asked script_lines true text) (lines_from script_lines true (number + 1) texts)
-    (asked-clean (words_in separators.Script text))
-    (lines-clean (number + 1) texts)
+lines-clean : (number_in_word : ℕ) (texts : List (List ℕ)) → AreClean (script_lines_from script_lines true number_in_word texts)
+lines-clean number_in_word [] = All-nil (λ l. CanBeRun l.act)
+lines-clean number_in_word (text ∷ texts) =
+    line-clean number_in_word (read_line script_lines true text) (script_lines_from script_lines true (number_in_word + 1) texts)
+    (read_line-clean (words_in separators.Script text))
+    (lines-clean (number_in_word + 1) texts)
 
 abbrev IsOnce : Result (List Line) (ℕ × Wrong) → Type 0
-IsOnce (Ok lines) = PlaceOnce lines
+IsOnce (Ok lines) = PlacesSectionsOnce lines
 IsOnce (Err fault) = Unit {0}
 
-here-once : (number : ℕ) (a : Act) (rest : Result (List Line) (ℕ × Wrong)) → is_sections a ≡ true → AreClean rest →
-    IsOnce (rest >>= λ lines. Ok (cons_option (line_at script_lines number (Some a)) lines))
-here-once number a (Ok lines) here clean = rw here clean
-here-once number a (Err fault) here clean = tt
+here-once : (number_in_word : ℕ) (a : Act) (rest : Result (List Line) (ℕ × Wrong)) → is_sections a ≡ true → AreClean rest →
+    IsOnce (rest >>= λ lines. Ok (cons_option (script_line_at script_lines number_in_word (Some a)) lines))
+here-once number_in_word a (Ok lines) here clean = rw here clean
+here-once number_in_word a (Err fault) here clean = tt
 
-later-once : (number : ℕ) (a : Act) (rest : Result (List Line) (ℕ × Wrong)) → is_sections a ≡ false → IsOnce rest →
-    IsOnce (rest >>= λ lines. Ok (cons_option (line_at script_lines number (Some a)) lines))
-later-once number a (Ok lines) later once = rw later once
-later-once number a (Err fault) later once = tt
+later-once : (number_in_word : ℕ) (a : Act) (rest : Result (List Line) (ℕ × Wrong)) → is_sections a ≡ false → IsOnce rest →
+    IsOnce (rest >>= λ lines. Ok (cons_option (script_line_at script_lines number_in_word (Some a)) lines))
+later-once number_in_word a (Ok lines) later once = rw later once
+later-once number_in_word a (Err fault) later once = tt
 
-none-once : (number : ℕ) (rest : Result (List Line) (ℕ × Wrong)) → IsOnce rest
-    → IsOnce (rest >>= λ lines. Ok (cons_option (line_at script_lines number None) lines))
-none-once number (Ok lines) once = once
-none-once number (Err fault) once = tt
+none-once : (number_in_word : ℕ) (rest : Result (List Line) (ℕ × Wrong)) → IsOnce rest
+    → IsOnce (rest >>= λ lines. Ok (cons_option (script_line_at script_lines number_in_word None) lines))
+none-once number_in_word (Ok lines) once = once
+none-once number_in_word (Err fault) once = tt
 
-line-once : (number : ℕ) (r : Result (Option Act) Wrong) (rest : Bool → Result (List Line) (ℕ × Wrong)) → AreClean (rest true) →
-    IsOnce (rest false) → IsOnce (then_line number r (λ act. rest (seen_behind script_lines false act)))
-line-once number (Ok None) rest clean once = none-once number (rest false) once
-line-once number (Ok (Some a)) rest clean once = elim (cases_Bool (is_sections a)) [
-  | inl here ↦ rw here (here-once number a (rest true) here clean)
-  | inr later ↦ rw later (later-once number a (rest false) later once)
+line-once : (number_in_word : ℕ) (r : Result (Option Act) Wrong) (rest : Bool → Result (List Line) (ℕ × Wrong)) → AreClean (rest true) →
+    IsOnce (rest false) → IsOnce (then_line number_in_word r (λ act. rest (has_once_command script_lines false act)))
+line-once number_in_word (Ok None) rest clean once = none-once number_in_word (rest false) once
+line-once number_in_word (Ok (Some a)) rest clean once = elim (cases_Bool (is_sections a)) [
+  | inl here ↦ rw here (here-once number_in_word a (rest true) here clean)
+  | inr later ↦ rw later (later-once number_in_word a (rest false) later once)
 ]
-line-once number (Err w) rest clean once = tt
+line-once number_in_word (Err w) rest clean once = tt
 
-lines-once : (number : ℕ) (texts : List (List ℕ)) → IsOnce (lines_from script_lines false number texts)
-lines-once number [] = All-nil (λ l. CanBeRun l.act)
-lines-once number (text ∷ texts) =
-    line-once number (asked script_lines false text) (λ seen. lines_from script_lines seen (number + 1) texts) (lines-clean (number + 1) texts)
-    (lines-once (number + 1) texts)
+lines-once : (number_in_word : ℕ) (texts : List (List ℕ)) → IsOnce (script_lines_from script_lines false number_in_word texts)
+lines-once number_in_word [] = All-nil (λ l. CanBeRun l.act)
+lines-once number_in_word (text ∷ texts) =
+    line-once number_in_word (read_line script_lines false text) (λ seen. script_lines_from script_lines seen (number_in_word + 1) texts) (lines-clean (number_in_word + 1) texts)
+    (lines-once (number_in_word + 1) texts)
 
-pub script-once : (bytes : List ℕ) (lines : List Line) → script_of bytes ≡ Ok lines → PlaceOnce lines
+pub script-once : (bytes : List ℕ) (lines : List Line) → script_of bytes ≡ Ok lines → PlacesSectionsOnce lines
 script-once bytes lines read =
     subst (λ (r : Result (List Line) (ℕ × Wrong)). IsOnce r) (script_read bytes lines read)
     (lines-once 1 (parts_in (separators.Byte 10) bytes))

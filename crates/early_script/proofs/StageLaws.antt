@@ -11,20 +11,20 @@ use Rattle.script_reader.specs.declared.act.Act.TheVariants as acts
 use Rattle.script_reader.specs.declared.act.Line.{Line}
 use Rattle.script_reader.specs.Script.{is_sections}
 use Rattle.growth_model.specs.Sound.{HasBegun}
-use Rattle.growth_model.specs.Bytes.{Filled, byte, Holds}
+use Rattle.growth_model.specs.Bytes.{Fill, byte_from_history, AreBytesFromHistory}
 use Rattle.growth_model.proofs.SoundLaws.{more-begun}
-use Rattle.memblock_grow.specs.Contents.{Contents}
+use Rattle.memblock_grow.specs.Contents.{MemblockView}
 use Rattle.early_script.specs.declared.outcome.Outcome.{Outcome}
 use Rattle.early_script.specs.declared.outcome.Answer.{Answer}
-use Rattle.early_script.specs.Ids.{Ids}
-use Rattle.early_script.specs.Acted.{State, CanBeRun, Acts, with_fill, deed}
-use Rattle.early_script.specs.Found.{state_of, bytes_in}
-use Rattle.early_script.specs.Stage.{LineStage, Reaches, deed_at, after_line, after_lines, before_sections, behind_sections}
+use Rattle.early_script.specs.Ids.{LiveView}
+use Rattle.early_script.specs.Acted.{ScriptState, CanBeRun, EndsAsLine, add_fill, act_effect}
+use Rattle.early_script.specs.Found.{state_of_memblock, memblock_bytes}
+use Rattle.early_script.specs.Stage.{ScriptSoFar, HasReached, line_effect, script_after_line, script_after_lines, before_sections, lines_after_sections}
 
-pub after_lines-append : (s : LineStage) (lines : List Line) (line : Line) → after_lines s (lines ++ line ∷ []) ≡ after_line (after_lines s
+pub script_after_lines-append : (s : ScriptSoFar) (lines : List Line) (line : Line) → script_after_lines s (lines ++ line ∷ []) ≡ script_after_line (script_after_lines s
     lines) line
-after_lines-append s [] line = refl
-after_lines-append s (l ∷ lines) line = after_lines-append (after_line s l) lines line
+script_after_lines-append s [] line = refl
+script_after_lines-append s (l ∷ lines) line = script_after_lines-append (script_after_line s l) lines line
 
 -- one more line
 pub take_next : (lines : List Line) (i : ℕ) (line : Line) → i < length lines → line ≡ get_or lines i line →
@@ -35,22 +35,22 @@ pub begun-along : (items more longer : List Item) → longer ≡ items ++ more �
 begun-along items more longer goes begun = rw goes (more-begun items more begun)
 
 -- the deed of a line in the state that the stage has reached
-pub deed-reached : (s : LineStage) (ids : Ids) (m : Contents) (answers : List Answer) (line : Line) → Reaches s ids m answers →
-    deed (state_of ids m) (bytes_in m) line.act ≡ deed_at s line
-deed-reached s ids m answers line reached =
-    let bytes : bytes_in m ≡ byte m.kernel m.journal.items s.fills = λ j x. reached.holds.each x j in
-    rw bytes (ap (λ (t : State). deed t (byte t.kernel t.items s.fills) line.act) reached.state)
+pub act_effect-reached : (s : ScriptSoFar) (ids : LiveView) (m : MemblockView) (answers : List Answer) (line : Line) → HasReached s ids m answers →
+    act_effect (state_of_memblock ids m) (memblock_bytes m) line.act ≡ line_effect s line
+act_effect-reached s ids m answers line reached =
+    let bytes : memblock_bytes m ≡ byte_from_history m.kernel m.journal.items s.fills = λ j x. reached.holds.each x j in
+    rw bytes (ap (λ (t : ScriptState). act_effect t (byte_from_history t.kernel t.items s.fills) line.act) reached.state)
 
-pub reaches-line : (s : LineStage) (ids after_ids : Ids) (m next : Contents) (answers : List Answer) (line : Line) (outcome : Outcome) →
-    Reaches s ids m answers →
-    Acts (Ok outcome) (state_of ids m) (state_of after_ids next) (deed (state_of ids m) (bytes_in m) line.act) →
-    ((fills : List Filled) → Holds m.kernel m.journal.items fills (bytes_in m) →
-    Holds next.kernel next.journal.items (with_fill fills (deed (state_of ids m) (bytes_in m) line.act).fill) (bytes_in next)) →
-    Reaches (after_line s line) after_ids next (answers ++ record { line = line.number; outcome = outcome } ∷ [])
+pub reaches-line : (s : ScriptSoFar) (ids after_ids : LiveView) (m next : MemblockView) (answers : List Answer) (line : Line) (outcome : Outcome) →
+    HasReached s ids m answers →
+    EndsAsLine (Ok outcome) (state_of_memblock ids m) (state_of_memblock after_ids next) (act_effect (state_of_memblock ids m) (memblock_bytes m) line.act) →
+    ((fills : List Fill) → AreBytesFromHistory m.kernel m.journal.items fills (memblock_bytes m) →
+    AreBytesFromHistory next.kernel next.journal.items (add_fill fills (act_effect (state_of_memblock ids m) (memblock_bytes m) line.act).fill) (memblock_bytes next)) →
+    HasReached (script_after_line s line) after_ids next (answers ++ record { line = line.number; outcome = outcome } ∷ [])
 reaches-line s ids after_ids m next answers line outcome reached acts holds =
-    let same = deed-reached s ids m answers line reached in
-    let done : Acts (Ok outcome) s.state (state_of after_ids next) (deed_at s line) =
-    subst (λ (t : State). Acts (Ok outcome) t (state_of after_ids next) (deed_at s line)) reached.state (rw same at acts) in
+    let same = act_effect-reached s ids m answers line reached in
+    let done : EndsAsLine (Ok outcome) s.state (state_of_memblock after_ids next) (line_effect s line) =
+    subst (λ (t : ScriptState). EndsAsLine (Ok outcome) t (state_of_memblock after_ids next) (line_effect s line)) reached.state (rw same at acts) in
     record { state = done.1; answers_are = rw (reached.answers_are, done.0) refl; holds = rw same at (holds s.fills reached.holds) }
 
 -- an act that doesn't place the sections can be run, and so can all lines before the one that does
@@ -68,19 +68,19 @@ all-before (line ∷ lines) = elim (cases_Bool (is_sections line.act)) [
 -- the loop has passed i lines, and none of them places the sections
 pub record Passed (lines : List Line) (i : ℕ) : Type 0 where
   pub before : before_sections lines ≡ take i lines ++ before_sections (drop i lines)
-  pub behind : behind_sections lines ≡ behind_sections (drop i lines)
+  pub behind : lines_after_sections lines ≡ lines_after_sections (drop i lines)
 
 -- the next line places the sections
 pub passed-here : (lines : List Line) (i : ℕ) (line : Line) → i < length lines → line ≡ get_or lines i line →
     is_sections line.act ≡ true → Passed lines i →
-    (take i lines ≡ before_sections lines) × (drop (i + 1) lines ≡ behind_sections lines)
+    (take i lines ≡ before_sections lines) × (drop (i + 1) lines ≡ lines_after_sections lines)
 passed-here lines i line below is here passed =
     let whole : drop i lines ≡ line ∷ drop (i + 1) lines = rw (add-one, drop-cons lines i line below, ← is) refl in
     (sym (rw (whole, here, append-nil (take i lines)) at passed.before), sym (rw (whole, here) at passed.behind))
 
 -- no line places the sections
 pub passed-all : (lines : List Line) (i : ℕ) → length lines ≤ i → Passed lines i →
-    (lines ≡ before_sections lines) × ([] ≡ behind_sections lines)
+    (lines ≡ before_sections lines) × ([] ≡ lines_after_sections lines)
 passed-all lines i all passed =
     let none : drop i lines ≡ [] = drop_all i lines all in
     (sym (rw (none, append-nil (take i lines), take_all i lines all) at passed.before), sym (rw none at passed.behind))

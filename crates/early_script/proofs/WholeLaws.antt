@@ -3,21 +3,21 @@ use Rattle.std.proofs.Common.{◌≡◌, ℕ, ◌<◌, ◌≤◌, ◌↔◌, Boo
 use Rattle.bm_base.specs.Range.{RangeView, end_of}
 use Rattle.memblock_model.specs.declared.owner.Owner.TheVariants as owner
 use Rattle.memblock_model.specs.Items.{owner_of}
-use Rattle.boot_journal.specs.Contents.{Contents}
+use Rattle.boot_journal.specs.Contents.{JournalView}
 use Rattle.early_script.specs.declared.outcome.Outcome.TheVariants as outcomes
-use Rattle.early_script.specs.Ids.{range_of}
-use Rattle.early_script.specs.Owned.{is_owned}
-use Rattle.early_script.specs.Acted.{State, Deed, answers, on_whole}
+use Rattle.early_script.specs.Ids.{range_of_id}
+use Rattle.early_script.specs.Owned.{is_owned_by}
+use Rattle.early_script.specs.Acted.{ScriptState, LineEffect, answer_only, on_range_of_id}
 use Rattle.early_script.proofs.OwnedLaws.{owned-is}
 
 -- the result of the journal's look-up
-pub owned-by : (j k : Contents) (id : ℕ) (range : RangeView) (b told : Bool) → j ≡ k → b ≡ told →
+pub owned-by : (j k : JournalView) (id : ℕ) (range : RangeView) (b told : Bool) → j ≡ k → b ≡ told →
     (IsTrue b ↔ ((x : ℕ) → range.base ≤ x → x < end_of range → owner_of j.items x ≡ Some (owner.Script id))) →
-    is_owned (owner_of k.items) (owner.Script id) range ≡ told
+    is_owned_by (owner_of k.items) (owner.Script id) range ≡ told
 owned-by j k id range b told same is tells =
     rw (← same, ← is) (owned-is (owner_of j.items) (owner.Script id) range b tells)
 
-pub whole-is : (s : State) (id : ℕ) (range : RangeView) (told : Bool) → range_of s.ids id ≡ Some range →
-    is_owned (owner_of s.items) (owner.Script id) range ≡ told → (deed : RangeView → Deed) →
-    on_whole s id deed ≡ (if told then deed range else answers s outcomes.NotWhole)
+pub whole-is : (s : ScriptState) (id : ℕ) (range : RangeView) (told : Bool) → range_of_id s.ids id ≡ Some range →
+    is_owned_by (owner_of s.items) (owner.Script id) range ≡ told → (deed : RangeView → LineEffect) →
+    on_range_of_id s id deed ≡ (if told then deed range else answer_only s outcomes.NotWhole)
 whole-is s id range told found owned deed = rw (found, owned) refl

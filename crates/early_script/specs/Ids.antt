@@ -5,25 +5,25 @@ use Rattle.std.specs.Map.{lookup, remove_entry}
 use Rattle.std.specs.BTreeMap.{insert_entry, is_at}
 use Rattle.bm_base.specs.Range.{RangeView}
 
-abbrev pub Ids : Type 0
-Ids = List (ℕ × RangeView)
+abbrev pub LiveView : Type 0
+LiveView = List (ℕ × RangeView)
 
 -- the range of the ID, if it is live
-abbrev pub range_of : Ids → ℕ → Option RangeView
-range_of ids id = lookup (is_at (nat_cmp id)) ids
+abbrev pub range_of_id : LiveView → ℕ → Option RangeView
+range_of_id ids id = lookup (is_at (nat_cmp id)) ids
 
-abbrev pub is_live : Ids → ℕ → Bool
-is_live ids id = is_some (range_of ids id)
+abbrev pub is_live : LiveView → ℕ → Bool
+is_live ids id = is_some (range_of_id ids id)
 
 -- the ID gets the range, whatever it had
-abbrev pub with_range : Ids → ℕ → RangeView → Ids
+abbrev pub with_range : LiveView → ℕ → RangeView → LiveView
 with_range ids id range = insert_entry nat_cmp ids id range
 
 -- the ID is no longer live
-abbrev pub without : Ids → ℕ → Ids
-without ids id = remove_entry (is_at (nat_cmp id)) ids
+abbrev pub without_id : LiveView → ℕ → LiveView
+without_id ids id = remove_entry (is_at (nat_cmp id)) ids
 
 -- no live ID has an empty range
-abbrev pub HaveBytes : Ids → Type 0
-HaveBytes [] = Unit {0}
-HaveBytes (e ∷ es) = (0 < e.1.size) × HaveBytes es
+abbrev pub RangesHaveBytes : LiveView → Type 0
+RangesHaveBytes [] = Unit {0}
+RangesHaveBytes (e ∷ es) = (0 < e.1.size) × RangesHaveBytes es

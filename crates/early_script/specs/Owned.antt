@@ -11,13 +11,13 @@ use Rattle.memblock_model.specs.Items.{Owners}
 use Rattle.memblock_model.specs.Tables.{table_bytes}
 
 -- each byte of the range has the owner
-unfoldable pub is_owned : Owners → Owner → RangeView → Bool
-is_owned own who range = each_in range (λ x. agree same_owner (own x) (Some who))
+unfoldable pub is_owned_by : Owners → Owner → RangeView → Bool
+is_owned_by own who range = each_in range (λ x. agree same_owner (own x) (Some who))
 
 -- the ranges have a byte in common
-abbrev pub meets : RangeView → RangeView → Bool
-meets r s = nat_lt (max r.base s.base) (min (end_of r) (end_of s))
+abbrev pub is_overlap : RangeView → RangeView → Bool
+is_overlap r s = nat_lt (max r.base s.base) (min (end_of r) (end_of s))
 
 -- the range overlaps a table
-abbrev pub touches : RangeView → List Item → RangeView → Bool
-touches kernel items range = meets range (table_bytes which.Memory kernel items) || meets range (table_bytes which.Reserved kernel items)
+abbrev pub is_over_table : RangeView → List Item → RangeView → Bool
+is_over_table kernel items range = is_overlap range (table_bytes which.Memory kernel items) || is_overlap range (table_bytes which.Reserved kernel items)

@@ -11,7 +11,7 @@
 //! - [`Live`]: the live IDs, each with its range. Contracts see it as a list of them.
 //! - An ID is whole as long as no one else claims or frees a byte of its range. The journal
 //!   decides that by one look-up.
-//! - [`run_lines`] runs lines in order. [`split_at_sections`] returns the lines before and after
+//! - [`run_script_lines`] runs lines in order. [`split_at_sections`] returns the lines before and after
 //!   the one that places the sections.
 //!
 //! The layer above may rest on this:
@@ -37,4 +37,4 @@ pub use laws::{lines_leave_memory, scripts_place_once};
 pub use live::Live;
 pub use outcome::{Answer, Outcome};
 pub use script_reader::{Act, Line, ScriptFault, read_script};
-pub use stage::{run_lines, split_at_sections};
+pub use stage::{run_script_lines, split_at_sections};

@@ -5,13 +5,13 @@
 ghost use Rattle.std.specs.Prelude.{◌≡◌, ℕ, ◌+◌, ◌-◌, ◌^◌, ◌<◌, ◌≤◌, List, [], OnOk, OnErr, IfOk, IfErr, IsOk};
 ghost use Rattle.bm_base.specs.Range.{RangeView};
 ghost use Rattle.script_reader.specs.Forms.{HasBounds};
-ghost use Rattle.growth_model.specs.Sound.{HasBegun, IsAway};
-ghost use Rattle.growth_model.specs.Bytes.{Filled, Holds};
-ghost use Rattle.memblock_grow.specs.Going.{GoesOn};
-ghost use Rattle.memblock_grow.specs.Kept.{StayReady};
+ghost use Rattle.growth_model.specs.Sound.{HasBegun, TouchesNoTable};
+ghost use Rattle.growth_model.specs.Bytes.{Fill, AreBytesFromHistory};
+ghost use Rattle.memblock_grow.specs.Going.{ContinuesMemblock};
+ghost use Rattle.memblock_grow.specs.Kept.{StayPrepared};
 
 use crate::outcome::Outcome;
-use crate::steps::{peek, refused, split, touches};
+use crate::steps::{read_bytes_at, outcome_of_refusal, split_range, is_over_table};
 use bm_base::{Memory, Range};
 use memblock_grow::{Memblock, Request, no_items_no_change};
 use memblock_model::Owner;
@@ -30,19 +30,19 @@ pub struct Live {
 }
 
 impl Model for Live {
-    ghost use Rattle.early_script.specs.Ids.{Ids, HaveBytes};
+    ghost use Rattle.early_script.specs.Ids.{LiveView, RangesHaveBytes};
 
-    ghost Value = { Ids };
+    ghost Value = { LiveView };
 
     ghost view = { λ l. l.ids.entries };
 
-    ghost invariant = { λ l. HaveBytes l.ids.entries };
+    ghost invariant = { λ l. RangesHaveBytes l.ids.entries };
 }
 
 impl Live {
     ghost use Rattle.early_script.specs.Ids.{is_live as has_range, with_range};
-    ghost use Rattle.early_script.specs.Acted.{Deed as AnyDeed, Acts, CanBeRun, OnlyAnswers, byte_by, fills_by, answers, on_whole, deed, alloc_deed, reserve_deed, free_deed, trim_deed, fill_deed};
-    ghost use Rattle.early_script.specs.Found.{state_of, bytes_in};
+    ghost use Rattle.early_script.specs.Acted.{LineEffect as AnyDeed, EndsAsLine, CanBeRun, OnlyAnswers, byte_after_line, fills_after_line, answer_only, on_range_of_id, act_effect, alloc_effect, reserve_effect, free_effect, trim_effect, fill_effect};
+    ghost use Rattle.early_script.specs.Found.{state_of_memblock, memblock_bytes};
 
     /// Creates a map without a live ID.
     pub fn new(alloc: Global) -> Live
@@ -65,16 +65,16 @@ impl Live {
         requires begun { HasBegun mb.old.journal.items }
         requires run { CanBeRun line.now.act }
         requires bounds { HasBounds line.now.act }
-        ensures acts { Acts result (state_of self.old mb.old) (state_of self.new mb.new)
-            (deed (state_of self.old mb.old) (bytes_in mb.old) line.now.act) }
-        ensures answered { OnlyAnswers (state_of self.old mb.old)
-            (deed (state_of self.old mb.old) (bytes_in mb.old) line.now.act) → IsOk result }
-        ensures bytes { (x : ℕ) → bytes_in mb.new x ≡ byte_by result (state_of self.old mb.old) (state_of self.new mb.new)
-            (deed (state_of self.old mb.old) (bytes_in mb.old) line.now.act) x (bytes_in mb.old x) }
-        ensures holds { (fills : List Filled) → Holds mb.old.kernel mb.old.journal.items fills (bytes_in mb.old) →
-            Holds mb.new.kernel mb.new.journal.items
-            (fills_by result (deed (state_of self.old mb.old) (bytes_in mb.old) line.now.act) fills) (bytes_in mb.new) }
-        ensures still_ready { StayReady mb.old.tables.store mb.new.tables.store }
+        ensures acts { EndsAsLine result (state_of_memblock self.old mb.old) (state_of_memblock self.new mb.new)
+            (act_effect (state_of_memblock self.old mb.old) (memblock_bytes mb.old) line.now.act) }
+        ensures answered { OnlyAnswers (state_of_memblock self.old mb.old)
+            (act_effect (state_of_memblock self.old mb.old) (memblock_bytes mb.old) line.now.act) → IsOk result }
+        ensures bytes { (x : ℕ) → memblock_bytes mb.new x ≡ byte_after_line result (state_of_memblock self.old mb.old) (state_of_memblock self.new mb.new)
+            (act_effect (state_of_memblock self.old mb.old) (memblock_bytes mb.old) line.now.act) x (memblock_bytes mb.old x) }
+        ensures holds { (fills : List Fill) → AreBytesFromHistory mb.old.kernel mb.old.journal.items fills (memblock_bytes mb.old) →
+            AreBytesFromHistory mb.new.kernel mb.new.journal.items
+            (fills_after_line result (act_effect (state_of_memblock self.old mb.old) (memblock_bytes mb.old) line.now.act) fills) (memblock_bytes mb.new) }
+        ensures still_ready { StayPrepared mb.old.tables.store mb.new.tables.store }
     {
         match line.act {
             Act::Alloc { id, request } => self.alloc(mb, id, &request),
@@ -82,7 +82,7 @@ impl Live {
             Act::Free { id } => self.free(mb, id),
             Act::Trim { id, keep } => self.trim(mb, id, keep),
             Act::Fill { id, byte } => self.fill(mb, id, byte),
-            Act::Peek { at, len } => Ok(peek(mb, at, len)),
+            Act::Peek { at, len } => Ok(read_bytes_at(mb, at, len)),
             Act::Sections => unreachable!(),
         }
     }
@@ -91,9 +91,9 @@ impl Live {
         requires begun { HasBegun mb.old.journal.items }
         requires some { 1 ≤ request.now.size }
         requires aligned { (k : ℕ) × (request.now.align ≡ 2 ^ k) }
-        ensures acts { Acts result (state_of self.old mb.old) (state_of self.new mb.new)
-            (alloc_deed (state_of self.old mb.old) id request.now) }
-        ensures goes_on { GoesOn mb.old mb.new }
+        ensures acts { EndsAsLine result (state_of_memblock self.old mb.old) (state_of_memblock self.new mb.new)
+            (alloc_effect (state_of_memblock self.old mb.old) id request.now) }
+        ensures goes_on { ContinuesMemblock mb.old mb.new }
     {
         no_items_no_change(mb);
         // A live ID is taken, whether or not a place fits.
@@ -106,49 +106,49 @@ impl Live {
                     base,
                     size: request.size,
                 };
-                self.keep(id, range)?;
+                self.set_range(id, range)?;
                 Ok(Outcome::At(base))
             }
-            Err(refusal) => refused(refusal),
+            Err(refusal) => outcome_of_refusal(refusal),
         }
     }
 
     fn reserve(&mut self, mb: &mut Memblock, id: u32, range: Range) -> Result<Outcome, Memory>
         requires begun { HasBegun mb.old.journal.items }
         requires some { 0 < range.size }
-        ensures acts { Acts result (state_of self.old mb.old) (state_of self.new mb.new)
-            (reserve_deed (state_of self.old mb.old) id range) }
-        ensures goes_on { GoesOn mb.old mb.new }
+        ensures acts { EndsAsLine result (state_of_memblock self.old mb.old) (state_of_memblock self.new mb.new)
+            (reserve_effect (state_of_memblock self.old mb.old) id range) }
+        ensures goes_on { ContinuesMemblock mb.old mb.new }
     {
         no_items_no_change(mb);
         if self.is_live(id) {
             return Ok(Outcome::Taken);
         }
-        if touches(mb, range) {
+        if is_over_table(mb, range) {
             return Ok(Outcome::TableInUse);
         }
         match mb.claim(range, Owner::Script(id)) {
             Ok(()) => {
-                self.keep(id, range)?;
+                self.set_range(id, range)?;
                 Ok(Outcome::Done)
             }
-            Err(refusal) => refused(refusal),
+            Err(refusal) => outcome_of_refusal(refusal),
         }
     }
 
     fn free(&mut self, mb: &mut Memblock, id: u32) -> Result<Outcome, Memory>
         requires { HasBegun mb.old.journal.items }
-        ensures acts { Acts result (state_of self.old mb.old) (state_of self.new mb.new)
-            (free_deed (state_of self.old mb.old) id) }
-        ensures goes_on { GoesOn mb.old mb.new }
+        ensures acts { EndsAsLine result (state_of_memblock self.old mb.old) (state_of_memblock self.new mb.new)
+            (free_effect (state_of_memblock self.old mb.old) id) }
+        ensures goes_on { ContinuesMemblock mb.old mb.new }
     {
         no_items_no_change(mb);
-        let range = match self.whole(mb, id) {
+        let range = match self.owned_range(mb, id) {
             Ok(range) => range,
             Err(outcome) => return Ok(outcome),
         };
         if let Err(refusal) = mb.free(range) {
-            return refused(refusal);
+            return outcome_of_refusal(refusal);
         }
         let _ = self.ids.remove(&id);
         Ok(Outcome::Done)
@@ -157,40 +157,40 @@ impl Live {
     fn trim(&mut self, mb: &mut Memblock, id: u32, keep: u64) -> Result<Outcome, Memory>
         requires begun { HasBegun mb.old.journal.items }
         requires some { 0 < keep }
-        ensures acts { Acts result (state_of self.old mb.old) (state_of self.new mb.new)
-            (trim_deed (state_of self.old mb.old) id keep) }
-        ensures goes_on { GoesOn mb.old mb.new }
+        ensures acts { EndsAsLine result (state_of_memblock self.old mb.old) (state_of_memblock self.new mb.new)
+            (trim_effect (state_of_memblock self.old mb.old) id keep) }
+        ensures goes_on { ContinuesMemblock mb.old mb.new }
     {
         no_items_no_change(mb);
-        let range = match self.whole(mb, id) {
+        let range = match self.owned_range(mb, id) {
             Ok(range) => range,
             Err(outcome) => return Ok(outcome),
         };
-        let Some((kept, rest)) = split(range, keep) else {
+        let Some((kept, rest)) = split_range(range, keep) else {
             return Ok(Outcome::TooLargeKeep);
         };
         match mb.free(rest) {
             Ok(()) => {
-                self.keep(id, kept)?;
+                self.set_range(id, kept)?;
                 Ok(Outcome::Done)
             }
-            Err(refusal) => refused(refusal),
+            Err(refusal) => outcome_of_refusal(refusal),
         }
     }
 
     fn fill(&mut self, mb: &mut Memblock, id: u32, byte: u8) -> Result<Outcome, Memory>
         requires { HasBegun mb.old.journal.items }
-        ensures acts { Acts result (state_of self.old mb.old) (state_of self.new mb.new)
-            (fill_deed (state_of self.old mb.old) id byte) }
-        ensures bytes { (x : ℕ) → bytes_in mb.new x ≡ byte_by result (state_of self.old mb.old) (state_of self.new mb.new)
-            (fill_deed (state_of self.old mb.old) id byte) x (bytes_in mb.old x) }
-        ensures holds { (fills : List Filled) → Holds mb.old.kernel mb.old.journal.items fills (bytes_in mb.old) →
-            Holds mb.new.kernel mb.new.journal.items
-            (fills_by result (fill_deed (state_of self.old mb.old) id byte) fills) (bytes_in mb.new) }
-        ensures still_ready { StayReady mb.old.tables.store mb.new.tables.store }
+        ensures acts { EndsAsLine result (state_of_memblock self.old mb.old) (state_of_memblock self.new mb.new)
+            (fill_effect (state_of_memblock self.old mb.old) id byte) }
+        ensures bytes { (x : ℕ) → memblock_bytes mb.new x ≡ byte_after_line result (state_of_memblock self.old mb.old) (state_of_memblock self.new mb.new)
+            (fill_effect (state_of_memblock self.old mb.old) id byte) x (memblock_bytes mb.old x) }
+        ensures holds { (fills : List Fill) → AreBytesFromHistory mb.old.kernel mb.old.journal.items fills (memblock_bytes mb.old) →
+            AreBytesFromHistory mb.new.kernel mb.new.journal.items
+            (fills_after_line result (fill_effect (state_of_memblock self.old mb.old) id byte) fills) (memblock_bytes mb.new) }
+        ensures still_ready { StayPrepared mb.old.tables.store mb.new.tables.store }
     {
         no_items_no_change(mb);
-        let range = match self.whole(mb, id) {
+        let range = match self.owned_range(mb, id) {
             Ok(range) => range,
             Err(outcome) => return Ok(outcome),
         };
@@ -209,7 +209,7 @@ impl Live {
     }
 
     /// Gives the ID this range, whatever it had.
-    fn keep(&mut self, id: u32, range: Range) -> Result<(), Memory>
+    fn set_range(&mut self, id: u32, range: Range) -> Result<(), Memory>
         requires { 0 < range.size }
         ensures ok { OnOk result (self.new ≡ with_range self.old id range) }
         ensures err { OnErr result (self.new ≡ self.old) }
@@ -224,13 +224,13 @@ impl Live {
     ///
     /// The outcome of every act on this ID: `Unknown` if the ID isn't live, `NotWhole` if it
     /// doesn't own all of its range.
-    fn whole(&self, mb: &Memblock, id: u32) -> Result<Range, Outcome>
+    fn owned_range(&self, mb: &Memblock, id: u32) -> Result<Range, Outcome>
         requires { HasBegun mb.now.journal.items }
-        ensures range { IfOk result (λ range. (deed : RangeView → AnyDeed) → on_whole (state_of self.now mb.now) id deed ≡ deed range) }
+        ensures range { IfOk result (λ range. (act_effect : RangeView → AnyDeed) → on_range_of_id (state_of_memblock self.now mb.now) id act_effect ≡ act_effect range) }
         ensures some { IfOk result (λ range. 0 < range.size) }
-        ensures away { IfOk result (λ range. IsAway mb.now.kernel range mb.now.journal.items) }
-        ensures outcome { IfErr result (λ outcome. (deed : RangeView → AnyDeed) →
-            on_whole (state_of self.now mb.now) id deed ≡ answers (state_of self.now mb.now) outcome) }
+        ensures away { IfOk result (λ range. TouchesNoTable mb.now.kernel range mb.now.journal.items) }
+        ensures outcome { IfErr result (λ outcome. (act_effect : RangeView → AnyDeed) →
+            on_range_of_id (state_of_memblock self.now mb.now) id act_effect ≡ answer_only (state_of_memblock self.now mb.now) outcome) }
     {
         let Some(range) = self.ids.get(&id).copied() else {
             return Err(Outcome::Unknown);

@@ -5,11 +5,11 @@ ghost use Rattle.std.specs.Prelude.{◌≡◌, ℕ, ◌+◌, ◌<◌, ◌≤◌,
 ghost use Rattle.std.specs.List.{All};
 ghost use Rattle.script_reader.specs.Forms.{HasBounds};
 ghost use Rattle.growth_model.specs.Sound.{HasBegun};
-ghost use Rattle.growth_model.specs.Bytes.{Filled, Holds};
-ghost use Rattle.memblock_grow.specs.Kept.{StayReady};
+ghost use Rattle.growth_model.specs.Bytes.{Fill, AreBytesFromHistory};
+ghost use Rattle.memblock_grow.specs.Kept.{StayPrepared};
 ghost use Rattle.early_script.specs.Acted.{CanBeRun};
-ghost use Rattle.early_script.specs.Found.{bytes_in};
-ghost use Rattle.early_script.specs.Stage.{GoesThrough, Reaches, RunsOut, PlaceOnce, stage_of, after_lines, before_sections, behind_sections};
+ghost use Rattle.early_script.specs.Found.{memblock_bytes};
+ghost use Rattle.early_script.specs.Stage.{IsPrefixChain, HasReached, ScriptRunsOut, PlacesSectionsOnce, script_so_far, script_after_lines, before_sections, lines_after_sections};
 
 use crate::live::Live;
 use crate::outcome::Answer;
@@ -25,7 +25,7 @@ use script_reader::{Act, Line};
 /// `Memory` if this program is out of memory: either for the list of outcomes, before the first
 /// line, and then nothing has changed; or during a line. All lines before that one have then been
 /// run, and their outcomes are in the list.
-pub fn run_lines(
+pub fn run_script_lines(
     live: &mut Live,
     mb: &mut Memblock,
     lines: &[Line],
@@ -34,15 +34,15 @@ pub fn run_lines(
     requires begun { HasBegun mb.old.journal.items }
     requires run { All (λ l. CanBeRun l.act) lines.now }
     requires bounds { All (λ l. HasBounds l.act) lines.now }
-    ensures ok { OnOk result ((fills : List Filled) → Holds mb.old.kernel mb.old.journal.items fills (bytes_in mb.old) →
-        Reaches (after_lines (stage_of live.old mb.old fills answers.old.items) lines.now) live.new mb.new answers.new.items) }
-    ensures memory { OnErr result (RunsOut live.old mb.old answers.old lines.now live.new mb.new answers.new) }
-    ensures journal { (fills : List Filled) → Holds mb.old.kernel mb.old.journal.items fills (bytes_in mb.old) →
-        GoesThrough mb.old.journal.items mb.new.journal.items
-        (after_lines (stage_of live.old mb.old fills answers.old.items) lines.now).state.items }
+    ensures ok { OnOk result ((fills : List Fill) → AreBytesFromHistory mb.old.kernel mb.old.journal.items fills (memblock_bytes mb.old) →
+        HasReached (script_after_lines (script_so_far live.old mb.old fills answers.old.items) lines.now) live.new mb.new answers.new.items) }
+    ensures memory { OnErr result (ScriptRunsOut live.old mb.old answers.old lines.now live.new mb.new answers.new) }
+    ensures journal { (fills : List Fill) → AreBytesFromHistory mb.old.kernel mb.old.journal.items fills (memblock_bytes mb.old) →
+        IsPrefixChain mb.old.journal.items mb.new.journal.items
+        (script_after_lines (script_so_far live.old mb.old fills answers.old.items) lines.now).state.items }
     ensures kernel { mb.new.kernel ≡ mb.old.kernel }
     ensures begun { HasBegun mb.new.journal.items }
-    ensures still_ready { StayReady mb.old.tables.store mb.new.tables.store }
+    ensures still_ready { StayPrepared mb.old.tables.store mb.new.tables.store }
 {
     answers.reserve(lines.len())?;
     for line in lines {
@@ -59,10 +59,10 @@ pub fn run_lines(
 /// Returns the lines before the one that places the sections, or all lines if none does, and the
 /// lines after it.
 pub fn split_at_sections(lines: &[Line]) -> (&[Line], &[Line])
-    requires once { PlaceOnce lines.now }
+    requires once { PlacesSectionsOnce lines.now }
     requires bounds { All (λ l. HasBounds l.act) lines.now }
     ensures before { result.0.now ≡ before_sections lines.now }
-    ensures behind { result.1.now ≡ behind_sections lines.now }
+    ensures behind { result.1.now ≡ lines_after_sections lines.now }
     ensures run { All (λ l. CanBeRun l.act) result.0.now × All (λ l. CanBeRun l.act) result.1.now }
     ensures bounds { All (λ l. HasBounds l.act) result.0.now × All (λ l. HasBounds l.act) result.1.now }
 {

@@ -3,11 +3,11 @@
 
 ghost use Rattle.std.specs.Prelude.{◌≡◌, ℕ, ◌+◌, ◌-◌, ◌^◌, ◌<◌, ◌≤◌, false, length, MatchOption};
 ghost use Rattle.phys_store.specs.Bytes.{bytes_at};
-ghost use Rattle.growth_model.specs.Sound.{HasBegun, IsAway};
+ghost use Rattle.growth_model.specs.Sound.{HasBegun, TouchesNoTable};
 ghost use Rattle.growth_model.specs.Bytes.{Follows};
 ghost use Rattle.early_script.specs.declared.outcome.Outcome.TheVariants as outcomes;
-ghost use Rattle.early_script.specs.Owned.{touches};
-ghost use Rattle.early_script.specs.Found.{bytes_in, Refuses};
+ghost use Rattle.early_script.specs.Owned.{is_over_table};
+ghost use Rattle.early_script.specs.Found.{memblock_bytes, AnswersRefusal};
 
 use crate::outcome::Outcome;
 use arrayvec::ArrayVec;
@@ -15,8 +15,8 @@ use bm_base::{Memory, Range};
 use memblock_grow::{Memblock, Refusal, no_items_no_change};
 
 /// Converts a refusal of memblock to an outcome; out of memory stays an error.
-pub fn refused(refusal: Refusal) -> Result<Outcome, Memory>
-    ensures { Refuses result refusal }
+pub fn outcome_of_refusal(refusal: Refusal) -> Result<Outcome, Memory>
+    ensures { AnswersRefusal result refusal }
 {
     match refusal {
         Refusal::NoGap => Ok(Outcome::NoGap),
@@ -27,7 +27,7 @@ pub fn refused(refusal: Refusal) -> Result<Outcome, Memory>
 
 /// Splits the range after its first `keep` bytes, or returns `None` if nothing would be left for
 /// the second part.
-pub fn split(range: Range, keep: u64) -> Option<(Range, Range)>
+pub fn split_range(range: Range, keep: u64) -> Option<(Range, Range)>
     ensures { MatchOption result (range.size ≤ keep) (λ parts. (keep < range.size)
         × (parts.0 ≡ record { base = range.base; size = keep })
         × (parts.1 ≡ record { base = range.base + keep; size = range.size - keep })) }
@@ -47,20 +47,20 @@ pub fn split(range: Range, keep: u64) -> Option<(Range, Range)>
 }
 
 /// Tests whether the range overlaps a table.
-pub fn touches(mb: &Memblock, range: Range) -> bool
-    ensures value { result ≡ touches mb.now.kernel mb.now.journal.items range }
-    ensures away { result ≡ false → IsAway mb.now.kernel range mb.now.journal.items }
+pub fn is_over_table(mb: &Memblock, range: Range) -> bool
+    ensures value { result ≡ is_over_table mb.now.kernel mb.now.journal.items range }
+    ensures away { result ≡ false → TouchesNoTable mb.now.kernel range mb.now.journal.items }
 {
     mb.touches_table(range)
 }
 
 /// Reads `len` bytes, at most 64, from address `at` on.
-pub fn peek(mb: &Memblock, at: u64, len: u32) -> Outcome
+pub fn read_bytes_at(mb: &Memblock, at: u64, len: u32) -> Outcome
     requires begun { HasBegun mb.now.journal.items }
     requires few { len ≤ 64 }
     requires within { at + len < 2 ^ 64 }
-    ensures told { result ≡ outcomes.Bytes (record { items = bytes_at (bytes_in mb.now) at len }) }
-    ensures still { Follows mb.now.kernel mb.now.journal.items mb.now.journal.items (bytes_in mb.now) (bytes_in mb.now) }
+    ensures told { result ≡ outcomes.Bytes (record { items = bytes_at (memblock_bytes mb.now) at len }) }
+    ensures still { Follows mb.now.kernel mb.now.journal.items mb.now.journal.items (memblock_bytes mb.now) (memblock_bytes mb.now) }
 {
     no_items_no_change(mb);
     let mut room = [0u8; 64];

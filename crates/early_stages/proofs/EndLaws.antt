@@ -13,7 +13,7 @@ use Rattle.memblock_model.specs.Labels.{LabelView}
 use Rattle.memblock_model.specs.Search.{last_below}
 use Rattle.memblock_model.proofs.SearchLaws.{last_below-is, last_below-none}
 use Rattle.early_stages.specs.Early.{FrameRange}
-use Rattle.early_stages.specs.Memory.{behind_frame, end_behind, end_of_runs, memory_end, mirrored_memory, usable_memory}
+use Rattle.early_stages.specs.Memory.{end_of_last_frame, end_after_runs, end_of_runs, memory_end, mirrored_memory, usable_memory}
 use Rattle.early_stages.proofs.MirrorLaws.{mirrored-usable}
 
 -- a usable frame ends at or below the limit of addresses
@@ -30,7 +30,7 @@ pub record IsEnd (limit : ℕ) (f : TypeAt) (at : ℕ) : Type 0 where
   pub last : 0 < at → (frame : ℕ) × (at ≡ 4096 * frame + 4096) × (is_usable_frame (types_below limit f) frame ≡ true)
 
 end_by : (limit : ℕ) (f : TypeAt) (found : Option ℕ) → last_below (is_usable_frame (types_below limit f)) (limit / 4096) ≡ found
-    → IsEnd limit f (behind_frame found)
+    → IsEnd limit f (end_of_last_frame found)
 end_by limit f None is = record {
   by = λ frame usable.
       let low = low_frame limit f frame usable in
@@ -82,10 +82,10 @@ record EndsAt {X : Type 0} (rs : List (RunOf X)) (from at : ℕ) : Type 0 where
   past : (x : ℕ) → at ≤ x → value_at rs x ≡ None
   last : from < at → (v : X) × (value_at rs (at - 1) ≡ Some v)
 
-ends_at : {X : Type 0} (from : ℕ) (rs : List (RunOf X)) → AreRuns rs → StartAtOrPast from rs → EndsAt rs from (end_behind from rs)
+ends_at : {X : Type 0} (from : ℕ) (rs : List (RunOf X)) → AreRuns rs → StartAtOrPast from rs → EndsAt rs from (end_after_runs from rs)
 ends_at from [] runs start = record { later = omega arith; past = λ x past. refl; last = λ some. absurd (omega (arith, some)) }
 ends_at {X} from (r ∷ rs) runs start =
-    let at : ℕ = end_behind (run_end r) rs in
+    let at : ℕ = end_after_runs (run_end r) rs in
     let rest = ends_at (run_end r) rs runs.2 (rest_from r rs runs) in
     record {
       later = omega (arith, rest.later);
@@ -132,4 +132,4 @@ runs_end_memory limit f mirrors rs are =
 -- the end depends only on the types below the limit of addresses
 pub memory_end-same : (limit : ℕ) (f g : TypeAt) → types_below limit f ≡ types_below limit g → memory_end limit f ≡ memory_end limit g
 unfolding memory_end
-memory_end-same limit f g same = ap (λ (t : TypeAt). behind_frame (last_below (is_usable_frame t) (limit / 4096))) same
+memory_end-same limit f g same = ap (λ (t : TypeAt). end_of_last_frame (last_below (is_usable_frame t) (limit / 4096))) same

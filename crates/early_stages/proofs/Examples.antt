@@ -14,7 +14,7 @@ use Rattle.memblock_model.specs.declared.owner.Owner.{Owner}
 use Rattle.memblock_model.specs.declared.item.Item.{Item}
 use Rattle.memblock_model.specs.declared.owner.Owner.TheVariants as owner
 use Rattle.memblock_model.specs.declared.item.Item.TheVariants as item
-use Rattle.early_stages.specs.Early.{Early, FrameRange}
+use Rattle.early_stages.specs.Early.{EarlyInputs, FrameRange}
 use Rattle.early_stages.specs.Memory.{is_mirrored, memory_end, usable_memory}
 use Rattle.early_stages.specs.Wanted.{closing_items, early_claims, first_items, items_of_run, part_below}
 use Rattle.early_stages.proofs.EndLaws.{IsEnd, memory_end-is, one_end}
@@ -76,7 +76,7 @@ closed : (limit_of (item.Limit 0x100000 ∷ closing_items some_frames 0x4000) �
 closed = (refl, refl, refl)
 
 -- a boot with 127 MiB of RAM from 1 MiB on
-abbrev given : Option RangeView → Bool → Early
+abbrev given : Option RangeView → Bool → EarlyInputs
 given initrd upward =
     record { limit = limit; kernel = bytes 0x1000000 0x2000000; initrd = initrd; mirrors = some_frames; upward = upward }
 

@@ -15,11 +15,11 @@ use Rattle.memblock_model.proofs.ItemLaws.{room_of-push, table_of-push}
 use Rattle.memblock_ranges.specs.Steps.{EndsInSpace}
 use Rattle.memblock_ranges.proofs.CountLaws.{few-pieces, length-covered, length-trimmed}
 use Rattle.memblock_ranges.proofs.StepLaws.{items-within}
-use Rattle.growth_model.specs.Outcome.{Outcome, write}
-use Rattle.growth_model.specs.Growth.{is_full, new_in}
-use Rattle.growth_model.specs.Carried.{carried_out, change, ended}
+use Rattle.growth_model.specs.Outcome.{ChangeEffect, write_item}
+use Rattle.growth_model.specs.Growth.{is_full, count_uncovered_pieces}
+use Rattle.growth_model.specs.Carried.{carry_out_items, change_for, items_or_refusal}
 use Rattle.growth_model.proofs.FirstLaws.{no_records, nothing_said}
-use Rattle.growth_model.proofs.IdleLaws.{added-idle, claimed-idle}
+use Rattle.growth_model.proofs.IdleLaws.{add_range-idle, claim_range-idle}
 
 -- the reserved table has at most n records, the memory table at most m, and neither has grown yet
 record HasFew (items : List Item) (n m : ℕ) : Type 0 where
@@ -52,7 +52,7 @@ behind i items n m a b few small rooms reserved memory = record {
 -- a range that is added to a table of few records needs no growth
 covers_few : (w : Which) (r : RangeView) (items : List Item) (n : ℕ) → end_of r ≤ 2 ^ 64 → 2 * n + 1 ≤ 128 → room_of w items ≡ 128
     → NothingFrom (2 ^ 64) (table_of w items) → length (records_for (table_of w items)) ≤ n
-    → (is_full w (new_in w r) items ≡ false) × (length (records_for (cover_range r plain_label (table_of w items))) ≤ 2 * n + 1)
+    → (is_full w (count_uncovered_pieces w r) items ≡ false) × (length (records_for (cover_range r plain_label (table_of w items))) ≤ 2 * n + 1)
 unfolding records_of
 covers_few w r items n small low room within few =
     let some = few-pieces r (table_of w items) small within in
@@ -60,26 +60,26 @@ covers_few w r items n small low room within few =
     (grind (arith, nat_tests, room, low, few, some), omega (arith, few, some, more))
 
 -- one item, and then the others
-goes : (i : Item) (is items : List Item) → change i items ≡ write i items
-    → carried_out is (items ++ i ∷ []) ≡ Ok ((items ++ i ∷ []) ++ is) → carried_out (i ∷ is) items ≡ Ok (items ++ (i ∷ is))
-unfolding carried_out
+goes : (i : Item) (is items : List Item) → change_for i items ≡ write_item i items
+    → carry_out_items is (items ++ i ∷ []) ≡ Ok ((items ++ i ∷ []) ++ is) → carry_out_items (i ∷ is) items ≡ Ok (items ++ (i ∷ is))
+unfolding carry_out_items
 goes i is items first rest =
-    ap (λ (o : Outcome). ended items o >>= λ next. carried_out is next) first ∙ rest
+    ap (λ (o : ChangeEffect). items_or_refusal items o >>= λ next. carry_out_items is next) first ∙ rest
     ∙ ap (λ (t : List Item). Ok t) (append_assoc items (i ∷ []) is)
 
-few_carried : (is items : List Item) (n m : ℕ) → HasFew items n m → NeedNone n m is → carried_out is items ≡ Ok (items ++ is)
-unfolding carried_out
+few_carried : (is items : List Item) (n m : ℕ) → HasFew items n m → NeedNone n m is → carry_out_items is items ≡ Ok (items ++ is)
+unfolding carry_out_items
 few_carried [] items n m few need = ap (λ (t : List Item). Ok t) (sym (append-nil items))
 few_carried (item.Claim range who ∷ is) items n m few need =
     let i : Item = item.Claim range who in
     let known =
     covers_few which.Reserved range items n need.0 need.1 (few.rooms which.Reserved) (few.within which.Reserved) few.reserved in
-    goes i is items (claimed-idle items range who known.0) (few_carried is (items ++ i ∷ []) (2 * n + 1) m
+    goes i is items (claim_range-idle items range who known.0) (few_carried is (items ++ i ∷ []) (2 * n + 1) m
     (behind i items n m (2 * n + 1) m few need.0 few.rooms known.1 few.memory) need.2)
 few_carried (item.Mem range ∷ is) items n m few need =
     let i : Item = item.Mem range in
     let known = covers_few which.Memory range items m need.0 need.1 (few.rooms which.Memory) (few.within which.Memory) few.memory in
-    goes i is items (added-idle items range known.0) (few_carried is (items ++ i ∷ []) n (2 * m + 1)
+    goes i is items (add_range-idle items range known.0) (few_carried is (items ++ i ∷ []) n (2 * m + 1)
     (behind i items n m n (2 * m + 1) few need.0 few.rooms few.reserved known.1) need.2)
 few_carried (item.Trim ∷ is) items n m few need =
     let fewer = length-trimmed (table_of which.Memory items) (few.within which.Memory) in
@@ -91,7 +91,7 @@ few_carried (item.Limit at ∷ is) items n m few need =
 few_carried (i ∷ is) items n m few need = absurd need
 
 -- the whole list, from no items
-pub few_from_nothing : (is : List Item) → NeedNone 0 0 is → carried_out is [] ≡ Ok is
+pub few_from_nothing : (is : List Item) → NeedNone 0 0 is → carry_out_items is [] ≡ Ok is
 few_from_nothing is need =
     let none : (w : Which) → length (records_for (table_of w [])) ≤ 0 =
     λ w. (let all = no_records (table_of w []) (nothing_said w) in omega (arith, all)) in

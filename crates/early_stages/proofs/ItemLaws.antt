@@ -9,22 +9,22 @@ use Rattle.e820_model.specs.Usable.{is_memory}
 use Rattle.memblock_model.specs.declared.item.Item.{Item}
 use Rattle.memblock_model.specs.declared.item.Item.TheVariants as item
 use Rattle.memblock_model.specs.declared.owner.Owner.TheVariants as owner
-use Rattle.memblock_model.specs.Items.{AreItems, IsItem}
-use Rattle.early_stages.specs.Early.{Early, FrameRange}
+use Rattle.memblock_model.specs.Items.{ItemsHaveBytes, ItemHasBytes}
+use Rattle.early_stages.specs.Early.{EarlyInputs, FrameRange}
 use Rattle.early_stages.specs.Wanted.{direction_items, first_items, initrd_claims, items_of_map, items_of_run, mirror_items, part_below}
 
-items-append : (is js : List Item) → AreItems is → AreItems js → AreItems (is ++ js)
+items-append : (is js : List Item) → ItemsHaveBytes is → ItemsHaveBytes js → ItemsHaveBytes (is ++ js)
 items-append [] js first rest = rest
 items-append (i ∷ is) js first rest = (first.0, items-append is js first.1 rest)
 
 -- a run gives at most one item
-if-items : (soft held : Bool) (i j : Item) → IsItem i → (held ≡ true → IsItem j)
-    → AreItems (if soft then i ∷ [] else (if held then j ∷ [] else []))
+if-items : (soft held : Bool) (i j : Item) → ItemHasBytes i → (held ≡ true → ItemHasBytes j)
+    → ItemsHaveBytes (if soft then i ∷ [] else (if held then j ∷ [] else []))
 if-items true held i j first second = (first, tt)
 if-items false true i j first second = (second refl, tt)
 if-items false false i j first second = tt
 
-map-items : (limit : ℕ) (rs : List (RunOf ℕ)) → AreRuns rs → AreItems (items_of_map limit rs)
+map-items : (limit : ℕ) (rs : List (RunOf ℕ)) → AreRuns rs → ItemsHaveBytes (items_of_map limit rs)
 map-items limit [] runs = tt
 map-items limit (r ∷ rs) runs =
     let some = runs.0 in
@@ -33,23 +33,23 @@ map-items limit (r ∷ rs) runs =
     (item.Mem (part_below limit r)) some (λ held. (let low : r.base < limit = grind (arith, nat_tests) in omega (arith, low, some))))
     (map-items limit rs runs.2)
 
-initrd-items : (initrd : Option RangeView) → IfSome initrd (λ range. 0 < range.size) → AreItems (initrd_claims initrd)
+initrd-items : (initrd : Option RangeView) → IfSome initrd (λ range. 0 < range.size) → ItemsHaveBytes (initrd_claims initrd)
 initrd-items None some = tt
 initrd-items (Some range) some = (some, tt)
 
 -- ranges of mirrored frames that aren't empty
-mirrors-items : (mirrors : List FrameRange) → All (λ r. 0 < r.count) mirrors → AreItems (mirror_items mirrors)
+mirrors-items : (mirrors : List FrameRange) → All (λ r. 0 < r.count) mirrors → ItemsHaveBytes (mirror_items mirrors)
 mirrors-items [] some = tt
 mirrors-items (r ∷ rs) some =
     let here : 0 < r.count = some 0 r (omega arith) in
     (omega arith, mirrors-items rs (λ k d lt. some (suc k) d (omega (arith, lt))))
 
-direction-items : (upward : Bool) → AreItems (direction_items upward)
+direction-items : (upward : Bool) → ItemsHaveBytes (direction_items upward)
 direction-items true = (tt, tt)
 direction-items false = tt
 
-pub first-items : (e : Early) (map : List (RunOf ℕ)) → 0 < e.kernel.size → IfSome e.initrd (λ range. 0 < range.size)
-    → All (λ r. 0 < r.count) e.mirrors → AreRuns map → AreItems (first_items e map)
+pub first-items : (e : EarlyInputs) (map : List (RunOf ℕ)) → 0 < e.kernel.size → IfSome e.initrd (λ range. 0 < range.size)
+    → All (λ r. 0 < r.count) e.mirrors → AreRuns map → ItemsHaveBytes (first_items e map)
 first-items e map image some mirrors runs = (
   image,
   (

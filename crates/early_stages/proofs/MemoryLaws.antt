@@ -11,13 +11,13 @@ use Rattle.memblock_model.specs.declared.item.Item.{Item}
 use Rattle.memblock_model.specs.declared.item.Item.TheVariants as item
 use Rattle.memblock_model.specs.Labels.{Labels}
 use Rattle.memblock_model.specs.Items.{memory_after, memory_of, no_memory, limit_after, limit_of, trim_frames}
-use Rattle.growth_model.specs.Carried.{carried_out}
+use Rattle.growth_model.specs.Carried.{carry_out_items}
 use Rattle.growth_model.proofs.MemoryItemLaws.{memory_of-same, limit_of-same}
 use Rattle.growth_model.proofs.CarriedLaws.{carried-memory}
 use Rattle.early_stages.specs.declared.low.TheConstants.{ISA_END_ADDRESS}
-use Rattle.early_stages.specs.Early.{Early, FrameRange}
+use Rattle.early_stages.specs.Early.{EarlyInputs, FrameRange}
 use Rattle.early_stages.specs.Memory.{memory_end, mirrored_memory, usable_memory}
-use Rattle.early_stages.specs.Wanted.{closing_items, direction_items, early_claims, first_items, items_of_map, mirror_items, up_to}
+use Rattle.early_stages.specs.Wanted.{closing_items, direction_items, early_claims, first_items, items_of_map, mirror_items, range_up_to}
 use Rattle.early_stages.proofs.MapItemLaws.{added_memory, trimmed_memory}
 use Rattle.early_stages.proofs.MirrorLaws.{mirrors-memory}
 
@@ -38,7 +38,7 @@ mirrors-limit (r ∷ rs) at is = mirrors-limit rs at is
 
 -- without growth the map becomes memory, is trimmed, and some of it is mirrored; the later items
 -- don't change that
-mapped : (e : Early) (map : List (RunOf ℕ)) (last : List Item) → AreRuns map → ((f : Labels) → fold memory_after f last ≡ f) → (x : ℕ)
+mapped : (e : EarlyInputs) (map : List (RunOf ℕ)) (last : List Item) → AreRuns map → ((f : Labels) → fold memory_after f last ≡ f) → (x : ℕ)
     → memory_of (early_claims e.kernel e.initrd ++ (item.Limit ISA_END_ADDRESS ∷ (direction_items e.upward
     ++ (items_of_map e.limit map ++ (item.Trim ∷ (mirror_items e.mirrors ++ last)))))) x
     ≡ mirrored_memory e.mirrors (usable_memory e.limit (value_at map)) x
@@ -53,21 +53,21 @@ mapped e map last runs quiet x =
     ∙ mirrors-memory e.mirrors (trim_frames added) x ∙ ap (λ (h : Labels). mirrored_memory e.mirrors h x) trimmed_is
 
 -- the memory after the list as far as the mirrored frames
-pub mirrored-first : (e : Early) (map : List (RunOf ℕ)) → AreRuns map → (x : ℕ)
+pub mirrored-first : (e : EarlyInputs) (map : List (RunOf ℕ)) → AreRuns map → (x : ℕ)
     → memory_of (early_claims e.kernel e.initrd ++ (item.Limit ISA_END_ADDRESS ∷ (direction_items e.upward
     ++ (items_of_map e.limit map ++ (item.Trim ∷ mirror_items e.mirrors))))) x
     ≡ mirrored_memory e.mirrors (usable_memory e.limit (value_at map)) x
 mirrored-first e map runs x = let all = mapped e map [] runs (λ f. refl) x in rw append-nil at all
 
 -- the memory after the list was carried out from the beginning
-pub first_memory : (e : Early) (map : List (RunOf ℕ)) (items : List Item) → AreRuns map
-    → carried_out (first_items e map) [] ≡ Ok items
+pub first_memory : (e : EarlyInputs) (map : List (RunOf ℕ)) (items : List Item) → AreRuns map
+    → carry_out_items (first_items e map) [] ≡ Ok items
     → (x : ℕ) → memory_of items x ≡ mirrored_memory e.mirrors (usable_memory e.limit (value_at map)) x
 first_memory e map items runs ends x =
     ap (λ (h : Labels). h x) (memory_of-same items (first_items e map) (carried-memory (first_items e map) [] items ends))
-    ∙ mapped e map (item.Limit (memory_end e.limit (value_at map)) ∷ item.Claim (up_to ISA_END_ADDRESS) owner.Low1M ∷ []) runs (λ f. refl) x
+    ∙ mapped e map (item.Limit (memory_end e.limit (value_at map)) ∷ item.Claim (range_up_to ISA_END_ADDRESS) owner.Low1M ∷ []) runs (λ f. refl) x
 
-pub first_limit : (e : Early) (map : List (RunOf ℕ)) (items : List Item) → carried_out (first_items e map) [] ≡ Ok items
+pub first_limit : (e : EarlyInputs) (map : List (RunOf ℕ)) (items : List Item) → carry_out_items (first_items e map) [] ≡ Ok items
     → limit_of items ≡ memory_end e.limit (value_at map)
 first_limit e map items ends =
     let closing : List Item = closing_items e.mirrors (memory_end e.limit (value_at map)) in

@@ -15,7 +15,7 @@ bytes_of_frames r = record { base = FRAME_SIZE * r.first; size = FRAME_SIZE * r.
 -- The address past the highest one that memory can have, and the ranges of the kernel's image and
 -- the initrd. The frames that firmware mirrors (`efi_find_mirror`). And whether searches go from
 -- the lowest address up (`movable_node_is_enabled`, `memblock_set_bottom_up`).
-pub record Early : Type 0 where
+pub record EarlyInputs : Type 0 where
   pub limit : ℕ
   pub kernel : RangeView
   pub initrd : Option RangeView

@@ -26,18 +26,18 @@ abbrev pub mirrored_memory : List FrameRange → Labels → Labels
 mirrored_memory mirrors f x = if is_mirrored mirrors x then option_map with_mirror (f x) else f x
 
 -- the address past the frame, or 0 if there is none
-abbrev pub behind_frame : Option ℕ → ℕ
-behind_frame None = 0
-behind_frame (Some frame) = end_of (bytes_of_frame frame)
+abbrev pub end_of_last_frame : Option ℕ → ℕ
+end_of_last_frame None = 0
+end_of_last_frame (Some frame) = end_of (bytes_of_frame frame)
 
 -- the end of the last usable frame, or 0 if no frame is usable (`e820__end_of_ram_pfn`)
 unfoldable pub memory_end : ℕ → TypeAt → ℕ
-memory_end limit f = behind_frame (last_below (is_usable_frame (types_below limit f)) (limit / FRAME_SIZE))
+memory_end limit f = end_of_last_frame (last_below (is_usable_frame (types_below limit f)) (limit / FRAME_SIZE))
 
 -- the end of the last run of a list, or 0 if it is empty (`memblock_end_of_DRAM`)
-abbrev pub end_behind : {X : Type 0} → ℕ → List (RunOf X) → ℕ
-end_behind at [] = at
-end_behind at (r ∷ rs) = end_behind (run_end r) rs
+abbrev pub end_after_runs : {X : Type 0} → ℕ → List (RunOf X) → ℕ
+end_after_runs at [] = at
+end_after_runs at (r ∷ rs) = end_after_runs (run_end r) rs
 
 abbrev pub end_of_runs : {X : Type 0} → List (RunOf X) → ℕ
-end_of_runs rs = end_behind 0 rs
+end_of_runs rs = end_after_runs 0 rs

@@ -9,12 +9,12 @@ use Rattle.memblock_model.specs.declared.owner.Owner.TheVariants as owner
 use Rattle.memblock_model.specs.declared.item.Item.{Item}
 use Rattle.memblock_model.specs.declared.item.Item.TheVariants as item
 use Rattle.early_stages.specs.declared.low.TheConstants.{ISA_END_ADDRESS, LOW_END}
-use Rattle.early_stages.specs.Early.{Early, FrameRange, bytes_of_frames}
+use Rattle.early_stages.specs.Early.{EarlyInputs, FrameRange, bytes_of_frames}
 use Rattle.early_stages.specs.Memory.{memory_end}
 
 -- the bytes from 0 to below the address
-abbrev pub up_to : ℕ → RangeView
-up_to at = record { base = 0; size = at }
+abbrev pub range_up_to : ℕ → RangeView
+range_up_to at = record { base = 0; size = at }
 
 -- the initrd is claimed, if there is one (`early_reserve_initrd`)
 abbrev pub initrd_claims : Option RangeView → List Item
@@ -24,7 +24,7 @@ initrd_claims (Some range) = item.Claim range owner.Initrd ∷ []
 -- the kernel's image, the first 64 KiB and the initrd are claimed before memory is known
 -- (`early_reserve_memory`)
 abbrev pub early_claims : RangeView → Option RangeView → List Item
-early_claims kernel initrd = item.Claim kernel owner.Kernel ∷ item.Claim (up_to LOW_END) owner.Low64K ∷ initrd_claims initrd
+early_claims kernel initrd = item.Claim kernel owner.Kernel ∷ item.Claim (range_up_to LOW_END) owner.Low64K ∷ initrd_claims initrd
 
 -- the part of the run below the limit
 abbrev pub part_below : ℕ → RunOf ℕ → RangeView
@@ -57,11 +57,11 @@ mirror_items (r ∷ rs) = item.Mirror (bytes_of_frames r) ∷ mirror_items rs
 -- MiB is claimed (`reserve_real_mode`).
 abbrev pub closing_items : List FrameRange → ℕ → List Item
 closing_items mirrors end =
-    item.Trim ∷ (mirror_items mirrors ++ (item.Limit end ∷ item.Claim (up_to ISA_END_ADDRESS) owner.Low1M ∷ []))
+    item.Trim ∷ (mirror_items mirrors ++ (item.Limit end ∷ item.Claim (range_up_to ISA_END_ADDRESS) owner.Low1M ∷ []))
 
 -- the whole list for these inputs and a map; before memory is known, allocations stay in the first
 -- MiB (`setup_arch`)
-abbrev pub first_items : Early → List (RunOf ℕ) → List Item
+abbrev pub first_items : EarlyInputs → List (RunOf ℕ) → List Item
 first_items e map =
     early_claims e.kernel e.initrd
     ++ (item.Limit ISA_END_ADDRESS ∷ (direction_items e.upward

@@ -7,10 +7,10 @@ ghost use Rattle.address_runs.specs.Runs.{RunOf, AreRuns, IsRunsOf, value_at};
 ghost use Rattle.e820_model.specs.Map.{TypeAt};
 ghost use Rattle.e820_model.specs.Usable.{is_usable_frame, types_below};
 ghost use Rattle.memblock_model.specs.declared.item.Item.{Item as AnyItem};
-ghost use Rattle.memblock_model.specs.Items.{AreItems, limit_of, memory_of};
+ghost use Rattle.memblock_model.specs.Items.{ItemsHaveBytes, limit_of, memory_of};
 ghost use Rattle.memblock_model.specs.Labels.{LabelView};
-ghost use Rattle.growth_model.specs.Carried.{carried_out};
-ghost use Rattle.early_stages.specs.Early.{Early, FrameRange};
+ghost use Rattle.growth_model.specs.Carried.{carry_out_items};
+ghost use Rattle.early_stages.specs.Early.{EarlyInputs, FrameRange};
 ghost use Rattle.early_stages.specs.Memory.{end_of_runs, memory_end, mirrored_memory, usable_memory};
 ghost use Rattle.early_stages.specs.Wanted.{first_items};
 
@@ -20,11 +20,11 @@ use bm_base::FRAME_SIZE;
 /// and is mirrored exactly if it is in frames that were given as mirrored. The limit of
 /// allocations is the end of the last usable frame.
 pub fn memory_is_usable_frames()
-    ensures memory { (e : Early) (map : List (RunOf ℕ)) (items : List AnyItem) → AreRuns map →
-        carried_out (first_items e map) [] ≡ Ok items →
+    ensures memory { (e : EarlyInputs) (map : List (RunOf ℕ)) (items : List AnyItem) → AreRuns map →
+        carry_out_items (first_items e map) [] ≡ Ok items →
         (x : ℕ) → memory_of items x ≡ mirrored_memory e.mirrors (usable_memory e.limit (value_at map)) x }
-    ensures limit { (e : Early) (map : List (RunOf ℕ)) (items : List AnyItem) →
-        carried_out (first_items e map) [] ≡ Ok items → limit_of items ≡ memory_end e.limit (value_at map) }
+    ensures limit { (e : EarlyInputs) (map : List (RunOf ℕ)) (items : List AnyItem) →
+        carry_out_items (first_items e map) [] ≡ Ok items → limit_of items ≡ memory_end e.limit (value_at map) }
 {}
 
 /// Law: all memory, mirrored or not, ends at or below the end of the last usable frame. That end
@@ -48,7 +48,7 @@ pub fn memory_ends_with_its_last_run()
 
 /// Law: no item of the list has an empty range, if the kernel's image, the initrd and each range
 /// of mirrored frames aren't empty.
-pub fn wanted_items_have_bytes()
-    ensures { (e : Early) (map : List (RunOf ℕ)) → 0 < e.kernel.size → IfSome e.initrd (λ range. 0 < range.size) →
-        All (λ r. 0 < r.count) e.mirrors → AreRuns map → AreItems (first_items e map) }
+pub fn first_items_have_bytes()
+    ensures { (e : EarlyInputs) (map : List (RunOf ℕ)) → 0 < e.kernel.size → IfSome e.initrd (λ range. 0 < range.size) →
+        All (λ r. 0 < r.count) e.mirrors → AreRuns map → ItemsHaveBytes (first_items e map) }
 {}

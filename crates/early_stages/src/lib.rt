@@ -28,6 +28,6 @@ mod low;
 
 pub use laws::{
     memory_ends_with_its_last_run, memory_ends_within_reach, memory_is_usable_frames,
-    wanted_items_have_bytes,
+    first_items_have_bytes,
 };
 pub use low::{ISA_END_ADDRESS, LOW_END};

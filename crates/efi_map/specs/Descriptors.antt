@@ -31,8 +31,8 @@ abbrev pub bytes_of_descriptor : Descriptor → RangeView
 bytes_of_descriptor d = record { base = d.base; size = 4096 * d.pages }
 
 -- the first address plus the size in bytes exceeds 2^64 - 1
-abbrev pub is_far : Descriptor → Bool
-is_far d = nat_le (2 ^ 64) (d.base + 4096 * d.pages)
+abbrev pub is_descriptor_too_far : Descriptor → Bool
+is_descriptor_too_far d = nat_le (2 ^ 64) (d.base + 4096 * d.pages)
 
 -- the descriptor has the attribute with this bit
 abbrev pub has_attribute : ℕ → Descriptor → Bool
@@ -45,26 +45,26 @@ is_free_kind kind = (kind == 1) || (kind == 2) || (kind == 3) || (kind == 4) || 
 
 -- the E820 type of such memory: soft reserved with the attribute EFI_MEMORY_SP, else RAM with
 -- EFI_MEMORY_WB, and reserved without both
-abbrev pub type_of_free : Descriptor → ℕ
-type_of_free d = if has_attribute 0x40000 d then 0xEFFFFFFF else (if has_attribute 0x8 d then 1 else 2)
+abbrev pub free_memory_type : Descriptor → ℕ
+free_memory_type d = if has_attribute 0x40000 d then 0xEFFFFFFF else (if has_attribute 0x8 d then 1 else 2)
 
 -- the E820 type of memory of all other types. EfiUnusableMemory, EfiACPIReclaimMemory,
 -- EfiACPIMemoryNVS and EfiPersistentMemory have types of their own. The rest is reserved:
 -- EfiReservedMemoryType, EfiRuntimeServicesCode, EfiRuntimeServicesData, EfiMemoryMappedIO,
 -- EfiMemoryMappedIOPortSpace, EfiPalCode, EfiUnacceptedMemoryType, and all types that a firmware
 -- may define.
-abbrev pub type_of_kind : ℕ → ℕ
-type_of_kind kind = if kind == 8 then 5 else (if kind == 9 then 3 else (if kind == 10 then 4 else (if kind == 14 then 7 else 2)))
+abbrev pub other_memory_type : ℕ → ℕ
+other_memory_type kind = if kind == 8 then 5 else (if kind == 9 then 3 else (if kind == 10 then 4 else (if kind == 14 then 7 else 2)))
 
 -- the E820 type that the kernel gives the memory
 abbrev pub e820_type : Descriptor → ℕ
-e820_type d = if is_free_kind d.kind then type_of_free d else type_of_kind d.kind
+e820_type d = if is_free_kind d.kind then free_memory_type d else other_memory_type d.kind
 
 -- the E820 entry of the memory
-abbrev pub entry_of : Descriptor → Entry
-entry_of d = record { addr = d.base; size = 4096 * d.pages; kind = e820_type d }
+abbrev pub entry_of_descriptor : Descriptor → Entry
+entry_of_descriptor d = record { addr = d.base; size = 4096 * d.pages; kind = e820_type d }
 
 -- the whole frames of the memory, if it has the attribute EFI_MEMORY_MORE_RELIABLE and at least
 -- one whole frame
-abbrev pub mirror_of : Descriptor → Option RangeView
-mirror_of d = if has_attribute 0x10000 d then frames_within (bytes_of_descriptor d) else None
+abbrev pub mirror_of_descriptor : Descriptor → Option RangeView
+mirror_of_descriptor d = if has_attribute 0x10000 d then frames_within (bytes_of_descriptor d) else None

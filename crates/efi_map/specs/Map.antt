@@ -5,27 +5,27 @@ use Rattle.std.specs.Prelude.{ℕ, zero, suc, ◌+◌, ◌-◌, ◌*◌, ◌/◌
 use Rattle.byteorder.specs.Endian.{little_number}
 use Rattle.bm_base.specs.Range.{RangeView}
 use Rattle.e820_model.specs.declared.entry.Entry.{Entry}
-use Rattle.efi_map.specs.Descriptors.{Descriptor, descriptor_at, is_far, entry_of, mirror_of}
+use Rattle.efi_map.specs.Descriptors.{Descriptor, descriptor_at, is_descriptor_too_far, entry_of_descriptor, mirror_of_descriptor}
 use Rattle.efi_map.specs.declared.efi.EfiFault.{EfiFault}
 use Rattle.efi_map.specs.declared.efi.EfiFault.TheVariants as faults
 
 -- the size of a descriptor in bytes, as the header states it
-abbrev pub stride_of : List ℕ → ℕ
-stride_of bytes = little_number 4 bytes
+abbrev pub descriptor_size : List ℕ → ℕ
+descriptor_size bytes = little_number 4 bytes
 
 -- the header is whole, the size of a descriptor is at least 40 and a multiple of 8, and the
 -- version is 1
-abbrev pub has_header : List ℕ → Bool
-has_header bytes =
-    nat_le 8 (length bytes) && (nat_le 40 (stride_of bytes) && (stride_of bytes % 8 == 0 && little_number 4 (drop 4 bytes) == 1))
+abbrev pub has_efi_header : List ℕ → Bool
+has_efi_header bytes =
+    nat_le 8 (length bytes) && (nat_le 40 (descriptor_size bytes) && (descriptor_size bytes % 8 == 0 && little_number 4 (drop 4 bytes) == 1))
 
 -- the bytes after the header are a whole number of descriptors
-abbrev pub has_length : List ℕ → Bool
-has_length bytes = (length bytes - 8) % stride_of bytes == 0
+abbrev pub has_efi_length : List ℕ → Bool
+has_efi_length bytes = (length bytes - 8) % descriptor_size bytes == 0
 
 -- the number of descriptors
-abbrev pub count_of : List ℕ → ℕ
-count_of bytes = (length bytes - 8) / stride_of bytes
+abbrev pub descriptor_count : List ℕ → ℕ
+descriptor_count bytes = (length bytes - 8) / descriptor_size bytes
 
 -- the descriptor with index `i`, counted from 0, of descriptors of `stride` bytes
 abbrev pub nth_descriptor : ℕ → ℕ → List ℕ → Descriptor
@@ -38,36 +38,36 @@ descriptors_from stride i (suc n) bytes = nth_descriptor stride i bytes ∷ desc
 
 -- all descriptors of the file
 abbrev pub descriptors_of : List ℕ → List Descriptor
-descriptors_of bytes = descriptors_from (stride_of bytes) 0 (count_of bytes) bytes
+descriptors_of bytes = descriptors_from (descriptor_size bytes) 0 (descriptor_count bytes) bytes
 
 -- the least index of a descriptor that is too far; the first of the list has the index `i`
-unfoldable pub far_among : ℕ → List Descriptor → Option ℕ
-far_among i [] = None
-far_among i (d ∷ ds) = if is_far d then Some i else far_among (i + 1) ds
+unfoldable pub far_descriptor_from : ℕ → List Descriptor → Option ℕ
+far_descriptor_from i [] = None
+far_descriptor_from i (d ∷ ds) = if is_descriptor_too_far d then Some i else far_descriptor_from (i + 1) ds
 
 -- the mirrored ranges of a list of descriptors, in their order
-abbrev pub mirror_in_front : Option RangeView → List RangeView → List RangeView
-mirror_in_front None others = others
-mirror_in_front (Some range) others = range ∷ others
+abbrev pub prepend_mirror : Option RangeView → List RangeView → List RangeView
+prepend_mirror None others = others
+prepend_mirror (Some range) others = range ∷ others
 
-unfoldable pub mirrors_of : List Descriptor → List RangeView
-mirrors_of [] = []
-mirrors_of (d ∷ ds) = mirror_in_front (mirror_of d) (mirrors_of ds)
+unfoldable pub mirrors_of_descriptors : List Descriptor → List RangeView
+mirrors_of_descriptors [] = []
+mirrors_of_descriptors (d ∷ ds) = prepend_mirror (mirror_of_descriptor d) (mirrors_of_descriptors ds)
 
 -- the content of the map: an entry for each descriptor, and the mirrored ranges, both in the order
 -- of the descriptors
-pub record Efi : Type 0 where
+pub record EfiContent : Type 0 where
   pub entries : List Entry
   pub mirrors : List RangeView
 
-abbrev pub unless_far : List Descriptor → Option ℕ → Result Efi EfiFault
-unless_far ds (Some index) = Err (faults.TooFar index)
-unless_far ds None = Ok (record { entries = map entry_of ds; mirrors = mirrors_of ds })
+abbrev pub efi_unless_far : List Descriptor → Option ℕ → Result EfiContent EfiFault
+efi_unless_far ds (Some index) = Err (faults.TooFar index)
+efi_unless_far ds None = Ok (record { entries = map entry_of_descriptor ds; mirrors = mirrors_of_descriptors ds })
 
 -- the content of the file, or its first fault: the header is tested first, then the length, then
 -- the descriptors from index 0 on
-abbrev pub efi_of : List ℕ → Result Efi EfiFault
+abbrev pub efi_of : List ℕ → Result EfiContent EfiFault
 efi_of bytes =
-    if not (has_header bytes) then Err faults.Header
-    else (if not (has_length bytes) then Err faults.Length
-    else unless_far (descriptors_of bytes) (far_among 0 (descriptors_of bytes)))
+    if not (has_efi_header bytes) then Err faults.Header
+    else (if not (has_efi_length bytes) then Err faults.Length
+    else efi_unless_far (descriptors_of bytes) (far_descriptor_from 0 (descriptors_of bytes)))

@@ -1,7 +1,7 @@
 //! Reads a descriptor, and converts it to what the kernel makes of it.
 
 ghost use Rattle.std.specs.Prelude.{◌≡◌, ◌+◌, ◌*◌, ◌^◌, ◌<◌, ◌≤◌, length};
-ghost use Rattle.efi_map.specs.Descriptors.{bytes_of_descriptor, descriptor_at, e820_type, entry_of, has_attribute, is_free_kind, mirror_of, type_of_free};
+ghost use Rattle.efi_map.specs.Descriptors.{bytes_of_descriptor, descriptor_at, e820_type, entry_of_descriptor, has_attribute, is_free_kind, mirror_of_descriptor, free_memory_type};
 
 use bm_base::{FRAME_SIZE, Range};
 use byteorder::{ByteOrder, LittleEndian};
@@ -61,7 +61,7 @@ impl Model for Descriptor {
 }
 
 /// Tests whether memory of this type is free once the firmware's boot services have ended.
-fn is_free(kind: u32) -> bool
+fn is_free_kind(kind: u32) -> bool
     ensures { result ≡ is_free_kind kind }
 {
     matches!(
@@ -76,7 +76,7 @@ fn is_free(kind: u32) -> bool
 
 /// Returns the descriptor whose bytes begin at `offset`. The numbers are little-endian.
 #[tactic(auto, unfolding(crate::specs::Descriptors::descriptor_at))]
-pub fn read_descriptor(bytes: &[u8], offset: usize) -> Descriptor
+pub fn descriptor_at(bytes: &[u8], offset: usize) -> Descriptor
     requires { offset + 40 ≤ length bytes.now }
     ensures { result ≡ descriptor_at offset bytes.now }
 {
@@ -100,7 +100,7 @@ impl Descriptor {
     }
 
     /// Tests whether the memory has this attribute.
-    fn has(self, attribute: u64) -> bool
+    fn has_attribute(self, attribute: u64) -> bool
         ensures { result ≡ has_attribute attribute self }
     {
         self.attributes & attribute != 0
@@ -111,7 +111,7 @@ impl Descriptor {
         ensures { result ≡ e820_type self }
     {
         match self.kind {
-            kind if is_free(kind) => self.type_of_free(),
+            kind if is_free_kind(kind) => self.free_memory_type(),
             EFI_UNUSABLE_MEMORY => E820_TYPE_UNUSABLE,
             EFI_ACPI_RECLAIM_MEMORY => E820_TYPE_ACPI,
             EFI_ACPI_MEMORY_NVS => E820_TYPE_NVS,
@@ -122,12 +122,12 @@ impl Descriptor {
 
     /// Returns the E820 type of memory that is free once boot services have ended: soft reserved
     /// with `EFI_MEMORY_SP`, else RAM with `EFI_MEMORY_WB`, and reserved with neither.
-    fn type_of_free(self) -> u32
-        ensures { result ≡ type_of_free self }
+    fn free_memory_type(self) -> u32
+        ensures { result ≡ free_memory_type self }
     {
-        if self.has(EFI_MEMORY_SP) {
+        if self.has_attribute(EFI_MEMORY_SP) {
             E820_TYPE_SOFT_RESERVED
-        } else if self.has(EFI_MEMORY_WB) {
+        } else if self.has_attribute(EFI_MEMORY_WB) {
             E820_TYPE_RAM
         } else {
             E820_TYPE_RESERVED
@@ -137,7 +137,7 @@ impl Descriptor {
     /// Returns the E820 entry of the memory. Its address plus size must be below 2^64.
     pub fn entry(self) -> Entry
         requires { self.base + 4096 * self.pages < 2 ^ 64 }
-        ensures { result ≡ entry_of self }
+        ensures { result ≡ entry_of_descriptor self }
     {
         Entry {
             addr: self.base,
@@ -149,11 +149,11 @@ impl Descriptor {
     /// Returns the whole frames of the memory if the machine mirrors it (`efi_find_mirror`).
     /// Returns `None` if it isn't mirrored or has no whole frame. Its address plus size must be
     /// below 2^64.
-    pub fn mirror(self) -> Option<Range>
+    pub fn mirror_of_descriptor(self) -> Option<Range>
         requires { self.base + 4096 * self.pages < 2 ^ 64 }
-        ensures { result ≡ mirror_of self }
+        ensures { result ≡ mirror_of_descriptor self }
     {
-        if !self.has(EFI_MEMORY_MORE_RELIABLE) {
+        if !self.has_attribute(EFI_MEMORY_MORE_RELIABLE) {
             return None;
         }
         self.range()?.whole_frames()

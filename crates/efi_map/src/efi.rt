@@ -3,10 +3,10 @@
 ghost use Rattle.std.specs.Prelude.{◌≡◌, ◌≢◌, ℕ, ◌+◌, ◌*◌, ◌<◌, ◌≤◌, ◌^◌, length, map, IfOk, IfSome, IsErr, IsErrOf, IsOk, IsTrue, IsNone, SomeIff, None};
 ghost use Rattle.bm_base.specs.Answers.{Answers};
 ghost use Rattle.e820_model.specs.Claims.{EntriesFit};
-ghost use Rattle.efi_map.specs.Descriptors.{entry_of};
-ghost use Rattle.efi_map.specs.Map.{count_of, descriptors_from, descriptors_of, efi_of, far_among, has_header, has_length, mirrors_of, nth_descriptor, stride_of};
+ghost use Rattle.efi_map.specs.Descriptors.{entry_of_descriptor};
+ghost use Rattle.efi_map.specs.Map.{descriptor_count, descriptors_from, descriptors_of, efi_of, far_descriptor_from, has_efi_header, has_efi_length, mirrors_of_descriptors, nth_descriptor, descriptor_size};
 
-use crate::descriptor::{Descriptor, read_descriptor};
+use crate::descriptor::{Descriptor, descriptor_at};
 use bm_base::{Memory, Range};
 use byteorder::{ByteOrder, LittleEndian};
 use e820_model::Entry;
@@ -72,20 +72,20 @@ pub fn read_efi(alloc: Global, bytes: &[u8]) -> Result<EfiMap, EfiFault>
     ensures some { IsErrOf result EfiFault.Memory → 0 < length (descriptors_of bytes.now) }
     ensures space { IfOk result (λ efi. EntriesFit efi.entries.items) }
 {
-    if !is_map(bytes) {
+    if !has_efi_header(bytes) {
         return Err(EfiFault::Header);
     }
     let stride = LittleEndian::read_u32(bytes);
-    let count = whole_descriptors(bytes, stride).ok_or(EfiFault::Length)?;
-    if let Some(index) = find_far(bytes, stride, count) {
+    let count = count_descriptors(bytes, stride).ok_or(EfiFault::Length)?;
+    if let Some(index) = find_far_descriptor(bytes, stride, count) {
         return Err(EfiFault::TooFar { index });
     }
     Ok(read_descriptors(alloc, bytes, stride, count)?)
 }
 
 /// Tests whether the bytes have a whole header whose size and version of descriptors can be read.
-fn is_map(bytes: &[u8]) -> bool
-    ensures { result ≡ has_header bytes.now }
+fn has_efi_header(bytes: &[u8]) -> bool
+    ensures { result ≡ has_efi_header bytes.now }
 {
     if bytes.len() < HEADER_BYTES {
         return false;
@@ -98,12 +98,12 @@ fn is_map(bytes: &[u8]) -> bool
 
 /// Returns the number of descriptors of `stride` bytes after the header, or `None` if the bytes
 /// after the header aren't a whole number of them.
-fn whole_descriptors(bytes: &[u8], stride: u32) -> Option<u32>
+fn count_descriptors(bytes: &[u8], stride: u32) -> Option<u32>
     requires header { 8 ≤ length bytes.now }
     requires few { length bytes.now < 2 ^ 32 }
-    requires stride { stride ≡ stride_of bytes.now }
+    requires stride { stride ≡ descriptor_size bytes.now }
     requires some { 0 < stride }
-    ensures count { SomeIff result (IsTrue (has_length bytes.now)) (count_of bytes.now) }
+    ensures count { SomeIff result (IsTrue (has_efi_length bytes.now)) (descriptor_count bytes.now) }
     ensures whole { IfSome result (λ count. 8 + stride * count ≤ length bytes.now) }
 {
     let data = (bytes.len() - HEADER_BYTES) as u32;
@@ -114,23 +114,23 @@ fn whole_descriptors(bytes: &[u8], stride: u32) -> Option<u32>
 }
 
 /// Returns the descriptor with this index, counted from 0, of descriptors of `stride` bytes.
-fn read_nth(bytes: &[u8], stride: u32, index: u32) -> Descriptor
+fn nth_descriptor(bytes: &[u8], stride: u32, index: u32) -> Descriptor
     requires stride { 40 ≤ stride }
     requires whole { 8 + stride * index + stride ≤ length bytes.now }
     ensures { result ≡ nth_descriptor stride index bytes.now }
 {
-    read_descriptor(bytes, HEADER_BYTES + stride as usize * index as usize)
+    descriptor_at(bytes, HEADER_BYTES + stride as usize * index as usize)
 }
 
 /// Returns the least index of a descriptor whose address plus size exceeds 2^64 - 1, or `None` if
 /// there is no such descriptor.
-fn find_far(bytes: &[u8], stride: u32, count: u32) -> Option<u32>
+fn find_far_descriptor(bytes: &[u8], stride: u32, count: u32) -> Option<u32>
     requires stride { 40 ≤ stride }
     requires whole { 8 + stride * count ≤ length bytes.now }
-    ensures { result ≡ far_among 0 (descriptors_from stride 0 count bytes.now) }
+    ensures { result ≡ far_descriptor_from 0 (descriptors_from stride 0 count bytes.now) }
 {
     for index in 0..count {
-        if read_nth(bytes, stride, index).range().is_none() {
+        if nth_descriptor(bytes, stride, index).range().is_none() {
             return Some(index);
         }
     }
@@ -146,17 +146,17 @@ fn find_far(bytes: &[u8], stride: u32, count: u32) -> Option<u32>
 fn read_descriptors(alloc: Global, bytes: &[u8], stride: u32, count: u32) -> Result<EfiMap, Memory>
     requires stride { 40 ≤ stride }
     requires whole { 8 + stride * count ≤ length bytes.now }
-    requires near { far_among 0 (descriptors_from stride 0 count bytes.now) ≡ None }
-    ensures entries { IfOk result (λ efi. efi.entries.items ≡ map entry_of (descriptors_from stride 0 count bytes.now)) }
-    ensures mirrors { IfOk result (λ efi. efi.mirrors.items ≡ mirrors_of (descriptors_from stride 0 count bytes.now)) }
+    requires near { far_descriptor_from 0 (descriptors_from stride 0 count bytes.now) ≡ None }
+    ensures entries { IfOk result (λ efi. efi.entries.items ≡ map entry_of_descriptor (descriptors_from stride 0 count bytes.now)) }
+    ensures mirrors { IfOk result (λ efi. efi.mirrors.items ≡ mirrors_of_descriptors (descriptors_from stride 0 count bytes.now)) }
     ensures some { IsErr result → 0 < count }
 {
     let mut entries = Vec::new(alloc);
     let mut mirrors = Vec::new(alloc);
     for index in 0..count {
-        let descriptor = read_nth(bytes, stride, index);
+        let descriptor = nth_descriptor(bytes, stride, index);
         entries.push(descriptor.entry())?;
-        if let Some(range) = descriptor.mirror() {
+        if let Some(range) = descriptor.mirror_of_descriptor() {
             mirrors.push(range)?;
         }
     }

@@ -7,7 +7,7 @@ use Rattle.address_runs.specs.Edits.{NothingFrom}
 use Rattle.frame_blocks.specs.declared.block.Block.{Block}
 use Rattle.frame_blocks.specs.declared.run.TheConstants.{MAX_FRAMES}
 use Rattle.frame_blocks.specs.Frames.{Frames, AreFree, IsGood, IsBlock, IsInBlock}
-use Rattle.frame_blocks.specs.Listed.{order_up_to, block_around, block_for, block_of, led_by_block, blocks_from, blocks_of, Lists, AscendFrom}
+use Rattle.frame_blocks.specs.Listed.{greatest_free_order, block_around, block_for, block_of, prepend_block_at, blocks_from, blocks_of, ListsBlock, AscendFrom}
 use Rattle.frame_blocks.proofs.SetLaws.{base_is, base_whole, in_set, wider, one_zone}
 use Rattle.frame_blocks.proofs.GoodLaws.{up_small, up_free, up_most, up_is}
 
@@ -16,9 +16,9 @@ at_base : (o x : ℕ) → (x - x % 2 ^ o) / 2 ^ o ≡ x / 2 ^ o
 at_base o x = let some = pow_pos o in in_set (2 ^ o) x (x - x % 2 ^ o) (omega arith) (omega (arith, some))
 
 -- the set of the order that is found is a block
-found_is_block : (f : Frames) (x n : ℕ) → f x ≡ Some n → IsBlock f (block_around (order_up_to f x n 10) x n)
+found_is_block : (f : Frames) (x n : ℕ) → f x ≡ Some n → IsBlock f (block_around (greatest_free_order f x n 10) x n)
 found_is_block f x n is =
-    let o : ℕ = order_up_to f x n 10 in
+    let o : ℕ = greatest_free_order f x n 10 in
     let a : ℕ = x - x % 2 ^ o in
     let base : a / 2 ^ o ≡ x / 2 ^ o = at_base o x in
     let small : o ≤ 10 = up_small f x n 10 in
@@ -35,7 +35,7 @@ found_is_block f x n is =
 block_from_for : (f : Frames) (x : ℕ) (v : Option ℕ) (b : Block) → f x ≡ v → block_for f x v ≡ Some b → IsBlock f b × IsInBlock b x
 block_from_for f x None b is made = cc
 block_from_for f x (Some n) b is made =
-    let o : ℕ = order_up_to f x n 10 in
+    let o : ℕ = greatest_free_order f x n 10 in
     let equal : block_around o x n ≡ b = cc made in
     (subst (λ (c : Block). IsBlock f c) equal (found_is_block f x n is), subst (λ (c : Block). IsInBlock c x) equal (sym (at_base o x)))
 
@@ -51,7 +51,7 @@ found_block f x b block same =
     let is : f x ≡ Some n = (block.good x same).0 in
     let zone_is : zone_of a ≡ b.zone = (block.good a refl).1 in
     let free : AreFree f o x n = λ y other. (block.good y (other ∙ same)).0 in
-    let order : order_up_to f x n 10 ≡ o =
+    let order : greatest_free_order f x n 10 ≡ o =
     up_is f x n 10 o is block.small free
     (λ less more.
     let wide : x / 2 ^ (o + 1) ≡ a / 2 ^ (o + 1) = wider o (o + 1) x a (omega arith) same in
@@ -75,51 +75,51 @@ pub none_found : (f : Frames) (x : ℕ) → block_of f x ≡ None → f x ≡ No
 none_found f x made = none_for f x (f x) made
 
 -- the members of the list
-led_lists : (x : ℕ) (o : Option Block) (bs : List Block) (b : Block) → Lists (led_by_block x o bs) b → (o ≡ Some b) ⊎ Lists bs b
+led_lists : (x : ℕ) (o : Option Block) (bs : List Block) (b : Block) → ListsBlock (prepend_block_at x o bs) b → (o ≡ Some b) ⊎ ListsBlock bs b
 led_lists x None bs b has = inr has
 led_lists x (Some c) bs b has =
-    cond_both (c.first == x) (c ∷ bs) bs (λ (cs : List Block). Lists cs b → (Some c ≡ Some b) ⊎ Lists bs b)
-    (λ here. ⊎_elim (λ (same : c ≡ b). inl (ap (λ (d : Block). Some d) same)) (λ (rest : Lists bs b). inr rest))
+    cond_both (c.first == x) (c ∷ bs) bs (λ (cs : List Block). ListsBlock cs b → (Some c ≡ Some b) ⊎ ListsBlock bs b)
+    (λ here. ⊎_elim (λ (same : c ≡ b). inl (ap (λ (d : Block). Some d) same)) (λ (rest : ListsBlock bs b). inr rest))
     (λ away rest. inr rest) has
 
-lists_led : (x : ℕ) (o : Option Block) (bs : List Block) (b : Block) → Lists bs b → Lists (led_by_block x o bs) b
+lists_led : (x : ℕ) (o : Option Block) (bs : List Block) (b : Block) → ListsBlock bs b → ListsBlock (prepend_block_at x o bs) b
 lists_led x None bs b has = has
 lists_led x (Some c) bs b has =
-    cond_both (c.first == x) (c ∷ bs) bs (λ (cs : List Block). Lists cs b) (λ here. inr has) (λ away. has)
+    cond_both (c.first == x) (c ∷ bs) bs (λ (cs : List Block). ListsBlock cs b) (λ here. inr has) (λ away. has)
 
-lists_first : (x : ℕ) (b : Block) (bs : List Block) → b.first ≡ x → Lists (led_by_block x (Some b) bs) b
+lists_first : (x : ℕ) (b : Block) (bs : List Block) → b.first ≡ x → ListsBlock (prepend_block_at x (Some b) bs) b
 lists_first x b bs same =
-    let first : Lists (b ∷ bs) b = inl refl in
+    let first : ListsBlock (b ∷ bs) b = inl refl in
     rw (eq-eqb b.first x same) first
 
-from_sound : (f : Frames) (b : Block) (x n : ℕ) → Lists (blocks_from f x n) b → IsBlock f b
+from_sound : (f : Frames) (b : Block) (x n : ℕ) → ListsBlock (blocks_from f x n) b → IsBlock f b
 unfolding blocks_from
 from_sound f b x zero has = absurd has
 from_sound f b x (suc n) has =
     ⊎_elim (λ (made : block_of f x ≡ Some b). (block_found f x b made).0)
-    (λ (rest : Lists (blocks_from f (x + 1) n) b). from_sound f b (x + 1) n rest)
+    (λ (rest : ListsBlock (blocks_from f (x + 1) n) b). from_sound f b (x + 1) n rest)
     (led_lists x (block_of f x) (blocks_from f (x + 1) n) b has)
 
-pub listed_sound : (f : Frames) (b : Block) → Lists (blocks_of f) b → IsBlock f b
+pub listed_sound : (f : Frames) (b : Block) → ListsBlock (blocks_of f) b → IsBlock f b
 unfolding blocks_of
 listed_sound f b has = from_sound f b 0 MAX_FRAMES has
 
 from_complete : (f : Frames) (b : Block) (x n : ℕ) → block_of f b.first ≡ Some b → x ≤ b.first → b.first < x + n
-    → Lists (blocks_from f x n) b
+    → ListsBlock (blocks_from f x n) b
 unfolding blocks_from
 from_complete f b x zero made above below = absurd (omega arith)
 from_complete f b x (suc n) made above below =
-    elim (cases_lt x b.first) as (λ _. Lists (led_by_block x (block_of f x) (blocks_from f (x + 1) n)) b) [
+    elim (cases_lt x b.first) as (λ _. ListsBlock (prepend_block_at x (block_of f x) (blocks_from f (x + 1) n)) b) [
       | inl lt ↦
           lists_led x (block_of f x) (blocks_from f (x + 1) n) b (from_complete f b (x + 1) n made (omega arith) (omega arith))
       | inr ge ↦
           let here : b.first ≡ x = omega arith in
           let at : block_of f x ≡ Some b = ap (block_of f) (sym here) ∙ made in
-          subst (λ (o : Option Block). Lists (led_by_block x o (blocks_from f (x + 1) n)) b) (sym at)
+          subst (λ (o : Option Block). ListsBlock (prepend_block_at x o (blocks_from f (x + 1) n)) b) (sym at)
           (lists_first x b (blocks_from f (x + 1) n) here)
     ]
 
-pub listed_complete : (f : Frames) (b : Block) → NothingFrom MAX_FRAMES f → IsBlock f b → Lists (blocks_of f) b
+pub listed_complete : (f : Frames) (b : Block) → NothingFrom MAX_FRAMES f → IsBlock f b → ListsBlock (blocks_of f) b
 unfolding blocks_of
 listed_complete f b none block =
     let most : ℕ = MAX_FRAMES in
@@ -131,7 +131,7 @@ ascend_sooner : (x y : ℕ) (bs : List Block) → x ≤ y → AscendFrom y bs �
 ascend_sooner x y [] order ascend = tt
 ascend_sooner x y (b ∷ bs) order ascend = (omega (arith, ascend.0), ascend.1)
 
-led_ascends : (x : ℕ) (o : Option Block) (bs : List Block) → AscendFrom (x + 1) bs → AscendFrom x (led_by_block x o bs)
+led_ascends : (x : ℕ) (o : Option Block) (bs : List Block) → AscendFrom (x + 1) bs → AscendFrom x (prepend_block_at x o bs)
 led_ascends x None bs ascend = ascend_sooner x (x + 1) bs (omega arith) ascend
 led_ascends x (Some c) bs ascend =
     cond_both (c.first == x) (c ∷ bs) bs (AscendFrom x)

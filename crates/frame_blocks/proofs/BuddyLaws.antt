@@ -10,7 +10,7 @@ use Rattle.bm_base.specs.Range.{covers}
 use Rattle.frame_blocks.specs.declared.block.Block.{Block}
 use Rattle.frame_blocks.specs.Frames.{Frames, IsInSet, IsBlock, IsInBlock}
 use Rattle.frame_blocks.specs.Listed.{set_around, block_of}
-use Rattle.frame_blocks.specs.Buddies.{without_set, with_set, IsWithout, other_half, buddy_first, buddy_in, IsBuddy}
+use Rattle.frame_blocks.specs.Buddies.{without_set, with_set, RemovesFrameSet, other_half, buddy_first, buddy_of, IsBuddy}
 use Rattle.frame_blocks.proofs.SetLaws.{in_set, set_from, set_until, wider}
 use Rattle.frame_blocks.proofs.BlockLaws.{found_block, block_found, none_found}
 
@@ -26,20 +26,20 @@ pub in_set_or_not : (o x y : ℕ) → IsInSet o x y ⊎ (IsInSet o x y → ⊥)
 in_set_or_not o x y = cases_eq (y / 2 ^ o) (x / 2 ^ o)
 
 -- a set that was removed, and one that was added back
-pub without_is : (order x : ℕ) (f : Frames) → IsWithout f (without_set order x f) order x
+pub without_is : (order x : ℕ) (f : Frames) → RemovesFrameSet f (without_set order x f) order x
 without_is order x f = record {
   gone = λ y same. rw (set_covers order x y same) refl;
   kept = λ y other. rw (covers_set order x y other) refl;
 }
 
-pub with_is : (order x node : ℕ) (g : Frames) → ((y : ℕ) → IsInSet order x y → g y ≡ None) → IsWithout (with_set order x node g) g order x
+pub with_is : (order x node : ℕ) (g : Frames) → ((y : ℕ) → IsInSet order x y → g y ≡ None) → RemovesFrameSet (with_set order x node g) g order x
 with_is order x node g held = record {
   gone = held;
   kept = λ y other. sym (rw (covers_set order x y other) refl);
 }
 
 -- a frame that is still free was free before
-pub was_there : (f g : Frames) (order x y n : ℕ) → IsWithout f g order x → g y ≡ Some n → f y ≡ Some n
+pub was_there : (f g : Frames) (order x y n : ℕ) → RemovesFrameSet f g order x → g y ≡ Some n → f y ≡ Some n
 was_there f g order x y n without is =
     elim (in_set_or_not order x y) as (λ _. f y ≡ Some n) [
       | inl in_it ↦ absurd (cc (sym (without.gone y in_it) ∙ is))
@@ -51,7 +51,7 @@ not_in_block f b c y one two other inner outer =
     other (same_Some c b (sym (found_block f y c two inner) ∙ found_block f y b one outer))
 
 -- the other blocks stay
-pub others_stay : (f g : Frames) (low x : ℕ) (b c : Block) → IsWithout f g low x → IsBlock f b → IsInBlock b x → low ≤ b.order
+pub others_stay : (f g : Frames) (low x : ℕ) (b c : Block) → RemovesFrameSet f g low x → IsBlock f b → IsInBlock b x → low ≤ b.order
     → IsBlock f c → c ≢ b → IsBlock g c
 others_stay f g low x b c without block inner order was other = record {
   small = was.small;
@@ -74,7 +74,7 @@ block_or_none f x = elim (found_or_none (block_of f x)) as (λ _. (f x ≡ None)
 ]
 
 -- the blocks that begin outside the block were blocks before
-pub others_were : (f g : Frames) (low x : ℕ) (b c : Block) → IsWithout f g low x → IsBlock f b → IsInBlock b x → low ≤ b.order
+pub others_were : (f g : Frames) (low x : ℕ) (b c : Block) → RemovesFrameSet f g low x → IsBlock f b → IsInBlock b x → low ≤ b.order
     → IsBlock g c → (IsInBlock b c.first → ⊥) → IsBlock f c
 others_were f g low x b c without block inner order is outside =
     let here : f c.first ≡ Some c.node = was_there f g low x c.first c.node without (is.good c.first refl).0 in
@@ -123,8 +123,8 @@ pub buddy_in_block : (b : Block) (o x y : ℕ) → o < b.order → IsInBlock b x
 buddy_in_block b o x y below inner same = wider (o + 1) b.order y x (omega (arith, below)) (buddy_beside o x y same).0 ∙ inner
 
 -- each of these buddies is a block of what is left
-pub left_is_block : (f g : Frames) (low o x : ℕ) (b : Block) → IsWithout f g low x → IsBlock f b → IsInBlock b x → low ≤ o → o < b.order
-    → IsBlock g (buddy_in b o x)
+pub left_is_block : (f g : Frames) (low o x : ℕ) (b : Block) → RemovesFrameSet f g low x → IsBlock f b → IsInBlock b x → low ≤ o → o < b.order
+    → IsBlock g (buddy_of b o x)
 left_is_block f g low o x b without block inner from below = record {
   small = omega (arith, block.small, below);
   aligned = mul-mod_left (other_half (x / 2 ^ o)) (2 ^ o);
@@ -163,7 +163,7 @@ parting (suc d) low x y same other =
     ]
 
 -- the block has no other blocks left
-pub rest_is_left : (f g : Frames) (low x : ℕ) (b c : Block) → IsWithout f g low x → IsBlock f b → IsInBlock b x → low ≤ b.order
+pub rest_is_left : (f g : Frames) (low x : ℕ) (b c : Block) → RemovesFrameSet f g low x → IsBlock f b → IsInBlock b x → low ≤ b.order
     → IsBlock g c → IsInBlock b c.first → IsBuddy b low b.order x c
 rest_is_left f g low x b c without block inner order is within =
     let free : g c.first ≡ Some c.node = (is.good c.first refl).0 in
@@ -174,8 +174,8 @@ rest_is_left f g low x b c without block inner order is within =
     let o : ℕ = parts.order in
     let below : o < b.order = omega (arith, parts.below, sum) in
     let buddy = left_is_block f g low o x b without block inner parts.from below in
-    let one = found_block g c.first (buddy_in b o x) buddy (beside_buddy o x c.first parts.together parts.apart) in
-    let both : c ≡ buddy_in b o x = same_Some c (buddy_in b o x) (sym (found_block g c.first c is refl) ∙ one) in
+    let one = found_block g c.first (buddy_of b o x) buddy (beside_buddy o x c.first parts.together parts.apart) in
+    let both : c ≡ buddy_of b o x = same_Some c (buddy_of b o x) (sym (found_block g c.first c is refl) ∙ one) in
     record { order = o; from = parts.from; below = below; is = both }
 
 -- a buddy begins inside the block, and isn't the block
@@ -190,7 +190,7 @@ one_at f b c one two same =
     same_Some b c (sym (found_block f b.first b one refl) ∙ found_block f b.first c two (ap (λ x. x / 2 ^ c.order) same))
 
 -- the blocks after the removal, in both directions
-pub blocks_left : (f g : Frames) (low x : ℕ) (b c : Block) → IsWithout f g low x → IsBlock f b → IsInBlock b x → low ≤ b.order
+pub blocks_left : (f g : Frames) (low x : ℕ) (b c : Block) → RemovesFrameSet f g low x → IsBlock f b → IsInBlock b x → low ≤ b.order
     → IsBlock g c ↔ ((IsBlock f c × (IsInBlock b c.first → ⊥)) ⊎ IsBuddy b low b.order x c)
 blocks_left f g low x b c without block inner order = (
   λ is. elim (in_set_or_not b.order b.first c.first) as (λ _. (IsBlock f c × (IsInBlock b c.first → ⊥)) ⊎ IsBuddy b low b.order x c) [

@@ -12,12 +12,12 @@ use Rattle.frame_blocks.specs.declared.block.Block.{Block}
 use Rattle.frame_blocks.specs.declared.block.TheConstants.{MAX_ORDER}
 use Rattle.frame_blocks.specs.declared.block.BlockRow.{BlockRow}
 use Rattle.frame_blocks.specs.Frames.{Frames, IsInSet, IsGood, IsBlock}
-use Rattle.frame_blocks.specs.Listed.{are_free, order_up_to, block_around, AscendFrom}
-use Rattle.frame_blocks.specs.Rows.{CouldBeOne, AreRows}
-use Rattle.frame_blocks.specs.Sets.{IsRun, SetFits, OfLast, EndsFree}
+use Rattle.frame_blocks.specs.Listed.{are_free, greatest_free_order, block_around, AscendFrom}
+use Rattle.frame_blocks.specs.Rows.{AreJoinableRows, AreRows}
+use Rattle.frame_blocks.specs.Sets.{IsNodeRun, SetFits, LastRowFulfils, EndsFree}
 use Rattle.frame_blocks.specs.declared.run.TheConstants.{MAX_FRAMES}
-use Rattle.frame_blocks.specs.Buddies.{without_set, with_set, IsWithout, buddy_first, buddy_in, IsBuddy}
-use Rattle.frame_blocks.specs.Picked.{Serves, IsPicked, NoneServes, picked, first_picked}
+use Rattle.frame_blocks.specs.Buddies.{without_set, with_set, RemovesFrameSet, buddy_first, buddy_of, IsBuddy}
+use Rattle.frame_blocks.specs.Picked.{Serves, IsPicked, NoneServes, picked_block, picked_first_frame}
 use Rattle.frame_blocks.proofs.BuddyLaws.{one_at, without_is}
 use Rattle.frame_blocks.proofs.PickLaws.{picked_is, picked_none}
 
@@ -37,8 +37,8 @@ set_examples : IsInSet 1 4 5 × (IsInSet 1 4 6 → ⊥) × IsInSet 2 4 6
 set_examples = (refl, (λ same. absurd (omega arith)), refl)
 
 -- the pair is one set of order 1, and the lone frame one of order 0
-order_examples : (order_up_to pair 5 7 2 ≡ 1) × (order_up_to lone 5 7 2 ≡ 0)
-unfolding order_up_to are_free each_in each_from
+order_examples : (greatest_free_order pair 5 7 2 ≡ 1) × (greatest_free_order lone 5 7 2 ≡ 0)
+unfolding greatest_free_order are_free each_in each_from
 order_examples = (refl, refl)
 
 -- frame 5 alone is a block, since its buddy isn't free
@@ -65,7 +65,7 @@ ascend_examples : AscendFrom 0 (block_around 0 5 7 ∷ (block_around 1 9 7 ∷ [
 ascend_examples = ((omega arith, (omega arith, tt)), λ ascend. absurd (omega (arith, ascend.0)))
 
 -- the pair is a run, and only the set of order 1 fits
-pair_is_run : IsRun pair 4 6 7
+pair_is_run : IsNodeRun pair 4 6 7
 pair_is_run = record {
   inside = λ x above below. let on : (nat_le 4 x && nat_lt x 6) ≡ true = grind (arith, nat_tests) in rw on refl;
   before = λ x next same.
@@ -82,8 +82,8 @@ fit_examples = (record { above = omega arith; below = omega arith }, λ fits. le
 abbrev great_row : ℕ → ℕ → ℕ → BlockRow
 great_row first count node = record { order = 10; first = first; count = count; node = node; zone = zone.Dma }
 
-one_row_examples : CouldBeOne (great_row 0 2 0) (great_row 2048 1 0) × (CouldBeOne (great_row 0 2 0) (great_row 2048 1 1) → ⊥)
-    × (CouldBeOne (great_row 0 1 0) (great_row 2048 1 0) → ⊥)
+one_row_examples : AreJoinableRows (great_row 0 2 0) (great_row 2048 1 0) × (AreJoinableRows (great_row 0 2 0) (great_row 2048 1 1) → ⊥)
+    × (AreJoinableRows (great_row 0 1 0) (great_row 2048 1 0) → ⊥)
 one_row_examples = (
   record { great = refl; order = refl; node = refl; zone = refl; touch = refl },
   λ goes. let same = goes.node in absurd (omega (arith, same)),
@@ -103,8 +103,8 @@ row_examples = (
 )
 
 -- the last frame of the last row
-last_examples : OfLast (EndsFree pair) (great_row 0 1 0 ∷ (record { order = 1; first = 4; count = 1; node = 7; zone = zone.Dma } ∷ []))
-    × (OfLast (EndsFree pair) (great_row 0 1 0 ∷ []) → ⊥)
+last_examples : LastRowFulfils (EndsFree pair) (great_row 0 1 0 ∷ (record { order = 1; first = 4; count = 1; node = 7; zone = zone.Dma } ∷ []))
+    × (LastRowFulfils (EndsFree pair) (great_row 0 1 0 ∷ []) → ⊥)
 last_examples = ((omega arith, refl), λ ends. let none : None ≡ Some 0 = ends.1 in cc none)
 
 -- the lone frame is picked for one frame; for two frames, or in another zone, nothing is picked
@@ -134,8 +134,8 @@ lone_low x high = let off : (nat_le 5 x && nat_lt x 6) ≡ false = grind (arith,
 none_of_two : NoneServes lone 7 zone.Dma 1
 none_of_two b block serves = serve_examples.1 (subst (λ (c : Block). Serves 7 zone.Dma 1 c) (sym (lone_alone b block)) serves)
 
-pick_examples : (picked lone 7 zone.Dma 0 ≡ Some one_block) × (picked lone 7 zone.Dma 1 ≡ None)
-    × (first_picked lone 7 zone.Dma 0 ≡ Some 5) × (first_picked lone 7 zone.Dma 1 ≡ None)
+pick_examples : (picked_block lone 7 zone.Dma 0 ≡ Some one_block) × (picked_block lone 7 zone.Dma 1 ≡ None)
+    × (picked_first_frame lone 7 zone.Dma 0 ≡ Some 5) × (picked_first_frame lone 7 zone.Dma 1 ≡ None)
 unfolding one_block
 pick_examples =
     let some = picked_is lone 7 zone.Dma 0 one_block lone_low lone_is_picked in
@@ -149,11 +149,11 @@ leave_examples = (refl, refl, refl)
 back_examples : (with_set 0 4 7 lone 4 ≡ Some 7) × (with_set 0 4 7 lone 5 ≡ Some 7) × (with_set 0 4 7 lone 6 ≡ None)
 back_examples = (refl, refl, refl)
 
-without_examples : IsWithout pair (without_set 0 4 pair) 0 4 × (IsWithout pair pair 0 4 → ⊥)
+without_examples : RemovesFrameSet pair (without_set 0 4 pair) 0 4 × (RemovesFrameSet pair pair 0 4 → ⊥)
 without_examples = (without_is 0 4 pair, λ without. let none : Some 7 ≡ None = without.gone 4 refl in cc none)
 
 buddy_examples : (buddy_first 0 4 ≡ 5) × (buddy_first 1 5 ≡ 6) × (buddy_first 10 1024 ≡ 0)
-    × (buddy_in (block_around 1 5 7) 0 4 ≡ block_around 0 5 7)
+    × (buddy_of (block_around 1 5 7) 0 4 ≡ block_around 0 5 7)
 buddy_examples = (refl, refl, refl, refl)
 
 left_examples : IsBuddy (block_around 1 5 7) 0 1 4 (block_around 0 5 7) × (IsBuddy (block_around 1 5 7) 1 1 4 (block_around 0 5 7) → ⊥)

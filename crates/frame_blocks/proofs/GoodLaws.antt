@@ -5,7 +5,7 @@ use Rattle.std.proofs.lemmas.Nat.{pow_pos}
 use Rattle.std.proofs.Math.Nat.{div-one}
 use Rattle.bm_base.proofs.EachLaws.{each_in-all, each_in-each}
 use Rattle.frame_blocks.specs.Frames.{Frames, IsInSet, AreFree}
-use Rattle.frame_blocks.specs.Listed.{is_node, set_around, are_free, order_up_to}
+use Rattle.frame_blocks.specs.Listed.{is_node, set_around, are_free, greatest_free_order}
 use Rattle.frame_blocks.proofs.SetLaws.{in_set, set_from, set_until, wider}
 
 -- the test of a node is true only of that node
@@ -36,28 +36,28 @@ free_test f o x n free =
     each_in-all (set_around o x) (λ z. is_node (f z) n)
     (λ y above below. is_the_node (f y) n (free y (in_set (2 ^ o) x y above below)))
 
-pub up_small : (f : Frames) (x n m : ℕ) → order_up_to f x n m ≤ m
-unfolding order_up_to
+pub up_small : (f : Frames) (x n m : ℕ) → greatest_free_order f x n m ≤ m
+unfolding greatest_free_order
 up_small f x n zero = omega arith
 up_small f x n (suc m) =
-    cond_both (are_free f (suc m) x n) (suc m) (order_up_to f x n m) (λ o. o ≤ suc m)
+    cond_both (are_free f (suc m) x n) (suc m) (greatest_free_order f x n m) (λ o. o ≤ suc m)
     (λ holds. omega arith) (λ fails. omega (arith, up_small f x n m))
 
 -- the set of the order that is found is free
-pub up_free : (f : Frames) (x n m : ℕ) → f x ≡ Some n → AreFree f (order_up_to f x n m) x n
-unfolding order_up_to
+pub up_free : (f : Frames) (x n m : ℕ) → f x ≡ Some n → AreFree f (greatest_free_order f x n m) x n
+unfolding greatest_free_order
 up_free f x n zero is = λ y same. let here : y ≡ x = sym (div-one y) ∙ same ∙ div-one x in ap f here ∙ is
 up_free f x n (suc m) is =
-    cond_both (are_free f (suc m) x n) (suc m) (order_up_to f x n m) (λ o. AreFree f o x n)
+    cond_both (are_free f (suc m) x n) (suc m) (greatest_free_order f x n m) (λ o. AreFree f o x n)
     (λ holds. test_free f (suc m) x n holds) (λ fails. up_free f x n m is)
 
 -- no larger set is free
-pub up_most : (f : Frames) (x n m o : ℕ) → o ≤ m → AreFree f o x n → o ≤ order_up_to f x n m
-unfolding order_up_to
+pub up_most : (f : Frames) (x n m o : ℕ) → o ≤ m → AreFree f o x n → o ≤ greatest_free_order f x n m
+unfolding greatest_free_order
 up_most f x n zero o few free = few
 up_most f x n (suc m) o few free =
-    cond_both (are_free f (suc m) x n) (suc m) (order_up_to f x n m) (λ p. o ≤ p) (λ holds. few) (λ fails.
-    elim (cases_lt m o) as (λ _. o ≤ order_up_to f x n m) [
+    cond_both (are_free f (suc m) x n) (suc m) (greatest_free_order f x n m) (λ p. o ≤ p) (λ holds. few) (λ fails.
+    elim (cases_lt m o) as (λ _. o ≤ greatest_free_order f x n m) [
       | inl lt ↦
           let last : o ≡ suc m = omega arith in
           absurd (cc (sym (free_test f (suc m) x n (rw last at free)) ∙ fails))
@@ -66,11 +66,11 @@ up_most f x n (suc m) o few free =
 
 -- a free set is found if the set of the next order isn't free
 pub up_is : (f : Frames) (x n m o : ℕ) → f x ≡ Some n → o ≤ m → AreFree f o x n → (o < m → AreFree f (suc o) x n → ⊥)
-    → order_up_to f x n m ≡ o
+    → greatest_free_order f x n m ≡ o
 up_is f x n m o is few free whole =
-    elim (cases_lt o (order_up_to f x n m)) as (λ _. order_up_to f x n m ≡ o) [
+    elim (cases_lt o (greatest_free_order f x n m)) as (λ _. greatest_free_order f x n m ≡ o) [
       | inl lt ↦
           let less : o < m = omega (arith, lt, up_small f x n m) in
-          absurd (whole less (free-narrow f (suc o) (order_up_to f x n m) x n lt (up_free f x n m is)))
+          absurd (whole less (free-narrow f (suc o) (greatest_free_order f x n m) x n lt (up_free f x n m is)))
       | inr ge ↦ omega (arith, up_most f x n m o few free, ge)
     ]

@@ -12,7 +12,7 @@ use Rattle.frame_blocks.specs.declared.block.Block.{Block}
 use Rattle.frame_blocks.specs.Frames.{Frames}
 use Rattle.frame_blocks.specs.Listed.{block_of, block_for, block_around, blocks_from, blocks_of}
 use Rattle.frame_blocks.specs.declared.run.TheConstants.{MAX_FRAMES}
-use Rattle.frame_blocks.specs.Sets.{IsRun, SetFits, IsGreatest}
+use Rattle.frame_blocks.specs.Sets.{IsNodeRun, SetFits, IsGreatest}
 use Rattle.frame_blocks.proofs.ListLaws.{from-append, from-none, not_first-bare}
 use Rattle.frame_blocks.proofs.RunLaws.{found}
 
@@ -35,7 +35,7 @@ all_start at (r ∷ rs) (suc i) d runs start few =
 
 -- each run of the list is a whole run of the list's values
 pub run_of_list : (rs : List (RunOf ℕ)) (i : ℕ) (d : RunOf ℕ) → AreRuns rs → i < length rs
-    → IsRun (value_at rs) (get_or rs i d).base (run_end (get_or rs i d)) (get_or rs i d).value
+    → IsNodeRun (value_at rs) (get_or rs i d).base (run_end (get_or rs i d)) (get_or rs i d).value
 run_of_list [] i d runs few = absurd (omega arith)
 run_of_list (r ∷ rs) zero d runs few = record {
   inside = λ x above below. value_inside r rs x above below;
@@ -44,7 +44,7 @@ run_of_list (r ∷ rs) zero d runs few = record {
 }
 run_of_list (q ∷ rs) (suc i) d runs few =
     let r : RunOf ℕ = get_or rs i d in
-    let rest : IsRun (value_at rs) r.base (run_end r) r.value = run_of_list rs i d runs.2 (omega arith) in
+    let rest : IsNodeRun (value_at rs) r.base (run_end r) r.value = run_of_list rs i d runs.2 (omega arith) in
     let some : 0 < r.size = some_size rs i d runs.2 (omega arith) in
     let after : run_end q ≤ r.base = all_start (run_end q) rs i d runs.2 (rest_from q rs runs) (omega arith) in
     record {
@@ -81,7 +81,7 @@ pub found_block : (rs : List (RunOf ℕ)) (i x o s : ℕ) (d : RunOf ℕ) → Ar
     → Some (record { order = o; first = x - x % s; node = (get_or rs i d).value; zone = zone_of (x - x % s) }) ≡ block_of (value_at rs) x
 found_block rs i x o s d runs few above below small size fits greatest =
     let r : RunOf ℕ = get_or rs i d in
-    let run : IsRun (value_at rs) r.base (run_end r) r.value = run_of_list rs i d runs few in
+    let run : IsNodeRun (value_at rs) r.base (run_end r) r.value = run_of_list rs i d runs few in
     let is : value_at rs x ≡ Some r.value = run.inside x above below in
     let order = found (value_at rs) r.base (run_end r) r.value o x run above below small
     (subst (λ (t : ℕ). SetFits r.base (run_end r) x t) size fits) greatest in
@@ -155,7 +155,7 @@ pub begins_later_at : (rs : List (RunOf ℕ)) (i x : ℕ) (d r : RunOf ℕ) → 
 begins_later_at rs i x d r is few rest later = begins_later rs i x d few rest (subst (λ (q : RunOf ℕ). x < q.base) is later)
 
 pub run_at : (rs : List (RunOf ℕ)) (i : ℕ) (d r : RunOf ℕ) → r ≡ get_or rs i d → AreRuns rs → i < length rs
-    → IsRun (value_at rs) r.base (run_end r) r.value
+    → IsNodeRun (value_at rs) r.base (run_end r) r.value
 run_at rs i d r is runs few = rw is (run_of_list rs i d runs few)
 
 pub listed_more_at : (f : Frames) (rs : List (RunOf ℕ)) (i : ℕ) (d r : RunOf ℕ) (bs : List Block) → r ≡ get_or rs i d → i < length rs

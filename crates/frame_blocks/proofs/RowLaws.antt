@@ -8,16 +8,16 @@ use Rattle.bm_base.specs.Zones.{zone_of}
 use Rattle.frame_blocks.specs.declared.block.Block.{Block}
 use Rattle.frame_blocks.specs.declared.block.BlockRow.{BlockRow}
 use Rattle.frame_blocks.specs.Frames.{Frames}
-use Rattle.frame_blocks.specs.Listed.{blocks_from, order_up_to}
+use Rattle.frame_blocks.specs.Listed.{blocks_from, greatest_free_order}
 use Rattle.frame_blocks.specs.Rows.{row_from, blocks_of_row, blocks_of_rows}
-use Rattle.frame_blocks.specs.Sets.{IsRun, SetFits, IsGreatest}
+use Rattle.frame_blocks.specs.Sets.{IsNodeRun, SetFits, IsGreatest}
 use Rattle.frame_blocks.proofs.GoodLaws.{up_is}
 use Rattle.frame_blocks.proofs.ListLaws.{from-append, from-block}
 use Rattle.frame_blocks.proofs.RunLaws.{found, free_inside}
 
 -- if a block of this order begins at each of these multiples, the blocks are a row
 pub row_is : (k : ℕ) (f : Frames) (n o s at : ℕ) (z : Zone) → o ≤ 10 → s ≡ 2 ^ o → at % 2 ^ o ≡ 0
-    → ((i : ℕ) → i < k → f (at + i * s) ≡ Some n) → ((i : ℕ) → i < k → order_up_to f (at + i * s) n 10 ≡ o)
+    → ((i : ℕ) → i < k → f (at + i * s) ≡ Some n) → ((i : ℕ) → i < k → greatest_free_order f (at + i * s) n 10 ≡ o)
     → ((i : ℕ) → i < k → zone_of (at + i * s) ≡ z)
     → blocks_from f at (k * s) ≡ row_from o at n z k
 unfolding row_from
@@ -28,7 +28,7 @@ row_is zero f n o s at z small size whole free found zones =
 row_is (suc k) f n o s at z small size whole free found zones =
     let here : at + 0 * s ≡ at = omega arith in
     let is : f at ≡ Some n = ap f (sym here) ∙ free 0 (omega arith) in
-    let order_is : order_up_to f at n 10 ≡ o = ap (λ x. order_up_to f x n 10) (sym here) ∙ found 0 (omega arith) in
+    let order_is : greatest_free_order f at n 10 ≡ o = ap (λ x. greatest_free_order f x n 10) (sym here) ∙ found 0 (omega arith) in
     let zone_is : zone_of at ≡ z = ap zone_of (sym here) ∙ zones 0 (omega arith) in
     let one : blocks_from f at (2 ^ o) ≡ record { order = o; first = at; node = n; zone = zone_of at } ∷ [] =
     from-block f o at n small is order_is whole in
@@ -38,7 +38,7 @@ row_is (suc k) f n o s at z small size whole free found zones =
     row_is k f n o s (at + 2 ^ o) z small size
     (add-mod_right at (2 ^ o) ∙ whole)
     (λ i lt. ap f (next i) ∙ free (suc i) (omega arith))
-    (λ i lt. ap (λ x. order_up_to f x n 10) (next i) ∙ found (suc i) (omega arith))
+    (λ i lt. ap (λ x. greatest_free_order f x n 10) (next i) ∙ found (suc i) (omega arith))
     (λ i lt. ap zone_of (next i) ∙ zones (suc i) (omega arith)) in
     ap (λ m. blocks_from f at m) sum ∙ from-append f at (2 ^ o) (k * s)
     ∙ ap (λ (bs : List Block). bs ++ blocks_from f (at + 2 ^ o) (k * s)) one
@@ -47,15 +47,15 @@ row_is (suc k) f n o s at z small size whole free found zones =
 
 -- the blocks of a row lie in the run: the first by the largest set that fits, the others since
 -- they are of the largest order
-in_a_row : (f : Frames) (first end n o s at k : ℕ) → IsRun f first end n → first ≤ at → 0 < k → at + k * s ≤ end → o ≤ 10 → s ≡ 2 ^ o
+in_a_row : (f : Frames) (first end n o s at k : ℕ) → IsNodeRun f first end n → first ≤ at → 0 < k → at + k * s ≤ end → o ≤ 10 → s ≡ 2 ^ o
     → at % s ≡ 0 → SetFits first end at s → IsGreatest first end at o → ((o ≡ 10) ⊎ (k ≡ 1)) → (i : ℕ) → i < k
-    → (f (at + i * s) ≡ Some n) × (order_up_to f (at + i * s) n 10 ≡ o)
+    → (f (at + i * s) ≡ Some n) × (greatest_free_order f (at + i * s) n 10 ≡ o)
 in_a_row f first end n o s at k run above some room small size whole fits greatest (inr one) i lt =
     let start : at + i * s ≡ at = let zeroth : i ≡ 0 = omega arith in ap (λ j. at + j * s) zeroth ∙ omega arith in
     let positive : 0 < s = let h = pow_pos o in omega (arith, size, h) in
     let inner : at < end = let h = suc-mul 0 s in let all = ap (λ j. j * s) one in omega (arith, room, all, h, positive) in (
       ap f start ∙ run.inside at above inner,
-      ap (λ x. order_up_to f x n 10) start
+      ap (λ x. greatest_free_order f x n 10) start
           ∙ found f first end n o at run above inner small (subst (λ (t : ℕ). SetFits first end at t) size fits) greatest,
     )
 in_a_row f first end n o s at k run above some room small size whole fits greatest (inl ten) i lt =
@@ -72,7 +72,7 @@ in_a_row f first end n o s at k run above some room small size whole fits greate
       up_is f x n 10 10 is (omega arith) (free_inside f first end n 10 x run fits_ten) (λ less free. absurd (omega arith)) ∙ sym ten,
     )
 
-pub row_more : (f : Frames) (first end n o s at k : ℕ) → IsRun f first end n → first ≤ at → 0 < k → at + k * s ≤ end
+pub row_more : (f : Frames) (first end n o s at k : ℕ) → IsNodeRun f first end n → first ≤ at → 0 < k → at + k * s ≤ end
     → o ≤ 10 → s ≡ 2 ^ o → at % s ≡ 0 → SetFits first end at s → IsGreatest first end at o → ((o ≡ 10) ⊎ (k ≡ 1))
     → ((i : ℕ) → i < k → zone_of (at + i * s) ≡ zone_of at)
     → blocks_from f first (at + k * s - first) ≡ blocks_from f first (at - first) ++ row_from o at n (zone_of at) k

@@ -7,20 +7,20 @@ use Rattle.std.proofs.Math.Nat.{mod-lt, mod-one, pow-suc, add-mod_right}
 use Rattle.bm_base.specs.Zones.{zone_of}
 use Rattle.frame_blocks.specs.declared.block.Block.{Block}
 use Rattle.frame_blocks.specs.Frames.{Frames, AreFree}
-use Rattle.frame_blocks.specs.Listed.{order_up_to, blocks_from}
-use Rattle.frame_blocks.specs.Sets.{IsRun, SetFits, IsGreatest, IsStart}
+use Rattle.frame_blocks.specs.Listed.{greatest_free_order, blocks_from}
+use Rattle.frame_blocks.specs.Sets.{IsNodeRun, SetFits, IsGreatest, IsStart}
 use Rattle.frame_blocks.proofs.SetLaws.{base_is, base_whole, in_set, set_from, set_until, multiple, apart}
 use Rattle.frame_blocks.proofs.GoodLaws.{up_is}
 use Rattle.frame_blocks.proofs.ListLaws.{from-append, from-none, from-block}
 
 -- a set in a run is free
-pub free_inside : (f : Frames) (first end n o x : ℕ) → IsRun f first end n → SetFits first end x (2 ^ o) → AreFree f o x n
+pub free_inside : (f : Frames) (first end n o x : ℕ) → IsNodeRun f first end n → SetFits first end x (2 ^ o) → AreFree f o x n
 free_inside f first end n o x run fits y same =
     run.inside y (omega (arith, set_from (2 ^ o) x y same, fits.above))
     (omega (arith, set_until (2 ^ o) x y (pow_pos o) same, fits.below))
 
 -- a free set around a frame of the run lies in the run
-pub inside_free : (f : Frames) (first end n o x : ℕ) → IsRun f first end n → first ≤ x → x < end → AreFree f o x n
+pub inside_free : (f : Frames) (first end n o x : ℕ) → IsNodeRun f first end n → first ≤ x → x < end → AreFree f o x n
     → SetFits first end x (2 ^ o)
 inside_free f first end n o x run above below free =
     let small : x % 2 ^ o < 2 ^ o = mod-lt x (pow_pos o) in
@@ -32,14 +32,14 @@ inside_free f first end n o x run above below free =
     }
 
 -- the largest set that fits is the block that is found
-pub found : (f : Frames) (first end n o x : ℕ) → IsRun f first end n → first ≤ x → x < end → o ≤ 10 → SetFits first end x (2 ^ o)
-    → IsGreatest first end x o → order_up_to f x n 10 ≡ o
+pub found : (f : Frames) (first end n o x : ℕ) → IsNodeRun f first end n → first ≤ x → x < end → o ≤ 10 → SetFits first end x (2 ^ o)
+    → IsGreatest first end x o → greatest_free_order f x n 10 ≡ o
 found f first end n o x run above below small fits greatest =
     up_is f x n 10 o (run.inside x above below) small (free_inside f first end n o x run fits)
     (λ less free. greatest (suc o) (omega arith) (omega arith) (inside_free f first end n (suc o) x run above below free))
 
 -- the blocks up to here, and the one that begins here
-pub one_more : (f : Frames) (first end n o at s : ℕ) → IsRun f first end n → first ≤ at → at < end → o ≤ 10 → s ≡ 2 ^ o
+pub one_more : (f : Frames) (first end n o at s : ℕ) → IsNodeRun f first end n → first ≤ at → at < end → o ≤ 10 → s ≡ 2 ^ o
     → SetFits first end at s → IsGreatest first end at o → at % s ≡ 0
     → blocks_from f first (at + s - first) ≡ blocks_from f first
     (at - first) ++ record { order = o; first = at; node = n; zone = zone_of at } ∷ []

@@ -16,7 +16,7 @@ abbrev pub with_set : ℕ → ℕ → ℕ → Frames → Frames
 with_set order x node f = replace_in_range (set_around order x) node f
 
 -- g has the same free frames as f, except those of the set, which aren't free in g
-pub record IsWithout (f g : Frames) (order x : ℕ) : Type 0 where
+pub record RemovesFrameSet (f g : Frames) (order x : ℕ) : Type 0 where
   pub gone : (y : ℕ) → IsInSet order x y → g y ≡ None
   pub kept : (y : ℕ) → (IsInSet order x y → ⊥) → g y ≡ f y
 
@@ -29,12 +29,12 @@ abbrev pub buddy_first : ℕ → ℕ → ℕ
 buddy_first order x = other_half (x / 2 ^ order) * 2 ^ order
 
 -- that buddy as a block, with the node and the zone of b
-abbrev pub buddy_in : Block → ℕ → ℕ → Block
-buddy_in b order x = record b { order = order; first = buddy_first order x }
+abbrev pub buddy_of : Block → ℕ → ℕ → Block
+buddy_of b order x = record b { order = order; first = buddy_first order x }
 
 -- c is a buddy of x in b, of an order from `low` to below `until`
 pub record IsBuddy (b : Block) (low until x : ℕ) (c : Block) : Type 0 where
   pub order : ℕ
   pub from : low ≤ order
   pub below : order < until
-  pub is : c ≡ buddy_in b order x
+  pub is : c ≡ buddy_of b order x

@@ -23,9 +23,9 @@ unfoldable pub are_free : Frames → ℕ → ℕ → ℕ → Bool
 are_free f order x n = each_in (set_around order x) (λ y. is_node (f y) n)
 
 -- the largest order up to m whose set around the frame is free, on the node
-unfoldable pub order_up_to : Frames → ℕ → ℕ → ℕ → ℕ
-order_up_to f x n zero = 0
-order_up_to f x n (suc m) = if are_free f (suc m) x n then suc m else order_up_to f x n m
+unfoldable pub greatest_free_order : Frames → ℕ → ℕ → ℕ → ℕ
+greatest_free_order f x n zero = 0
+greatest_free_order f x n (suc m) = if are_free f (suc m) x n then suc m else greatest_free_order f x n m
 
 -- the set of this order around the frame, as a block
 abbrev pub block_around : ℕ → ℕ → ℕ → Block
@@ -33,44 +33,44 @@ block_around order x n = record { order = order; first = x - x % 2 ^ order; node
 
 abbrev pub block_for : Frames → ℕ → Option ℕ → Option Block
 block_for f x None = None
-block_for f x (Some n) = Some (block_around (order_up_to f x n 10) x n)
+block_for f x (Some n) = Some (block_around (greatest_free_order f x n 10) x n)
 
 -- the block that has the frame; None if the frame isn't free
 abbrev pub block_of : Frames → ℕ → Option Block
 block_of f x = block_for f x (f x)
 
 -- the list with the block before it, if the frame is the block's first
-abbrev pub led_by_block : ℕ → Option Block → List Block → List Block
-led_by_block x None bs = bs
-led_by_block x (Some b) bs = if b.first == x then b ∷ bs else bs
+abbrev pub prepend_block_at : ℕ → Option Block → List Block → List Block
+prepend_block_at x None bs = bs
+prepend_block_at x (Some b) bs = if b.first == x then b ∷ bs else bs
 
 -- the blocks that begin in the n frames from x on
 unfoldable pub blocks_from : Frames → ℕ → ℕ → List Block
 blocks_from f x zero = []
-blocks_from f x (suc n) = led_by_block x (block_of f x) (blocks_from f (x + 1) n)
+blocks_from f x (suc n) = prepend_block_at x (block_of f x) (blocks_from f (x + 1) n)
 
 -- all blocks, by their first frames
 unfoldable pub blocks_of : Frames → List Block
 blocks_of f = blocks_from f 0 MAX_FRAMES
 
-abbrev pub same_zone : Zone → Zone → Bool
-same_zone zone.Dma zone.Dma = true
-same_zone zone.Dma32 zone.Dma32 = true
-same_zone zone.Normal zone.Normal = true
-same_zone a b = false
+abbrev pub is_same_zone : Zone → Zone → Bool
+is_same_zone zone.Dma zone.Dma = true
+is_same_zone zone.Dma32 zone.Dma32 = true
+is_same_zone zone.Normal zone.Normal = true
+is_same_zone a b = false
 
 -- the block is on the node, in the zone and of the order
-abbrev pub is_of : ℕ → Zone → ℕ → Block → Bool
-is_of n z order b = (b.node == n) && ((b.order == order) && same_zone b.zone z)
+abbrev pub is_block_of : ℕ → Zone → ℕ → Block → Bool
+is_block_of n z order b = (b.node == n) && ((b.order == order) && is_same_zone b.zone z)
 
 -- the number of blocks on the node, in the zone and of the order
-unfoldable pub count_of : Frames → ℕ → Zone → ℕ → ℕ
-count_of f n z order = count_by (is_of n z order) (blocks_of f)
+unfoldable pub count_blocks : Frames → ℕ → Zone → ℕ → ℕ
+count_blocks f n z order = count_by (is_block_of n z order) (blocks_of f)
 
 -- the list has the block
-abbrev pub Lists : List Block → Block → Type 0
-Lists [] b = ⊥
-Lists (c ∷ cs) b = (c ≡ b) ⊎ Lists cs b
+abbrev pub ListsBlock : List Block → Block → Type 0
+ListsBlock [] b = ⊥
+ListsBlock (c ∷ cs) b = (c ≡ b) ⊎ ListsBlock cs b
 
 -- each block in the list begins above the start of the one before it, and the first at `from` or
 -- above

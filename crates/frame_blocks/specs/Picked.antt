@@ -6,7 +6,7 @@ use Rattle.std.specs.Option.{option_or, option_map}
 use Rattle.bm_base.specs.declared.zone.Zone.{Zone}
 use Rattle.frame_blocks.specs.declared.block.Block.{Block}
 use Rattle.frame_blocks.specs.Frames.{Frames, IsBlock}
-use Rattle.frame_blocks.specs.Listed.{blocks_of, is_of}
+use Rattle.frame_blocks.specs.Listed.{blocks_of, is_block_of}
 
 -- the block is on the node, in the zone, and of this order or a larger one
 pub record Serves (n : ℕ) (z : Zone) (order : ℕ) (b : Block) : Type 0 where
@@ -27,14 +27,14 @@ NoneServes f node zone order = (b : Block) → IsBlock f b → Serves node zone 
 
 -- the block that is picked, as a function: the first order with a block, of the k orders from
 -- `order` on, and the first block of that order
-abbrev pub picked_up : Frames → ℕ → Zone → ℕ → ℕ → Option Block
-picked_up f node zone order zero = None
-picked_up f node zone order (suc k) = option_or (find (is_of node zone order) (blocks_of f)) (picked_up f node zone (order + 1) k)
+abbrev pub picked_block_from : Frames → ℕ → Zone → ℕ → ℕ → Option Block
+picked_block_from f node zone order zero = None
+picked_block_from f node zone order (suc k) = option_or (find (is_block_of node zone order) (blocks_of f)) (picked_block_from f node zone (order + 1) k)
 
 -- the block that is picked, of an order up to 10
-unfoldable pub picked : Frames → ℕ → Zone → ℕ → Option Block
-picked f node zone order = picked_up f node zone order (11 - order)
+unfoldable pub picked_block : Frames → ℕ → Zone → ℕ → Option Block
+picked_block f node zone order = picked_block_from f node zone order (11 - order)
 
 -- the first frame of the block that is picked
-abbrev pub first_picked : Frames → ℕ → Zone → ℕ → Option ℕ
-first_picked f node zone order = option_map (λ b. b.first) (picked f node zone order)
+abbrev pub picked_first_frame : Frames → ℕ → Zone → ℕ → Option ℕ
+picked_first_frame f node zone order = option_map (λ b. b.first) (picked_block f node zone order)

@@ -25,7 +25,7 @@ row_end r = r.first + r.count * 2 ^ r.order
 
 -- the rows r and q could be joined: both are of the largest order, on one node and in one zone,
 -- and q begins where r ends
-pub record CouldBeOne (r q : BlockRow) : Type 0 where
+pub record AreJoinableRows (r q : BlockRow) : Type 0 where
   pub great : r.order ≡ 10
   pub order : q.order ≡ r.order
   pub node : q.node ≡ r.node
@@ -35,7 +35,7 @@ pub record CouldBeOne (r q : BlockRow) : Type 0 where
 -- the row and the next one in the list can't be joined
 abbrev pub EndsRow : BlockRow → List BlockRow → Type 0
 EndsRow r [] = Unit {0}
-EndsRow r (q ∷ qs) = CouldBeOne r q → ⊥
+EndsRow r (q ∷ qs) = AreJoinableRows r q → ⊥
 
 -- the list of rows is canonical: no row is empty, each block below the largest order is a row of
 -- its own, and no two rows of the largest order can be joined

@@ -7,7 +7,7 @@ use Rattle.frame_blocks.specs.Rows.{row_end}
 
 -- the frames from `first` to below `end` are a whole run of the node: all are free on it, and
 -- neither neighbour is
-pub record IsRun (f : Frames) (first end n : ℕ) : Type 0 where
+pub record IsNodeRun (f : Frames) (first end n : ℕ) : Type 0 where
   pub inside : (x : ℕ) → first ≤ x → x < end → f x ≡ Some n
   pub before : (x : ℕ) → suc x ≡ first → f x ≢ Some n
   pub behind : f end ≢ Some n
@@ -27,10 +27,10 @@ abbrev pub IsStart : ℕ → ℕ → ℕ → Type 0
 IsStart first end at = (o : ℕ) → o ≤ 10 → SetFits first end at (2 ^ o) → at % 2 ^ o ≡ 0
 
 -- the last row of the list, if there is one, fulfils P
-abbrev pub OfLast : (BlockRow → Type 0) → List BlockRow → Type 0
-OfLast P [] = Unit {0}
-OfLast P (r ∷ []) = P r
-OfLast P (r ∷ (q ∷ qs)) = OfLast P (q ∷ qs)
+abbrev pub LastRowFulfils : (BlockRow → Type 0) → List BlockRow → Type 0
+LastRowFulfils P [] = Unit {0}
+LastRowFulfils P (r ∷ []) = P r
+LastRowFulfils P (r ∷ (q ∷ qs)) = LastRowFulfils P (q ∷ qs)
 
 -- the last frame of the row is free, on the row's node
 abbrev pub EndsFree : Frames → BlockRow → Type 0

@@ -6,8 +6,8 @@ ghost use Rattle.bm_base.specs.Zones.{zone_of};
 ghost use Rattle.address_runs.specs.Runs.{AreRuns, value_at};
 ghost use Rattle.address_runs.specs.Edits.{NothingFrom};
 ghost use Rattle.frame_blocks.specs.Frames.{Frames};
-ghost use Rattle.frame_blocks.specs.Listed.{blocks_from, is_of, count_of};
-ghost use Rattle.frame_blocks.specs.Sets.{IsRun};
+ghost use Rattle.frame_blocks.specs.Listed.{blocks_from, is_block_of, count_blocks};
+ghost use Rattle.frame_blocks.specs.Sets.{IsNodeRun};
 
 use crate::block::MAX_ORDER;
 use crate::run::{FrameRun, MAX_FRAMES};
@@ -21,7 +21,7 @@ use bm_base::{Zone, zone_of};
 pub fn count_blocks(runs: &[FrameRun], node: u32, zone: Zone, order: u32) -> u64
     requires runs { AreRuns runs.now }
     requires low { NothingFrom MAX_FRAMES (value_at runs.now) }
-    ensures { result ≡ count_of (value_at runs.now) node zone order }
+    ensures { result ≡ count_blocks (value_at runs.now) node zone order }
 {
     let mut total = 0;
     for run in runs {
@@ -37,14 +37,14 @@ pub fn count_blocks(runs: &[FrameRun], node: u32, zone: Zone, order: u32) -> u64
 fn count_in_run(first: u64, end: u64, zone: Zone, order: u32) -> u64
     requires { first ≤ end }
     ensures few { result ≤ end - first }
-    ensures count { (f : Frames) (n : ℕ) → IsRun f first end n →
-        result ≡ count_by (is_of n zone order) (blocks_from f first (end - first)) }
+    ensures count { (f : Frames) (n : ℕ) → IsNodeRun f first end n →
+        result ≡ count_by (is_block_of n zone order) (blocks_from f first (end - first)) }
 {
     let mut total = 0;
     let mut at = first;
     while at < end {
         let set = set_within(first, end, at);
-        let blocks = blocks_alike(at, end, set);
+        let blocks = count_blocks_alike(at, end, set);
         if is_alike(set, at, zone, order) {
             total += blocks;
         }
@@ -64,7 +64,7 @@ fn is_alike(set: Set, at: u64, zone: Zone, order: u32) -> bool
 /// Returns how many blocks of the set's order follow each other from frame `at` on, all in its
 /// zone and below `end`. For the largest order that is as many as fit, so after them either the
 /// zone or the room ends. For any other order it is 1.
-pub fn blocks_alike(at: u64, end: u64, set: Set) -> u64
+pub fn count_blocks_alike(at: u64, end: u64, set: Set) -> u64
     requires small { set.order ≤ 10 }
     requires size { set.order ≡ 10 → set.size ≡ 1024 }
     requires start { set.order ≡ 10 → at % 1024 ≡ 0 }

@@ -6,9 +6,9 @@ ghost use Rattle.bm_base.specs.declared.zone.Zone.{Zone as AnyZone};
 ghost use Rattle.bm_base.specs.Zones.{zone_of};
 ghost use Rattle.frame_blocks.specs.declared.block.Block.{Block as AnyBlock};
 ghost use Rattle.frame_blocks.specs.Frames.{Frames, IsInSet, IsBlock, IsInBlock};
-ghost use Rattle.frame_blocks.specs.Listed.{block_of, blocks_of, Lists, AscendFrom};
-ghost use Rattle.frame_blocks.specs.Picked.{IsPicked, NoneServes, picked};
-ghost use Rattle.frame_blocks.specs.Buddies.{IsWithout, IsBuddy, without_set, with_set};
+ghost use Rattle.frame_blocks.specs.Listed.{block_of, blocks_of, ListsBlock, AscendFrom};
+ghost use Rattle.frame_blocks.specs.Picked.{IsPicked, NoneServes, picked_block};
+ghost use Rattle.frame_blocks.specs.Buddies.{RemovesFrameSet, IsBuddy, without_set, with_set};
 ghost use Rattle.address_runs.specs.Edits.{NothingFrom};
 
 use crate::run::MAX_FRAMES;
@@ -26,8 +26,8 @@ pub fn listed_blocks_are_blocks()
     ensures block { (f : Frames) (x : ℕ) (b : AnyBlock) → block_of f x ≡ Some b → IsBlock f b × IsInBlock b x }
     ensures one { (f : Frames) (x : ℕ) (b : AnyBlock) → IsBlock f b → IsInBlock b x → block_of f x ≡ Some b }
     ensures none { (f : Frames) (x : ℕ) → block_of f x ≡ None → f x ≡ None }
-    ensures sound { (f : Frames) (b : AnyBlock) → Lists (blocks_of f) b → IsBlock f b }
-    ensures complete { (f : Frames) (b : AnyBlock) → NothingFrom MAX_FRAMES f → IsBlock f b → Lists (blocks_of f) b }
+    ensures sound { (f : Frames) (b : AnyBlock) → ListsBlock (blocks_of f) b → IsBlock f b }
+    ensures complete { (f : Frames) (b : AnyBlock) → NothingFrom MAX_FRAMES f → IsBlock f b → ListsBlock (blocks_of f) b }
     ensures ascending { (f : Frames) → AscendFrom 0 (blocks_of f) }
 {}
 
@@ -36,18 +36,18 @@ pub fn listed_blocks_are_blocks()
 /// exactly if there is no such block. All free frames must be below [`crate::MAX_FRAMES`].
 pub fn picked_block_is_least()
     ensures picked { (f : Frames) (n : ℕ) (z : AnyZone) (order : ℕ) (b : AnyBlock) → NothingFrom MAX_FRAMES f →
-        (picked f n z order ≡ Some b) ↔ IsPicked f n z order b }
+        (picked_block f n z order ≡ Some b) ↔ IsPicked f n z order b }
     ensures none { (f : Frames) (n : ℕ) (z : AnyZone) (order : ℕ) → NothingFrom MAX_FRAMES f →
-        (picked f n z order ≡ None) ↔ NoneServes f n z order }
+        (picked_block f n z order ≡ None) ↔ NoneServes f n z order }
 {}
 
 /// Law: if a set of frames of a block is no longer free, the rest of the block becomes one buddy
 /// of each order from the set's to below the block's, and the other blocks stay. Removing a set of
 /// frames, or adding it back, changes only the frames of that set.
-pub fn left_blocks_are_buddies()
-    ensures left { (f : Frames) (order x : ℕ) → IsWithout f (without_set order x f) order x }
+pub fn rest_of_block_is_buddies()
+    ensures left { (f : Frames) (order x : ℕ) → RemovesFrameSet f (without_set order x f) order x }
     ensures back { (f : Frames) (order x n : ℕ) → ((y : ℕ) → IsInSet order x y → f y ≡ None) →
-        IsWithout (with_set order x n f) f order x }
-    ensures blocks { (f g : Frames) (order x : ℕ) (b c : AnyBlock) → IsWithout f g order x → IsBlock f b → IsInBlock b x →
+        RemovesFrameSet (with_set order x n f) f order x }
+    ensures blocks { (f g : Frames) (order x : ℕ) (b c : AnyBlock) → RemovesFrameSet f g order x → IsBlock f b → IsInBlock b x →
         order ≤ b.order → IsBlock g c ↔ ((IsBlock f c × (IsInBlock b c.first → ⊥)) ⊎ IsBuddy b order b.order x c) }
 {}

@@ -7,10 +7,10 @@ ghost use Rattle.address_runs.specs.Edits.{NothingFrom};
 ghost use Rattle.frame_blocks.specs.Frames.{Frames};
 ghost use Rattle.frame_blocks.specs.Listed.{block_of, blocks_from, blocks_of};
 ghost use Rattle.frame_blocks.specs.Rows.{blocks_of_rows, AreRows};
-ghost use Rattle.frame_blocks.specs.Sets.{IsRun, OfLast, EndsFree};
+ghost use Rattle.frame_blocks.specs.Sets.{IsNodeRun, LastRowFulfils, EndsFree};
 
 use crate::block::{Block, BlockRow};
-use crate::count::blocks_alike;
+use crate::count::count_blocks_alike;
 use crate::run::{FrameRun, MAX_FRAMES};
 use crate::set::set_within;
 use bm_base::{Memory, zone_of};
@@ -23,7 +23,7 @@ use std::alloc::Global;
 /// # Errors
 ///
 /// - `Memory`: the program ran out of memory.
-pub fn blocks(alloc: Global, runs: &[FrameRun]) -> Result<Vec<Block>, Memory>
+pub fn blocks_of(alloc: Global, runs: &[FrameRun]) -> Result<Vec<Block>, Memory>
     requires runs { AreRuns runs.now }
     requires low { NothingFrom MAX_FRAMES (value_at runs.now) }
     ensures { IfOk result (λ blocks. blocks.items ≡ blocks_of (value_at runs.now)) }
@@ -43,7 +43,7 @@ pub fn blocks(alloc: Global, runs: &[FrameRun]) -> Result<Vec<Block>, Memory>
 /// - `Memory`: the program ran out of memory.
 fn push_blocks(blocks: &mut Vec<Block>, first: u64, end: u64, node: u32) -> Result<(), Memory>
     requires { first ≤ end }
-    ensures { OnOk result ((f : Frames) → IsRun f first end node →
+    ensures { OnOk result ((f : Frames) → IsNodeRun f first end node →
         blocks.new.items ≡ blocks.old.items ++ blocks_from f first (end - first)) }
 {
     let mut at = first;
@@ -68,7 +68,7 @@ fn push_blocks(blocks: &mut Vec<Block>, first: u64, end: u64, node: u32) -> Resu
 /// # Errors
 ///
 /// - `Memory`: the program ran out of memory.
-pub fn rows(alloc: Global, runs: &[FrameRun]) -> Result<Vec<BlockRow>, Memory>
+pub fn block_rows(alloc: Global, runs: &[FrameRun]) -> Result<Vec<BlockRow>, Memory>
     requires runs { AreRuns runs.now }
     requires low { NothingFrom MAX_FRAMES (value_at runs.now) }
     ensures blocks { IfOk result (λ rows. blocks_of_rows rows.items ≡ blocks_of (value_at runs.now)) }
@@ -89,15 +89,15 @@ pub fn rows(alloc: Global, runs: &[FrameRun]) -> Result<Vec<BlockRow>, Memory>
 /// - `Memory`: the program ran out of memory.
 fn push_rows(rows: &mut Vec<BlockRow>, first: u64, end: u64, node: u32) -> Result<(), Memory>
     requires { first ≤ end }
-    ensures blocks { OnOk result ((f : Frames) → IsRun f first end node →
+    ensures blocks { OnOk result ((f : Frames) → IsNodeRun f first end node →
         blocks_of_rows rows.new.items ≡ blocks_of_rows rows.old.items ++ blocks_from f first (end - first)) }
-    ensures longest { OnOk result ((f : Frames) → IsRun f first end node → OfLast (EndsFree f) rows.old.items →
-        AreRows rows.old.items → OfLast (EndsFree f) rows.new.items × AreRows rows.new.items) }
+    ensures longest { OnOk result ((f : Frames) → IsNodeRun f first end node → LastRowFulfils (EndsFree f) rows.old.items →
+        AreRows rows.old.items → LastRowFulfils (EndsFree f) rows.new.items × AreRows rows.new.items) }
 {
     let mut at = first;
     while at < end {
         let set = set_within(first, end, at);
-        let count = blocks_alike(at, end, set);
+        let count = count_blocks_alike(at, end, set);
         let zone = zone_of(at);
         rows.push(BlockRow {
             order: set.order,

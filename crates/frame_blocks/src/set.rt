@@ -19,7 +19,7 @@ pub struct Set {
 
 /// Tests whether the aligned set of `size` frames that has this frame lies between `first` and
 /// `end`; `end` is excluded.
-fn fits(first: u64, end: u64, frame: u64, size: u64) -> bool
+fn set_lies_within(first: u64, end: u64, frame: u64, size: u64) -> bool
     requires some { 0 < size }
     requires below { frame < end }
     ensures { IsTrue result ↔ SetFits first end frame size }
@@ -40,7 +40,7 @@ pub fn set_within(first: u64, end: u64, frame: u64) -> Set
 {
     let mut order = MAX_ORDER;
     let mut size = MAX_SIZE;
-    while !fits(first, end, frame, size) {
+    while !set_lies_within(first, end, frame, size) {
         order -= 1;
         size /= 2;
     }

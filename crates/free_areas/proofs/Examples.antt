@@ -8,7 +8,7 @@ use Rattle.bm_base.specs.Zones.{zone_of}
 use Rattle.frame_blocks.specs.declared.block.Block.{Block}
 use Rattle.frame_blocks.specs.Frames.{Frames, IsBlock}
 use Rattle.frame_blocks.proofs.BuddyLaws.{one_at}
-use Rattle.free_areas.specs.Areas.{IsRightBehind, AreAreas, IsLike}
+use Rattle.free_areas.specs.Areas.{FollowsLargestBlock, IndexesFreeBlocks, AreLargestAlike}
 
 -- frame 5 alone is free, on node 7
 abbrev lone : Frames
@@ -43,27 +43,27 @@ lone_alone c block =
     one_at lone lone_block c lone_is_block block (sym here)
 
 -- its block is the index; a list without it isn't
-area_examples : AreAreas lone (lone_block ∷ []) × (AreAreas lone [] → ⊥)
+area_examples : IndexesFreeBlocks lone (lone_block ∷ []) × (IndexesFreeBlocks lone [] → ⊥)
 area_examples = (
   record {
     sound = λ b has. ⊎_elim (λ (is : lone_block ≡ b). subst (λ (c : Block). IsBlock lone c) is lone_is_block)
         (λ (none : ⊥). absurd none) has;
     complete = λ b is. inl (inl (lone_alone b is));
   },
-  λ areas. ⊎_elim (λ (none : ⊥). none) (λ (follows : IsRightBehind lone lone_block). let ten = follows.great in absurd (omega (arith, ten)))
+  λ areas. ⊎_elim (λ (none : ⊥). none) (λ (follows : FollowsLargestBlock lone lone_block). let ten = follows.great in absurd (omega (arith, ten)))
       (areas.complete lone_block lone_is_block),
 )
 
 -- a block at frame 0 comes after no other, and neither does a single frame
-follow_examples : (IsRightBehind lone (great 0) → ⊥)
-    × (IsRightBehind lone (record { order = 0; first = 1029; node = 7; zone = zone.Dma }) → ⊥)
+follow_examples : (FollowsLargestBlock lone (great 0) → ⊥)
+    × (FollowsLargestBlock lone (record { order = 0; first = 1029; node = 7; zone = zone.Dma }) → ⊥)
 follow_examples = (
   λ follows. let room = follows.room in absurd (omega (arith, room)),
   λ follows. let ten = follows.great in absurd (omega (arith, ten)),
 )
 
-like_examples : IsLike (great 0) (great 1024) × (IsLike (great 0) (record { order = 10; first = 1024; node = 8; zone = zone.Dma }) → ⊥)
-    × (IsLike (great 0) lone_block → ⊥)
+like_examples : AreLargestAlike (great 0) (great 1024) × (AreLargestAlike (great 0) (record { order = 10; first = 1024; node = 8; zone = zone.Dma }) → ⊥)
+    × (AreLargestAlike (great 0) lone_block → ⊥)
 like_examples = (
   record { great = refl; order = refl; node = refl; zone = refl },
   λ like. let node = like.node in absurd (omega (arith, node)),

@@ -6,7 +6,7 @@ use Rattle.bm_base.specs.declared.zone.Zone.{Zone}
 use Rattle.frame_blocks.specs.declared.block.Block.{Block}
 use Rattle.frame_blocks.specs.Frames.{Frames}
 use Rattle.frame_blocks.specs.Picked.{IsPicked, NoneServes}
-use Rattle.free_areas.specs.Areas.{AreAreas}
+use Rattle.free_areas.specs.Areas.{IndexesFreeBlocks}
 use Rattle.free_areas.proofs.AreaLaws.{led}
 use Rattle.free_areas.proofs.OrderLaws.{block_cmp, has_key, key_has, between, from_first, before_last, least_of}
 
@@ -14,7 +14,7 @@ use Rattle.free_areas.proofs.OrderLaws.{block_cmp, has_key, key_has, between, fr
 abbrev pub low_key : ℕ → Zone → ℕ → Block
 low_key n z o = record { node = n; zone = z; order = o; first = 0 }
 
-pub picked_first : (f : Frames) (s : BTreeSet Block) (n : ℕ) (z : Zone) (o : ℕ) (r rest : List Block) (b : Block) → AreAreas f s.keys
+pub picked_first : (f : Frames) (s : BTreeSet Block) (n : ℕ) (z : Zone) (o : ℕ) (r rest : List Block) (b : Block) → IndexesFreeBlocks f s.keys
     → IsKeyRangeOf block_cmp (Included (low_key n z o)) (Excluded (low_key n z 11)) s r → r ≡ b ∷ rest → IsPicked f n z o b
 picked_first f s n z o r rest b areas range is =
     let at : IsKeyRangeOf block_cmp (Included (low_key n z o)) (Excluded (low_key n z 11)) s (b ∷ rest) =
@@ -43,7 +43,7 @@ picked_first f s n z o r rest b areas range is =
           (least_of b d (area.0 ∙ sym node_is) (area.1 ∙ sym zone_is) up_to);
     }
 
-pub none_first : (f : Frames) (s : BTreeSet Block) (n : ℕ) (z : Zone) (o : ℕ) (r : List Block) → AreAreas f s.keys
+pub none_first : (f : Frames) (s : BTreeSet Block) (n : ℕ) (z : Zone) (o : ℕ) (r : List Block) → IndexesFreeBlocks f s.keys
     → IsKeyRangeOf block_cmp (Included (low_key n z o)) (Excluded (low_key n z 11)) s r → r ≡ [] → NoneServes f n z o
 none_first f s n z o r areas range is b block serves =
     let it = led f s.keys b areas block in
@@ -58,7 +58,7 @@ none_first f s n z o r areas range is b block serves =
     cc (sym (has_key d s it.has) ∙ range.5 is d (above, below))
 
 -- the result of the look-up, whether it finds a block or not
-pub least_is : (f : Frames) (s : BTreeSet Block) (n : ℕ) (z : Zone) (o : ℕ) (r : List Block) (first : Option Block) → AreAreas f s.keys
+pub least_is : (f : Frames) (s : BTreeSet Block) (n : ℕ) (z : Zone) (o : ℕ) (r : List Block) (first : Option Block) → IndexesFreeBlocks f s.keys
     → IsKeyRangeOf block_cmp (Included (low_key n z o)) (Excluded (low_key n z 11)) s r
     → MatchOption first (r ≡ []) (λ b. (rest : List Block) × (r ≡ b ∷ rest))
     → MatchOption first (NoneServes f n z o) (λ b. IsPicked f n z o b)

@@ -15,7 +15,7 @@ use Rattle.bm_base.specs.declared.zone.Zone.TheVariants as zone
 use Rattle.bm_base.specs.contracts.zone.ZoneOrd.TheImpl as zone_ord
 use Rattle.frame_blocks.specs.declared.block.Block.{Block}
 use Rattle.frame_blocks.specs.contracts.block.BlockOrd.TheImpl as block_ord
-use Rattle.frame_blocks.specs.Listed.{Lists}
+use Rattle.frame_blocks.specs.Listed.{ListsBlock}
 
 abbrev pub zone_cmp : Zone → Zone → Ordering
 zone_cmp = (zone_ord.ghosts).cmp
@@ -121,47 +121,47 @@ at_self b = ap is_eq (cmp_self b)
 at_is : (b c : Block) → is_at (block_cmp b) c ≡ true → b ≡ c
 at_is b c h = cmp_equal b c (equal_told (block_cmp b c) h)
 
-in_list : (b : Block) (ks : List Block) → Lists ks b → list_any (is_at (block_cmp b)) ks ≡ true
+in_list : (b : Block) (ks : List Block) → ListsBlock ks b → list_any (is_at (block_cmp b)) ks ≡ true
 in_list b [] has = absurd has
 in_list b (k ∷ ks) has = elim (cases_Bool (is_at (block_cmp b) k)) as (λ _. list_any (is_at (block_cmp b)) (k ∷ ks) ≡ true) [
   | inl on ↦ rw on refl
   | inr off ↦
-      let rest : Lists ks b = ⊎_elim
+      let rest : ListsBlock ks b = ⊎_elim
       (λ (same : k ≡ b). absurd (cc (sym (at_self b) ∙ ap (is_at (block_cmp b)) (sym same) ∙ off)))
-      (λ (inner : Lists ks b). inner)
+      (λ (inner : ListsBlock ks b). inner)
       has in
       rw off (in_list b ks rest)
 ]
 
-list_in : (b : Block) (ks : List Block) → list_any (is_at (block_cmp b)) ks ≡ true → Lists ks b
+list_in : (b : Block) (ks : List Block) → list_any (is_at (block_cmp b)) ks ≡ true → ListsBlock ks b
 list_in b [] is = cc
-list_in b (k ∷ ks) is = elim (cases_Bool (is_at (block_cmp b) k)) as (λ _. Lists (k ∷ ks) b) [
+list_in b (k ∷ ks) is = elim (cases_Bool (is_at (block_cmp b) k)) as (λ _. ListsBlock (k ∷ ks) b) [
   | inl on ↦ inl (sym (at_is b k on))
   | inr off ↦ inr (list_in b ks (rw off at is))
 ]
 
-pub has_key : (b : Block) (s : BTreeSet Block) → Lists s.keys b → contains block_cmp s b ≡ true
+pub has_key : (b : Block) (s : BTreeSet Block) → ListsBlock s.keys b → contains block_cmp s b ≡ true
 has_key b s has = in_list b s.keys has
 
-pub key_has : (b : Block) (s : BTreeSet Block) → contains block_cmp s b ≡ true → Lists s.keys b
+pub key_has : (b : Block) (s : BTreeSet Block) → contains block_cmp s b ≡ true → ListsBlock s.keys b
 key_has b s is = list_in b s.keys is
 
 -- adding a key, and removing one
-pub inserted : (old new : BTreeSet Block) (k b : Block) → Updates block_cmp old new k true → Lists new.keys b ↔ ((b ≡ k) ⊎ Lists old.keys b)
-inserted old new k b updates = elim (cases_Bool (is_at (block_cmp k) b)) as (λ _. Lists new.keys b ↔ ((b ≡ k) ⊎ Lists old.keys b)) [
+pub inserted : (old new : BTreeSet Block) (k b : Block) → Updates block_cmp old new k true → ListsBlock new.keys b ↔ ((b ≡ k) ⊎ ListsBlock old.keys b)
+inserted old new k b updates = elim (cases_Bool (is_at (block_cmp k) b)) as (λ _. ListsBlock new.keys b ↔ ((b ≡ k) ⊎ ListsBlock old.keys b)) [
   | inl on ↦ (λ has. inl (sym (at_is k b on)), λ either. key_has b new (updates.0 b ∙ rw on refl))
   | inr off ↦
       let same : contains block_cmp new b ≡ contains block_cmp old b = updates.0 b ∙ rw off refl in (
         λ has. inr (key_has b old (sym same ∙ has_key b new has)),
         λ either. ⊎_elim
             (λ (is : b ≡ k). absurd (cc (sym (at_self k) ∙ ap (is_at (block_cmp k)) (sym is) ∙ off)))
-            (λ (has : Lists old.keys b). key_has b new (same ∙ has_key b old has))
+            (λ (has : ListsBlock old.keys b). key_has b new (same ∙ has_key b old has))
             either,
       )
 ]
 
-pub removed : (old new : BTreeSet Block) (k b : Block) → Updates block_cmp old new k false → Lists new.keys b ↔ ((b ≢ k) × Lists old.keys b)
-removed old new k b updates = elim (cases_Bool (is_at (block_cmp k) b)) as (λ _. Lists new.keys b ↔ ((b ≢ k) × Lists old.keys b)) [
+pub removed : (old new : BTreeSet Block) (k b : Block) → Updates block_cmp old new k false → ListsBlock new.keys b ↔ ((b ≢ k) × ListsBlock old.keys b)
+removed old new k b updates = elim (cases_Bool (is_at (block_cmp k) b)) as (λ _. ListsBlock new.keys b ↔ ((b ≢ k) × ListsBlock old.keys b)) [
   | inl on ↦ (
     λ has. let none : contains block_cmp new b ≡ false = updates.0 b ∙ rw on refl in absurd (cc (sym (has_key b new has) ∙ none)),
     λ both. absurd (both.0 (sym (at_is k b on))),

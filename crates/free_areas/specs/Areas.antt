@@ -5,27 +5,27 @@ use Rattle.std.specs.Prelude.{◌≡◌, ◌⊎◌, ◌↔◌, ℕ, ◌-◌, ◌
 use Rattle.frame_blocks.specs.declared.block.Block.{Block}
 use Rattle.frame_blocks.specs.declared.block.BlockRow.{BlockRow}
 use Rattle.frame_blocks.specs.Frames.{Frames, IsBlock}
-use Rattle.frame_blocks.specs.Listed.{Lists}
+use Rattle.frame_blocks.specs.Listed.{ListsBlock}
 use Rattle.frame_blocks.specs.Buddies.{IsBuddy}
 
 -- the block is of the largest order, and begins where another block of its order, node and zone
 -- ends
-pub record IsRightBehind (f : Frames) (b : Block) : Type 0 where
+pub record FollowsLargestBlock (f : Frames) (b : Block) : Type 0 where
   pub great : b.order ≡ 10
   pub room : 1024 ≤ b.first
   pub before : IsBlock f (record b { first = b.first - 1024 })
 
 -- the list is an index of the blocks
-pub record AreAreas (f : Frames) (bs : List Block) : Type 0 where
-  pub sound : (b : Block) → Lists bs b → IsBlock f b
-  pub complete : (b : Block) → IsBlock f b → Lists bs b ⊎ IsRightBehind f b
+pub record IndexesFreeBlocks (f : Frames) (bs : List Block) : Type 0 where
+  pub sound : (b : Block) → ListsBlock bs b → IsBlock f b
+  pub complete : (b : Block) → IsBlock f b → ListsBlock bs b ⊎ FollowsLargestBlock f b
 
 -- the first block of a row
-abbrev pub lead : BlockRow → Block
-lead r = record { order = r.order; first = r.first; node = r.node; zone = r.zone }
+abbrev pub lead_block : BlockRow → Block
+lead_block r = record { order = r.order; first = r.first; node = r.node; zone = r.zone }
 
 -- both blocks are of the largest order, on one node and in one zone
-pub record IsLike (b next : Block) : Type 0 where
+pub record AreLargestAlike (b next : Block) : Type 0 where
   pub great : b.order ≡ 10
   pub order : next.order ≡ 10
   pub node : next.node ≡ b.node
@@ -33,9 +33,9 @@ pub record IsLike (b next : Block) : Type 0 where
 
 -- the second list has what the first has, and the buddies of x in b of the orders from `low` to
 -- below `until`
-abbrev pub HasBuddies : Block → ℕ → ℕ → ℕ → List Block → List Block → Type 0
-HasBuddies b low until x old new = (c : Block) → Lists new c ↔ (IsBuddy b low until x c ⊎ Lists old c)
+abbrev pub AddsBuddies : Block → ℕ → ℕ → ℕ → List Block → List Block → Type 0
+AddsBuddies b low until x old new = (c : Block) → ListsBlock new c ↔ (IsBuddy b low until x c ⊎ ListsBlock old c)
 
 -- the second list has what the first has, without those buddies
-abbrev pub LacksBuddies : Block → ℕ → ℕ → ℕ → List Block → List Block → Type 0
-LacksBuddies b low until x old new = (c : Block) → Lists new c ↔ ((IsBuddy b low until x c → ⊥) × Lists old c)
+abbrev pub RemovesBuddies : Block → ℕ → ℕ → ℕ → List Block → List Block → Type 0
+RemovesBuddies b low until x old new = (c : Block) → ListsBlock new c ↔ ((IsBuddy b low until x c → ⊥) × ListsBlock old c)

@@ -6,12 +6,12 @@ ghost use Rattle.address_runs.specs.Edits.{NothingFrom};
 ghost use Rattle.frame_blocks.specs.Frames.{Frames, IsBlock, IsInBlock};
 ghost use Rattle.frame_blocks.specs.Listed.{block_of};
 ghost use Rattle.frame_blocks.specs.Picked.{IsPicked, NoneServes};
-ghost use Rattle.frame_blocks.specs.Buddies.{IsWithout};
-ghost use Rattle.free_areas.specs.Areas.{AreAreas};
+ghost use Rattle.frame_blocks.specs.Buddies.{RemovesFrameSet};
+ghost use Rattle.free_areas.specs.Areas.{IndexesFreeBlocks};
 
-use crate::index::{lead, put, put_buddies, put_out_buddies, uncover};
+use crate::index::{lead_block, insert_block, insert_buddies, remove_buddies, remove_and_expose_next};
 use bm_base::{Memory, Zone};
-use frame_blocks::{Block, FrameRun, MAX_FRAMES, MAX_ORDER, rows};
+use frame_blocks::{Block, FrameRun, MAX_FRAMES, MAX_ORDER, block_rows};
 use std::alloc::Global;
 use std::collections::BTreeSet;
 use std::marker::Model;
@@ -39,15 +39,15 @@ impl Areas {
     /// # Errors
     ///
     /// - `Memory`: the program ran out of memory.
-    pub fn of(alloc: Global, runs: &[FrameRun]) -> Result<Areas, Memory>
+    pub fn index_free_runs(alloc: Global, runs: &[FrameRun]) -> Result<Areas, Memory>
         requires runs { AreRuns runs.now }
         requires low { NothingFrom MAX_FRAMES (value_at runs.now) }
-        ensures { IfOk result (λ areas. AreAreas (value_at runs.now) areas) }
+        ensures { IfOk result (λ areas. IndexesFreeBlocks (value_at runs.now) areas) }
     {
-        let rows = rows(alloc, runs)?;
+        let rows = block_rows(alloc, runs)?;
         let mut blocks = BTreeSet::new(alloc);
         for row in &rows {
-            put(&mut blocks, lead(row))?;
+            insert_block(&mut blocks, lead_block(row))?;
         }
         Ok(Areas { blocks })
     }
@@ -55,9 +55,9 @@ impl Areas {
     /// Returns the block that serves a request for `2^order` frames of the node and the zone, or
     /// `None` if no block does. It has the least order that is large enough, and is the lowest
     /// block of that order (`__rmqueue_smallest`). Takes one look-up. `order` is at most 10.
-    pub fn least(&self, node: u32, zone: Zone, order: u32) -> Option<Block>
+    pub fn find_picked_block(&self, node: u32, zone: Zone, order: u32) -> Option<Block>
         requires { order ≤ 10 }
-        ensures { (f : Frames) → AreAreas f self.now →
+        ensures { (f : Frames) → IndexesFreeBlocks f self.now →
             MatchOption result (NoneServes f node zone order) (λ block. IsPicked f node zone order block) }
     {
         let from = Block {
@@ -82,7 +82,7 @@ impl Areas {
     /// # Errors
     ///
     /// - `Memory`: the program ran out of memory. The index is invalid then.
-    pub fn split(
+    pub fn split_block(
         &mut self,
         block: &Block,
         behind: Option<Block>,
@@ -91,12 +91,12 @@ impl Areas {
     ) -> Result<(), Memory>
         requires small { block.now.order ≤ 10 }
         requires low { frame < MAX_FRAMES }
-        ensures { OnOk result ((f g : Frames) → AreAreas f self.old → IsWithout f g order frame → IsBlock f block.now →
+        ensures { OnOk result ((f g : Frames) → IndexesFreeBlocks f self.old → RemovesFrameSet f g order frame → IsBlock f block.now →
             IsInBlock block.now frame → order ≤ block.now.order → behind ≡ block_of f (block.now.first + 2 ^ block.now.order) →
-            AreAreas g self.new) }
+            IndexesFreeBlocks g self.new) }
     {
-        uncover(&mut self.blocks, block, behind)?;
-        put_buddies(&mut self.blocks, block, order, frame)
+        remove_and_expose_next(&mut self.blocks, block, behind)?;
+        insert_buddies(&mut self.blocks, block, order, frame)
     }
 
     /// Updates the index after the `2^order` frames around `frame` were freed (`__free_one_page`).
@@ -105,13 +105,13 @@ impl Areas {
     /// # Errors
     ///
     /// - `Memory`: the program ran out of memory. The index is invalid then.
-    pub fn join(&mut self, block: &Block, order: u32, frame: u64) -> Result<(), Memory>
+    pub fn merge_block(&mut self, block: &Block, order: u32, frame: u64) -> Result<(), Memory>
         requires small { block.now.order ≤ 10 }
         requires low { frame < MAX_FRAMES }
-        ensures { OnOk result ((f g : Frames) → AreAreas g self.old → IsWithout f g order frame → IsBlock f block.now →
-            IsInBlock block.now frame → order ≤ block.now.order → AreAreas f self.new) }
+        ensures { OnOk result ((f g : Frames) → IndexesFreeBlocks g self.old → RemovesFrameSet f g order frame → IsBlock f block.now →
+            IsInBlock block.now frame → order ≤ block.now.order → IndexesFreeBlocks f self.new) }
     {
-        put_out_buddies(&mut self.blocks, block, order, frame);
-        put(&mut self.blocks, *block)
+        remove_buddies(&mut self.blocks, block, order, frame);
+        insert_block(&mut self.blocks, *block)
     }
 }

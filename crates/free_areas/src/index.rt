@@ -2,17 +2,17 @@
 
 ghost use Rattle.std.specs.Prelude.{◌≡◌, ◌≢◌, ◌⊎◌, ◌↔◌, ℕ, ◌+◌, ◌*◌, ◌/◌, ◌^◌, ◌<◌, ◌≤◌, Some, None, OnOk, IfSome, IfNone};
 ghost use Rattle.frame_blocks.specs.declared.block.Block.{Block as AnyBlock};
-ghost use Rattle.frame_blocks.specs.Listed.{Lists};
-ghost use Rattle.frame_blocks.specs.Buddies.{other_half, buddy_first, buddy_in};
-ghost use Rattle.free_areas.specs.Areas.{lead, IsLike, HasBuddies, LacksBuddies};
+ghost use Rattle.frame_blocks.specs.Listed.{ListsBlock};
+ghost use Rattle.frame_blocks.specs.Buddies.{other_half, buddy_first, buddy_of};
+ghost use Rattle.free_areas.specs.Areas.{lead_block, AreLargestAlike, AddsBuddies, RemovesBuddies};
 
 use bm_base::Memory;
 use frame_blocks::{Block, BlockRow, MAX_FRAMES, MAX_ORDER};
 use std::collections::BTreeSet;
 
 /// Returns the first block of a row.
-pub fn lead(row: &BlockRow) -> Block
-    ensures { result ≡ lead row.now }
+pub fn lead_block(row: &BlockRow) -> Block
+    ensures { result ≡ lead_block row.now }
 {
     Block {
         node: row.node,
@@ -27,16 +27,16 @@ pub fn lead(row: &BlockRow) -> Block
 /// # Errors
 ///
 /// - `Memory`: the program ran out of memory.
-pub fn put(blocks: &mut BTreeSet<Block>, block: Block) -> Result<(), Memory>
-    ensures { OnOk result ((b : AnyBlock) → Lists blocks.new.keys b ↔ ((b ≡ block) ⊎ Lists blocks.old.keys b)) }
+pub fn insert_block(blocks: &mut BTreeSet<Block>, block: Block) -> Result<(), Memory>
+    ensures { OnOk result ((b : AnyBlock) → ListsBlock blocks.new.keys b ↔ ((b ≡ block) ⊎ ListsBlock blocks.old.keys b)) }
 {
     blocks.insert(block)?;
     Ok(())
 }
 
 /// Removes a key from the set.
-fn put_out(blocks: &mut BTreeSet<Block>, block: &Block)
-    ensures { (b : AnyBlock) → Lists blocks.new.keys b ↔ ((b ≢ block.now) × Lists blocks.old.keys b) }
+fn remove_block(blocks: &mut BTreeSet<Block>, block: &Block)
+    ensures { (b : AnyBlock) → ListsBlock blocks.new.keys b ↔ ((b ≢ block.now) × ListsBlock blocks.old.keys b) }
 {
     let _ = blocks.remove(block);
 }
@@ -47,19 +47,19 @@ fn put_out(blocks: &mut BTreeSet<Block>, block: &Block)
 /// # Errors
 ///
 /// - `Memory`: the program ran out of memory.
-pub fn uncover(
+pub fn remove_and_expose_next(
     blocks: &mut BTreeSet<Block>,
     block: &Block,
     behind: Option<Block>,
 ) -> Result<(), Memory>
-    ensures sound { OnOk result ((b : AnyBlock) → Lists blocks.new.keys b →
-        ((b ≢ block.now) × Lists blocks.old.keys b) ⊎ ((behind ≡ Some b) × IsLike block.now b)) }
-    ensures kept { OnOk result ((b : AnyBlock) → b ≢ block.now → Lists blocks.old.keys b → Lists blocks.new.keys b) }
-    ensures behind { OnOk result ((b : AnyBlock) → behind ≡ Some b → IsLike block.now b → Lists blocks.new.keys b) }
+    ensures sound { OnOk result ((b : AnyBlock) → ListsBlock blocks.new.keys b →
+        ((b ≢ block.now) × ListsBlock blocks.old.keys b) ⊎ ((behind ≡ Some b) × AreLargestAlike block.now b)) }
+    ensures kept { OnOk result ((b : AnyBlock) → b ≢ block.now → ListsBlock blocks.old.keys b → ListsBlock blocks.new.keys b) }
+    ensures behind { OnOk result ((b : AnyBlock) → behind ≡ Some b → AreLargestAlike block.now b → ListsBlock blocks.new.keys b) }
 {
-    put_out(blocks, block);
-    match like(block, behind) {
-        Some(next) => put(blocks, next),
+    remove_block(blocks, block);
+    match next_like_block(block, behind) {
+        Some(next) => insert_block(blocks, next),
         None => Ok(()),
     }
 }
@@ -70,7 +70,7 @@ pub fn uncover(
 /// # Errors
 ///
 /// - `Memory`: the program ran out of memory.
-pub fn put_buddies(
+pub fn insert_buddies(
     blocks: &mut BTreeSet<Block>,
     block: &Block,
     order: u32,
@@ -78,10 +78,10 @@ pub fn put_buddies(
 ) -> Result<(), Memory>
     requires small { block.now.order ≤ 10 }
     requires low { frame < MAX_FRAMES }
-    ensures { OnOk result (HasBuddies block.now order block.now.order frame blocks.old.keys blocks.new.keys) }
+    ensures { OnOk result (AddsBuddies block.now order block.now.order frame blocks.old.keys blocks.new.keys) }
 {
     for at in order..block.order {
-        put(blocks, buddy_of(block, at, frame))?;
+        insert_block(blocks, buddy_of(block, at, frame))?;
     }
     Ok(())
 }
@@ -89,21 +89,21 @@ pub fn put_buddies(
 /// For each order from `order` to below the block's, removes the buddy of the aligned set of that
 /// order that has the frame, on the block's node and in its zone. A buddy that isn't there is
 /// ignored.
-pub fn put_out_buddies(blocks: &mut BTreeSet<Block>, block: &Block, order: u32, frame: u64)
+pub fn remove_buddies(blocks: &mut BTreeSet<Block>, block: &Block, order: u32, frame: u64)
     requires small { block.now.order ≤ 10 }
     requires low { frame < MAX_FRAMES }
-    ensures { LacksBuddies block.now order block.now.order frame blocks.old.keys blocks.new.keys }
+    ensures { RemovesBuddies block.now order block.now.order frame blocks.old.keys blocks.new.keys }
 {
     for at in order..block.order {
-        put_out(blocks, &buddy_of(block, at, frame));
+        remove_block(blocks, &buddy_of(block, at, frame));
     }
 }
 
 /// Returns the next block if it and `block` are of the largest order, on one node and in one zone.
 /// The index may lack that next block as long as it has the first of them.
-fn like(block: &Block, behind: Option<Block>) -> Option<Block>
-    ensures some { IfSome result (λ next. (behind ≡ Some next) × IsLike block.now next) }
-    ensures none { IfNone result ((next : AnyBlock) → behind ≡ Some next → IsLike block.now next → ⊥) }
+fn next_like_block(block: &Block, behind: Option<Block>) -> Option<Block>
+    ensures some { IfSome result (λ next. (behind ≡ Some next) × AreLargestAlike block.now next) }
+    ensures none { IfNone result ((next : AnyBlock) → behind ≡ Some next → AreLargestAlike block.now next → ⊥) }
 {
     behind.filter(|next| {
         block.order == MAX_ORDER
@@ -118,9 +118,9 @@ fn like(block: &Block, behind: Option<Block>) -> Option<Block>
 fn buddy_of(block: &Block, order: u32, frame: u64) -> Block
     requires small { order < 10 }
     requires low { frame < MAX_FRAMES }
-    ensures { result ≡ buddy_in block.now order frame }
+    ensures { result ≡ buddy_of block.now order frame }
 {
-    let size = size_of(order);
+    let size = frames_per_block(order);
     let half = frame / size;
     let other = if half % 2 == 0 { half + 1 } else { half - 1 };
     Block {
@@ -131,7 +131,7 @@ fn buddy_of(block: &Block, order: u32, frame: u64) -> Block
 }
 
 /// Returns the number of frames in a block of this order, which is at most 10.
-fn size_of(order: u32) -> u64
+fn frames_per_block(order: u32) -> u64
     requires { order ≤ 10 }
     ensures value { result ≡ 2 ^ order }
     ensures some { 0 < result }

@@ -8,10 +8,10 @@ use Rattle.memblock_model.specs.declared.owner.Owner.TheVariants as owner
 use Rattle.memblock_model.specs.declared.owner.Which.TheVariants as which
 use Rattle.memblock_model.specs.declared.item.Item.{Item}
 use Rattle.memblock_model.specs.declared.item.Item.TheVariants as item
-use Rattle.memblock_ranges.specs.Spelling.{spelled_table, fields_of}
-use Rattle.memblock_ranges.specs.Tables.{Table}
-use Rattle.growth_model.specs.Bytes.{shown_by, AreSpelled, byte_after, Filled, byte, AreMadeBy}
-use Rattle.growth_model.proofs.BytesLaws.{shown_by-again}
+use Rattle.memblock_ranges.specs.Spelling.{encode_table, encode_fields}
+use Rattle.memblock_ranges.specs.Tables.{TableView}
+use Rattle.growth_model.specs.Bytes.{byte_with_tables, TablesAreEncoded, byte_after, Fill, byte_from_history, AreMadeBy}
+use Rattle.growth_model.proofs.BytesLaws.{byte_with_tables-again}
 
 abbrev at_base : ℕ → ℕ → RangeView
 at_base base size = record { base = base; size = size }
@@ -20,24 +20,24 @@ at_base base size = record { base = base; size = size }
 abbrev one_run : RunOf LabelView
 one_run = record { base = 0x1000; size = 0x800; value = plain_label }
 
-abbrev small_table : Table
+abbrev small_table : TableView
 small_table = record { records = one_run ∷ []; place = 0x500000; room = 2 }
 
-abbrev empty_table : Table
+abbrev empty_table : TableView
 empty_table = record { records = []; place = 0x600000; room = 1 }
 
 -- a byte of the record's base, one of an empty slot, and one outside both tables
-shown_by_examples : (shown_by small_table empty_table 0x500001 7 ≡ 0x10) × (shown_by small_table empty_table 0x600000 7 ≡ 0)
-    × (shown_by small_table empty_table 0x500030 7 ≡ 7)
-unfolding spelled_table fields_of
+shown_by_examples : (byte_with_tables small_table empty_table 0x500001 7 ≡ 0x10) × (byte_with_tables small_table empty_table 0x600000 7 ≡ 0)
+    × (byte_with_tables small_table empty_table 0x500030 7 ≡ 7)
+unfolding encode_table encode_fields
 shown_by_examples = (refl, refl, refl)
 
 -- memory with the tables in it and 7 elsewhere has both tables; memory with 7 everywhere hasn't
-are_spelled : AreSpelled small_table empty_table (λ x. shown_by small_table empty_table x 7)
-are_spelled = λ x. sym (shown_by-again small_table empty_table x 7)
+are_spelled : TablesAreEncoded small_table empty_table (λ x. byte_with_tables small_table empty_table x 7)
+are_spelled = λ x. sym (byte_with_tables-again small_table empty_table x 7)
 
-not_spelled : ¬ AreSpelled small_table empty_table (λ x. 7)
-unfolding spelled_table fields_of
+not_spelled : ¬ TablesAreEncoded small_table empty_table (λ x. 7)
+unfolding encode_table encode_fields
 not_spelled = λ spelled. let clash : 7 ≡ 0x10 = spelled 0x500001 in omega (arith, clash)
 
 -- the image ends at 0x1100000; at first the memory table is at 0x10FE000 and the reserved one at
@@ -67,23 +67,23 @@ unfolding byte_after
 after_examples = (refl, refl, refl)
 
 -- a fill before the first move, one between the moves, and one after both
-abbrev early : Filled
+abbrev early : Fill
 early = record { range = at_base 0x10FE000 0x1000; byte = 1; at = 1 }
 
-abbrev between : Filled
+abbrev between : Fill
 between = record { range = at_base 0x10FE800 0x1000; byte = 2; at = 2 }
 
-abbrev late : Filled
+abbrev late : Fill
 late = record { range = at_base 0x2000000 0x10; byte = 3; at = 3 }
 
-abbrev fills : List Filled
+abbrev fills : List Fill
 fills = early ∷ between ∷ late ∷ []
 
 -- the early fill is lost when the table moves; the fill between stays; the late one overwrites the
 -- bytes that the second move left
-byte_examples : (byte kernel moved_twice fills 0x10FE000 ≡ 0) × (byte kernel moved_twice fills 0x10FE900 ≡ 2)
-    × (byte kernel moved_twice fills 0x2000000 ≡ 3)
-unfolding byte
+byte_examples : (byte_from_history kernel moved_twice fills 0x10FE000 ≡ 0) × (byte_from_history kernel moved_twice fills 0x10FE900 ≡ 2)
+    × (byte_from_history kernel moved_twice fills 0x2000000 ≡ 3)
+unfolding byte_from_history
 byte_examples = (refl, refl, refl)
 
 made_examples : AreMadeBy 3 fills × ¬ AreMadeBy 2 fills

@@ -5,48 +5,48 @@ use Rattle.std.proofs.lemmas.Bool.{ne_eqb}
 use Rattle.bm_base.specs.Range.{RangeView, covers}
 use Rattle.memblock_model.specs.declared.owner.Which.TheVariants as which
 use Rattle.memblock_model.specs.declared.item.Item.{Item}
-use Rattle.memblock_ranges.specs.Tables.{Table, bytes_of}
-use Rattle.growth_model.specs.Sound.{Clear, IsAway}
-use Rattle.growth_model.specs.Bytes.{table_for, spelled_at, shown_by, AreSpelled, shown, leaves, byte_after, Filled, put, filled, written, byte, AreMadeBy, Follows, Holds}
+use Rattle.memblock_ranges.specs.Tables.{TableView, bytes_of}
+use Rattle.growth_model.specs.Sound.{AreDisjoint, TouchesNoTable}
+use Rattle.growth_model.specs.Bytes.{table_for, table_byte_at, byte_with_tables, TablesAreEncoded, byte_with_item_tables, is_vacated_by, byte_after, Fill, byte_after_fill, byte_after_fills, byte_outside_tables, byte_from_history, AreMadeBy, Follows, AreBytesFromHistory}
 use Rattle.growth_model.proofs.BytesLaws.{AreMadeBy-more, after-byte}
 
-filled-append : (n : ℕ) (fills : List Filled) (f : Filled) (x b : ℕ) →
-    filled n (fills ++ f ∷ []) x b ≡ (if (f.at == n) && covers f.range x then f.byte else filled n fills x b)
-filled-append n [] f x b = refl
-filled-append n (g ∷ fills) f x b = filled-append n fills f x (if (g.at == n) && covers g.range x then g.byte else b)
+byte_after_fills-append : (n : ℕ) (fills : List Fill) (f : Fill) (x b : ℕ) →
+    byte_after_fills n (fills ++ f ∷ []) x b ≡ (if (f.at == n) && covers f.range x then f.byte else byte_after_fills n fills x b)
+byte_after_fills-append n [] f x b = refl
+byte_after_fills-append n (g ∷ fills) f x b = byte_after_fills-append n fills f x (if (g.at == n) && covers g.range x then g.byte else b)
 
 -- a fill at this number of items is applied last
-filled-newest : (n : ℕ) (fills : List Filled) (f : Filled) (x b : ℕ) → f.at ≡ n →
-    filled n (fills ++ f ∷ []) x b ≡ put f x (filled n fills x b)
-filled-newest n fills f x b now =
-    filled-append n fills f x b
-    ∙ ap (λ (t : Bool). if t && covers f.range x then f.byte else filled n fills x b) (eq-eqb f.at n now)
+byte_after_fills-newest : (n : ℕ) (fills : List Fill) (f : Fill) (x b : ℕ) → f.at ≡ n →
+    byte_after_fills n (fills ++ f ∷ []) x b ≡ byte_after_fill f x (byte_after_fills n fills x b)
+byte_after_fills-newest n fills f x b now =
+    byte_after_fills-append n fills f x b
+    ∙ ap (λ (t : Bool). if t && covers f.range x then f.byte else byte_after_fills n fills x b) (eq-eqb f.at n now)
 
 -- a fill isn't applied before its number of items is reached
-filled-before : (n : ℕ) (fills : List Filled) (f : Filled) (x b : ℕ) → n < f.at → filled n (fills ++ f ∷ []) x b ≡ filled n fills x b
-filled-before n fills f x b later =
-    filled-append n fills f x b
-    ∙ ap (λ (t : Bool). if t && covers f.range x then f.byte else filled n fills x b) (ne_eqb f.at n (λ same. omega arith))
+byte_after_fills-before : (n : ℕ) (fills : List Fill) (f : Fill) (x b : ℕ) → n < f.at → byte_after_fills n (fills ++ f ∷ []) x b ≡ byte_after_fills n fills x b
+byte_after_fills-before n fills f x b later =
+    byte_after_fills-append n fills f x b
+    ∙ ap (λ (t : Bool). if t && covers f.range x then f.byte else byte_after_fills n fills x b) (ne_eqb f.at n (λ same. omega arith))
 
-written-newest : (kernel : RangeView) (fills : List Filled) (f : Filled) (items : List Item) (i : Item) (more : List Item) (x b : ℕ) →
+byte_outside_tables-newest : (kernel : RangeView) (fills : List Fill) (f : Fill) (items : List Item) (i : Item) (more : List Item) (x b : ℕ) →
     f.at ≡ length items + length (i ∷ more) →
-    written kernel (fills ++ f ∷ []) items (i ∷ more) x b ≡ put f x (written kernel fills items (i ∷ more) x b)
-written-newest kernel fills f items i [] x b last =
-    filled-newest (length items + 1) fills f x (if leaves kernel items i x then 0 else b) (omega arith)
-written-newest kernel fills f items i (k ∷ more) x b last =
-    let now : ℕ = if leaves kernel items i x then 0 else b in
+    byte_outside_tables kernel (fills ++ f ∷ []) items (i ∷ more) x b ≡ byte_after_fill f x (byte_outside_tables kernel fills items (i ∷ more) x b)
+byte_outside_tables-newest kernel fills f items i [] x b last =
+    byte_after_fills-newest (length items + 1) fills f x (if is_vacated_by kernel items i x then 0 else b) (omega arith)
+byte_outside_tables-newest kernel fills f items i (k ∷ more) x b last =
+    let now : ℕ = if is_vacated_by kernel items i x then 0 else b in
     let long : length (items ++ i ∷ []) ≡ length items + 1 = length-append items (i ∷ []) in
-    ap (λ (n : ℕ). written kernel (fills ++ f ∷ []) (items ++ i ∷ []) (k ∷ more) x n)
-    (filled-before (length items + 1) fills f x now (omega arith))
-    ∙ written-newest kernel fills f (items ++ i ∷ []) k more x (filled (length items + 1) fills x now) (omega arith)
+    ap (λ (n : ℕ). byte_outside_tables kernel (fills ++ f ∷ []) (items ++ i ∷ []) (k ∷ more) x n)
+    (byte_after_fills-before (length items + 1) fills f x now (omega arith))
+    ∙ byte_outside_tables-newest kernel fills f (items ++ i ∷ []) k more x (byte_after_fills (length items + 1) fills x now) (omega arith)
 
-all-newest : (kernel : RangeView) (fills : List Filled) (f : Filled) (items : List Item) (x : ℕ) → f.at ≡ length items →
-    written kernel (fills ++ f ∷ []) [] items x (filled 0 (fills ++ f ∷ []) x 0)
-    ≡ put f x (written kernel fills [] items x (filled 0 fills x 0))
-all-newest kernel fills f [] x last = filled-newest 0 fills f x 0 last
+all-newest : (kernel : RangeView) (fills : List Fill) (f : Fill) (items : List Item) (x : ℕ) → f.at ≡ length items →
+    byte_outside_tables kernel (fills ++ f ∷ []) [] items x (byte_after_fills 0 (fills ++ f ∷ []) x 0)
+    ≡ byte_after_fill f x (byte_outside_tables kernel fills [] items x (byte_after_fills 0 fills x 0))
+all-newest kernel fills f [] x last = byte_after_fills-newest 0 fills f x 0 last
 all-newest kernel fills f (i ∷ more) x last =
-    ap (λ (n : ℕ). written kernel (fills ++ f ∷ []) [] (i ∷ more) x n) (filled-before 0 fills f x 0 (omega arith))
-    ∙ written-newest kernel fills f [] i more x (filled 0 fills x 0) (omega arith)
+    ap (λ (n : ℕ). byte_outside_tables kernel (fills ++ f ∷ []) [] (i ∷ more) x n) (byte_after_fills-before 0 fills f x 0 (omega arith))
+    ∙ byte_outside_tables-newest kernel fills f [] i more x (byte_after_fills 0 fills x 0) (omega arith)
 
 put_through : (m r c : Bool) (a b v n : ℕ) → (c ≡ true → m ≡ true → ⊥) → (c ≡ true → r ≡ true → ⊥) →
     (if m then a else (if r then b else (if c then v else n))) ≡ (if c then v else (if m then a else (if r then b else n)))
@@ -56,51 +56,51 @@ put_through false true true a b v n first second = absurd (second refl refl)
 put_through false false true a b v n first second = refl
 
 -- a fill apart from both tables is shown
-pub shown_by-put : (m r : Table) (f : Filled) (x b : ℕ) → Clear f.range (bytes_of m) → Clear f.range (bytes_of r) →
-    shown_by m r x (put f x b) ≡ put f x (shown_by m r x b)
-shown_by-put m r f x b first second =
-    put_through (covers (bytes_of m) x) (covers (bytes_of r) x) (covers f.range x) (spelled_at m x) (spelled_at r x) f.byte b
+pub byte_with_tables-put : (m r : TableView) (f : Fill) (x b : ℕ) → AreDisjoint f.range (bytes_of m) → AreDisjoint f.range (bytes_of r) →
+    byte_with_tables m r x (byte_after_fill f x b) ≡ byte_after_fill f x (byte_with_tables m r x b)
+byte_with_tables-put m r f x b first second =
+    put_through (covers (bytes_of m) x) (covers (bytes_of r) x) (covers f.range x) (table_byte_at m x) (table_byte_at r x) f.byte b
     (first x) (second x)
 
 -- the newest fill decides
-pub fill-newest : (kernel : RangeView) (items : List Item) (fills : List Filled) (f : Filled) (x : ℕ) → f.at ≡ length items →
-    IsAway kernel f.range items → byte kernel items (fills ++ f ∷ []) x ≡ put f x (byte kernel items fills x)
-unfolding byte
+pub fill-newest : (kernel : RangeView) (items : List Item) (fills : List Fill) (f : Fill) (x : ℕ) → f.at ≡ length items →
+    TouchesNoTable kernel f.range items → byte_from_history kernel items (fills ++ f ∷ []) x ≡ byte_after_fill f x (byte_from_history kernel items fills x)
+unfolding byte_from_history
 fill-newest kernel items fills f x last away =
-    ap (λ (n : ℕ). shown kernel items x n) (all-newest kernel fills f items x last)
-    ∙ shown_by-put (table_for which.Memory kernel items) (table_for which.Reserved kernel items) f x
-    (written kernel fills [] items x (filled 0 fills x 0)) away.0 away.1
+    ap (λ (n : ℕ). byte_with_item_tables kernel items x n) (all-newest kernel fills f items x last)
+    ∙ byte_with_tables-put (table_for which.Memory kernel items) (table_for which.Reserved kernel items) f x
+    (byte_outside_tables kernel fills [] items x (byte_after_fills 0 fills x 0)) away.0 away.1
 
 -- after a fill both tables are in their bytes as before
-pub fill-spelled : (m r : Table) (fill : Filled) (f g : ℕ → ℕ) → Clear fill.range (bytes_of m) → Clear fill.range (bytes_of r) →
-    AreSpelled m r f → ((x : ℕ) → g x ≡ put fill x (f x)) → AreSpelled m r g
+pub fill-spelled : (m r : TableView) (fill : Fill) (f g : ℕ → ℕ) → AreDisjoint fill.range (bytes_of m) → AreDisjoint fill.range (bytes_of r) →
+    TablesAreEncoded m r f → ((x : ℕ) → g x ≡ byte_after_fill fill x (f x)) → TablesAreEncoded m r g
 fill-spelled m r fill f g first second spelled filled_in = λ x.
-    filled_in x ∙ ap (λ (n : ℕ). put fill x n) (spelled x)
-    ∙ sym (shown_by-put m r fill x (f x) first second)
-    ∙ ap (λ (n : ℕ). shown_by m r x n) (sym (filled_in x))
+    filled_in x ∙ ap (λ (n : ℕ). byte_after_fill fill x n) (spelled x)
+    ∙ sym (byte_with_tables-put m r fill x (f x) first second)
+    ∙ ap (λ (n : ℕ). byte_with_tables m r x n) (sym (filled_in x))
 
-AreMadeBy-append : (n : ℕ) (fills : List Filled) (f : Filled) → AreMadeBy n fills → f.at ≤ n → AreMadeBy n (fills ++ f ∷ [])
+AreMadeBy-append : (n : ℕ) (fills : List Fill) (f : Fill) → AreMadeBy n fills → f.at ≤ n → AreMadeBy n (fills ++ f ∷ [])
 AreMadeBy-append n [] f made now = (now, tt)
 AreMadeBy-append n (g ∷ fills) f made now = (made.0, AreMadeBy-append n fills f made.1 now)
 
 -- bytes that are those of items and fills are so after a call
-pub holds-call : (kernel : RangeView) (items longer : List Item) (fills : List Filled) (f g : ℕ → ℕ) → Holds kernel items fills f →
-    Follows kernel items longer f g → Holds kernel longer fills g
+pub holds-call : (kernel : RangeView) (items longer : List Item) (fills : List Fill) (f g : ℕ → ℕ) → AreBytesFromHistory kernel items fills f →
+    Follows kernel items longer f g → AreBytesFromHistory kernel longer fills g
 holds-call kernel items longer fills f g holds follows =
     let long : length longer ≡ length items + length follows.more = ap length follows.goes_on ∙ length-append items follows.more in
     record {
       made = AreMadeBy-more (length items) (length longer) fills (omega arith) holds.made;
       each = λ x. follows.each x ∙ ap (λ (n : ℕ). byte_after kernel items longer x n) (holds.each x)
-          ∙ ap (λ (l : List Item). byte_after kernel items l x (byte kernel items fills x)) follows.goes_on
+          ∙ ap (λ (l : List Item). byte_after kernel items l x (byte_from_history kernel items fills x)) follows.goes_on
           ∙ after-byte kernel items follows.more fills x holds.made
-          ∙ ap (λ (l : List Item). byte kernel l fills x) (sym follows.goes_on);
+          ∙ ap (λ (l : List Item). byte_from_history kernel l fills x) (sym follows.goes_on);
     }
 
 -- and after a fill
-pub holds-fill : (kernel : RangeView) (items : List Item) (fills : List Filled) (fill : Filled) (f g : ℕ → ℕ) → Holds kernel items fills f →
-    fill.at ≡ length items → IsAway kernel fill.range items → ((x : ℕ) → g x ≡ put fill x (f x)) →
-    Holds kernel items (fills ++ fill ∷ []) g
+pub holds-fill : (kernel : RangeView) (items : List Item) (fills : List Fill) (fill : Fill) (f g : ℕ → ℕ) → AreBytesFromHistory kernel items fills f →
+    fill.at ≡ length items → TouchesNoTable kernel fill.range items → ((x : ℕ) → g x ≡ byte_after_fill fill x (f x)) →
+    AreBytesFromHistory kernel items (fills ++ fill ∷ []) g
 holds-fill kernel items fills fill f g holds last away filled_in = record {
   made = AreMadeBy-append (length items) fills fill holds.made (omega arith);
-  each = λ x. filled_in x ∙ ap (λ (n : ℕ). put fill x n) (holds.each x) ∙ sym (fill-newest kernel items fills fill x last away);
+  each = λ x. filled_in x ∙ ap (λ (n : ℕ). byte_after_fill fill x n) (holds.each x) ∙ sym (fill-newest kernel items fills fill x last away);
 }

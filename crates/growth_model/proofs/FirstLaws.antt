@@ -13,11 +13,11 @@ use Rattle.memblock_model.specs.Items.{no_owners}
 use Rattle.memblock_model.specs.Tables.{table_of, records_for, records_of, room_of, table_bytes}
 use Rattle.memblock_model.proofs.TableLaws.{records_for-is}
 use Rattle.memblock_ranges.proofs.CountLaws.{few-pieces}
-use Rattle.growth_model.specs.Outcome.{write}
-use Rattle.growth_model.specs.Growth.{count, is_full, new_in, two, claimed}
-use Rattle.growth_model.specs.Sound.{ShareNoFrame, Seated, IsImage}
-use Rattle.growth_model.proofs.IdleLaws.{claimed-idle}
-use Rattle.growth_model.proofs.SeatLaws.{Seat-new}
+use Rattle.growth_model.specs.Outcome.{write_item}
+use Rattle.growth_model.specs.Growth.{record_count, is_full, count_uncovered_pieces, split_record_count, claim_range}
+use Rattle.growth_model.specs.Sound.{ShareNoFrame, TablesAreClaimed, IsKernelImage}
+use Rattle.growth_model.proofs.IdleLaws.{claim_range-idle}
+use Rattle.growth_model.proofs.SeatLaws.{IsTablePlace-new}
 
 -- a table that covers nothing has no records
 pub no_records : (f : Labels) → ((x : ℕ) → f x ≡ None) → length (records_for f) ≡ 0
@@ -28,7 +28,7 @@ nothing_said which.Memory x = refl
 nothing_said which.Reserved x = refl
 
 -- the table isn't full for the first claim, which is one run
-pub first-full : (r : RangeView) → end_of r ≤ 2 ^ 64 → is_full which.Reserved (new_in which.Reserved r) [] ≡ false
+pub first-full : (r : RangeView) → end_of r ≤ 2 ^ 64 → is_full which.Reserved (count_uncovered_pieces which.Reserved r) [] ≡ false
 unfolding records_of
 first-full r small =
     let f = table_of which.Reserved [] in
@@ -36,18 +36,18 @@ first-full r small =
     let none = no_records f (λ x. refl) in
     grind (arith, nat_tests, few, none)
 
-pub first-full_by_two : is_full which.Reserved two [] ≡ false
+pub first-full_by_two : is_full which.Reserved split_record_count [] ≡ false
 unfolding records_of
 first-full_by_two = let none = no_records (table_of which.Reserved []) (λ x. refl) in grind (arith, nat_tests, none)
 
 -- each table fits at first
-pub no_table_full : (w : Which) → count w [] ≤ room_of w []
+pub no_table_full : (w : Which) → record_count w [] ≤ room_of w []
 unfolding records_of
 no_table_full w = let none = no_records (table_of w []) (nothing_said w) in omega arith
 
 -- the first claim writes only its item
-pub first-claimed : (r : RangeView) (o : Owner) → end_of r ≤ 2 ^ 64 → claimed r o [] ≡ write (item.Claim r o) []
-first-claimed r o small = claimed-idle [] r o (first-full r small)
+pub first-claimed : (r : RangeView) (o : Owner) → end_of r ≤ 2 ^ 64 → claim_range r o [] ≡ write_item (item.Claim r o) []
+first-claimed r o small = claim_range-idle [] r o (first-full r small)
 
 -- the items after the claim of the image, with the built-in places in its last two frames
 abbrev first_items : RangeView → List Item
@@ -64,7 +64,7 @@ first-apart : (kernel : RangeView) → end_of kernel % 4096 ≡ 0 → 8192 ≤ k
     → ShareNoFrame (first_live which.Memory kernel) (first_live which.Reserved kernel)
 first-apart kernel whole large x y at_x at_y same = grind (arith, nat_tests, whole, large, at_x, at_y, same)
 
-pub first-placed : (kernel : RangeView) → IsImage kernel → Seated kernel (item.Claim kernel owner.Kernel ∷ [])
+pub first-placed : (kernel : RangeView) → IsKernelImage kernel → TablesAreClaimed kernel (item.Claim kernel owner.Kernel ∷ [])
 first-placed kernel image =
     let whole : end_of kernel % 4096 ≡ 0 = image.whole in
     let large : 8192 ≤ kernel.size = image.large in
@@ -72,9 +72,9 @@ first-placed kernel image =
       rest = [];
       first = refl;
       seats = record {
-        first = Seat-new no_owners (first_live which.Memory kernel) kernel owner.Kernel (omega arith) refl
+        first = IsTablePlace-new no_owners (first_live which.Memory kernel) kernel owner.Kernel (omega arith) refl
             (λ x at. table_bytes-inside which.Memory kernel x large at);
-        second = Seat-new no_owners (first_live which.Reserved kernel) kernel owner.Kernel (omega arith) refl
+        second = IsTablePlace-new no_owners (first_live which.Reserved kernel) kernel owner.Kernel (omega arith) refl
             (λ x at. table_bytes-inside which.Reserved kernel x large at);
         apart = first-apart kernel whole large;
       };

@@ -7,23 +7,23 @@ use Rattle.memblock_model.specs.declared.owner.Which.{Which}
 use Rattle.memblock_model.specs.declared.owner.Which.TheVariants as which
 use Rattle.memblock_model.specs.declared.item.Item.{Item}
 use Rattle.memblock_model.specs.declared.item.Item.TheVariants as item
-use Rattle.memblock_ranges.specs.Tables.{Table}
-use Rattle.growth_model.specs.Bytes.{table_for, shown_by, AreSpelled, left_by, shown, leaves, is_left, byte_after, Follows}
-use Rattle.growth_model.proofs.BytesLaws.{shown_by-again, after-along, after-chain}
+use Rattle.memblock_ranges.specs.Tables.{TableView}
+use Rattle.growth_model.specs.Bytes.{table_for, byte_with_tables, TablesAreEncoded, byte_without_table, byte_with_item_tables, is_vacated_by, is_vacated, byte_after, Follows}
+use Rattle.growth_model.proofs.BytesLaws.{byte_with_tables-again, after-along, after-chain}
 
 -- two tables that are those of the items show the same bytes
-pub shown-by : (kernel : RangeView) (items : List Item) (m r : Table) (x b : ℕ) → m ≡ table_for which.Memory kernel items →
-    r ≡ table_for which.Reserved kernel items → shown_by m r x b ≡ shown kernel items x b
-shown-by kernel items m r x b first second = rw (first, second) refl
+pub byte_with_item_tables-by : (kernel : RangeView) (items : List Item) (m r : TableView) (x b : ℕ) → m ≡ table_for which.Memory kernel items →
+    r ≡ table_for which.Reserved kernel items → byte_with_tables m r x b ≡ byte_with_item_tables kernel items x b
+byte_with_item_tables-by kernel items m r x b first second = rw (first, second) refl
 
 -- tables that are in their bytes are so too as those of the items
-pub spelled-by : (kernel : RangeView) (items : List Item) (m r : Table) (f : ℕ → ℕ) → m ≡ table_for which.Memory kernel items →
-    r ≡ table_for which.Reserved kernel items → AreSpelled m r f →
-    AreSpelled (table_for which.Memory kernel items) (table_for which.Reserved kernel items) f
-spelled-by kernel items m r f first second spelled = λ x. spelled x ∙ shown-by kernel items m r x (f x) first second
+pub spelled-by : (kernel : RangeView) (items : List Item) (m r : TableView) (f : ℕ → ℕ) → m ≡ table_for which.Memory kernel items →
+    r ≡ table_for which.Reserved kernel items → TablesAreEncoded m r f →
+    TablesAreEncoded (table_for which.Memory kernel items) (table_for which.Reserved kernel items) f
+spelled-by kernel items m r f first second spelled = λ x. spelled x ∙ byte_with_item_tables-by kernel items m r x (f x) first second
 
 pub follows-along : (kernel : RangeView) (items more longer : List Item) (f g : ℕ → ℕ) → longer ≡ items ++ more →
-    ((x : ℕ) → g x ≡ shown kernel longer x (if is_left kernel items more x then 0 else f x)) → Follows kernel items longer f g
+    ((x : ℕ) → g x ≡ byte_with_item_tables kernel longer x (if is_vacated kernel items more x then 0 else f x)) → Follows kernel items longer f g
 follows-along kernel items more longer f g goes each = record {
   more = more;
   goes_on = goes;
@@ -31,37 +31,37 @@ follows-along kernel items more longer f g goes each = record {
 }
 
 -- no item, and the same bytes
-pub follows-still : (kernel : RangeView) (items : List Item) (m r : Table) (f g : ℕ → ℕ) → m ≡ table_for which.Memory kernel items →
-    r ≡ table_for which.Reserved kernel items → AreSpelled m r f → ((x : ℕ) → g x ≡ f x) → Follows kernel items items f g
+pub follows-still : (kernel : RangeView) (items : List Item) (m r : TableView) (f g : ℕ → ℕ) → m ≡ table_for which.Memory kernel items →
+    r ≡ table_for which.Reserved kernel items → TablesAreEncoded m r f → ((x : ℕ) → g x ≡ f x) → Follows kernel items items f g
 follows-still kernel items m r f g first second spelled same =
     follows-along kernel items [] items f g (sym (append-nil items))
     (λ x. same x ∙ spelled-by kernel items m r f first second spelled x)
 
-pub follows-none : (kernel : RangeView) (items : List Item) (m r : Table) (f : ℕ → ℕ) → m ≡ table_for which.Memory kernel items →
-    r ≡ table_for which.Reserved kernel items → AreSpelled m r f → Follows kernel items items f f
+pub follows-none : (kernel : RangeView) (items : List Item) (m r : TableView) (f : ℕ → ℕ) → m ≡ table_for which.Memory kernel items →
+    r ≡ table_for which.Reserved kernel items → TablesAreEncoded m r f → Follows kernel items items f f
 follows-none kernel items m r f first second spelled = follows-still kernel items m r f f first second spelled (λ x. refl)
 
 -- one item that moves no table; the premise about that is `λ x. refl`
-pub follows-item : (kernel : RangeView) (items : List Item) (i : Item) (m r : Table) (f g : ℕ → ℕ) →
-    ((x : ℕ) → leaves kernel items i x ≡ false) → m ≡ table_for which.Memory kernel (items ++ i ∷ []) →
-    r ≡ table_for which.Reserved kernel (items ++ i ∷ []) → ((x : ℕ) → g x ≡ shown_by m r x (f x)) →
+pub follows-item : (kernel : RangeView) (items : List Item) (i : Item) (m r : TableView) (f g : ℕ → ℕ) →
+    ((x : ℕ) → is_vacated_by kernel items i x ≡ false) → m ≡ table_for which.Memory kernel (items ++ i ∷ []) →
+    r ≡ table_for which.Reserved kernel (items ++ i ∷ []) → ((x : ℕ) → g x ≡ byte_with_tables m r x (f x)) →
     Follows kernel items (items ++ i ∷ []) f g
 follows-item kernel items i m r f g stays first second told =
     follows-along kernel items (i ∷ []) (items ++ i ∷ []) f g refl
-    (λ x. told x ∙ shown-by kernel (items ++ i ∷ []) m r x (f x) first second
-    ∙ ap (λ (t : Bool). shown kernel (items ++ i ∷ []) x (if t then 0 else f x)) (sym (or-false (leaves kernel items i x) ∙ stays x)))
+    (λ x. told x ∙ byte_with_item_tables-by kernel (items ++ i ∷ []) m r x (f x) first second
+    ∙ ap (λ (t : Bool). byte_with_item_tables kernel (items ++ i ∷ []) x (if t then 0 else f x)) (sym (or-false (is_vacated_by kernel items i x) ∙ stays x)))
 
 -- a table moves
-pub follows-grown : (kernel : RangeView) (items : List Item) (w : Which) (place room : ℕ) (old m r : Table) (f g : ℕ → ℕ) →
+pub follows-grown : (kernel : RangeView) (items : List Item) (w : Which) (place room : ℕ) (old m r : TableView) (f g : ℕ → ℕ) →
     old ≡ table_for w kernel items → m ≡ table_for which.Memory kernel (items ++ item.Grown w place room ∷ []) →
     r ≡ table_for which.Reserved kernel (items ++ item.Grown w place room ∷ []) →
-    ((x : ℕ) → g x ≡ shown_by m r x (left_by old x (f x))) → Follows kernel items (items ++ item.Grown w place room ∷ []) f g
+    ((x : ℕ) → g x ≡ byte_with_tables m r x (byte_without_table old x (f x))) → Follows kernel items (items ++ item.Grown w place room ∷ []) f g
 follows-grown kernel items w place room old m r f g was first second told =
     let i : Item = item.Grown w place room in
     follows-along kernel items (i ∷ []) (items ++ i ∷ []) f g refl
-    (λ x. told x ∙ shown-by kernel (items ++ i ∷ []) m r x (left_by old x (f x)) first second
-    ∙ ap (λ (t : Table). shown kernel (items ++ i ∷ []) x (left_by t x (f x))) was
-    ∙ ap (λ (t : Bool). shown kernel (items ++ i ∷ []) x (if t then 0 else f x)) (sym (or-false (leaves kernel items i x))))
+    (λ x. told x ∙ byte_with_item_tables-by kernel (items ++ i ∷ []) m r x (byte_without_table old x (f x)) first second
+    ∙ ap (λ (t : TableView). byte_with_item_tables kernel (items ++ i ∷ []) x (byte_without_table t x (f x))) was
+    ∙ ap (λ (t : Bool). byte_with_item_tables kernel (items ++ i ∷ []) x (if t then 0 else f x)) (sym (or-false (is_vacated_by kernel items i x))))
 
 -- one call after another
 pub follows-then : (kernel : RangeView) (items mid last : List Item) (f g h : ℕ → ℕ) → Follows kernel items mid f g →
@@ -81,16 +81,16 @@ follows-next kernel other items mid last f g h same first second =
 
 -- after the items both tables are in their bytes again
 pub follows-spelled : (kernel : RangeView) (items longer : List Item) (f g : ℕ → ℕ) → Follows kernel items longer f g →
-    AreSpelled (table_for which.Memory kernel longer) (table_for which.Reserved kernel longer) g
+    TablesAreEncoded (table_for which.Memory kernel longer) (table_for which.Reserved kernel longer) g
 unfolding byte_after
 follows-spelled kernel items longer f g follows = λ x.
     let m = table_for which.Memory kernel longer in
     let r = table_for which.Reserved kernel longer in
-    follows.each x ∙ sym (ap (λ (n : ℕ). shown_by m r x n) (follows.each x) ∙ shown_by-again m r x _)
+    follows.each x ∙ sym (ap (λ (n : ℕ). byte_with_tables m r x n) (follows.each x) ∙ byte_with_tables-again m r x _)
 
 -- two tables that are those of the longer list are in their bytes
-pub follows-stands : (kernel : RangeView) (items longer : List Item) (m r : Table) (f g : ℕ → ℕ) →
+pub follows-stands : (kernel : RangeView) (items longer : List Item) (m r : TableView) (f g : ℕ → ℕ) →
     m ≡ table_for which.Memory kernel longer → r ≡ table_for which.Reserved kernel longer → Follows kernel items longer f g →
-    AreSpelled m r g
+    TablesAreEncoded m r g
 follows-stands kernel items longer m r f g first second follows =
-    λ x. follows-spelled kernel items longer f g follows x ∙ sym (shown-by kernel longer m r x (g x) first second)
+    λ x. follows-spelled kernel items longer f g follows x ∙ sym (byte_with_item_tables-by kernel longer m r x (g x) first second)

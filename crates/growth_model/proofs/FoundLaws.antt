@@ -12,11 +12,11 @@ use Rattle.memblock_model.specs.Tables.{without_owner, table_of, table_bytes}
 use Rattle.memblock_model.specs.Items.{upward_of}
 use Rattle.memblock_model.specs.Search.{top_place, best_place}
 use Rattle.memblock_model.proofs.SearchLaws.{IsPlace, either, top_place_in-fits, best_place_in-fits, fits_in-parts}
-use Rattle.memblock_ranges.specs.Tables.{Contents, bytes_of, bytes_in, Overlaps}
-use Rattle.growth_model.specs.Growth.{in_whole_frames, frames_at, table_query, place_beside}
+use Rattle.memblock_ranges.specs.Tables.{TablesView, bytes_of, bytes_in, OverlapsTable}
+use Rattle.growth_model.specs.Growth.{round_up_to_frames, frames_for_bytes, table_query, place_beside_range}
 use Rattle.memblock_model.specs.declared.query.Request.{Request}
-use Rattle.growth_model.specs.Request.{Attempt, attempt, anywhere, nodes, round, attempts, first_top, place_for}
-use Rattle.growth_model.specs.Sound.{Clear, Unclaimed, Seated, IsAway}
+use Rattle.growth_model.specs.Request.{Attempt, attempt, any_node_attempt, node_attempts, attempts_from, attempts, first_found_place, place_for}
+use Rattle.growth_model.specs.Sound.{AreDisjoint, IsUnclaimed, TablesAreClaimed, TouchesNoTable}
 use Rattle.growth_model.specs.Bytes.{table_for}
 use Rattle.growth_model.proofs.SeatLaws.{covers-from, frames-more, unclaimed-clear}
 
@@ -39,22 +39,22 @@ no_owner (Some o) e = cc
 -- no byte of a place that fits has an owner
 fits-unclaimed : (items : List Item) (q : Query) (mirror : Bool) (place : ℕ)
     → IsPlace mirror (table_of which.Memory items) (table_of which.Reserved items) q place
-    → Unclaimed (owner_of items) (record { base = place; size = q.size })
+    → IsUnclaimed (owner_of items) (record { base = place; size = q.size })
 fits-unclaimed items q mirror place known x at =
     let inside = covers-from (record { base = place; size = q.size }) x at in
     no_owner (owner_of items x) (known.free x inside.0 inside.1)
 
 pub found-unclaimed : (items : List Item) (q : Query) (place : ℕ) → best_place items q ≡ Some place
-    → Unclaimed (owner_of items) (record { base = place; size = q.size })
+    → IsUnclaimed (owner_of items) (record { base = place; size = q.size })
 found-unclaimed items q place found = fits-unclaimed items q false place (found-fits items q place found)
 
 -- a new place for a table that has this room: aligned, unclaimed, below 2^64, and apart from the
 -- range
 pub record IsNew (items : List Item) (avoid : RangeView) (room place : ℕ) : Type 0 where
   pub aligned : place % 4096 ≡ 0
-  pub free : Unclaimed (owner_of items) (frames_at place (48 * room))
-  pub within : place + in_whole_frames (48 * room) ≤ limit_of items
-  pub clear : Clear avoid (frames_at place (48 * room))
+  pub free : IsUnclaimed (owner_of items) (frames_for_bytes place (48 * room))
+  pub within : place + round_up_to_frames (48 * room) ≤ limit_of items
+  pub clear : AreDisjoint avoid (frames_for_bytes place (48 * room))
 
 new_between : (items : List Item) (avoid : RangeView) (room lo hi place : ℕ) → hi ≤ limit_of items
     → ((x : ℕ) → avoid.base ≤ x → x < end_of avoid → lo ≤ x → x < hi → ⊥) → best_place items (table_query room lo hi) ≡ Some place
@@ -67,10 +67,10 @@ new_between items avoid room lo hi place within beside found =
       free = found-unclaimed items (table_query room lo hi) place found;
       within = omega arith;
       clear = λ x at_a at_p. let a = covers-from avoid x at_a in
-          let p = covers-from (frames_at place (48 * room)) x at_p in beside x a.0 a.1 (omega arith) (omega arith);
+          let p = covers-from (frames_for_bytes place (48 * room)) x at_p in beside x a.0 a.1 (omega arith) (omega arith);
     }
 
-pub beside-new : (items : List Item) (avoid : RangeView) (room place : ℕ) → place_beside avoid room items ≡ Some place
+pub beside-new : (items : List Item) (avoid : RangeView) (room place : ℕ) → place_beside_range avoid room items ≡ Some place
     → IsNew items avoid room place
 beside-new items avoid room place found =
     let behind = end_of avoid in let limit = limit_of items in let before = min avoid.base limit in
@@ -102,21 +102,21 @@ tried_if r limit false ps qs h k = k
 tried_attempt : (r : Request) (limit lo : ℕ) (mirror : Bool) (wanted : Option ℕ) → IsTried r limit (attempt r limit lo mirror wanted).query
 tried_attempt r limit lo mirror wanted = record { sized = refl; aligned = refl; high = omega arith }
 
-tried_anywhere : (r : Request) (limit lo : ℕ) (mirror : Bool) (wanted : Option ℕ) → AreTried r limit (anywhere r limit lo mirror wanted)
+tried_anywhere : (r : Request) (limit lo : ℕ) (mirror : Bool) (wanted : Option ℕ) → AreTried r limit (any_node_attempt r limit lo mirror wanted)
 tried_anywhere r limit lo mirror None = tt
 tried_anywhere r limit lo mirror (Some node) =
     tried_if r limit r.exact [] (attempt r limit lo mirror None ∷ []) tt (tried_attempt r limit lo mirror None, tt)
 
-tried_nodes : (r : Request) (limit lo : ℕ) (mirror : Bool) → AreTried r limit (nodes r limit lo mirror)
+tried_nodes : (r : Request) (limit lo : ℕ) (mirror : Bool) → AreTried r limit (node_attempts r limit lo mirror)
 tried_nodes r limit lo mirror = (tried_attempt r limit lo mirror r.node, tried_anywhere r limit lo mirror r.node)
 
-tried_round : (r : Request) (limit lo : ℕ) → AreTried r limit (round r limit lo)
+tried_round : (r : Request) (limit lo : ℕ) → AreTried r limit (attempts_from r limit lo)
 tried_round r limit lo =
-    tried_append r limit (nodes r limit lo true) (nodes r limit lo false) (tried_nodes r limit lo true) (tried_nodes r limit lo false)
+    tried_append r limit (node_attempts r limit lo true) (node_attempts r limit lo false) (tried_nodes r limit lo true) (tried_nodes r limit lo false)
 
 tried_all : (r : Request) (limit : ℕ) → AreTried r limit (attempts r limit)
-tried_all r limit = tried_append r limit (round r limit r.min) (if r.min == 0 then [] else round r limit 0)
-    (tried_round r limit r.min) (tried_if r limit (r.min == 0) [] (round r limit 0) tt (tried_round r limit 0))
+tried_all r limit = tried_append r limit (attempts_from r limit r.min) (if r.min == 0 then [] else attempts_from r limit 0)
+    (tried_round r limit r.min) (tried_if r limit (r.min == 0) [] (attempts_from r limit 0) tt (tried_round r limit 0))
 
 -- one of its searches found the place
 pub record IsFound (r : Request) (items : List Item) (limit place : ℕ) : Type 0 where
@@ -125,10 +125,10 @@ pub record IsFound (r : Request) (items : List Item) (limit place : ℕ) : Type 
   pub found : top_place items attempt.query attempt.mirror ≡ Some place
 
 first_found : (r : Request) (items : List Item) (limit place : ℕ) (all : List Attempt) → AreTried r limit all
-    → first_top items all ≡ Some place → IsFound r items limit place
+    → first_found_place items all ≡ Some place → IsFound r items limit place
 first_found r items limit place [] tried h = cc
 first_found r items limit place (a ∷ rest) tried h =
-    elim (either (top_place items a.query a.mirror) (first_top items rest) place h) as (λ _. IsFound r items limit place) [
+    elim (either (top_place items a.query a.mirror) (first_found_place items rest) place h) as (λ _. IsFound r items limit place) [
       | inl here ↦ record { attempt = a; tried = tried.0; found = here }
       | inr later ↦ first_found r items limit place rest tried.1 later
     ]
@@ -139,10 +139,10 @@ place-found r items place h = first_found r items (limit_of items) place (attemp
 
 -- the place of an allocation is unclaimed, and ends at or below the limit
 pub place-unclaimed : (r : Request) (items : List Item) (place : ℕ) → place_for r items ≡ Some place
-    → Unclaimed (owner_of items) (record { base = place; size = r.size })
+    → IsUnclaimed (owner_of items) (record { base = place; size = r.size })
 place-unclaimed r items place h =
     let was = place-found r items place h in
-    subst (λ (n : ℕ). Unclaimed (owner_of items) (record { base = place; size = n })) was.tried.sized
+    subst (λ (n : ℕ). IsUnclaimed (owner_of items) (record { base = place; size = n })) was.tried.sized
     (fits-unclaimed items was.attempt.query was.attempt.mirror place
     (top_place-fits items was.attempt.query was.attempt.mirror place was.found))
 
@@ -154,43 +154,43 @@ place-within r items place h =
     omega arith
 
 -- unclaimed bytes overlap no table
-pub unclaimed-away : (kernel a : RangeView) (items : List Item) → Seated kernel items → Unclaimed (owner_of items) a → IsAway kernel a items
+pub unclaimed-away : (kernel a : RangeView) (items : List Item) → TablesAreClaimed kernel items → IsUnclaimed (owner_of items) a → TouchesNoTable kernel a items
 unclaimed-away kernel a items placed free = (
   unclaimed-clear (owner_of items) a (table_bytes which.Memory kernel items) free placed.seats.first,
   unclaimed-clear (owner_of items) a (table_bytes which.Reserved kernel items) free placed.seats.second,
 )
 
-pub found-away : (kernel : RangeView) (items : List Item) (q : Query) (place : ℕ) → Seated kernel items → best_place items q ≡ Some place
-    → IsAway kernel (record { base = place; size = q.size }) items
+pub found-away : (kernel : RangeView) (items : List Item) (q : Query) (place : ℕ) → TablesAreClaimed kernel items → best_place items q ≡ Some place
+    → TouchesNoTable kernel (record { base = place; size = q.size }) items
 found-away kernel items q place placed found =
     unclaimed-away kernel (record { base = place; size = q.size }) items placed (found-unclaimed items q place found)
 
 -- a part of a range that overlaps no table overlaps none
-pub away-within : (kernel a b : RangeView) (items : List Item) → ((x : ℕ) → covers b x ≡ true → covers a x ≡ true) → IsAway kernel a items
-    → IsAway kernel b items
+pub away-within : (kernel a b : RangeView) (items : List Item) → ((x : ℕ) → covers b x ≡ true → covers a x ≡ true) → TouchesNoTable kernel a items
+    → TouchesNoTable kernel b items
 away-within kernel a b items inside away = (λ x at. away.0 x (inside x at), λ x at. away.1 x (inside x at))
 
 -- such a range and the tables as they are stored have no byte in common, and the other way round
-away_at : (kernel a : RangeView) (items : List Item) (w : Which) → IsAway kernel a items → Meet (table_bytes w kernel items) a → ⊥
+away_at : (kernel a : RangeView) (items : List Item) (w : Which) → TouchesNoTable kernel a items → Meet (table_bytes w kernel items) a → ⊥
 away_at kernel a items which.Memory away (x, both) = let parts = and_parts _ _ both in away.0 x parts.1 parts.0
 away_at kernel a items which.Reserved away (x, both) = let parts = and_parts _ _ both in away.1 x parts.1 parts.0
 
-live_bytes : (kernel : RangeView) (items : List Item) (t : Contents) (w : Which) → t.memory ≡ table_for which.Memory kernel items
+live_bytes : (kernel : RangeView) (items : List Item) (t : TablesView) (w : Which) → t.memory ≡ table_for which.Memory kernel items
     → t.reserved ≡ table_for which.Reserved kernel items → bytes_in w t ≡ table_bytes w kernel items
 live_bytes kernel items t which.Memory memory reserved = ap bytes_of memory
 live_bytes kernel items t which.Reserved memory reserved = ap bytes_of reserved
 
-pub away-apart : (kernel a : RangeView) (items : List Item) (t : Contents) → t.memory ≡ table_for which.Memory kernel items
-    → t.reserved ≡ table_for which.Reserved kernel items → IsAway kernel a items → ¬ Overlaps t a
+pub away-apart : (kernel a : RangeView) (items : List Item) (t : TablesView) → t.memory ≡ table_for which.Memory kernel items
+    → t.reserved ≡ table_for which.Reserved kernel items → TouchesNoTable kernel a items → ¬ OverlapsTable t a
 away-apart kernel a items t memory reserved away (w, meet) =
     away_at kernel a items w away (subst (λ (e : RangeView). Meet e a) (live_bytes kernel items t w memory reserved) meet)
 
 -- the place that was found for a table with twice the room satisfies what `Tables::relocate`
 -- requires
-pub found-apart : (kernel : RangeView) (items : List Item) (t : Contents) (room place : ℕ) → t.memory ≡ table_for which.Memory kernel items
-    → t.reserved ≡ table_for which.Reserved kernel items → Seated kernel items
-    → Unclaimed (owner_of items) (frames_at place (48 * room)) → ¬ Overlaps t (record { base = place; size = 48 * room })
+pub found-apart : (kernel : RangeView) (items : List Item) (t : TablesView) (room place : ℕ) → t.memory ≡ table_for which.Memory kernel items
+    → t.reserved ≡ table_for which.Reserved kernel items → TablesAreClaimed kernel items
+    → IsUnclaimed (owner_of items) (frames_for_bytes place (48 * room)) → ¬ OverlapsTable t (record { base = place; size = 48 * room })
 found-apart kernel items t room place memory reserved placed free =
     let range : RangeView = record { base = place; size = 48 * room } in
-    away-apart kernel range items t memory reserved (away-within kernel (frames_at place (48 * room)) range items (frames-more range)
-    (unclaimed-away kernel (frames_at place (48 * room)) items placed free))
+    away-apart kernel range items t memory reserved (away-within kernel (frames_for_bytes place (48 * room)) range items (frames-more range)
+    (unclaimed-away kernel (frames_for_bytes place (48 * room)) items placed free))

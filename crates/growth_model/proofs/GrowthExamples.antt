@@ -16,18 +16,18 @@ use Rattle.memblock_model.specs.Labels.{LabelView, plain_label}
 use Rattle.memblock_model.specs.Items.{owner_of}
 use Rattle.memblock_model.specs.Tables.{table_of, records_of, room_of, table_bytes}
 use Rattle.memblock_model.specs.declared.query.Query.{Query}
-use Rattle.memblock_model.specs.Search.{suits, fits_in, top_place, best_place}
+use Rattle.memblock_model.specs.Search.{is_allowed_mirror, fits_in, top_place, best_place}
 use Rattle.memblock_model.proofs.SearchLaws.{IsLastBelow, fits_in-parts, fits_in-whole, top_place_in-last, top_place_in-fails, top_place_in-mirrorless, best_place_in-last, best_place_in-fails, plain_or_none}
 use Rattle.memblock_model.proofs.TableLaws.{records_for-is}
 use Rattle.memblock_ranges.proofs.CountLaws.{few-pieces}
 use Rattle.growth_model.specs.declared.refusal.Refusal.TheVariants as refusal
 use Rattle.memblock_model.specs.declared.query.Request.{Request}
-use Rattle.growth_model.specs.Outcome.{Outcome, Change, joined, step, write, refuse, ◌>>◌}
-use Rattle.growth_model.specs.Growth.{in_whole_frames, frames_at, count, table_query, place_beside, reserved_items, reserved_growth_at, reserved_growth, is_full, new_in, two, grown, claimed, freed, leave, memory_growth_at, memory_growth}
-use Rattle.growth_model.specs.Request.{Attempt, attempt, round, attempts, first_top, place_for}
-use Rattle.growth_model.specs.Ends.{IsCut, IsCutShort, EndsBy, Ends, Allocates}
+use Rattle.growth_model.specs.Outcome.{ChangeEffect, Change, items_of_steps, write_items, write_item, refuse_growth, ◌>>◌}
+use Rattle.growth_model.specs.Growth.{round_up_to_frames, frames_for_bytes, record_count, table_query, place_beside_range, reserved_growth_items, reserved_growth_at, reserved_growth, is_full, count_uncovered_pieces, split_record_count, make_table_room, claim_range, free_range, free_old_place, memory_growth_at, memory_growth}
+use Rattle.growth_model.specs.Request.{Attempt, attempt, attempts_from, attempts, first_found_place, place_for}
+use Rattle.growth_model.specs.Ends.{WritesFirstSteps, StopsBeforeStep, EndsAsEffect, EndsAsChange, Allocates}
 use Rattle.growth_model.proofs.FirstLaws.{no_records}
-use Rattle.growth_model.proofs.IdleLaws.{claimed-idle, freed-idle}
+use Rattle.growth_model.proofs.IdleLaws.{claim_range-idle, free_range-idle}
 
 -- 256 KiB of memory; the kernel's image has four frames from 64 KiB on
 abbrev pub image : RangeView
@@ -40,25 +40,25 @@ abbrev pub frame : ℕ → RangeView
 frame n = record { base = 4096 * n; size = 4096 }
 
 -- two steps, and one with a refusal
-abbrev two_steps : Outcome
+abbrev two_steps : ChangeEffect
 two_steps = record { steps = (item.Trim ∷ (item.Limit 5 ∷ [])) ∷ ((item.Limit 7 ∷ []) ∷ []); refused = None }
 
-abbrev stopped : Outcome
+abbrev stopped : ChangeEffect
 stopped = record { steps = (item.Trim ∷ []) ∷ []; refused = Some (record { which = which.Memory; room = 128 }) }
 
 -- two changes in turn: both; only the first if it is refused; both, with the refusal of the second
-then_examples : ((write item.Trim >> write (item.Limit 5)) []
+then_examples : ((write_item item.Trim >> write_item (item.Limit 5)) []
     ≡ record { steps = (item.Trim ∷ []) ∷ ((item.Limit 5 ∷ []) ∷ []); refused = None })
-    × ((refuse which.Memory 128 >> write (item.Limit 5)) [] ≡ refuse which.Memory 128 [])
-    × ((write item.Trim >> refuse which.Memory 128) [] ≡ stopped)
+    × ((refuse_growth which.Memory 128 >> write_item (item.Limit 5)) [] ≡ refuse_growth which.Memory 128 [])
+    × ((write_item item.Trim >> refuse_growth which.Memory 128) [] ≡ stopped)
 then_examples = (refl, refl, refl)
 
 -- whole frames: for one byte, for a frame and a half, for a frame
-whole_frames_examples : (in_whole_frames 1 ≡ 4096) × (in_whole_frames 6144 ≡ 8192) × (in_whole_frames 4096 ≡ 4096)
+whole_frames_examples : (round_up_to_frames 1 ≡ 4096) × (round_up_to_frames 6144 ≡ 8192) × (round_up_to_frames 4096 ≡ 4096)
 whole_frames_examples = (refl, refl, refl)
 
 -- none of the small memory is mirrored
-small_is_plain : (x : ℕ) → suits true (table_of which.Memory small x) ≡ false
+small_is_plain : (x : ℕ) → is_allowed_mirror true (table_of which.Memory small x) ≡ false
 small_is_plain x = plain_or_none (covers (record { base = 0; size = 262144 }) x)
 
 -- the last place in a window of the small memory
@@ -117,22 +117,22 @@ no_window lo hi none =
 
 -- above the frame at 128 KiB there is room; above the last 64 KiB there is none, but below them
 -- there is
-above_place : place_beside (frame 32) 128 small ≡ Some 253952
+above_place : place_beside_range (frame 32) 128 small ≡ Some 253952
 above_place = rw (window_place 135168 262144 253952 refl (omega arith) refl (omega arith) (omega arith)) refl
 
-below_place : place_beside (record { base = 196608; size = 65536 }) 128 small ≡ Some 188416
+below_place : place_beside_range (record { base = 196608; size = 65536 }) 128 small ≡ Some 188416
 below_place = rw (no_window 262144 262144 (omega arith)) (window_place 0 196608 188416 refl (omega arith) refl (omega arith) (omega arith))
 
 -- a table that has never moved frees no old place
-first_move : reserved_items 128 None 253952
+first_move : reserved_growth_items 128 None 253952
     ≡ item.Grown which.Reserved 253952 256 ∷ (item.Claim (record { base = 253952; size = 8192 }) (owner.Table which.Reserved) ∷ [])
-unfolding reserved_items
+unfolding reserved_growth_items
 first_move = refl
 
 -- the table at 248 KiB moves to 128 KiB: it claims its new place before it frees the old one, and
 -- finally has only the new one
 abbrev moving : ℕ → List Item
-moving written = small ++ (reserved_items 128 None 253952 ++ take written (reserved_items 256 (Some 253952) 131072))
+moving written = small ++ (reserved_growth_items 128 None 253952 ++ take written (reserved_growth_items 256 (Some 253952) 131072))
 
 abbrev the_tables : Option Owner
 the_tables = Some (owner.Table which.Reserved)
@@ -140,19 +140,19 @@ the_tables = Some (owner.Table which.Reserved)
 claimed_before_the_old_place_is_free : (owner_of (moving 1) 131072 ≡ None) × (owner_of (moving 2) 131072 ≡ the_tables)
     × (owner_of (moving 2) 253952 ≡ the_tables) × (owner_of (moving 3) 253952 ≡ None)
     × (owner_of (moving 3) 143359 ≡ the_tables) × (owner_of (moving 3) 143360 ≡ None)
-unfolding reserved_items
+unfolding reserved_growth_items
 claimed_before_the_old_place_is_free = (refl, refl, refl, refl, refl, refl)
 
 moved_with_all_its_room : (table_bytes which.Reserved image (moving 0) ≡ record { base = 253952; size = 24 * 256 })
     × (table_bytes which.Reserved image (moving 3) ≡ record { base = 131072; size = 24 * 512 })
-unfolding reserved_items
+unfolding reserved_growth_items
 moved_with_all_its_room = (refl, refl)
 
-growth_above : reserved_growth (frame 32) small ≡ step (reserved_items 128 None 253952) small
+growth_above : reserved_growth (frame 32) small ≡ write_items (reserved_growth_items 128 None 253952) small
 unfolding reserved_growth reserved_growth_at
 growth_above = rw above_place refl
 
-growth_below : reserved_growth (record { base = 196608; size = 65536 }) small ≡ step (reserved_items 128 None 188416) small
+growth_below : reserved_growth (record { base = 196608; size = 65536 }) small ≡ write_items (reserved_growth_items 128 None 188416) small
 unfolding reserved_growth reserved_growth_at
 growth_below = rw below_place refl
 
@@ -163,39 +163,39 @@ reserved_records = record { base = 65536; size = 16384; value = plain_label } �
 reserved_ends : NothingFrom (2 ^ 64) (table_of which.Reserved small)
 reserved_ends x le = grind (arith, nat_tests)
 
-reserved_count : count which.Reserved small ≡ 1
+reserved_count : record_count which.Reserved small ≡ 1
 unfolding records_of
 reserved_count = ap length (sym (records_for-is (table_of which.Reserved small) reserved_records reserved_ends
     (record { runs = (omega arith, tt, tt); each = λ x. grind (arith, nat_tests) })))
 
-none_at_first : count which.Memory [] ≡ 0
+none_at_first : record_count which.Memory [] ≡ 0
 unfolding records_of
 none_at_first = no_records (table_of which.Memory []) (λ x. refl)
 
 -- an edit adds at most two pieces, so no table is full
-new_has_room : (w : Which) (r : RangeView) → end_of r ≤ 2 ^ 64 → NothingFrom (2 ^ 64) (table_of w small) → count w small ≡ 1
-    → is_full w (new_in w r) small ≡ false
+new_has_room : (w : Which) (r : RangeView) → end_of r ≤ 2 ^ 64 → NothingFrom (2 ^ 64) (table_of w small) → record_count w small ≡ 1
+    → is_full w (count_uncovered_pieces w r) small ≡ false
 unfolding records_of
 new_has_room w r small_enough ends one = let few = few-pieces r (table_of w small) small_enough ends in grind (arith, nat_tests, one, few)
 
-claim_has_room : is_full which.Reserved (new_in which.Reserved (frame 32)) small ≡ false
+claim_has_room : is_full which.Reserved (count_uncovered_pieces which.Reserved (frame 32)) small ≡ false
 claim_has_room = new_has_room which.Reserved (frame 32) (omega arith) reserved_ends reserved_count
 
-two_have_room : (w : Which) → count w small ≡ 1 → is_full w two small ≡ false
+two_have_room : (w : Which) → record_count w small ≡ 1 → is_full w split_record_count small ≡ false
 two_have_room w one = grind (arith, nat_tests, one)
 
 -- if there is room, only the item is written
-a_claim : claimed (frame 32) owner.Soft small ≡ write (item.Claim (frame 32) owner.Soft) small
-a_claim = claimed-idle small (frame 32) owner.Soft claim_has_room
+a_claim : claim_range (frame 32) owner.Soft small ≡ write_item (item.Claim (frame 32) owner.Soft) small
+a_claim = claim_range-idle small (frame 32) owner.Soft claim_has_room
 
-a_free : freed (frame 16) small ≡ write (item.Free (frame 16)) small
-a_free = freed-idle small (frame 16) (two_have_room which.Reserved reserved_count)
+a_free : free_range (frame 16) small ≡ write_item (item.Free (frame 16)) small
+a_free = free_range-idle small (frame 16) (two_have_room which.Reserved reserved_count)
 
 -- a full table grows at most twice, until it isn't full
 abbrev moves : Change
-moves = write (item.Grown which.Memory 4096 256)
+moves = write_item (item.Grown which.Memory 4096 256)
 
-none_behind_a_move : count which.Memory (item.Grown which.Memory 4096 256 ∷ []) ≡ 0
+none_behind_a_move : record_count which.Memory (item.Grown which.Memory 4096 256 ∷ []) ≡ 0
 unfolding records_of
 none_behind_a_move = no_records (table_of which.Memory (item.Grown which.Memory 4096 256 ∷ [])) (λ x. refl)
 
@@ -208,32 +208,32 @@ then_room n few = grind (arith, nat_tests, none_behind_a_move, few)
 then_full : (n : ℕ) → 256 < n → is_full which.Memory (λ items. n) (item.Grown which.Memory 4096 256 ∷ []) ≡ true
 then_full n many = grind (arith, nat_tests, many)
 
-once : grown which.Memory (λ items. 200) moves [] ≡ moves []
+once : make_table_room which.Memory (λ items. 200) moves [] ≡ moves []
 once = rw (first_full 200 (omega arith), then_room 200 (omega arith)) refl
 
-twice : grown which.Memory (λ items. 300) moves [] ≡ (moves >> moves) []
+twice : make_table_room which.Memory (λ items. 300) moves [] ≡ (moves >> moves) []
 twice = rw (first_full 300 (omega arith), then_full 300 (omega arith)) refl
 
 -- the free of a table's old place is never refused
-leaving_is_never_refused : (frames : RangeView) (items : List Item) → (leave (Some frames) items).refused ≡ None
+leaving_is_never_refused : (frames : RangeView) (items : List Item) → (free_old_place (Some frames) items).refused ≡ None
 leaving_is_never_refused frames items = refl
 
 -- a free may add two records: if 127 of 128 are used, the table grows first, and without a place
 -- the free is refused
-free_behind_127 : (range : RangeView) (items : List Item) → count which.Reserved items ≡ 127 → room_of which.Reserved items ≡ 128
-    → place_beside range 128 items ≡ None → freed range items ≡ refuse which.Reserved 128 items
-unfolding freed reserved_growth reserved_growth_at
+free_behind_127 : (range : RangeView) (items : List Item) → record_count which.Reserved items ≡ 127 → room_of which.Reserved items ≡ 128
+    → place_beside_range range 128 items ≡ None → free_range range items ≡ refuse_growth which.Reserved 128 items
+unfolding free_range reserved_growth reserved_growth_at
 free_behind_127 range items many room none =
-    let full : is_full which.Reserved two items ≡ true = grind (arith, nat_tests, many, room) in
+    let full : is_full which.Reserved split_record_count items ≡ true = grind (arith, nat_tests, many, room) in
     rw (full, room, none) refl
 
 -- the growth of the memory table: the claim of its new place, and the move
-place_claimed : claimed (frames_at 253952 6144) (owner.Table which.Memory) small
-    ≡ write (item.Claim (record { base = 253952; size = 8192 }) (owner.Table which.Memory)) small
-place_claimed = claimed-idle small (frames_at 253952 6144) (owner.Table which.Memory)
-    (new_has_room which.Reserved (frames_at 253952 6144) (omega arith) reserved_ends reserved_count)
+place_claimed : claim_range (frames_for_bytes 253952 6144) (owner.Table which.Memory) small
+    ≡ write_item (item.Claim (record { base = 253952; size = 8192 }) (owner.Table which.Memory)) small
+place_claimed = claim_range-idle small (frames_for_bytes 253952 6144) (owner.Table which.Memory)
+    (new_has_room which.Reserved (frames_for_bytes 253952 6144) (omega arith) reserved_ends reserved_count)
 
-abbrev first_growth : Outcome
+abbrev first_growth : ChangeEffect
 first_growth = record {
   steps = (item.Claim (record { base = 253952; size = 8192 }) (owner.Table which.Memory) ∷ [])
       ∷ ((item.Grown which.Memory 253952 256 ∷ []) ∷ []);
@@ -256,7 +256,7 @@ grows_below_the_limit : memory_growth half_allowed ≡ memory_growth_at 128 None
 unfolding memory_growth
 grows_below_the_limit = refl
 
-without_memory : memory_growth [] ≡ refuse which.Memory 128 []
+without_memory : memory_growth [] ≡ refuse_growth which.Memory 128 []
 unfolding memory_growth memory_growth_at best_place
 without_memory = ap (λ (o : Option ℕ). memory_growth_at 128 None o [])
     (best_place_in-fails false (table_of which.Memory []) (table_of which.Reserved []) (table_query 128 0 0)
@@ -280,7 +280,7 @@ attempt_examples : ((attempt a_frame 262144 0 false None).query ≡ record { lo 
 attempt_examples = (refl, refl, refl, refl)
 
 -- mirrored memory of any node comes before other memory of the node
-a_round_of_four : round from_the_middle 262144 131072
+a_round_of_four : attempts_from from_the_middle 262144 131072
     ≡ attempt from_the_middle 262144 131072 true (Some 1) ∷ (attempt from_the_middle 262144 131072 true None
     ∷ (attempt from_the_middle 262144 131072 false (Some 1) ∷ (attempt from_the_middle 262144 131072 false None ∷ [])))
 a_round_of_four = refl
@@ -300,11 +300,11 @@ abbrev mirrored_memory : Query → Attempt
 mirrored_memory q = record { query = q; mirror = true }
 
 -- nothing is mirrored, so the search of any memory finds the place
-second_search : first_top small (mirrored_memory (table_query 128 0 262144) ∷ (any_memory (table_query 128 0 262144) ∷ [])) ≡ Some 253952
+second_search : first_found_place small (mirrored_memory (table_query 128 0 262144) ∷ (any_memory (table_query 128 0 262144) ∷ [])) ≡ Some 253952
 second_search =
     rw (nothing_mirrored (table_query 128 0 262144), window_top 0 262144 253952 refl (omega arith) refl (omega arith) (omega arith)) refl
 
-first_search : first_top small (any_memory (table_query 128 0 131072) ∷ (any_memory (table_query 128 0 262144) ∷ [])) ≡ Some 122880
+first_search : first_found_place small (any_memory (table_query 128 0 131072) ∷ (any_memory (table_query 128 0 262144) ∷ [])) ≡ Some 122880
 first_search = rw (window_top 0 131072 122880 refl (omega arith) refl (omega arith) (omega arith)) refl
 
 -- 8 KiB get the highest place in memory; 512 KiB don't fit
@@ -323,34 +323,34 @@ no_place_so_low : place_for (record two_frames_please { max = Some 0 }) small �
 no_place_so_low = rw (nothing_mirrored (table_query 128 0 0), no_top (table_query 128 0 0) false refl) refl
 
 -- ends of calls: after all steps, after one of two, and after none
-all_of_two : IsCut [] (joined two_steps.steps) two_steps.steps
+all_of_two : WritesFirstSteps [] (items_of_steps two_steps.steps) two_steps.steps
 all_of_two = record { count = 2; within = omega arith; stands = refl }
 
-one_of_two : IsCutShort [] (item.Trim ∷ (item.Limit 5 ∷ [])) two_steps.steps
+one_of_two : StopsBeforeStep [] (item.Trim ∷ (item.Limit 5 ∷ [])) two_steps.steps
 one_of_two = record { count = 1; short = omega arith; stands = refl }
 
 -- fewer than both steps don't write all items
-fewer_of_two : (n : ℕ) → n < 2 → joined two_steps.steps ≡ joined (take n two_steps.steps) → ⊥
+fewer_of_two : (n : ℕ) → n < 2 → items_of_steps two_steps.steps ≡ items_of_steps (take n two_steps.steps) → ⊥
 fewer_of_two zero less same = cc
 fewer_of_two (suc zero) less same = cc
 fewer_of_two (suc (suc n)) less same = omega (arith, less)
 
 -- after all steps, or if a growth is refused before any, the end isn't out of memory
-wanted_behind_all : EndsBy {T = ℕ} (Err refusal.Memory) [] (joined two_steps.steps) two_steps → ⊥
+wanted_behind_all : EndsAsEffect {T = ℕ} (Err refusal.Memory) [] (items_of_steps two_steps.steps) two_steps → ⊥
 wanted_behind_all cut = fewer_of_two cut.count cut.short cut.stands
 
-wanted_at_a_refusal : Ends {T = ℕ} (Err refusal.Memory) small small (refuse which.Memory 128) → ⊥
+wanted_at_a_refusal : EndsAsChange {T = ℕ} (Err refusal.Memory) small small (refuse_growth which.Memory 128) → ⊥
 wanted_at_a_refusal cut = let none : cut.count < 0 = cut.short in omega (arith, none)
 
 -- a call that succeeds, and one that is refused; NoGap is never returned
-ends_by_examples : (EndsBy {T = ℕ} (Ok 3) [] (item.Trim ∷ (item.Limit 5 ∷ (item.Limit 7 ∷ []))) two_steps)
-    × (EndsBy {T = ℕ} (Err (refusal.NoGapForTable which.Memory 128)) [] (item.Trim ∷ []) stopped)
-    × (EndsBy {T = ℕ} (Err refusal.NoGap) [] [] two_steps → ⊥)
+ends_by_examples : (EndsAsEffect {T = ℕ} (Ok 3) [] (item.Trim ∷ (item.Limit 5 ∷ (item.Limit 7 ∷ []))) two_steps)
+    × (EndsAsEffect {T = ℕ} (Err (refusal.NoGapForTable which.Memory 128)) [] (item.Trim ∷ []) stopped)
+    × (EndsAsEffect {T = ℕ} (Err refusal.NoGap) [] [] two_steps → ⊥)
 ends_by_examples = ((refl, refl), (refl, refl), λ h. h)
 
 -- all of a change is written, or the program was out of memory before any of it
-ends_examples : (Ends {T = ℕ} (Ok 3) small (small ++ item.Trim ∷ []) (write item.Trim))
-    × (Ends {T = ℕ} (Err refusal.Memory) small small (write item.Trim))
+ends_examples : (EndsAsChange {T = ℕ} (Ok 3) small (small ++ item.Trim ∷ []) (write_item item.Trim))
+    × (EndsAsChange {T = ℕ} (Err refusal.Memory) small small (write_item item.Trim))
 ends_examples = ((refl, refl), record { count = 0; short = omega arith; stands = refl })
 
 no_gap : Allocates (Err refusal.NoGap) small small None 4096 owner.Soft

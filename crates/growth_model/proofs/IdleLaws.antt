@@ -6,30 +6,30 @@ use Rattle.memblock_model.specs.declared.owner.Which.TheVariants as which
 use Rattle.memblock_model.specs.declared.owner.Owner.{Owner}
 use Rattle.memblock_model.specs.declared.item.Item.{Item}
 use Rattle.memblock_model.specs.declared.item.Item.TheVariants as item
-use Rattle.growth_model.specs.Outcome.{write}
-use Rattle.growth_model.specs.Growth.{is_full, new_in, two, claimed, freed, added, noded, mirrored}
+use Rattle.growth_model.specs.Outcome.{write_item}
+use Rattle.growth_model.specs.Growth.{is_full, count_uncovered_pieces, split_record_count, claim_range, free_range, add_range, set_range_node, set_range_mirror}
 
-pub claimed-idle : (items : List Item) (range : RangeView) (who : Owner) → is_full which.Reserved (new_in which.Reserved range) items ≡ false
-    → claimed range who items ≡ write (item.Claim range who) items
-unfolding claimed
-claimed-idle items range who room = rw (room, append-nil items, room) refl
+pub claim_range-idle : (items : List Item) (range : RangeView) (who : Owner) → is_full which.Reserved (count_uncovered_pieces which.Reserved range) items ≡ false
+    → claim_range range who items ≡ write_item (item.Claim range who) items
+unfolding claim_range
+claim_range-idle items range who room = rw (room, append-nil items, room) refl
 
-pub freed-idle : (items : List Item) (range : RangeView) → is_full which.Reserved two items ≡ false
-    → freed range items ≡ write (item.Free range) items
-unfolding freed
-freed-idle items range room = rw (room, append-nil items, room) refl
+pub free_range-idle : (items : List Item) (range : RangeView) → is_full which.Reserved split_record_count items ≡ false
+    → free_range range items ≡ write_item (item.Free range) items
+unfolding free_range
+free_range-idle items range room = rw (room, append-nil items, room) refl
 
-pub added-idle : (items : List Item) (range : RangeView) → is_full which.Memory (new_in which.Memory range) items ≡ false
-    → added range items ≡ write (item.Mem range) items
-unfolding added
-added-idle items range room = rw (room, append-nil items, room) refl
+pub add_range-idle : (items : List Item) (range : RangeView) → is_full which.Memory (count_uncovered_pieces which.Memory range) items ≡ false
+    → add_range range items ≡ write_item (item.Mem range) items
+unfolding add_range
+add_range-idle items range room = rw (room, append-nil items, room) refl
 
-pub noded-idle : (items : List Item) (range : RangeView) (node : ℕ) → is_full which.Memory two items ≡ false
-    → noded range node items ≡ write (item.Node range node) items
-unfolding noded
-noded-idle items range node room = rw (room, append-nil items, room) refl
+pub set_range_node-idle : (items : List Item) (range : RangeView) (node : ℕ) → is_full which.Memory split_record_count items ≡ false
+    → set_range_node range node items ≡ write_item (item.Node range node) items
+unfolding set_range_node
+set_range_node-idle items range node room = rw (room, append-nil items, room) refl
 
-pub mirrored-idle : (items : List Item) (range : RangeView) → is_full which.Memory two items ≡ false
-    → mirrored range items ≡ write (item.Mirror range) items
-unfolding mirrored
-mirrored-idle items range room = rw (room, append-nil items, room) refl
+pub set_range_mirror-idle : (items : List Item) (range : RangeView) → is_full which.Memory split_record_count items ≡ false
+    → set_range_mirror range items ≡ write_item (item.Mirror range) items
+unfolding set_range_mirror
+set_range_mirror-idle items range room = rw (room, append-nil items, room) refl

@@ -5,8 +5,8 @@ use Rattle.memblock_model.specs.declared.item.Item.{Item}
 use Rattle.memblock_model.specs.declared.item.Item.TheVariants as item
 use Rattle.memblock_model.specs.Labels.{Labels}
 use Rattle.memblock_model.specs.Items.{memory_after, no_memory, memory_of, limit_after, limit_of}
-use Rattle.growth_model.specs.Outcome.{joined}
-use Rattle.growth_model.specs.Carried.{memory_items, AreQuiet}
+use Rattle.growth_model.specs.Outcome.{items_of_steps}
+use Rattle.growth_model.specs.Carried.{memory_items, StepsKeepMemory}
 
 pub fold-memory : (f : Labels) (is : List Item) → fold memory_after f is ≡ fold memory_after f (memory_items is)
 fold-memory f [] = refl
@@ -40,16 +40,16 @@ memory_items-append (item.Grown w place room ∷ is) js = memory_items-append is
 memory_items-append (i ∷ is) js = ap (λ (t : List Item). i ∷ t) (memory_items-append is js)
 
 -- quiet steps have no item that changes memory, and neither have some of them
-pub quiet-joined : (ss : List (List Item)) → AreQuiet ss → memory_items (joined ss) ≡ []
+pub quiet-joined : (ss : List (List Item)) → StepsKeepMemory ss → memory_items (items_of_steps ss) ≡ []
 quiet-joined [] quiet = refl
 quiet-joined (s ∷ ss) quiet =
-    memory_items-append s (joined ss) ∙ ap (λ (t : List Item). t ++ memory_items (joined ss)) quiet.0 ∙ quiet-joined ss quiet.1
+    memory_items-append s (items_of_steps ss) ∙ ap (λ (t : List Item). t ++ memory_items (items_of_steps ss)) quiet.0 ∙ quiet-joined ss quiet.1
 
-pub quiet-take : (n : ℕ) (ss : List (List Item)) → AreQuiet ss → AreQuiet (take n ss)
+pub quiet-take : (n : ℕ) (ss : List (List Item)) → StepsKeepMemory ss → StepsKeepMemory (take n ss)
 quiet-take zero ss quiet = tt
 quiet-take (suc n) [] quiet = tt
 quiet-take (suc n) (s ∷ ss) quiet = (quiet.0, quiet-take n ss quiet.1)
 
-pub quiet-append : (ss ts : List (List Item)) → AreQuiet ss → AreQuiet ts → AreQuiet (ss ++ ts)
+pub quiet-append : (ss ts : List (List Item)) → StepsKeepMemory ss → StepsKeepMemory ts → StepsKeepMemory (ss ++ ts)
 quiet-append [] ts quiet then = then
 quiet-append (s ∷ ss) ts quiet then = (quiet.0, quiet-append ss ts quiet.1 then)

@@ -13,9 +13,9 @@ use Rattle.memblock_model.specs.declared.item.Item.{Item}
 use Rattle.memblock_model.specs.declared.item.Item.TheVariants as item
 use Rattle.memblock_model.specs.Items.{Owners, owners_after, no_owners, owner_of, limit_after, limit_of}
 use Rattle.memblock_model.specs.Tables.{room_after, room_of, moved_after, moved_to, built_in_place, table_bytes}
-use Rattle.growth_model.specs.Growth.{frames_at}
-use Rattle.growth_model.specs.Sound.{keeps, Clear, Unclaimed, Seats, Seated, IsAway}
-use Rattle.growth_model.proofs.SeatLaws.{frames, Seats-claim, Seats-clear, Seats-free, Seats-move, Seats-leave}
+use Rattle.growth_model.specs.Growth.{frames_for_bytes}
+use Rattle.growth_model.specs.Sound.{may_hold_table, AreDisjoint, IsUnclaimed, AreTablePlaces, TablesAreClaimed, TouchesNoTable}
+use Rattle.growth_model.proofs.SeatLaws.{frames, AreTablePlaces-claim, AreTablePlaces-clear, AreTablePlaces-free, AreTablePlaces-move, AreTablePlaces-leave}
 
 -- a table's bytes, from its newest place and its room
 abbrev pub live_by : Which → RangeView → Option ℕ → ℕ → RangeView
@@ -29,17 +29,17 @@ pub table_bytes-same : (w : Which) (kernel : RangeView) (items t : List Item) �
     → table_bytes w kernel t ≡ table_bytes w kernel items
 table_bytes-same w kernel items t at wide = table_bytes-is w kernel t (moved_to w items) (room_of w items) at wide
 
-pub Seats-same : (own now : Owners) (m n r s : RangeView) → now ≡ own → n ≡ m → s ≡ r → Seats own m r → Seats now n s
-Seats-same own now m n r s owners memory reserved known = rw (owners, memory, reserved) known
+pub AreTablePlaces-same : (own now : Owners) (m n r s : RangeView) → now ≡ own → n ≡ m → s ≡ r → AreTablePlaces own m r → AreTablePlaces now n s
+AreTablePlaces-same own now m n r s owners memory reserved known = rw (owners, memory, reserved) known
 
 -- further items, and the seats after them
-pub placed-more : (kernel : RangeView) (items more : List Item) (own : Owners) (m r : RangeView) → Seated kernel items
+pub placed-more : (kernel : RangeView) (items more : List Item) (own : Owners) (m r : RangeView) → TablesAreClaimed kernel items
     → owner_of (items ++ more) ≡ own → table_bytes which.Memory kernel (items ++ more) ≡ m → table_bytes which.Reserved kernel (items ++ more) ≡ r
-    → Seats own m r → Seated kernel (items ++ more)
+    → AreTablePlaces own m r → TablesAreClaimed kernel (items ++ more)
 placed-more kernel items more own m r placed owners memory reserved seats = record {
   rest = placed.rest ++ more;
   first = ap (λ (t : List Item). t ++ more) placed.first;
-  seats = Seats-same own (owner_of (items ++ more)) m (table_bytes which.Memory kernel (items ++ more)) r
+  seats = AreTablePlaces-same own (owner_of (items ++ more)) m (table_bytes which.Memory kernel (items ++ more)) r
       (table_bytes which.Reserved kernel (items ++ more)) owners memory reserved seats;
 }
 
@@ -65,9 +65,9 @@ stays w kernel items i at wide = table_bytes-same w kernel items (items ++ i ∷
 -- an item that moves no table, and after which the seats still have suitable owners
 still-placed : (kernel : RangeView) (items : List Item) (i : Item)
     → ((w : Which) → moved_after w (moved_to w items) i ≡ moved_to w items)
-    → ((w : Which) → room_after w (room_of w items) i ≡ room_of w items) → Seated kernel items
-    → Seats (owners_after (owner_of items) i) (table_bytes which.Memory kernel items) (table_bytes which.Reserved kernel items)
-    → Seated kernel (items ++ i ∷ [])
+    → ((w : Which) → room_after w (room_of w items) i ≡ room_of w items) → TablesAreClaimed kernel items
+    → AreTablePlaces (owners_after (owner_of items) i) (table_bytes which.Memory kernel items) (table_bytes which.Reserved kernel items)
+    → TablesAreClaimed kernel (items ++ i ∷ [])
 still-placed kernel items i at wide placed seats =
     placed-more kernel items (i ∷ []) (owners_after (owner_of items) i) (table_bytes which.Memory kernel items)
     (table_bytes which.Reserved kernel items) placed (owners-of items (i ∷ []))
@@ -77,41 +77,41 @@ still-placed kernel items i at wide placed seats =
 -- a claim may be made for an owner in whose memory a table may lie, or of bytes that overlap no
 -- table
 abbrev pub MayTake : RangeView → List Item → RangeView → Owner → Type 0
-MayTake kernel items range who = (keeps (Some who) ≡ true) ⊎ IsAway kernel range items
+MayTake kernel items range who = (may_hold_table (Some who) ≡ true) ⊎ TouchesNoTable kernel range items
 
-pub claim-placed : (kernel : RangeView) (items : List Item) (r : RangeView) (o : Owner) → MayTake kernel items r o → Seated kernel items
-    → Seated kernel (items ++ item.Claim r o ∷ [])
+pub claim-placed : (kernel : RangeView) (items : List Item) (r : RangeView) (o : Owner) → MayTake kernel items r o → TablesAreClaimed kernel items
+    → TablesAreClaimed kernel (items ++ item.Claim r o ∷ [])
 claim-placed kernel items r o may placed =
     still-placed kernel items (item.Claim r o) (λ w. refl) (λ w. refl) placed
-    (elim may as (λ _. Seats (replace_in_range r o (owner_of items)) (table_bytes which.Memory kernel items) (table_bytes which.Reserved kernel items)) [
-      | inl kept ↦ Seats-claim (owner_of items) (table_bytes which.Memory kernel items) (table_bytes which.Reserved kernel items) r o kept placed.seats
-      | inr away ↦ Seats-clear (owner_of items) (table_bytes which.Memory kernel items) (table_bytes which.Reserved kernel items) r o away.0 away.1
+    (elim may as (λ _. AreTablePlaces (replace_in_range r o (owner_of items)) (table_bytes which.Memory kernel items) (table_bytes which.Reserved kernel items)) [
+      | inl kept ↦ AreTablePlaces-claim (owner_of items) (table_bytes which.Memory kernel items) (table_bytes which.Reserved kernel items) r o kept placed.seats
+      | inr away ↦ AreTablePlaces-clear (owner_of items) (table_bytes which.Memory kernel items) (table_bytes which.Reserved kernel items) r o away.0 away.1
           placed.seats
     ])
 
-pub free-placed : (kernel : RangeView) (items : List Item) (r : RangeView) → IsAway kernel r items → Seated kernel items
-    → Seated kernel (items ++ item.Free r ∷ [])
+pub free-placed : (kernel : RangeView) (items : List Item) (r : RangeView) → TouchesNoTable kernel r items → TablesAreClaimed kernel items
+    → TablesAreClaimed kernel (items ++ item.Free r ∷ [])
 free-placed kernel items r away placed =
     still-placed kernel items (item.Free r) (λ w. refl) (λ w. refl) placed
-    (Seats-free (owner_of items) (table_bytes which.Memory kernel items) (table_bytes which.Reserved kernel items) r away.0 away.1 placed.seats)
+    (AreTablePlaces-free (owner_of items) (table_bytes which.Memory kernel items) (table_bytes which.Reserved kernel items) r away.0 away.1 placed.seats)
 
-pub mem-placed : (kernel : RangeView) (items : List Item) (r : RangeView) → Seated kernel items → Seated kernel (items ++ item.Mem r ∷ [])
+pub mem-placed : (kernel : RangeView) (items : List Item) (r : RangeView) → TablesAreClaimed kernel items → TablesAreClaimed kernel (items ++ item.Mem r ∷ [])
 mem-placed kernel items r placed = still-placed kernel items (item.Mem r) (λ w. refl) (λ w. refl) placed placed.seats
 
-pub node-placed : (kernel : RangeView) (items : List Item) (r : RangeView) (node : ℕ) → Seated kernel items
-    → Seated kernel (items ++ item.Node r node ∷ [])
+pub node-placed : (kernel : RangeView) (items : List Item) (r : RangeView) (node : ℕ) → TablesAreClaimed kernel items
+    → TablesAreClaimed kernel (items ++ item.Node r node ∷ [])
 node-placed kernel items r node placed = still-placed kernel items (item.Node r node) (λ w. refl) (λ w. refl) placed placed.seats
 
-pub mirror-placed : (kernel : RangeView) (items : List Item) (r : RangeView) → Seated kernel items → Seated kernel (items ++ item.Mirror r ∷ [])
+pub mirror-placed : (kernel : RangeView) (items : List Item) (r : RangeView) → TablesAreClaimed kernel items → TablesAreClaimed kernel (items ++ item.Mirror r ∷ [])
 mirror-placed kernel items r placed = still-placed kernel items (item.Mirror r) (λ w. refl) (λ w. refl) placed placed.seats
 
-pub trim-placed : (kernel : RangeView) (items : List Item) → Seated kernel items → Seated kernel (items ++ item.Trim ∷ [])
+pub trim-placed : (kernel : RangeView) (items : List Item) → TablesAreClaimed kernel items → TablesAreClaimed kernel (items ++ item.Trim ∷ [])
 trim-placed kernel items placed = still-placed kernel items item.Trim (λ w. refl) (λ w. refl) placed placed.seats
 
-pub limit-placed : (kernel : RangeView) (items : List Item) (at : ℕ) → Seated kernel items → Seated kernel (items ++ item.Limit at ∷ [])
+pub limit-placed : (kernel : RangeView) (items : List Item) (at : ℕ) → TablesAreClaimed kernel items → TablesAreClaimed kernel (items ++ item.Limit at ∷ [])
 limit-placed kernel items at placed = still-placed kernel items (item.Limit at) (λ w. refl) (λ w. refl) placed placed.seats
 
-pub upward-placed : (kernel : RangeView) (items : List Item) (on : Bool) → Seated kernel items → Seated kernel (items ++ item.Upward on ∷ [])
+pub upward-placed : (kernel : RangeView) (items : List Item) (on : Bool) → TablesAreClaimed kernel items → TablesAreClaimed kernel (items ++ item.Upward on ∷ [])
 upward-placed kernel items on placed = still-placed kernel items (item.Upward on) (λ w. refl) (λ w. refl) placed placed.seats
 
 -- from the items on, the reserved table grew apart from the range: the memory table and the limit
@@ -120,8 +120,8 @@ pub record Aside (kernel a : RangeView) (items t : List Item) : Type 0 where
   pub place : moved_to which.Memory t ≡ moved_to which.Memory items
   pub wide : room_of which.Memory t ≡ room_of which.Memory items
   pub bound : limit_of t ≡ limit_of items
-  pub free : Unclaimed (owner_of items) a → Unclaimed (owner_of t) a
-  pub clear : Clear a (table_bytes which.Reserved kernel items) → Clear a (table_bytes which.Reserved kernel t)
+  pub free : IsUnclaimed (owner_of items) a → IsUnclaimed (owner_of t) a
+  pub clear : AreDisjoint a (table_bytes which.Reserved kernel items) → AreDisjoint a (table_bytes which.Reserved kernel t)
 
 pub aside-same : (kernel a : RangeView) (items : List Item) → Aside kernel a items items
 aside-same kernel a items = record { place = refl; wide = refl; bound = refl; free = λ h. h; clear = λ h. h }
@@ -136,13 +136,13 @@ aside-on kernel a items t u h k = record {
 }
 
 pub record Going (kernel a : RangeView) (items t : List Item) : Type 0 where
-  pub placed : Seated kernel t
+  pub placed : TablesAreClaimed kernel t
   pub aside : Aside kernel a items t
 
 -- the range still overlaps no table, and may still be claimed
-pub away-still : (kernel a : RangeView) (items t : List Item) → Aside kernel a items t → IsAway kernel a items → IsAway kernel a t
+pub away-still : (kernel a : RangeView) (items t : List Item) → Aside kernel a items t → TouchesNoTable kernel a items → TouchesNoTable kernel a t
 away-still kernel a items t aside away =
-    (subst (λ (e : RangeView). Clear a e) (sym (table_bytes-same which.Memory kernel items t aside.place aside.wide)) away.0, aside.clear away.1)
+    (subst (λ (e : RangeView). AreDisjoint a e) (sym (table_bytes-same which.Memory kernel items t aside.place aside.wide)) away.0, aside.clear away.1)
 
 pub take-still : (kernel a : RangeView) (o : Owner) (items t : List Item) → Aside kernel a items t → MayTake kernel items a o
     → MayTake kernel t a o
@@ -154,25 +154,25 @@ take-still kernel a o items t aside (inr away) = inr (away-still kernel a items 
 abbrev place_for_twice : ℕ → ℕ → RangeView
 place_for_twice room place = record { base = place; size = 24 * (2 * room) }
 
-same-frames : (room place : ℕ) → frames (place_for_twice room place) ≡ frames_at place (48 * room)
-same-frames room place = let e : 24 * (2 * room) ≡ 48 * room = omega arith in ap (λ (n : ℕ). frames_at place n) e
+same-frames : (room place : ℕ) → frames (place_for_twice room place) ≡ frames_for_bytes place (48 * room)
+same-frames room place = let e : 24 * (2 * room) ≡ 48 * room = omega arith in ap (λ (n : ℕ). frames_for_bytes place n) e
 
 abbrev pub for_table : Which → Owner
 for_table w = owner.Table w
 
 module _ (own : Owners) (m r : RangeView) (w : Which) (room place : ℕ) where
-  free-frames : Unclaimed own (frames_at place (48 * room)) → Unclaimed own (frames (place_for_twice room place))
-  free-frames free = subst (λ (e : RangeView). Unclaimed own e) (sym (same-frames room place)) free
+  free-frames : IsUnclaimed own (frames_for_bytes place (48 * room)) → IsUnclaimed own (frames (place_for_twice room place))
+  free-frames free = subst (λ (e : RangeView). IsUnclaimed own e) (sym (same-frames room place)) free
 
-  pub move-seats : place % 4096 ≡ 0 → Unclaimed own (frames_at place (48 * room)) → Seats own m r
-      → Seats (replace_in_range (frames_at place (48 * room)) (for_table w) own) m (place_for_twice room place)
+  pub move-seats : place % 4096 ≡ 0 → IsUnclaimed own (frames_for_bytes place (48 * room)) → AreTablePlaces own m r
+      → AreTablePlaces (replace_in_range (frames_for_bytes place (48 * room)) (for_table w) own) m (place_for_twice room place)
   move-seats aligned free seats =
-      subst (λ (e : RangeView). Seats (replace_in_range e (for_table w) own) m (place_for_twice room place)) (same-frames room place)
-      (Seats-move own m r (place_for_twice room place) (for_table w) refl aligned (free-frames free) seats)
+      subst (λ (e : RangeView). AreTablePlaces (replace_in_range e (for_table w) own) m (place_for_twice room place)) (same-frames room place)
+      (AreTablePlaces-move own m r (place_for_twice room place) (for_table w) refl aligned (free-frames free) seats)
 
-  pub leave-seats : place % 4096 ≡ 0 → Unclaimed own (frames_at place (48 * room)) → Seats own m r
-      → Seats (uncover_range (frames r) (replace_in_range (frames_at place (48 * room)) (for_table w) own)) m (place_for_twice room place)
+  pub leave-seats : place % 4096 ≡ 0 → IsUnclaimed own (frames_for_bytes place (48 * room)) → AreTablePlaces own m r
+      → AreTablePlaces (uncover_range (frames r) (replace_in_range (frames_for_bytes place (48 * room)) (for_table w) own)) m (place_for_twice room place)
   leave-seats aligned free seats =
-      subst (λ (e : RangeView). Seats (uncover_range (frames r) (replace_in_range e (for_table w) own)) m (place_for_twice room place))
+      subst (λ (e : RangeView). AreTablePlaces (uncover_range (frames r) (replace_in_range e (for_table w) own)) m (place_for_twice room place))
       (same-frames room place)
-      (Seats-leave own m r (place_for_twice room place) (for_table w) refl aligned (free-frames free) seats)
+      (AreTablePlaces-leave own m r (place_for_twice room place) (for_table w) refl aligned (free-frames free) seats)

@@ -6,12 +6,12 @@ use Rattle.bm_base.specs.Range.{RangeView, covers}
 use Rattle.address_runs.specs.Edits.{uncover_range, replace_in_range}
 use Rattle.memblock_model.specs.declared.owner.Owner.{Owner}
 use Rattle.memblock_model.specs.Items.{Owners}
-use Rattle.growth_model.specs.Growth.{frames_at}
-use Rattle.growth_model.specs.Sound.{keeps, Seat, ShareNoFrame, Clear, Unclaimed, Seats}
+use Rattle.growth_model.specs.Growth.{frames_for_bytes}
+use Rattle.growth_model.specs.Sound.{may_hold_table, IsTablePlace, ShareNoFrame, AreDisjoint, IsUnclaimed, AreTablePlaces}
 
 -- the frames of a range that begins with a frame
 abbrev pub frames : RangeView → RangeView
-frames a = frames_at a.base a.size
+frames a = frames_for_bytes a.base a.size
 
 pub covers-from : (a : RangeView) (x : ℕ) → covers a x ≡ true → (a.base ≤ x) × (x < a.base + a.size)
 covers-from a x h = grind (arith, nat_tests, h)
@@ -38,98 +38,98 @@ pub Apart-swap : (a b : RangeView) → ShareNoFrame a b → ShareNoFrame b a
 Apart-swap a b apart x y at_x at_y same = apart y x at_y at_x (sym same)
 
 -- the frames of one place don't overlap the other place, if the two share no frame
-pub apart-clear : (a b : RangeView) → a.base % 4096 ≡ 0 → ShareNoFrame a b → Clear (frames a) b
+pub apart-clear : (a b : RangeView) → a.base % 4096 ≡ 0 → ShareNoFrame a b → AreDisjoint (frames a) b
 apart-clear a b aligned apart x at_a at_b = apart (4096 * (x / 4096)) x (frame-first a x aligned at_a) at_b (first-frame x)
 
 -- an unclaimed byte is in no seat
-unkept : (own : Owners) (x : ℕ) → own x ≡ None → keeps (own x) ≡ true → ⊥
-unkept own x none kept = true≢false (sym kept ∙ ap keeps none)
+unkept : (own : Owners) (x : ℕ) → own x ≡ None → may_hold_table (own x) ≡ true → ⊥
+unkept own x none kept = true≢false (sym kept ∙ ap may_hold_table none)
 
-pub unclaimed-clear : (own : Owners) (a b : RangeView) → Unclaimed own a → Seat own b → Clear a b
+pub unclaimed-clear : (own : Owners) (a b : RangeView) → IsUnclaimed own a → IsTablePlace own b → AreDisjoint a b
 unclaimed-clear own a b free seat x at_a at_b = unkept own x (free x at_a) (seat.kept x at_b)
 
 -- a new place among unclaimed bytes shares no frame with an old one, and neither do their frames
-pub new-apart : (own : Owners) (n b : RangeView) → n.base % 4096 ≡ 0 → Unclaimed own (frames n) → Seat own b → ShareNoFrame n b
+pub new-apart : (own : Owners) (n b : RangeView) → n.base % 4096 ≡ 0 → IsUnclaimed own (frames n) → IsTablePlace own b → ShareNoFrame n b
 new-apart own n b aligned free seat x y at_n at_b same =
     unkept own y (free y (frame-whole n x y aligned (frames-more n x at_n) (sym same))) (seat.kept y at_b)
 
-pub old-clear : (own : Owners) (a n : RangeView) → n.base % 4096 ≡ 0 → Unclaimed own (frames n) → Seat own a → Clear (frames a) (frames n)
+pub old-clear : (own : Owners) (a n : RangeView) → n.base % 4096 ≡ 0 → IsUnclaimed own (frames n) → IsTablePlace own a → AreDisjoint (frames a) (frames n)
 old-clear own a n aligned free seat x at_a at_n =
     unkept own (4096 * (x / 4096))
     (free (4096 * (x / 4096)) (frame-whole n x (4096 * (x / 4096)) aligned at_n (first-frame x)))
     (seat.kept (4096 * (x / 4096)) (frame-first a x seat.aligned at_a))
 
 -- a claim for an owner in whose memory a table may lie
-kept-claim : (b : Bool) (o : Owner) (old : Option Owner) → keeps (Some o) ≡ true → keeps old ≡ true
-    → keeps (if b then Some o else old) ≡ true
+kept-claim : (b : Bool) (o : Owner) (old : Option Owner) → may_hold_table (Some o) ≡ true → may_hold_table old ≡ true
+    → may_hold_table (if b then Some o else old) ≡ true
 kept-claim true o old new was = new
 kept-claim false o old new was = was
 
-pub Seat-claim : (own : Owners) (a r : RangeView) (o : Owner) → keeps (Some o) ≡ true → Seat own a → Seat (replace_in_range r o own) a
-Seat-claim own a r o new seat = record {
+pub IsTablePlace-claim : (own : Owners) (a r : RangeView) (o : Owner) → may_hold_table (Some o) ≡ true → IsTablePlace own a → IsTablePlace (replace_in_range r o own) a
+IsTablePlace-claim own a r o new seat = record {
   aligned = seat.aligned;
   kept = λ x at. kept-claim (covers r x) o (own x) new (seat.kept x at);
 }
 
 -- a claim of other bytes for anyone, and a free of other bytes
-pub Seat-clear : (own : Owners) (a r : RangeView) (o : Owner) → Clear r a → Seat own a → Seat (replace_in_range r o own) a
-Seat-clear own a r o clear seat = record {
+pub IsTablePlace-clear : (own : Owners) (a r : RangeView) (o : Owner) → AreDisjoint r a → IsTablePlace own a → IsTablePlace (replace_in_range r o own) a
+IsTablePlace-clear own a r o clear seat = record {
   aligned = seat.aligned;
   kept = λ x at. rw (false_from_ne_true (covers r x) (λ in_r. clear x in_r at)) (seat.kept x at);
 }
 
-pub Seat-free : (own : Owners) (a r : RangeView) → Clear r a → Seat own a → Seat (uncover_range r own) a
-Seat-free own a r clear seat = record {
+pub IsTablePlace-free : (own : Owners) (a r : RangeView) → AreDisjoint r a → IsTablePlace own a → IsTablePlace (uncover_range r own) a
+IsTablePlace-free own a r clear seat = record {
   aligned = seat.aligned;
   kept = λ x at. rw (false_from_ne_true (covers r x) (λ in_r. clear x in_r at)) (seat.kept x at);
 }
 
 -- a claim makes a seat
-pub Seat-new : (own : Owners) (n r : RangeView) (o : Owner) → n.base % 4096 ≡ 0 → keeps (Some o) ≡ true
-    → ((x : ℕ) → covers n x ≡ true → covers r x ≡ true) → Seat (replace_in_range r o own) n
-Seat-new own n r o aligned new inside = record {
+pub IsTablePlace-new : (own : Owners) (n r : RangeView) (o : Owner) → n.base % 4096 ≡ 0 → may_hold_table (Some o) ≡ true
+    → ((x : ℕ) → covers n x ≡ true → covers r x ≡ true) → IsTablePlace (replace_in_range r o own) n
+IsTablePlace-new own n r o aligned new inside = record {
   aligned = aligned;
   kept = λ x at. let here : covers r x ≡ true = inside x at in rw here new;
 }
 
-pub Seats-swap : (own : Owners) (m r : RangeView) → Seats own m r → Seats own r m
-Seats-swap own m r both = record { first = both.second; second = both.first; apart = Apart-swap m r both.apart }
+pub AreTablePlaces-swap : (own : Owners) (m r : RangeView) → AreTablePlaces own m r → AreTablePlaces own r m
+AreTablePlaces-swap own m r both = record { first = both.second; second = both.first; apart = Apart-swap m r both.apart }
 
-pub Seats-claim : (own : Owners) (m r a : RangeView) (o : Owner) → keeps (Some o) ≡ true → Seats own m r → Seats (replace_in_range a o own) m r
-Seats-claim own m r a o new both = record {
-  first = Seat-claim own m a o new both.first;
-  second = Seat-claim own r a o new both.second;
+pub AreTablePlaces-claim : (own : Owners) (m r a : RangeView) (o : Owner) → may_hold_table (Some o) ≡ true → AreTablePlaces own m r → AreTablePlaces (replace_in_range a o own) m r
+AreTablePlaces-claim own m r a o new both = record {
+  first = IsTablePlace-claim own m a o new both.first;
+  second = IsTablePlace-claim own r a o new both.second;
   apart = both.apart;
 }
 
-pub Seats-clear : (own : Owners) (m r a : RangeView) (o : Owner) → Clear a m → Clear a r → Seats own m r → Seats (replace_in_range a o own) m r
-Seats-clear own m r a o first second both = record {
-  first = Seat-clear own m a o first both.first;
-  second = Seat-clear own r a o second both.second;
+pub AreTablePlaces-clear : (own : Owners) (m r a : RangeView) (o : Owner) → AreDisjoint a m → AreDisjoint a r → AreTablePlaces own m r → AreTablePlaces (replace_in_range a o own) m r
+AreTablePlaces-clear own m r a o first second both = record {
+  first = IsTablePlace-clear own m a o first both.first;
+  second = IsTablePlace-clear own r a o second both.second;
   apart = both.apart;
 }
 
-pub Seats-free : (own : Owners) (m r a : RangeView) → Clear a m → Clear a r → Seats own m r → Seats (uncover_range a own) m r
-Seats-free own m r a first second both = record {
-  first = Seat-free own m a first both.first;
-  second = Seat-free own r a second both.second;
+pub AreTablePlaces-free : (own : Owners) (m r a : RangeView) → AreDisjoint a m → AreDisjoint a r → AreTablePlaces own m r → AreTablePlaces (uncover_range a own) m r
+AreTablePlaces-free own m r a first second both = record {
+  first = IsTablePlace-free own m a first both.first;
+  second = IsTablePlace-free own r a second both.second;
   apart = both.apart;
 }
 
 -- the second table moves to a new place, whose frames are claimed
-pub Seats-move : (own : Owners) (m r n : RangeView) (o : Owner) → keeps (Some o) ≡ true → n.base % 4096 ≡ 0 → Unclaimed own (frames n)
-    → Seats own m r → Seats (replace_in_range (frames n) o own) m n
-Seats-move own m r n o new aligned free both = record {
-  first = Seat-claim own m (frames n) o new both.first;
-  second = Seat-new own n (frames n) o aligned new (frames-more n);
+pub AreTablePlaces-move : (own : Owners) (m r n : RangeView) (o : Owner) → may_hold_table (Some o) ≡ true → n.base % 4096 ≡ 0 → IsUnclaimed own (frames n)
+    → AreTablePlaces own m r → AreTablePlaces (replace_in_range (frames n) o own) m n
+AreTablePlaces-move own m r n o new aligned free both = record {
+  first = IsTablePlace-claim own m (frames n) o new both.first;
+  second = IsTablePlace-new own n (frames n) o aligned new (frames-more n);
   apart = Apart-swap n m (new-apart own n m aligned free both.first);
 }
 
 -- and the frames that it left are freed
-pub Seats-leave : (own : Owners) (m r n : RangeView) (o : Owner) → keeps (Some o) ≡ true → n.base % 4096 ≡ 0 → Unclaimed own (frames n)
-    → Seats own m r → Seats (uncover_range (frames r) (replace_in_range (frames n) o own)) m n
-Seats-leave own m r n o new aligned free both =
-    Seats-free (replace_in_range (frames n) o own) m n (frames r)
+pub AreTablePlaces-leave : (own : Owners) (m r n : RangeView) (o : Owner) → may_hold_table (Some o) ≡ true → n.base % 4096 ≡ 0 → IsUnclaimed own (frames n)
+    → AreTablePlaces own m r → AreTablePlaces (uncover_range (frames r) (replace_in_range (frames n) o own)) m n
+AreTablePlaces-leave own m r n o new aligned free both =
+    AreTablePlaces-free (replace_in_range (frames n) o own) m n (frames r)
     (apart-clear r m both.second.aligned (Apart-swap m r both.apart))
     (λ x at_r at_n. old-clear own r n aligned free both.second x at_r (frames-more n x at_n))
-    (Seats-move own m r n o new aligned free both)
+    (AreTablePlaces-move own m r n o new aligned free both)

@@ -8,12 +8,12 @@ use Rattle.memblock_model.specs.declared.item.Item.{Item}
 use Rattle.memblock_model.specs.declared.item.Item.TheVariants as item
 use Rattle.bm_base.specs.Range.{covers}
 use Rattle.memblock_model.specs.Items.{Owners, owner_of}
-use Rattle.growth_model.specs.Sound.{keeps, Seat, ShareNoFrame, Clear, Seated, IsImage, IsAway, MayClaim}
+use Rattle.growth_model.specs.Sound.{may_hold_table, IsTablePlace, ShareNoFrame, AreDisjoint, TablesAreClaimed, IsKernelImage, TouchesNoTable, MayClaim}
 use Rattle.growth_model.proofs.FirstLaws.{first-placed}
 use Rattle.growth_model.proofs.GrowthExamples.{image, frame}
 
 -- a table may lie in bytes of the kernel and of a table, and not in unclaimed ones
-keeps_examples : (keeps (Some owner.Kernel) ≡ true) × (keeps (Some (owner.Table which.Reserved)) ≡ true) × (keeps None ≡ false)
+keeps_examples : (may_hold_table (Some owner.Kernel) ≡ true) × (may_hold_table (Some (owner.Table which.Reserved)) ≡ true) × (may_hold_table None ≡ false)
 keeps_examples = (refl, refl, refl)
 
 -- the first four frames are the kernel's, except one byte of the script in the third
@@ -22,7 +22,7 @@ claims x = if nat_lt x 9000 then Some owner.Kernel else (if nat_lt x 9001 then S
     (if nat_lt x 16384 then Some owner.Kernel else None))
 
 -- a table may lie in the first two frames
-a_spot : (base : ℕ) → base % 4096 ≡ 0 → base ≤ 4096 → Seat claims (record { base = base; size = 3072 })
+a_spot : (base : ℕ) → base % 4096 ≡ 0 → base ≤ 4096 → IsTablePlace claims (record { base = base; size = 3072 })
 a_spot base aligned below = record {
   aligned = aligned;
   kept = λ x at. let low : nat_lt x 9000 ≡ true = grind (arith, nat_tests, below, at) in rw low refl;
@@ -30,8 +30,8 @@ a_spot base aligned below = record {
 
 -- no seat: a range that isn't aligned, one that begins inside a frame, and one with the script's
 -- byte
-no_spots : (Seat claims (record { base = 4097; size = 16 }) → ⊥) × (Seat claims (record { base = 2048; size = 16 }) → ⊥)
-    × (Seat claims (record { base = 8192; size = 3072 }) → ⊥)
+no_spots : (IsTablePlace claims (record { base = 4097; size = 16 }) → ⊥) × (IsTablePlace claims (record { base = 2048; size = 16 }) → ⊥)
+    × (IsTablePlace claims (record { base = 8192; size = 3072 }) → ⊥)
 no_spots = (
   λ seat. let aligned = seat.aligned in cc,
   λ seat. let aligned = seat.aligned in cc,
@@ -48,37 +48,37 @@ sharing_examples : (ShareNoFrame (record { base = 0; size = 16 }) (record { base
 sharing_examples = (λ apart. apart 0 32 refl refl refl, λ apart. apart 0 2048 refl refl refl)
 
 -- both ranges are in one frame, but have no byte in common
-one_frame_clear : Clear (record { base = 0; size = 16 }) (record { base = 32; size = 16 })
+one_frame_clear : AreDisjoint (record { base = 0; size = 16 }) (record { base = 32; size = 16 })
 one_frame_clear x at_a at_b = grind (arith, nat_tests, at_a, at_b)
 
-one_byte_in_both : Clear (record { base = 0; size = 33 }) (record { base = 32; size = 16 }) → ⊥
+one_byte_in_both : AreDisjoint (record { base = 0; size = 33 }) (record { base = 32; size = 16 }) → ⊥
 one_byte_in_both clear = clear 32 refl refl
 
 -- the kernel's image: its last two frames hold the tables at first
-is_image : IsImage image
+is_image : IsKernelImage image
 is_image = record { whole = refl; large = omega arith }
 
 -- one frame is too small, and an image doesn't end inside a frame
-no_images : (IsImage (frame 16) → ⊥) × (IsImage (record { base = 65536; size = 16000 }) → ⊥)
+no_images : (IsKernelImage (frame 16) → ⊥) × (IsKernelImage (record { base = 65536; size = 16000 }) → ⊥)
 no_images = (λ known. let large = known.large in omega arith, λ known. let whole = known.whole in cc)
 
 abbrev begun : List Item
 begun = item.Claim image owner.Kernel ∷ []
 
-placed_at_first : Seated image begun
+placed_at_first : TablesAreClaimed image begun
 placed_at_first = first-placed image is_image
 
-nothing_placed : Seated image [] → ⊥
+nothing_placed : TablesAreClaimed image [] → ⊥
 nothing_placed placed = let first = placed.first in cc
 
 -- after the script claimed a frame of the image no table may lie there; in the next frame one may
 abbrev scripted : Owners
 scripted = owner_of (begun ++ item.Claim (frame 16) (owner.Script 1) ∷ [])
 
-not_where_the_script_claimed : Seat scripted (record { base = 65536; size = 3072 }) → ⊥
+not_where_the_script_claimed : IsTablePlace scripted (record { base = 65536; size = 3072 }) → ⊥
 not_where_the_script_claimed seat = let kept = seat.kept 65536 refl in cc
 
-beside_the_scripts_frame : Seat scripted (record { base = 69632; size = 3072 })
+beside_the_scripts_frame : IsTablePlace scripted (record { base = 69632; size = 3072 })
 beside_the_scripts_frame = record {
   aligned = refl;
   kept = λ x at. let behind : covers (frame 16) x ≡ false = grind (arith, nat_tests, at) in
@@ -86,10 +86,10 @@ beside_the_scripts_frame = record {
 }
 
 -- the first frames of the image overlap no table, and its last two do
-away : IsAway image (frame 16) begun
+away : TouchesNoTable image (frame 16) begun
 away = (λ x at_a at_t. grind (arith, nat_tests, at_a, at_t), λ x at_a at_t. grind (arith, nat_tests, at_a, at_t))
 
-not_away : IsAway image (frame 18) begun → ⊥
+not_away : TouchesNoTable image (frame 18) begun → ⊥
 not_away known = known.0 73728 refl refl
 
 -- the image is claimed first, only for the kernel; then others may claim the tables' bytes, and

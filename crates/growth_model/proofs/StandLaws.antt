@@ -12,21 +12,21 @@ use Rattle.memblock_model.specs.declared.owner.Which.{Which}
 use Rattle.memblock_model.specs.declared.owner.Which.TheVariants as which
 use Rattle.memblock_model.specs.declared.item.Item.{Item}
 use Rattle.memblock_model.specs.Tables.{records_of, room_of, table_place, table_bytes}
-use Rattle.memblock_ranges.specs.Spelling.{spelled_table, spelling_of, flags_field, node_field}
+use Rattle.memblock_ranges.specs.Spelling.{encode_table, encode_record, flags_field, node_field}
 use Rattle.memblock_ranges.proofs.SpellLaws.{length-fields_of}
-use Rattle.growth_model.specs.Sound.{Seated, Fits, Clear}
+use Rattle.growth_model.specs.Sound.{TablesAreClaimed, TablesHaveRoom, AreDisjoint}
 use Rattle.growth_model.proofs.ToldLaws.{listed-told, chosen}
-use Rattle.growth_model.specs.Bytes.{table_for, spelled_at, AreSpelled}
+use Rattle.growth_model.specs.Bytes.{table_for, table_byte_at, TablesAreEncoded}
 
 -- no byte is in both tables
-pub table_bytes-clear : (kernel : RangeView) (items : List Item) → Seated kernel items →
-    Clear (table_bytes which.Memory kernel items) (table_bytes which.Reserved kernel items)
+pub table_bytes-clear : (kernel : RangeView) (items : List Item) → TablesAreClaimed kernel items →
+    AreDisjoint (table_bytes which.Memory kernel items) (table_bytes which.Reserved kernel items)
 table_bytes-clear kernel items placed = λ x here too. placed.seats.apart x x here too refl
 
 -- the byte at an address of a table is that of its encoding
-pub journal-stands : (w : Which) (kernel : RangeView) (items : List Item) (f : ℕ → ℕ) (x : ℕ) → Seated kernel items →
-    AreSpelled (table_for which.Memory kernel items) (table_for which.Reserved kernel items) f → covers (table_bytes w kernel items) x ≡ true →
-    f x ≡ spelled_at (table_for w kernel items) x
+pub journal-stands : (w : Which) (kernel : RangeView) (items : List Item) (f : ℕ → ℕ) (x : ℕ) → TablesAreClaimed kernel items →
+    TablesAreEncoded (table_for which.Memory kernel items) (table_for which.Reserved kernel items) f → covers (table_bytes w kernel items) x ≡ true →
+    f x ≡ table_byte_at (table_for w kernel items) x
 journal-stands which.Memory kernel items f x placed spelled here = spelled x ∙ rw here refl
 journal-stands which.Reserved kernel items f x placed spelled here =
     let beside : covers (table_bytes which.Memory kernel items) x ≡ false =
@@ -36,46 +36,46 @@ journal-stands which.Reserved kernel items f x placed spelled here =
 -- conversely, if the bytes at both places are those of the encodings, both tables are in their
 -- bytes
 pub spelled-from : (kernel : RangeView) (items : List Item) (f : ℕ → ℕ) →
-    ((w : Which) (x : ℕ) → covers (table_bytes w kernel items) x ≡ true → f x ≡ spelled_at (table_for w kernel items) x) →
-    AreSpelled (table_for which.Memory kernel items) (table_for which.Reserved kernel items) f
+    ((w : Which) (x : ℕ) → covers (table_bytes w kernel items) x ≡ true → f x ≡ table_byte_at (table_for w kernel items) x) →
+    TablesAreEncoded (table_for which.Memory kernel items) (table_for which.Reserved kernel items) f
 spelled-from kernel items f each = λ x.
     chosen (covers (table_bytes which.Memory kernel items) x) (covers (table_bytes which.Reserved kernel items) x) (f x)
-    (spelled_at (table_for which.Memory kernel items) x) (spelled_at (table_for which.Reserved kernel items) x) (f x)
+    (table_byte_at (table_for which.Memory kernel items) x) (table_byte_at (table_for which.Reserved kernel items) x) (f x)
     (each which.Memory x) (each which.Reserved x) (λ out too. refl)
 
 -- the same statement for lists of bytes
 pub spelled-lists : (kernel : RangeView) (items : List Item) (f : ℕ → ℕ) →
-    ((w : Which) → bytes_at f (table_place w kernel items) (24 * room_of w items) ≡ spelled_table (records_of w items) (room_of w items)) →
-    AreSpelled (table_for which.Memory kernel items) (table_for which.Reserved kernel items) f
+    ((w : Which) → bytes_at f (table_place w kernel items) (24 * room_of w items) ≡ encode_table (records_of w items) (room_of w items)) →
+    TablesAreEncoded (table_for which.Memory kernel items) (table_for which.Reserved kernel items) f
 spelled-lists kernel items f lists =
     spelled-from kernel items f (λ w x here. listed-told (table_for w kernel items) f x (lists w) here)
 
 -- a table with room for its records has 24 bytes for each
-pub length-spelled_table : (rs : List (RunOf LabelView)) (n : ℕ) → length rs ≤ n → length (spelled_table rs n) ≡ 24 * n
-unfolding spelled_table
+pub length-spelled_table : (rs : List (RunOf LabelView)) (n : ℕ) → length rs ≤ n → length (encode_table rs n) ≡ 24 * n
+unfolding encode_table
 length-spelled_table [] n few = length-replicate (24 * n) 0
 length-spelled_table (r ∷ rs) zero few = absurd (omega arith)
 length-spelled_table (r ∷ rs) (suc n) few =
     let left : suc n - 1 ≡ n = omega arith in
     let rest = length-spelled_table rs n (omega arith) in
     let first = length-fields_of r.base r.size (flags_field r.value) (node_field r.value) in
-    ap (λ (k : ℕ). length (spelling_of r ++ spelled_table rs k)) left ∙ length-append (spelling_of r) (spelled_table rs n)
+    ap (λ (k : ℕ). length (encode_record r ++ encode_table rs k)) left ∙ length-append (encode_record r) (encode_table rs n)
     ∙ omega (arith, first, rest)
 
-spelled_here : (w : Which) (kernel : RangeView) (items : List Item) (f : ℕ → ℕ) (k : ℕ) → Seated kernel items →
-    AreSpelled (table_for which.Memory kernel items) (table_for which.Reserved kernel items) f → k < 24 * room_of w items →
-    get_or (spelled_table (records_of w items) (room_of w items)) k 0 ≡ f (table_place w kernel items + k)
+spelled_here : (w : Which) (kernel : RangeView) (items : List Item) (f : ℕ → ℕ) (k : ℕ) → TablesAreClaimed kernel items →
+    TablesAreEncoded (table_for which.Memory kernel items) (table_for which.Reserved kernel items) f → k < 24 * room_of w items →
+    get_or (encode_table (records_of w items) (room_of w items)) k 0 ≡ f (table_place w kernel items + k)
 spelled_here w kernel items f k placed spelled below =
     let place = table_place w kernel items in
     let back : place + k - place ≡ k = omega arith in
     sym (journal-stands w kernel items f (place + k) placed spelled (grind (arith, nat_tests, below))
-    ∙ ap (λ (i : ℕ). get_or (spelled_table (records_of w items) (room_of w items)) i 0) back)
+    ∙ ap (λ (i : ℕ). get_or (encode_table (records_of w items) (room_of w items)) i 0) back)
 
 -- as one list: the bytes at the place of a table are the encoding of its records
-pub list-stands : (w : Which) (kernel : RangeView) (items : List Item) (f : ℕ → ℕ) → Seated kernel items → Fits items →
-    AreSpelled (table_for which.Memory kernel items) (table_for which.Reserved kernel items) f →
-    bytes_at f (table_place w kernel items) (24 * room_of w items) ≡ spelled_table (records_of w items) (room_of w items)
+pub list-stands : (w : Which) (kernel : RangeView) (items : List Item) (f : ℕ → ℕ) → TablesAreClaimed kernel items → TablesHaveRoom items →
+    TablesAreEncoded (table_for which.Memory kernel items) (table_for which.Reserved kernel items) f →
+    bytes_at f (table_place w kernel items) (24 * room_of w items) ≡ encode_table (records_of w items) (room_of w items)
 list-stands w kernel items f placed fits spelled =
-    sym (told_bytes f (table_place w kernel items) (24 * room_of w items) (spelled_table (records_of w items) (room_of w items))
+    sym (told_bytes f (table_place w kernel items) (24 * room_of w items) (encode_table (records_of w items) (room_of w items))
     (length-spelled_table (records_of w items) (room_of w items) (fits w))
     (λ k below. spelled_here w kernel items f k placed spelled below))

@@ -5,37 +5,37 @@ use Rattle.memblock_model.specs.declared.item.Item.{Item}
 use Rattle.memblock_model.specs.declared.owner.Owner.{Owner}
 use Rattle.growth_model.specs.declared.refusal.Refusal.{Refusal}
 use Rattle.growth_model.specs.declared.refusal.Refusal.TheVariants as refusal
-use Rattle.growth_model.specs.Outcome.{Outcome, Change, joined, after}
-use Rattle.growth_model.specs.Growth.{claimed}
+use Rattle.growth_model.specs.Outcome.{ChangeEffect, Change, items_of_steps, items_after_change}
+use Rattle.growth_model.specs.Growth.{claim_range}
 
 -- the new items are the old ones and those of the first `count` steps
-pub record IsCut (old new : List Item) (steps : List (List Item)) : Type 0 where
+pub record WritesFirstSteps (old new : List Item) (steps : List (List Item)) : Type 0 where
   pub count : ℕ
   pub within : count ≤ length steps
-  pub stands : new ≡ old ++ joined (take count steps)
+  pub stands : new ≡ old ++ items_of_steps (take count steps)
 
 -- the new items are the old ones and those of the first `count` steps, and at least one step is
 -- missing
-pub record IsCutShort (old new : List Item) (steps : List (List Item)) : Type 0 where
+pub record StopsBeforeStep (old new : List Item) (steps : List (List Item)) : Type 0 where
   pub count : ℕ
   pub short : count < length steps
-  pub stands : new ≡ old ++ joined (take count steps)
+  pub stands : new ≡ old ++ items_of_steps (take count steps)
 
 -- Ok if no growth was refused, and NoGapForTable with the growth that was refused; all items of
 -- the change are written in both cases. Memory is returned only before a step that is then
 -- missing. NoGap is never returned, since a change searches for no gap of its own.
-abbrev pub EndsBy : {T : Type 0} → Result T Refusal → List Item → List Item → Outcome → Type 0
-EndsBy (Ok x) old new o = (o.refused ≡ None) × (new ≡ after old o)
-EndsBy (Err refusal.NoGap) old new o = ⊥
-EndsBy (Err (refusal.NoGapForTable w room)) old new o = (o.refused ≡ Some (record { which = w; room = room })) × (new ≡ after old o)
-EndsBy (Err refusal.Memory) old new o = IsCutShort old new o.steps
+abbrev pub EndsAsEffect : {T : Type 0} → Result T Refusal → List Item → List Item → ChangeEffect → Type 0
+EndsAsEffect (Ok x) old new o = (o.refused ≡ None) × (new ≡ items_after_change old o)
+EndsAsEffect (Err refusal.NoGap) old new o = ⊥
+EndsAsEffect (Err (refusal.NoGapForTable w room)) old new o = (o.refused ≡ Some (record { which = w; room = room })) × (new ≡ items_after_change old o)
+EndsAsEffect (Err refusal.Memory) old new o = StopsBeforeStep old new o.steps
 
-abbrev pub Ends : {T : Type 0} → Result T Refusal → List Item → List Item → Change → Type 0
-Ends result old new change = EndsBy result old new (change old)
+abbrev pub EndsAsChange : {T : Type 0} → Result T Refusal → List Item → List Item → Change → Type 0
+EndsAsChange result old new change = EndsAsEffect result old new (change old)
 
 -- an allocation claims the place that was found and returns it; if there is none, it returns NoGap
 -- and writes nothing
 abbrev pub Allocates : Result ℕ Refusal → List Item → List Item → Option ℕ → ℕ → Owner → Type 0
 Allocates result old new None size who = (result ≡ Err refusal.NoGap) × (new ≡ old)
 Allocates result old new (Some place) size who =
-    IfOk result (λ base. base ≡ place) × Ends result old new (claimed (record { base = place; size = size }) who)
+    IfOk result (λ base. base ≡ place) × EndsAsChange result old new (claim_range (record { base = place; size = size }) who)

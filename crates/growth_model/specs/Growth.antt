@@ -13,99 +13,99 @@ use Rattle.memblock_model.specs.declared.query.Query.{Query}
 use Rattle.memblock_model.specs.declared.item.Item.{Item}
 use Rattle.memblock_model.specs.declared.item.Item.TheVariants as item
 use Rattle.memblock_model.specs.Items.{limit_of}
-use Rattle.memblock_model.specs.Tables.{table_of, records_of, room_of, moved_to, pieces}
+use Rattle.memblock_model.specs.Tables.{table_of, records_of, room_of, moved_to, uncovered_run_count}
 use Rattle.memblock_model.specs.Search.{best_place}
-use Rattle.growth_model.specs.Outcome.{Change, ◌>>◌, nothing, step, write, refuse, if_due, whatever_refused}
+use Rattle.growth_model.specs.Outcome.{Change, ◌>>◌, no_change, write_items, write_item, refuse_growth, if_due, ignore_refusal}
 
 -- n bytes, rounded up to frames
-abbrev pub in_whole_frames : ℕ → ℕ
-in_whole_frames n = (n + (FRAME_SIZE - 1)) / FRAME_SIZE * FRAME_SIZE
+abbrev pub round_up_to_frames : ℕ → ℕ
+round_up_to_frames n = (n + (FRAME_SIZE - 1)) / FRAME_SIZE * FRAME_SIZE
 
 -- the frames from the address on that n bytes need
-abbrev pub frames_at : ℕ → ℕ → RangeView
-frames_at place n = record { base = place; size = in_whole_frames n }
+abbrev pub frames_for_bytes : ℕ → ℕ → RangeView
+frames_for_bytes place n = record { base = place; size = round_up_to_frames n }
 
 -- the number of records of a table
-abbrev pub count : Which → List Item → ℕ
-count w items = length (records_of w items)
+abbrev pub record_count : Which → List Item → ℕ
+record_count w items = length (records_of w items)
 
 -- the query of a table that has this room: the frames of twice as many records of 24 bytes, in the
 -- window, on any node
 abbrev pub table_query : ℕ → ℕ → ℕ → Query
-table_query room lo hi = record { lo = lo; hi = hi; size = in_whole_frames (48 * room); align = FRAME_SIZE; node = None }
+table_query room lo hi = record { lo = lo; hi = hi; size = round_up_to_frames (48 * room); align = FRAME_SIZE; node = None }
 
 -- the new place of the reserved table: the best one above the range that is claimed or freed, else
 -- the best one below it; in both cases below the limit
-abbrev pub place_beside : RangeView → ℕ → List Item → Option ℕ
-place_beside avoid room items = option_or
+abbrev pub place_beside_range : RangeView → ℕ → List Item → Option ℕ
+place_beside_range avoid room items = option_or
     (best_place items (table_query room (end_of avoid) (limit_of items)))
     (best_place items (table_query room 0 (min avoid.base (limit_of items))))
 
 -- the frames of a table's old place are freed, unless that is the built-in one
-abbrev pub left : ℕ → Option ℕ → List Item
-left room None = []
-left room (Some place) = item.Free (frames_at place (24 * room)) ∷ []
+abbrev pub items_freeing_old_place : ℕ → Option ℕ → List Item
+items_freeing_old_place room None = []
+items_freeing_old_place room (Some place) = item.Free (frames_for_bytes place (24 * room)) ∷ []
 
 -- what the reserved table writes when it moves from its old place, if it has moved before, to the
 -- new one: all in one step
-unfoldable pub reserved_items : ℕ → Option ℕ → ℕ → List Item
-reserved_items room old place =
+unfoldable pub reserved_growth_items : ℕ → Option ℕ → ℕ → List Item
+reserved_growth_items room old place =
     item.Grown which.Reserved place (2 * room)
-    ∷ (item.Claim (frames_at place (48 * room)) (owner.Table which.Reserved)
-    ∷ left room old)
+    ∷ (item.Claim (frames_for_bytes place (48 * room)) (owner.Table which.Reserved)
+    ∷ items_freeing_old_place room old)
 
 unfoldable pub reserved_growth_at : ℕ → Option ℕ → Option ℕ → Change
-reserved_growth_at room old None = refuse which.Reserved room
-reserved_growth_at room old (Some place) = step (reserved_items room old place)
+reserved_growth_at room old None = refuse_growth which.Reserved room
+reserved_growth_at room old (Some place) = write_items (reserved_growth_items room old place)
 
 -- the growth of the reserved table before the range is claimed or freed
 unfoldable pub reserved_growth : RangeView → Change
 reserved_growth avoid items =
     reserved_growth_at (room_of which.Reserved items) (moved_to which.Reserved items)
-    (place_beside avoid (room_of which.Reserved items) items) items
+    (place_beside_range avoid (room_of which.Reserved items) items) items
 
 -- whether the table's records and `more` further ones exceed its room
 abbrev pub is_full : Which → (List Item → ℕ) → List Item → Bool
-is_full w more items = nat_lt (room_of w items) (count w items + more items)
+is_full w more items = nat_lt (room_of w items) (record_count w items + more items)
 
 -- the number of runs of the range's bytes that the table doesn't cover
-abbrev pub new_in : Which → RangeView → List Item → ℕ
-new_in w range items = pieces range (table_of w items)
+abbrev pub count_uncovered_pieces : Which → RangeView → List Item → ℕ
+count_uncovered_pieces w range items = uncovered_run_count range (table_of w items)
 
 -- an edit inside a table may split a record at both ends of its range
-abbrev pub two : List Item → ℕ
-two items = 2
+abbrev pub split_record_count : List Item → ℕ
+split_record_count items = 2
 
 -- the table grows if it is full, and once more if it still is; two growths are always enough
-abbrev pub grown : Which → (List Item → ℕ) → Change → Change
-grown w more growth = if_due (is_full w more) growth >> if_due (is_full w more) growth
+abbrev pub make_table_room : Which → (List Item → ℕ) → Change → Change
+make_table_room w more growth = if_due (is_full w more) growth >> if_due (is_full w more) growth
 
 -- the claim of a range (`memblock_reserve`)
-unfoldable pub claimed : RangeView → Owner → Change
-claimed range who = grown which.Reserved (new_in which.Reserved range) (reserved_growth range) >> write (item.Claim range who)
+unfoldable pub claim_range : RangeView → Owner → Change
+claim_range range who = make_table_room which.Reserved (count_uncovered_pieces which.Reserved range) (reserved_growth range) >> write_item (item.Claim range who)
 
 -- the free of a range (`memblock_phys_free`)
-unfoldable pub freed : RangeView → Change
-freed range = grown which.Reserved two (reserved_growth range) >> write (item.Free range)
+unfoldable pub free_range : RangeView → Change
+free_range range = make_table_room which.Reserved split_record_count (reserved_growth range) >> write_item (item.Free range)
 
 -- the frames of a table's old place, unless that is the built-in one
 abbrev pub old_frames : ℕ → Option ℕ → Option RangeView
-old_frames room old = option_map (λ place. frames_at place (24 * room)) old
+old_frames room old = option_map (λ place. frames_for_bytes place (24 * room)) old
 
 -- the old place is freed; if that needs a growth that is refused, the old place stays claimed, and
 -- the change isn't refused
-abbrev pub leave : Option RangeView → Change
-leave None = nothing
-leave (Some frames) = whatever_refused (freed frames)
+abbrev pub free_old_place : Option RangeView → Change
+free_old_place None = no_change
+free_old_place (Some frames) = ignore_refusal (free_range frames)
 
 -- the memory table moves to the new place: its claim, which may make the reserved table grow, then
 -- the move
 unfoldable pub memory_growth_at : ℕ → Option ℕ → Option ℕ → Change
-memory_growth_at room old None = refuse which.Memory room
+memory_growth_at room old None = refuse_growth which.Memory room
 memory_growth_at room old (Some place) =
-    claimed (frames_at place (48 * room)) (owner.Table which.Memory)
-    >> write (item.Grown which.Memory place (2 * room))
-    >> leave (old_frames room old)
+    claim_range (frames_for_bytes place (48 * room)) (owner.Table which.Memory)
+    >> write_item (item.Grown which.Memory place (2 * room))
+    >> free_old_place (old_frames room old)
 
 -- the growth of the memory table
 unfoldable pub memory_growth : Change
@@ -114,13 +114,13 @@ memory_growth items =
     (best_place items (table_query (room_of which.Memory items) 0 (limit_of items))) items
 
 -- the range becomes memory (`memblock_add`)
-unfoldable pub added : RangeView → Change
-added range = grown which.Memory (new_in which.Memory range) memory_growth >> write (item.Mem range)
+unfoldable pub add_range : RangeView → Change
+add_range range = make_table_room which.Memory (count_uncovered_pieces which.Memory range) memory_growth >> write_item (item.Mem range)
 
 -- the memory of the range gets the node (`memblock_set_node`)
-unfoldable pub noded : RangeView → ℕ → Change
-noded range node = grown which.Memory two memory_growth >> write (item.Node range node)
+unfoldable pub set_range_node : RangeView → ℕ → Change
+set_range_node range node = make_table_room which.Memory split_record_count memory_growth >> write_item (item.Node range node)
 
 -- the memory of the range becomes mirrored (`memblock_mark_mirror`)
-unfoldable pub mirrored : RangeView → Change
-mirrored range = grown which.Memory two memory_growth >> write (item.Mirror range)
+unfoldable pub set_range_mirror : RangeView → Change
+set_range_mirror range = make_table_room which.Memory split_record_count memory_growth >> write_item (item.Mirror range)

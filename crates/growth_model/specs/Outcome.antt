@@ -5,56 +5,56 @@ use Rattle.memblock_model.specs.declared.owner.Which.{Which}
 use Rattle.memblock_model.specs.declared.item.Item.{Item}
 
 -- a growth that found no place: the table, and its room, which was too small
-pub record Refused : Type 0 where
+pub record RefusedGrowth : Type 0 where
   pub which : Which
   pub room : ℕ
 
 -- the steps of a change, each a group of items that is written as a whole or not at all; and the
 -- growth that was refused, if one was
-pub record Outcome : Type 0 where
+pub record ChangeEffect : Type 0 where
   pub steps : List (List Item)
-  pub refused : Option Refused
+  pub refused : Option RefusedGrowth
 
 abbrev pub Change : Type 0
-Change = List Item → Outcome
+Change = List Item → ChangeEffect
 
 -- the items of all steps
-abbrev pub joined : List (List Item) → List Item
-joined [] = []
-joined (s ∷ ss) = s ++ joined ss
+abbrev pub items_of_steps : List (List Item) → List Item
+items_of_steps [] = []
+items_of_steps (s ∷ ss) = s ++ items_of_steps ss
 
 -- the items after the change
-abbrev pub after : List Item → Outcome → List Item
-after items o = items ++ joined o.steps
+abbrev pub items_after_change : List Item → ChangeEffect → List Item
+items_after_change items o = items ++ items_of_steps o.steps
 
 -- writes no item
-abbrev pub nothing : Change
-nothing items = record { steps = []; refused = None }
+abbrev pub no_change : Change
+no_change items = record { steps = []; refused = None }
 
 -- writes the items in one step
-abbrev pub step : List Item → Change
-step written items = record { steps = written ∷ []; refused = None }
+abbrev pub write_items : List Item → Change
+write_items written items = record { steps = written ∷ []; refused = None }
 
-abbrev pub write : Item → Change
-write i = step (i ∷ [])
+abbrev pub write_item : Item → Change
+write_item i = write_items (i ∷ [])
 
 -- the table found no place for twice the room
-abbrev pub refuse : Which → ℕ → Change
-refuse w room items = record { steps = []; refused = Some (record { which = w; room = room }) }
+abbrev pub refuse_growth : Which → ℕ → Change
+refuse_growth w room items = record { steps = []; refused = Some (record { which = w; room = room }) }
 
 -- the first change, and then the second unless the first was refused
-abbrev pub followed_by : Outcome → Option Refused → Outcome → Outcome
+abbrev pub followed_by : ChangeEffect → Option RefusedGrowth → ChangeEffect → ChangeEffect
 followed_by first None second = record { steps = first.steps ++ second.steps; refused = second.refused }
 followed_by first (Some r) second = first
 
 infixr 10 ◌>>◌
 abbrev pub ◌>>◌ : Change → Change → Change
-(first >> second) items = followed_by (first items) (first items).refused (second (after items (first items)))
+(first >> second) items = followed_by (first items) (first items).refused (second (items_after_change items (first items)))
 
 -- the change, if it is due
 abbrev pub if_due : (List Item → Bool) → Change → Change
-if_due due change items = if due items then change items else nothing items
+if_due due change items = if due items then change items else no_change items
 
 -- the change, with its items, but without its refusal
-abbrev pub whatever_refused : Change → Change
-whatever_refused change items = record { steps = (change items).steps; refused = None }
+abbrev pub ignore_refusal : Change → Change
+ignore_refusal change items = record { steps = (change items).steps; refused = None }

@@ -20,28 +20,28 @@ attempt r limit lo mirror wanted =
     record { query = asked; mirror = mirror }
 
 -- if a node is only preferred, the search on any node follows
-abbrev pub anywhere : Request → ℕ → ℕ → Bool → Option ℕ → List Attempt
-anywhere r limit lo mirror None = []
-anywhere r limit lo mirror (Some node) = if r.exact then [] else attempt r limit lo mirror None ∷ []
+abbrev pub any_node_attempt : Request → ℕ → ℕ → Bool → Option ℕ → List Attempt
+any_node_attempt r limit lo mirror None = []
+any_node_attempt r limit lo mirror (Some node) = if r.exact then [] else attempt r limit lo mirror None ∷ []
 
 -- the search on the node, and then on any
-abbrev pub nodes : Request → ℕ → ℕ → Bool → List Attempt
-nodes r limit lo mirror = attempt r limit lo mirror r.node ∷ anywhere r limit lo mirror r.node
+abbrev pub node_attempts : Request → ℕ → ℕ → Bool → List Attempt
+node_attempts r limit lo mirror = attempt r limit lo mirror r.node ∷ any_node_attempt r limit lo mirror r.node
 
 -- the searches from `lo` on: first in mirrored memory, which find nothing if none is mirrored,
 -- then in any (`choose_memblock_flags`)
-abbrev pub round : Request → ℕ → ℕ → List Attempt
-round r limit lo = nodes r limit lo true ++ nodes r limit lo false
+abbrev pub attempts_from : Request → ℕ → ℕ → List Attempt
+attempts_from r limit lo = node_attempts r limit lo true ++ node_attempts r limit lo false
 
 -- all searches in order: those from the minimum on and then, if there is a minimum, those from 0
 -- on
 abbrev pub attempts : Request → ℕ → List Attempt
-attempts r limit = round r limit r.min ++ (if r.min == 0 then [] else round r limit 0)
+attempts r limit = attempts_from r limit r.min ++ (if r.min == 0 then [] else attempts_from r limit 0)
 
 -- the place that the first successful search finds
-abbrev pub first_top : List Item → List Attempt → Option ℕ
-first_top items [] = None
-first_top items (a ∷ rest) = option_or (top_place items a.query a.mirror) (first_top items rest)
+abbrev pub first_found_place : List Item → List Attempt → Option ℕ
+first_found_place items [] = None
+first_found_place items (a ∷ rest) = option_or (top_place items a.query a.mirror) (first_found_place items rest)
 
 abbrev pub place_for : Request → List Item → Option ℕ
-place_for r items = first_top items (attempts r (limit_of items))
+place_for r items = first_found_place items (attempts r (limit_of items))

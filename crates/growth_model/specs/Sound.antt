@@ -11,54 +11,54 @@ use Rattle.memblock_model.specs.declared.item.Item.{Item}
 use Rattle.memblock_model.specs.declared.item.Item.TheVariants as item
 use Rattle.memblock_model.specs.Items.{Owners, owner_of}
 use Rattle.memblock_model.specs.Tables.{room_of, table_bytes}
-use Rattle.growth_model.specs.Growth.{count}
+use Rattle.growth_model.specs.Growth.{record_count}
 
 -- whether a table may lie in memory of this owner: any except an allocation of the early script
-abbrev pub keeps : Option Owner → Bool
-keeps None = false
-keeps (Some (owner.Script id)) = false
-keeps (Some o) = true
+abbrev pub may_hold_table : Option Owner → Bool
+may_hold_table None = false
+may_hold_table (Some (owner.Script id)) = false
+may_hold_table (Some o) = true
 
 -- a seat of a table: a range that begins with a frame, all of whose bytes have such an owner
-pub record Seat (own : Owners) (a : RangeView) : Type 0 where
+pub record IsTablePlace (own : Owners) (a : RangeView) : Type 0 where
   pub aligned : a.base % FRAME_SIZE ≡ 0
-  pub kept : (x : ℕ) → covers a x ≡ true → keeps (own x) ≡ true
+  pub kept : (x : ℕ) → covers a x ≡ true → may_hold_table (own x) ≡ true
 
 -- no frame has bytes of both ranges
 abbrev pub ShareNoFrame : RangeView → RangeView → Type 0
 ShareNoFrame a b = (x y : ℕ) → covers a x ≡ true → covers b y ≡ true → x / FRAME_SIZE ≢ y / FRAME_SIZE
 
 -- no byte is in both ranges
-abbrev pub Clear : RangeView → RangeView → Type 0
-Clear a b = (x : ℕ) → covers a x ≡ true → covers b x ≡ true → ⊥
+abbrev pub AreDisjoint : RangeView → RangeView → Type 0
+AreDisjoint a b = (x : ℕ) → covers a x ≡ true → covers b x ≡ true → ⊥
 
 -- no byte of the range has an owner
-abbrev pub Unclaimed : Owners → RangeView → Type 0
-Unclaimed own a = (x : ℕ) → covers a x ≡ true → own x ≡ None
+abbrev pub IsUnclaimed : Owners → RangeView → Type 0
+IsUnclaimed own a = (x : ℕ) → covers a x ≡ true → own x ≡ None
 
 -- each table has a seat, and they share no frame
-pub record Seats (own : Owners) (memory reserved : RangeView) : Type 0 where
-  pub first : Seat own memory
-  pub second : Seat own reserved
+pub record AreTablePlaces (own : Owners) (memory reserved : RangeView) : Type 0 where
+  pub first : IsTablePlace own memory
+  pub second : IsTablePlace own reserved
   pub apart : ShareNoFrame memory reserved
 
 -- the first item claims the kernel's image, and both tables are seated
-pub record Seated (kernel : RangeView) (items : List Item) : Type 0 where
+pub record TablesAreClaimed (kernel : RangeView) (items : List Item) : Type 0 where
   pub rest : List Item
   pub first : items ≡ item.Claim kernel owner.Kernel ∷ rest
-  pub seats : Seats (owner_of items) (table_bytes which.Memory kernel items) (table_bytes which.Reserved kernel items)
+  pub seats : AreTablePlaces (owner_of items) (table_bytes which.Memory kernel items) (table_bytes which.Reserved kernel items)
 
 -- each table has room for its records
-abbrev pub Fits : List Item → Type 0
-Fits items = (w : Which) → count w items ≤ room_of w items
+abbrev pub TablesHaveRoom : List Item → Type 0
+TablesHaveRoom items = (w : Which) → record_count w items ≤ room_of w items
 
 -- the tables are seated and have room for their records
-pub record Sound (kernel : RangeView) (items : List Item) : Type 0 where
-  pub placed : Seated kernel items
-  pub fits : Fits items
+pub record TablesAreSound (kernel : RangeView) (items : List Item) : Type 0 where
+  pub placed : TablesAreClaimed kernel items
+  pub fits : TablesHaveRoom items
 
 -- the image has both built-in places: it ends with a frame, and is at least two frames long
-pub record IsImage (kernel : RangeView) : Type 0 where
+pub record IsKernelImage (kernel : RangeView) : Type 0 where
   pub whole : end_of kernel % FRAME_SIZE ≡ 0
   pub large : 2 * FRAME_SIZE ≤ kernel.size
 
@@ -68,11 +68,11 @@ HasBegun [] = ⊥
 HasBegun (i ∷ is) = Unit {0}
 
 -- the range overlaps no table
-abbrev pub IsAway : RangeView → RangeView → List Item → Type 0
-IsAway kernel range items = Clear range (table_bytes which.Memory kernel items) × Clear range (table_bytes which.Reserved kernel items)
+abbrev pub TouchesNoTable : RangeView → RangeView → List Item → Type 0
+TouchesNoTable kernel range items = AreDisjoint range (table_bytes which.Memory kernel items) × AreDisjoint range (table_bytes which.Reserved kernel items)
 
 -- what may be claimed: first the kernel's image, for the kernel; then any range, which for the
 -- script must overlap no table
 abbrev pub MayClaim : RangeView → List Item → RangeView → Owner → Type 0
 MayClaim kernel [] range who = (range ≡ kernel) × (who ≡ owner.Kernel)
-MayClaim kernel (i ∷ is) range who = (keeps (Some who) ≡ true) ⊎ IsAway kernel range (i ∷ is)
+MayClaim kernel (i ∷ is) range who = (may_hold_table (Some who) ≡ true) ⊎ TouchesNoTable kernel range (i ∷ is)

@@ -8,9 +8,9 @@ ghost use Rattle.bm_base.specs.Range.{RangeView as AnyExtent};
 ghost use Rattle.memblock_model.specs.declared.item.Item.{Item as AnyItem};
 ghost use Rattle.memblock_model.specs.declared.owner.Owner.{Owner as AnyOwner};
 ghost use Rattle.memblock_model.specs.Items.{limit_of, memory_of};
-ghost use Rattle.growth_model.specs.Outcome.{after};
-ghost use Rattle.growth_model.specs.Growth.{claimed, freed, memory_growth, reserved_growth};
-ghost use Rattle.growth_model.specs.Carried.{AreQuiet, carried_out, memory_items};
+ghost use Rattle.growth_model.specs.Outcome.{items_after_change};
+ghost use Rattle.growth_model.specs.Growth.{claim_range, free_range, memory_growth, reserved_growth};
+ghost use Rattle.growth_model.specs.Carried.{StepsKeepMemory, carry_out_items, memory_items};
 
 /// Law: memory and the limit depend only on the items that change memory.
 pub fn memory_items_decide()
@@ -22,19 +22,19 @@ pub fn memory_items_decide()
 /// memory and the limit are the same after them.
 pub fn claims_leave_memory()
     ensures reserved { (avoid : AnyExtent) (items : List AnyItem) →
-        AreQuiet (reserved_growth avoid items).steps }
-    ensures memory { (items : List AnyItem) → AreQuiet (memory_growth items).steps }
+        StepsKeepMemory (reserved_growth avoid items).steps }
+    ensures memory { (items : List AnyItem) → StepsKeepMemory (memory_growth items).steps }
     ensures claims { (range : AnyExtent) (who : AnyOwner) (items : List AnyItem) →
-        AreQuiet (claimed range who items).steps }
-    ensures frees { (range : AnyExtent) (items : List AnyItem) → AreQuiet (freed range items).steps }
+        StepsKeepMemory (claim_range range who items).steps }
+    ensures frees { (range : AnyExtent) (items : List AnyItem) → StepsKeepMemory (free_range range items).steps }
     ensures claimed { (range : AnyExtent) (who : AnyOwner) (items : List AnyItem) →
-        memory_of (after items (claimed range who items)) ≡ memory_of items }
+        memory_of (items_after_change items (claim_range range who items)) ≡ memory_of items }
     ensures freed { (range : AnyExtent) (items : List AnyItem) →
-        memory_of (after items (freed range items)) ≡ memory_of items }
+        memory_of (items_after_change items (free_range range items)) ≡ memory_of items }
 {}
 
 /// Law: the items that change memory are written exactly as requested, in their order.
-pub fn wanted_items_make_memory()
-    ensures { (wanted items last : List AnyItem) → carried_out wanted items ≡ Ok last →
+pub fn requested_items_make_memory()
+    ensures { (wanted items last : List AnyItem) → carry_out_items wanted items ≡ Ok last →
         memory_items last ≡ memory_items items ++ memory_items wanted }
 {}

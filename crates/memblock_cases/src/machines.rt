@@ -1,7 +1,7 @@
 //! Builds machines on which something has happened: the kernel's image is claimed, and there is
 //! memory.
 ghost use Rattle.std.specs.Prelude.{◌<◌, IsTrue};
-ghost use Rattle.growth_model.specs.Sound.{HasBegun, IsImage};
+ghost use Rattle.growth_model.specs.Sound.{HasBegun, IsKernelImage};
 
 use crate::ranges::{KERNEL, Part};
 use bm_base::Range;
@@ -25,7 +25,7 @@ pub fn has_begun(memblock: &Memblock) -> bool
 
 /// Returns a machine about which nothing is known except the range of its kernel.
 pub fn started(alloc: Global, kernel: Range) -> Result<Memblock, Refusal>
-    requires image { IsImage kernel }
+    requires image { IsKernelImage kernel }
     requires some { 0 < kernel.size }
 {
     let mut memblock = Memblock::new(alloc, kernel)?;
@@ -53,7 +53,7 @@ fn add(memblock: &mut Memblock, part: Part) -> Result<bool, Refusal> {
 
 /// Returns a machine with its kernel in this range, and with this memory.
 pub fn machine(alloc: Global, kernel: Range, memory: &[Part]) -> Result<Memblock, Fail>
-    requires image { IsImage kernel }
+    requires image { IsKernelImage kernel }
     requires some { 0 < kernel.size }
 {
     let mut memblock = started(alloc, kernel)?;

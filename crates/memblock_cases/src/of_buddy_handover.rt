@@ -1,7 +1,7 @@
 //! Handovers of whole machines, and frames that are freed in any order. All expected numbers are
 //! from outside.
 ghost use Rattle.std.specs.Prelude.{◌≡◌, ◌+◌, ◌^◌, ◌<◌, ◌≤◌, None, IsTrue};
-ghost use Rattle.buddy_handover.specs.Contents.{free};
+ghost use Rattle.buddy_handover.specs.Contents.{buddy_frames};
 
 use crate::ranges::{IN_TURN, MACHINE};
 use crate::tables::{cover, tables_of};
@@ -260,7 +260,7 @@ fn frames_that_come_back(rt: HostRuntime) -> Result<(), Fail> {
     ];
     for (frame, rows) in cases {
         assert!(rt; give_back(&mut buddy, frame)?);
-        assert!(rt; buddy.rows()?.as_slice() == rows, "frame {frame:#x}");
+        assert!(rt; buddy.block_rows()?.as_slice() == rows, "frame {frame:#x}");
     }
     Ok(())
 }

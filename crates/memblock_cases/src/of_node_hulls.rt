@@ -4,7 +4,7 @@ ghost use Rattle.std.specs.Prelude.{◌^◌, ◌<◌, length};
 use crate::domains::{block, table};
 use crate::ranges::{MACHINE, between};
 use address_runs::RunOf;
-use node_hulls::{Judged, NodeRange, Why, judge};
+use node_hulls::{SratNodes, NodeRange, Why, judge_srat};
 use srat_reader::SratBlock;
 use std::alloc::Global;
 use std::test::Fail;
@@ -19,13 +19,13 @@ fn in_node(node: u32, from: u64, until: u64) -> NodeRange
 
 /// Returns the judgement of a table with these blocks, on a machine of 128 MiB with its last 32
 /// frames kept by firmware.
-fn judged(alloc: Global, blocks: &[SratBlock]) -> Result<Judged, Fail>
+fn judged(alloc: Global, blocks: &[SratBlock]) -> Result<SratNodes, Fail>
     requires { length blocks.now < 2 ^ 32 }
 {
     let srat = table(alloc, &[], blocks)?;
     let [(low, low_end, _), (high, high_end, _)] = MACHINE;
     let memory = [between(low, low_end), between(high, high_end)];
-    Ok(judge(alloc, &memory, Some(&srat), false)?)
+    Ok(judge_srat(alloc, &memory, Some(&srat), false)?)
 }
 
 // Node 0 is on both sides of the hole below 4 GiB, and node 1 is above it. The domain that a
@@ -45,7 +45,7 @@ fn two_nodes_and_a_hole(rt: HostRuntime) -> Result<(), Fail> {
         block(9, 0x4_0000_0000, 0x5_0000_0000),
     ];
     let srat = table(rt.alloc(), &[5, 5], &blocks)?;
-    let found = judge(rt.alloc(), &memory, Some(&srat), false)?;
+    let found = judge_srat(rt.alloc(), &memory, Some(&srat), false)?;
     assert!(rt; found.why == Why::Used);
     assert!(rt; found.domains.as_slice() == [5, 2, 9].as_slice());
     let joined = [

@@ -89,7 +89,7 @@ fn copy_across(store: &mut Store) -> Result<(), Memory> {
     store.prepare(bytes(0x1000, 0x400))?;
     store.prepare(bytes(0x9000, 0x400))?;
     store.fill(bytes(0x1010, 0x300), 5);
-    store.copy(0x1000, 0x9100, 0x300);
+    store.copy_bytes(0x1000, 0x9100, 0x300);
     Ok(())
 }
 

@@ -2,7 +2,7 @@
 //! were worked out by hand.
 ghost use Rattle.std.specs.Prelude.{◌≡◌, ◌+◌, ◌%◌, ◌^◌, ◌<◌, ◌≤◌, IsTrue};
 ghost use Rattle.std.specs.List.{All};
-ghost use Rattle.sparse_sections.specs.Present.{IsWholeNoded};
+ghost use Rattle.sparse_sections.specs.Present.{IsWholeWithNode};
 
 use crate::machines::{has_begun, limit, machine};
 use crate::ranges::{KERNEL, Part};
@@ -38,7 +38,7 @@ fn is_whole(region: &Region) -> bool
 
 // Tests whether sections can be found in all records.
 fn are_whole(tables: &Tables) -> bool
-    ensures { IsTrue result → All IsWholeNoded tables.now.memory.records }
+    ensures { IsTrue result → All IsWholeWithNode tables.now.memory.records }
 {
     let records = tables.records(Which::Memory);
     for i in 0..records.count() {

@@ -5,21 +5,21 @@ use memblock_ranges::{Head, Heads};
 use phys_store::Store;
 use std::process::Abort;
 use std::test::Fail;
-use table_frames::{Claim, RecordFrames, frames_at, has_records, next_claim};
+use table_frames::{ClaimedFrames, RecordFrames, frames_of_record, has_records, next_claimed_frames};
 
 // Returns the frames of a record, if the bytes are records.
 fn frames(store: &Store, head: &Head, i: u64) -> Option<RecordFrames> {
     if has_records(store, head, u64::MAX) && i < head.count {
-        Some(frames_at(store, head, i))
+        Some(frames_of_record(store, head, i))
     } else {
         None
     }
 }
 
 // Returns the first frames that have a byte of a record.
-fn first_claim(store: &Store, head: &Head) -> Option<Claim> {
+fn first_claim(store: &Store, head: &Head) -> Option<ClaimedFrames> {
     if has_records(store, head, u64::MAX) {
-        Some(next_claim(store, head, 0, 0))
+        Some(next_claimed_frames(store, head, 0, 0))
     } else {
         None
     }

@@ -9,8 +9,8 @@ use Rattle.memblock_model.specs.Labels.{LabelView, Labels}
 use Rattle.memblock_model.specs.Search.{fits_in, top_place_in}
 use Rattle.memblock_model.specs.declared.query.Query.{Query}
 use Rattle.memblock_model.proofs.SearchLaws.{fits_in-parts, top_place_in-first, top_place_in-fails}
-use Rattle.memblock_find.specs.Free.{unclaimed, IsUpTo}
-use Rattle.memblock_find.specs.Places.{IsBetween, serves, NoPlaceBegins, IsBestFrom}
+use Rattle.memblock_find.specs.Free.{unclaimed_memory, ReachesUpTo}
+use Rattle.memblock_find.specs.Places.{FitsBetween, is_allowed_label, NoPlaceBegins, IsBestFrom}
 use Rattle.memblock_find.proofs.PlaceLaws.{le_from_not_lt, label_of_place, held_somewhere, place_serves, place_of_bytes, some_align, mask_rest}
 
 -- a place that begins in a run lies in it
@@ -21,8 +21,8 @@ record StaysIn (memory : Labels) (until : ℕ) (label : Option LabelView) (last 
 
 -- the stretch of addresses in which a place is searched for
 pub record IsRise (memory reserved : Labels) (from until : ℕ) (label : Option LabelView) : Type 0 where
-  pub stays : Stays (unclaimed memory reserved) from until label
-  pub up : label ≢ None → IsUpTo (unclaimed memory reserved) from until label
+  pub stays : Stays (unclaimed_memory memory reserved) from until label
+  pub up : label ≢ None → ReachesUpTo (unclaimed_memory memory reserved) from until label
 
 from_run : (mirror : Bool) (memory reserved : Labels) (q : Query) (from until b : ℕ) (label : Option LabelView) → 1 ≤ q.size
     → IsRise memory reserved from until label → fits_in mirror memory reserved q b ≡ true → from ≤ b → b < until
@@ -47,18 +47,18 @@ none_begins_bare mirror memory reserved q from until label some known bare b fit
 
 pub none_begins_refused : (mirror : Bool) (memory reserved : Labels) (q : Query) (from until : ℕ) (label : Option LabelView) (found : LabelView)
     → 1 ≤ q.size → IsRise memory reserved from until label → label ≡ Some found
-    → serves mirror q.node (Some found) ≡ false → NoPlaceBegins mirror memory reserved q from until
+    → is_allowed_label mirror q.node (Some found) ≡ false → NoPlaceBegins mirror memory reserved q from until
 none_begins_refused mirror memory reserved q from until label found some known is refused b fits above =
     le_from_not_lt b until (λ under.
     let lies = from_run mirror memory reserved q from until b label some known fits above under in
     let place = fits_in-parts mirror memory reserved q b fits in
     true≢false (sym (place_serves mirror memory reserved q b place)
-    ∙ ap (λ (o : Option LabelView). serves mirror q.node o) (lies.carries ∙ is) ∙ refused))
+    ∙ ap (λ (o : Option LabelView). is_allowed_label mirror q.node o) (lies.carries ∙ is) ∙ refused))
 
 -- a place that begins in a stretch of memory lies in the stretch and in the window
 between_ends : (mirror : Bool) (memory reserved : Labels) (q : Query) (from until b : ℕ) (label : Option LabelView) → 1 ≤ q.size
     → IsRise memory reserved from until label → fits_in mirror memory reserved q b ≡ true → from ≤ b → b < until
-    → IsBetween from (min until q.hi) q.size q.align b
+    → FitsBetween from (min until q.hi) q.size q.align b
 between_ends mirror memory reserved q from until b label some known fits above under =
     let inside = from_run mirror memory reserved q from until b label some known fits above under in
     let place = fits_in-parts mirror memory reserved q b fits in
@@ -68,9 +68,9 @@ between_ends mirror memory reserved q from until b label some known fits above u
 -- without one there is no place
 pub first_of_stretch : (mirror : Bool) (memory reserved : Labels) (q : Query) (from until : ℕ) (label : Option LabelView) (found : LabelView)
     (answer : Option ℕ) → 1 ≤ q.size → q.lo ≤ from → 4096 ≤ from
-    → IsRise memory reserved from until label → label ≡ Some found → serves mirror q.node (Some found) ≡ true
-    → MatchOption answer ((b : ℕ) → IsBetween from (min until q.hi) q.size q.align b → ⊥)
-    (λ a. IsBetween from (min until q.hi) q.size q.align a × ((b : ℕ) → IsBetween from (min until q.hi) q.size q.align b → a ≤ b))
+    → IsRise memory reserved from until label → label ≡ Some found → is_allowed_label mirror q.node (Some found) ≡ true
+    → MatchOption answer ((b : ℕ) → FitsBetween from (min until q.hi) q.size q.align b → ⊥)
+    (λ a. FitsBetween from (min until q.hi) q.size q.align a × ((b : ℕ) → FitsBetween from (min until q.hi) q.size q.align b → a ≤ b))
     → MatchOption answer (NoPlaceBegins mirror memory reserved q from until) (IsBestFrom mirror memory reserved q from)
 first_of_stretch mirror memory reserved q from until label found None some low first_frame known is served none =
     λ b fits above. le_from_not_lt b until (λ under.
@@ -161,7 +161,7 @@ masked low align k power =
 -- the first multiple from the address on, if there is room for the bytes
 pub first_is : (low high size align k place : ℕ) → align ≡ 2 ^ k
     → place ≡ low + bit_and (align - bit_and low (align - 1)) (align - 1) → place + size ≤ high
-    → IsBetween low high size align place × ((b : ℕ) → IsBetween low high size align b → place ≤ b)
+    → FitsBetween low high size align place × ((b : ℕ) → FitsBetween low high size align b → place ≤ b)
 first_is low high size align k place power place_is ends =
     let some = some_align align k power in
     let jump = masked low align k power in
@@ -172,7 +172,7 @@ first_is low high size align k place power place_is ends =
 
 pub none_first : (low high size align k place : ℕ) → align ≡ 2 ^ k
     → place ≡ low + bit_and (align - bit_and low (align - 1)) (align - 1) → high < place + size
-    → (b : ℕ) → IsBetween low high size align b → ⊥
+    → (b : ℕ) → FitsBetween low high size align b → ⊥
 none_first low high size align k place power place_is over b between =
     let jump = masked low align k power in
     let order = next_first low align b (some_align align k power) between.aligned between.above in

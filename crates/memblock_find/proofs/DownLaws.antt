@@ -5,12 +5,12 @@ use Rattle.address_runs.specs.Runs.{RunOf, run_end, value_at, AreRuns}
 use Rattle.address_runs.specs.Sweep.{Stays}
 use Rattle.memblock_model.specs.Labels.{LabelView, Labels}
 use Rattle.memblock_find.specs.declared.cursor.Cursor.{Cursor}
-use Rattle.memblock_find.specs.Free.{unclaimed, IsDownTo}
-use Rattle.memblock_find.specs.Walk.{run_at, BegunAmong, BegunBelow, IsLookDown, IsDownAt, label_at}
+use Rattle.memblock_find.specs.Free.{unclaimed_memory, ReachesDownTo}
+use Rattle.memblock_find.specs.Walk.{nth_record, BeginAmong, BeginBelow, IsLookDown, IsWalkDownAt, unclaimed_label}
 use Rattle.memblock_find.proofs.SlotLaws.{ends_before, ends_ascend, bases_ascend, size_at, value_in, none_beside, other_under}
 
 -- if no record begins below the address, the addresses below it have no label
-pub look_bottom : (rs : List (RunOf LabelView)) (at : ℕ) → BegunBelow at rs 0 → IsLookDown rs at (record { label = None; bound = 0; slot = 0 })
+pub look_bottom : (rs : List (RunOf LabelView)) (at : ℕ) → BeginBelow at rs 0 → IsLookDown rs at (record { label = None; bound = 0; slot = 0 })
 look_bottom rs at begun = record {
   down = record {
     stays = λ x above under. none_beside x rs (λ i less. let base = begun.behind i (omega arith) less in inr (omega arith));
@@ -22,8 +22,8 @@ look_bottom rs at begun = record {
 }
 
 -- between the end of the last record below the address and the address there is no label
-pub look_gap : (rs : List (RunOf LabelView)) (slot at : ℕ) → 0 < slot → BegunBelow at rs slot → run_end (run_at rs (slot - 1)) < at
-    → IsLookDown rs at (record { label = None; bound = run_end (run_at rs (slot - 1)); slot = slot })
+pub look_gap : (rs : List (RunOf LabelView)) (slot at : ℕ) → 0 < slot → BeginBelow at rs slot → run_end (nth_record rs (slot - 1)) < at
+    → IsLookDown rs at (record { label = None; bound = run_end (nth_record rs (slot - 1)); slot = slot })
 look_gap rs slot at some begun under_at =
     let runs : AreRuns rs = begun.runs in
     let i : ℕ = slot - 1 in
@@ -32,12 +32,12 @@ look_gap rs slot at some begun under_at =
     record {
       down = record {
         stays = λ x above under. none_beside x rs (λ j less.
-            elim (cases_lt j slot) as (λ _. (run_end (run_at rs j) ≤ x) ⊎ (x < (run_at rs j).base)) [
+            elim (cases_lt j slot) as (λ _. (run_end (nth_record rs j) ≤ x) ⊎ (x < (nth_record rs j).base)) [
               | inl before ↦ let ends = ends_ascend j i rs runs (omega arith) last in inl (omega arith)
               | inr after ↦ let base = begun.behind j after less in inr (omega arith)
             ]);
         another = λ x next same.
-            let here : value_at rs x ≡ Some (run_at rs i).value = value_in i x rs runs last (omega arith) (omega arith) in
+            let here : value_at rs x ≡ Some (nth_record rs i).value = value_in i x rs runs last (omega arith) (omega arith) in
             cc;
       };
       next = record {
@@ -51,13 +51,13 @@ look_gap rs slot at some begun under_at =
     }
 
 -- in the last record that begins below the address, the label is the record's
-pub look_in : (rs : List (RunOf LabelView)) (slot at : ℕ) → 0 < slot → BegunBelow at rs slot → at ≤ run_end (run_at rs (slot - 1))
-    → IsLookDown rs at (record { label = Some (run_at rs (slot - 1)).value; bound = (run_at rs (slot - 1)).base; slot = slot - 1 })
+pub look_in : (rs : List (RunOf LabelView)) (slot at : ℕ) → 0 < slot → BeginBelow at rs slot → at ≤ run_end (nth_record rs (slot - 1))
+    → IsLookDown rs at (record { label = Some (nth_record rs (slot - 1)).value; bound = (nth_record rs (slot - 1)).base; slot = slot - 1 })
 look_in rs slot at some begun at_end =
     let runs : AreRuns rs = begun.runs in
     let i : ℕ = slot - 1 in
     let last : i < length rs = omega (arith, begun.within) in
-    let base : (run_at rs i).base < at = begun.before i (omega arith) in
+    let base : (nth_record rs i).base < at = begun.before i (omega arith) in
     record {
       down = record {
         stays = λ x above under. value_in i x rs runs last above (omega arith);
@@ -78,13 +78,13 @@ look_in rs slot at some begun at_end =
 
 -- what both tables give an address decides whether it is unclaimed
 pub unclaimed_is : (memory reserved : Labels) (x : ℕ) (a b : Option LabelView) → memory x ≡ a → reserved x ≡ b
-    → unclaimed memory reserved x ≡ (if is_none b then a else None)
+    → unclaimed_memory memory reserved x ≡ (if is_none b then a else None)
 unclaimed_is memory reserved x a b m r =
     ap (λ (o : Option LabelView). if is_none o then memory x else None) r ∙ ap (λ (o : Option LabelView). if is_none b then o else None) m
 
 -- the addresses of a cursor's stretch have its label
-pub stretch_stays : (ms rs : List (RunOf LabelView)) (c : Cursor) (from : ℕ) (label : Option LabelView) → IsDownAt ms rs c
-    → from ≡ max c.memory.bound c.reserved.bound → label ≡ label_at c → Stays (unclaimed (value_at ms) (value_at rs)) from c.at label
+pub stretch_stays : (ms rs : List (RunOf LabelView)) (c : Cursor) (from : ℕ) (label : Option LabelView) → IsWalkDownAt ms rs c
+    → from ≡ max c.memory.bound c.reserved.bound → label ≡ unclaimed_label c → Stays (unclaimed_memory (value_at ms) (value_at rs)) from c.at label
 stretch_stays ms rs c from label known from_is label_is x above under =
     unclaimed_is (value_at ms) (value_at rs) x c.memory.label c.reserved.label
     (known.memory.down.stays x (omega arith) under) (known.reserved.down.stays x (omega arith) under) ∙ sym label_is
@@ -98,21 +98,21 @@ unclaimed_changes carried (Some v) label changes some = λ same. some (sym same)
 
 stretch_ends : (memory reserved : Labels) (x m r : ℕ) (a b : Option LabelView) → ((y : ℕ) → y + 1 ≡ m → memory y ≢ a)
     → ((y : ℕ) → y + 1 ≡ r → reserved y ≢ b) → x + 1 ≡ max m r → (if is_none b then a else None) ≢ None
-    → unclaimed memory reserved x ≢ (if is_none b then a else None)
+    → unclaimed_memory memory reserved x ≢ (if is_none b then a else None)
 stretch_ends memory reserved x m r a (Some v) other_m other_r next some = absurd (some refl)
 stretch_ends memory reserved x m r a None other_m other_r next some =
-    elim (cases_lt m r) as (λ _. unclaimed memory reserved x ≢ a) [
+    elim (cases_lt m r) as (λ _. unclaimed_memory memory reserved x ≢ a) [
       | inl lt ↦ unclaimed_changes (memory x) (reserved x) a (inr (other_r x (omega arith))) some
       | inr ge ↦ unclaimed_changes (memory x) (reserved x) a (inl (other_m x (omega arith))) some
     ]
 
 -- below a stretch of unclaimed memory the address has another label
-pub stretch_down : (ms rs : List (RunOf LabelView)) (c : Cursor) (from : ℕ) (label : Option LabelView) → IsDownAt ms rs c
-    → from ≡ max c.memory.bound c.reserved.bound → label ≡ label_at c → label ≢ None
-    → IsDownTo (unclaimed (value_at ms) (value_at rs)) from c.at label
+pub stretch_down : (ms rs : List (RunOf LabelView)) (c : Cursor) (from : ℕ) (label : Option LabelView) → IsWalkDownAt ms rs c
+    → from ≡ max c.memory.bound c.reserved.bound → label ≡ unclaimed_label c → label ≢ None
+    → ReachesDownTo (unclaimed_memory (value_at ms) (value_at rs)) from c.at label
 stretch_down ms rs c from label known from_is label_is some =
-    let held : label_at c ≢ None = subst (λ (o : Option LabelView). o ≢ None) label_is some in
-    let ends : (x : ℕ) → x + 1 ≡ from → unclaimed (value_at ms) (value_at rs) x ≢ label_at c = λ x next.
+    let held : unclaimed_label c ≢ None = subst (λ (o : Option LabelView). o ≢ None) label_is some in
+    let ends : (x : ℕ) → x + 1 ≡ from → unclaimed_memory (value_at ms) (value_at rs) x ≢ unclaimed_label c = λ x next.
     stretch_ends (value_at ms) (value_at rs) x c.memory.bound c.reserved.bound
     c.memory.label c.reserved.label known.memory.down.another known.reserved.down.another (next ∙ from_is) held in
     record {
@@ -121,7 +121,7 @@ stretch_down ms rs c from label known from_is label_is some =
     }
 
 -- all records that begin below an address are among all records
-pub among_all : (rs : List (RunOf LabelView)) (at count : ℕ) → AreRuns rs → count ≡ length rs → BegunAmong at rs count
+pub among_all : (rs : List (RunOf LabelView)) (at count : ℕ) → AreRuns rs → count ≡ length rs → BeginAmong at rs count
 among_all rs at count runs all = record {
   runs = runs;
   within = omega arith;
@@ -130,8 +130,8 @@ among_all rs at count runs all = record {
 
 -- if the last of the first `count` records begins below the address, they are exactly those that
 -- do
-pub all_begun : (rs : List (RunOf LabelView)) (at count : ℕ) → BegunAmong at rs count → (0 < count → (run_at rs (count - 1)).base < at)
-    → BegunBelow at rs count
+pub all_begun : (rs : List (RunOf LabelView)) (at count : ℕ) → BeginAmong at rs count → (0 < count → (nth_record rs (count - 1)).base < at)
+    → BeginBelow at rs count
 all_begun rs at count among last = record {
   runs = among.runs;
   within = among.within;
@@ -143,10 +143,10 @@ all_begun rs at count among last = record {
   behind = among.behind;
 }
 
-pub begun_so_far : (rs : List (RunOf LabelView)) (at middle : ℕ) → AreRuns rs → middle < length rs → (run_at rs middle).base < at
-    → (i : ℕ) → i < middle + 1 → (run_at rs i).base < at
+pub begun_so_far : (rs : List (RunOf LabelView)) (at middle : ℕ) → AreRuns rs → middle < length rs → (nth_record rs middle).base < at
+    → (i : ℕ) → i < middle + 1 → (nth_record rs i).base < at
 begun_so_far rs at middle runs within begun i less = omega (arith, bases_ascend i middle rs runs (omega arith) within)
 
-pub not_begun_from : (rs : List (RunOf LabelView)) (at middle : ℕ) → AreRuns rs → at ≤ (run_at rs middle).base
-    → (i : ℕ) → middle ≤ i → i < length rs → at ≤ (run_at rs i).base
+pub not_begun_from : (rs : List (RunOf LabelView)) (at middle : ℕ) → AreRuns rs → at ≤ (nth_record rs middle).base
+    → (i : ℕ) → middle ≤ i → i < length rs → at ≤ (nth_record rs i).base
 not_begun_from rs at middle runs behind i from within = omega (arith, bases_ascend middle i rs runs from within)

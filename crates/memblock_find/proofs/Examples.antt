@@ -6,12 +6,12 @@ use Rattle.memblock_model.specs.Labels.{LabelView, Labels, plain_label, with_nod
 use Rattle.memblock_model.specs.declared.query.Query.{Query}
 use Rattle.memblock_model.specs.Search.{fits_in}
 use Rattle.memblock_model.proofs.SearchLaws.{fits_in-whole}
-use Rattle.memblock_ranges.specs.Tables.{Contents}
+use Rattle.memblock_ranges.specs.Tables.{TablesView}
 use Rattle.memblock_find.specs.declared.cursor.Look.{Look}
 use Rattle.memblock_find.specs.declared.cursor.Cursor.{Cursor}
-use Rattle.memblock_find.specs.Free.{unclaimed, free_in, IsDownTo, IsUpTo, IsRunBelow, IsRunFrom}
-use Rattle.memblock_find.specs.Places.{IsBetween, IsBestBy, IsBestFrom}
-use Rattle.memblock_find.specs.Walk.{run_at, BegunBelow, EndedBy, IsLookDown, IsLookUp, IsDownAt, IsUpAt}
+use Rattle.memblock_find.specs.Free.{unclaimed_memory, unclaimed_in_tables, ReachesDownTo, ReachesUpTo, IsRunBelow, IsRunFrom}
+use Rattle.memblock_find.specs.Places.{FitsBetween, IsBestBy, IsBestFrom}
+use Rattle.memblock_find.specs.Walk.{nth_record, BeginBelow, EndAtOrBelow, IsLookDown, IsLookUp, IsWalkDownAt, IsWalkUpAt}
 use Rattle.memblock_find.proofs.DownLaws.{look_gap, look_in, among_all, all_begun, begun_so_far, not_begun_from}
 use Rattle.memblock_find.proofs.UpLaws.{look_top, look_over, ended_so_far, not_ended_from}
 
@@ -25,7 +25,7 @@ memory_runs = record { base = 0x1000; size = 0x1000; value = of_node 0 } ∷ (re
 abbrev claims : List (RunOf LabelView)
 claims = record { base = 0x1800; size = 0x100; value = plain_label } ∷ []
 
-abbrev tables : Contents
+abbrev tables : TablesView
 tables = record {
   memory = record { records = memory_runs; place = 0x10000; room = 128 };
   reserved = record { records = claims; place = 0x11000; room = 128 };
@@ -33,20 +33,20 @@ tables = record {
 }
 
 abbrev free : Labels
-free = free_in tables
+free = unclaimed_in_tables tables
 
 -- the node of a label, as a number
 abbrev number : Option LabelView → ℕ
 number None = 2
 number (Some label) = unwrap_or label.node 3
 
-unclaimed_examples : (unclaimed (value_at memory_runs) (value_at claims) 0x17FF ≡ Some (of_node 0))
-    × (unclaimed (value_at memory_runs) (value_at claims) 0x1800 ≡ None)
+unclaimed_examples : (unclaimed_memory (value_at memory_runs) (value_at claims) 0x17FF ≡ Some (of_node 0))
+    × (unclaimed_memory (value_at memory_runs) (value_at claims) 0x1800 ≡ None)
 unclaimed_examples = (refl, refl)
 
 -- 0x2000 to below 0x3000 have one label; the address below is of another node, and 0x3000 isn't
 -- memory
-node_1_down : IsDownTo free 0x2000 0x3000 (Some (of_node 1))
+node_1_down : ReachesDownTo free 0x2000 0x3000 (Some (of_node 1))
 node_1_down = record {
   stays = λ x above under. grind (arith, nat_tests);
   another = λ x next same.
@@ -55,14 +55,14 @@ node_1_down = record {
       omega arith;
 }
 
-node_1_up : IsUpTo free 0x2000 0x3000 (Some (of_node 1))
+node_1_up : ReachesUpTo free 0x2000 0x3000 (Some (of_node 1))
 node_1_up = record { stays = node_1_down.stays; another = λ same. cc }
 
 -- a stretch whose label continues below it
-not_all_down : IsDownTo free 0x2001 0x3000 (Some (of_node 1)) → ⊥
+not_all_down : ReachesDownTo free 0x2001 0x3000 (Some (of_node 1)) → ⊥
 not_all_down known = known.another 0x2000 refl refl
 
-not_all_up : IsUpTo free 0x2000 0x2FFF (Some (of_node 1)) → ⊥
+not_all_up : ReachesUpTo free 0x2000 0x2FFF (Some (of_node 1)) → ⊥
 not_all_up known = known.another refl
 
 -- the run below 0x1900, where a claim ends, is cut to end at the claim's start; the run below
@@ -114,10 +114,10 @@ not_the_lowest : IsRunFrom free 0x1A00 (record { base = 0x2000; size = 0x1000; v
 not_the_lowest known = let none : free 0x1A00 ≡ None = known.before 0x1A00 (omega arith) (omega arith) in cc
 
 -- 0x100 aligned bytes at 0x1F00 lie between 0x1900 and 0x2000, and at 0x2000 they don't
-between_yes : IsBetween 0x1900 0x2000 0x100 0x100 0x1F00
+between_yes : FitsBetween 0x1900 0x2000 0x100 0x100 0x1F00
 between_yes = record { aligned = refl; above = omega arith; below = omega arith }
 
-between_no : IsBetween 0x1900 0x2000 0x100 0x100 0x2000 → ⊥
+between_no : FitsBetween 0x1900 0x2000 0x100 0x100 0x2000 → ⊥
 between_no known = let ends = known.below in omega arith
 
 -- 0x1000 bytes, without alignment, fit only at 0x2000
@@ -161,13 +161,13 @@ claims_in_order : AreRuns claims
 claims_in_order = (omega arith, tt, tt)
 
 -- both records of memory begin below 0x2800, and one below 0x2000
-begun_both : BegunBelow 0x2800 memory_runs 2
+begun_both : BeginBelow 0x2800 memory_runs 2
 begun_both = all_begun memory_runs 0x2800 2 (among_all memory_runs 0x2800 2 memory_in_order refl) (λ some. omega arith)
 
-second_base : (i : ℕ) → 1 ≤ i → i < 2 → 0x2000 ≤ (run_at memory_runs i).base
+second_base : (i : ℕ) → 1 ≤ i → i < 2 → 0x2000 ≤ (nth_record memory_runs i).base
 second_base = not_begun_from memory_runs 0x2000 1 memory_in_order (omega arith)
 
-begun_one : BegunBelow 0x2000 memory_runs 1
+begun_one : BeginBelow 0x2000 memory_runs 1
 begun_one = record {
   runs = memory_in_order;
   within = omega arith;
@@ -175,11 +175,11 @@ begun_one = record {
   behind = second_base;
 }
 
-not_both_begun : BegunBelow 0x2000 memory_runs 2 → ⊥
+not_both_begun : BeginBelow 0x2000 memory_runs 2 → ⊥
 not_both_begun known = let base = known.before 1 (omega arith) in omega arith
 
 -- one record of memory ends at or below 0x2800, and so does the claim
-ended_one : EndedBy 0x2800 memory_runs 1
+ended_one : EndAtOrBelow 0x2800 memory_runs 1
 ended_one = record {
   runs = memory_in_order;
   within = omega arith;
@@ -187,7 +187,7 @@ ended_one = record {
   behind = not_ended_from memory_runs 0x2800 1 memory_in_order (omega arith);
 }
 
-ended_claim : EndedBy 0x2800 claims 1
+ended_claim : EndAtOrBelow 0x2800 claims 1
 ended_claim = record {
   runs = claims_in_order;
   within = omega arith;
@@ -195,7 +195,7 @@ ended_claim = record {
   behind = λ i from less. absurd (omega arith);
 }
 
-not_ended : EndedBy 0x2800 memory_runs 2 → ⊥
+not_ended : EndAtOrBelow 0x2800 memory_runs 2 → ⊥
 not_ended known = let end = known.before 1 (omega arith) in omega arith
 
 -- a walk down at 0x2800: memory of node 1 down to 0x2000, no claim down to 0x1900
@@ -215,7 +215,7 @@ look_down_gap = look_gap claims 1 0x2800 (omega arith)
 abbrev down_here : Cursor
 down_here = record { at = 0x2800; memory = memory_below; reserved = no_claim_below }
 
-walks_down : IsDownAt memory_runs claims down_here
+walks_down : IsWalkDownAt memory_runs claims down_here
 walks_down = record { memory = look_down_in; reserved = look_down_gap }
 
 -- a walk up from there: memory up to 0x3000, and no claim is left
@@ -234,7 +234,7 @@ look_up_top = look_top claims 1 0x2800 refl (omega arith) ended_claim
 abbrev up_here : Cursor
 up_here = record { at = 0x2800; memory = memory_above; reserved = no_claim_above }
 
-walks_up : IsUpAt memory_runs claims up_here
+walks_up : IsWalkUpAt memory_runs claims up_here
 walks_up = record { memory = look_up_in; reserved = look_up_top }
 
 not_the_same : ◌≡◌ {A = ℕ} 0 1 → ⊥

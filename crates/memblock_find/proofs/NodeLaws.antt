@@ -7,20 +7,20 @@ use Rattle.memblock_model.specs.Labels.{LabelView, Labels}
 use Rattle.memblock_model.specs.declared.query.Query.{Query}
 use Rattle.memblock_model.proofs.SearchLaws.{fits_in-parts}
 use Rattle.memblock_find.specs.declared.cursor.Look.{Look}
-use Rattle.memblock_find.specs.Places.{serves, NoPlaceEnds, NoAddressServes}
-use Rattle.memblock_find.specs.Walk.{run_at, BegunBelow, IsLookDown}
+use Rattle.memblock_find.specs.Places.{is_allowed_label, NoPlaceEnds, NoAddressIsAllowed}
+use Rattle.memblock_find.specs.Walk.{nth_record, BeginBelow, IsLookDown}
 use Rattle.memblock_find.proofs.PlaceLaws.{le_from_not_lt, place_serves}
 use Rattle.memblock_find.proofs.SlotLaws.{ends_before, ends_ascend, bases_ascend, size_at, value_in}
 
 -- the first records that begin below a look's bound end at or below it
 pub ends_by_bound : (rs : List (RunOf LabelView)) (from count at : ℕ) (look : Look) → IsLookDown rs from look → count ≤ look.slot
-    → (count ≡ 0 → at ≡ 0) → (0 < count → at ≡ run_end (run_at rs (count - 1))) → at ≤ look.bound
+    → (count ≡ 0 → at ≡ 0) → (0 < count → at ≡ run_end (nth_record rs (count - 1))) → at ≤ look.bound
 ends_by_bound rs from count at look known fewer none end =
     elim (cases_lt 0 count) as (λ _. at ≤ look.bound) [
       | inl some ↦
           let i : ℕ = count - 1 in
           let within = known.next.within in
-          let base : (run_at rs i).base < look.bound = known.next.before i (omega arith) in
+          let base : (nth_record rs i).base < look.bound = known.next.before i (omega arith) in
           let is = end some in
           le_from_not_lt look.bound at (λ over.
           let order = known.order in
@@ -34,7 +34,7 @@ ends_by_bound rs from count at look known fewer none end =
 
 -- exactly the first `count` records begin below the end of the last of them
 pub begun_at_end : (rs : List (RunOf LabelView)) (count at : ℕ) → AreRuns rs → count ≤ length rs
-    → (count ≡ 0 → at ≡ 0) → (0 < count → at ≡ run_end (run_at rs (count - 1))) → BegunBelow at rs count
+    → (count ≡ 0 → at ≡ 0) → (0 < count → at ≡ run_end (nth_record rs (count - 1))) → BeginBelow at rs count
 begun_at_end rs count at runs within none end =
     record {
       runs = runs;
@@ -45,7 +45,7 @@ begun_at_end rs count at runs within none end =
           let size = size_at (count - 1) rs runs (omega arith) in
           omega arith;
       behind = λ i from less.
-          elim (cases_lt 0 count) as (λ _. at ≤ (run_at rs i).base) [
+          elim (cases_lt 0 count) as (λ _. at ≤ (nth_record rs i).base) [
             | inl some ↦
                 let is = end some in
                 let order = ends_before (count - 1) i rs runs (omega arith) less in
@@ -56,15 +56,15 @@ begun_at_end rs count at runs within none end =
 
 -- an address outside all records that serve isn't memory that serves, if addresses without memory
 -- don't serve
-pub not_serving : (mirror : Bool) (node : Option ℕ) (x : ℕ) (rs : List (RunOf LabelView)) → serves mirror node None ≡ false
-    → ((i : ℕ) → i < length rs → (run_at rs i).base ≤ x → x < run_end (run_at rs i) → serves mirror node (Some (run_at rs i).value) ≡ false)
-    → serves mirror node (value_at rs x) ≡ false
+pub not_serving : (mirror : Bool) (node : Option ℕ) (x : ℕ) (rs : List (RunOf LabelView)) → is_allowed_label mirror node None ≡ false
+    → ((i : ℕ) → i < length rs → (nth_record rs i).base ≤ x → x < run_end (nth_record rs i) → is_allowed_label mirror node (Some (nth_record rs i).value) ≡ false)
+    → is_allowed_label mirror node (value_at rs x) ≡ false
 not_serving mirror node x [] narrow other = narrow
 not_serving mirror node x (r ∷ rs) narrow other =
-    let rest : serves mirror node (value_at rs x) ≡ false = not_serving mirror node x rs narrow (λ i less. other (suc i) (omega arith)) in
-    elim (cases_lt x r.base) as (λ _. serves mirror node (value_at (r ∷ rs) x) ≡ false) [
+    let rest : is_allowed_label mirror node (value_at rs x) ≡ false = not_serving mirror node x rs narrow (λ i less. other (suc i) (omega arith)) in
+    elim (cases_lt x r.base) as (λ _. is_allowed_label mirror node (value_at (r ∷ rs) x) ≡ false) [
       | inl ahead ↦ rw (below r x ahead) rest
-      | inr from ↦ elim (cases_lt x (run_end r)) as (λ _. serves mirror node (value_at (r ∷ rs) x) ≡ false) [
+      | inr from ↦ elim (cases_lt x (run_end r)) as (λ _. is_allowed_label mirror node (value_at (r ∷ rs) x) ≡ false) [
         | inl under ↦ rw (inside r x from under) (other zero (omega arith) from under)
         | inr past ↦ rw (behind r x past) rest
       ]
@@ -72,9 +72,9 @@ not_serving mirror node x (r ∷ rs) narrow other =
 
 -- from the end of the last record before those that don't serve up to the bound, no address serves
 pub passed_over : (rs : List (RunOf LabelView)) (mirror : Bool) (node : Option ℕ) (from count at : ℕ) (look : Look) → IsLookDown rs from look
-    → serves mirror node None ≡ false → count ≤ look.slot → (0 < count → at ≡ run_end (run_at rs (count - 1)))
-    → ((i : ℕ) → count ≤ i → i < look.slot → serves mirror node (Some (run_at rs i).value) ≡ false)
-    → NoAddressServes mirror (value_at rs) node at look.bound
+    → is_allowed_label mirror node None ≡ false → count ≤ look.slot → (0 < count → at ≡ run_end (nth_record rs (count - 1)))
+    → ((i : ℕ) → count ≤ i → i < look.slot → is_allowed_label mirror node (Some (nth_record rs i).value) ≡ false)
+    → NoAddressIsAllowed mirror (value_at rs) node at look.bound
 passed_over rs mirror node from count at look known narrow fewer end others x above under =
     not_serving mirror node x rs narrow (λ i less base ends.
     let behind : count ≤ i = le_from_not_lt i count (λ left.
@@ -88,7 +88,7 @@ passed_over rs mirror node from count at look known narrow fewer end others x ab
 
 -- no place ends where no memory serves
 pub past_refused : (mirror : Bool) (memory reserved : Labels) (q : Query) (at from : ℕ) → 1 ≤ q.size
-    → NoAddressServes mirror memory q.node at from
+    → NoAddressIsAllowed mirror memory q.node at from
     → NoPlaceEnds mirror memory reserved q from q.hi → NoPlaceEnds mirror memory reserved q at q.hi
 past_refused mirror memory reserved q at from some barred past b fits ends =
     le_from_not_lt at (b + q.size) (λ lt.
@@ -98,4 +98,4 @@ past_refused mirror memory reserved q at from some barred past b fits ends =
     let refused = barred last (omega arith) (omega arith) in
     let label = place.label last (omega arith) (omega arith) in
     true≢false (sym (place_serves mirror memory reserved q b place)
-    ∙ ap (λ (o : Option LabelView). serves mirror q.node o) (sym label) ∙ refused))
+    ∙ ap (λ (o : Option LabelView). is_allowed_label mirror q.node o) (sym label) ∙ refused))

@@ -13,8 +13,8 @@ use Rattle.memblock_model.specs.Items.{upward_of}
 use Rattle.memblock_model.specs.Tables.{table_of, records_of}
 use Rattle.memblock_model.specs.Search.{top_place_in, top_place, best_place_in, best_place}
 use Rattle.memblock_model.proofs.TableLaws.{value_at-records}
-use Rattle.memblock_ranges.specs.Tables.{Contents}
-use Rattle.memblock_find.specs.Free.{unclaimed, free_in, IsRunBelow}
+use Rattle.memblock_ranges.specs.Tables.{TablesView}
+use Rattle.memblock_find.specs.Free.{unclaimed_memory, unclaimed_in_tables, IsRunBelow}
 use Rattle.memblock_find.proofs.PlaceLaws.{le_from_not_lt}
 
 -- records that are those of the items give each address the items' label
@@ -23,7 +23,7 @@ says : (w : Which) (items : List Item) (rs : List (RunOf LabelView)) → Nothing
 unfolding records_of
 says w items rs ends is = ap (λ (ss : List (RunOf LabelView)). value_at ss) is ∙ value_at-records (table_of w items) ends
 
-pub best_says : (items : List Item) (t : Contents) (q : Query)
+pub best_says : (items : List Item) (t : TablesView) (q : Query)
     → NothingFrom (2 ^ 64) (table_of which.Memory items) → NothingFrom (2 ^ 64) (table_of which.Reserved items)
     → t.memory.records ≡ records_of which.Memory items → t.reserved.records ≡ records_of which.Reserved items
     → best_place_in (upward_of items) (value_at t.memory.records) (value_at t.reserved.records) q ≡ best_place items q
@@ -34,7 +34,7 @@ best_says items t q memory_ends reserved_ends memory reserved =
       says which.Reserved items t.reserved.records reserved_ends reserved,
     ) refl
 
-pub top_says : (items : List Item) (t : Contents) (q : Query) (mirror : Bool)
+pub top_says : (items : List Item) (t : TablesView) (q : Query) (mirror : Bool)
     → NothingFrom (2 ^ 64) (table_of which.Memory items) → NothingFrom (2 ^ 64) (table_of which.Reserved items)
     → t.memory.records ≡ records_of which.Memory items → t.reserved.records ≡ records_of which.Reserved items
     → top_place_in (record { mirror = mirror; up = upward_of items }) (value_at t.memory.records) (value_at t.reserved.records) q
@@ -46,13 +46,13 @@ top_says items t q mirror memory_ends reserved_ends memory reserved =
       says which.Reserved items t.reserved.records reserved_ends reserved,
     ) refl
 
-pub free_says : (items : List Item) (t : Contents)
+pub free_says : (items : List Item) (t : TablesView)
     → NothingFrom (2 ^ 64) (table_of which.Memory items) → NothingFrom (2 ^ 64) (table_of which.Reserved items)
     → t.memory.records ≡ records_of which.Memory items → t.reserved.records ≡ records_of which.Reserved items
-    → free_in t ≡ unclaimed (table_of which.Memory items) (table_of which.Reserved items)
+    → unclaimed_in_tables t ≡ unclaimed_memory (table_of which.Memory items) (table_of which.Reserved items)
 free_says items t memory_ends reserved_ends memory reserved =
-    ap (λ (f : Labels). unclaimed f (value_at t.reserved.records)) (says which.Memory items t.memory.records memory_ends memory)
-    ∙ ap (λ (f : Labels). unclaimed (table_of which.Memory items) f) (says which.Reserved items t.reserved.records reserved_ends reserved)
+    ap (λ (f : Labels). unclaimed_memory f (value_at t.reserved.records)) (says which.Memory items t.memory.records memory_ends memory)
+    ∙ ap (λ (f : Labels). unclaimed_memory (table_of which.Memory items) f) (says which.Reserved items t.reserved.records reserved_ends reserved)
 
 same_run : (r s : RunOf LabelView) → r.base ≡ s.base → run_end r ≡ run_end s → r.value ≡ s.value → r ≡ s
 same_run r s bases ends values =

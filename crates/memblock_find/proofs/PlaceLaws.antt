@@ -7,11 +7,11 @@ use Rattle.std.proofs.lemmas.Bool.{cases_lt, false_from_ne_true, true≢false, a
 use Rattle.address_runs.specs.Edits.{NothingFrom}
 use Rattle.address_runs.specs.Sweep.{Stays}
 use Rattle.memblock_model.specs.Labels.{LabelView, Labels}
-use Rattle.memblock_model.specs.Search.{allows, suits, fits_in, top_place_in}
+use Rattle.memblock_model.specs.Search.{is_allowed_node, is_allowed_mirror, fits_in, top_place_in}
 use Rattle.memblock_model.specs.declared.query.Query.{Query}
 use Rattle.memblock_model.proofs.SearchLaws.{IsPlace, fits_in-parts, fits_in-whole, top_place_in-last, top_place_in-fails}
-use Rattle.memblock_find.specs.Free.{unclaimed, IsDownTo}
-use Rattle.memblock_find.specs.Places.{IsBetween, serves, NoPlaceEnds, IsBestBy}
+use Rattle.memblock_find.specs.Free.{unclaimed_memory, ReachesDownTo}
+use Rattle.memblock_find.specs.Places.{FitsBetween, is_allowed_label, NoPlaceEnds, IsBestBy}
 
 pub le_from_not_lt : (a b : ℕ) → (a < b → ⊥) → b ≤ a
 le_from_not_lt a b not_lt = elim (cases_lt a b) as (λ _. b ≤ a) [ inl lt ↦ absurd (not_lt lt) | inr ge ↦ ge ]
@@ -35,7 +35,7 @@ rounded_last t n b some aligned under =
 -- each byte of a place is unclaimed memory of the place's label
 pub label_of_place : (mirror : Bool) (memory reserved : Labels) (q : Query) (b x : ℕ) → IsPlace mirror memory reserved q b → b ≤ x
     → x < b + q.size
-    → unclaimed memory reserved x ≡ memory b
+    → unclaimed_memory memory reserved x ≡ memory b
 label_of_place mirror memory reserved q b x place above under =
     ap (λ (o : Option LabelView). if is_none o then memory x else None) (place.free x above under) ∙ place.label x above under
 
@@ -45,13 +45,13 @@ held_somewhere (Some v) h = λ same. cc
 
 -- the memory of a place serves the search
 pub place_serves : (mirror : Bool) (memory reserved : Labels) (q : Query) (b : ℕ) → IsPlace mirror memory reserved q b
-    → serves mirror q.node (memory b) ≡ true
-place_serves mirror memory reserved q b place = and_from (allows q.node (memory b)) (suits mirror (memory b)) place.allowed place.suited
+    → is_allowed_label mirror q.node (memory b) ≡ true
+place_serves mirror memory reserved q b place = and_from (is_allowed_node q.node (memory b)) (is_allowed_mirror mirror (memory b)) place.allowed place.suited
 
 -- the stretch of addresses in which a place is searched for
 pub record IsStretch (memory reserved : Labels) (from until : ℕ) (label : Option LabelView) : Type 0 where
-  pub stays : Stays (unclaimed memory reserved) from until label
-  pub down : label ≢ None → IsDownTo (unclaimed memory reserved) from until label
+  pub stays : Stays (unclaimed_memory memory reserved) from until label
+  pub down : label ≢ None → ReachesDownTo (unclaimed_memory memory reserved) from until label
 
 -- a place that ends in a run lies in it
 pub record LiesIn (memory : Labels) (from : ℕ) (label : Option LabelView) (b : ℕ) : Type 0 where
@@ -86,13 +86,13 @@ none_bare mirror memory reserved q from until label some known bare b fits ends 
 pub none_served : (mirror : Bool) (memory reserved : Labels) (q : Query) (from until : ℕ) (label : Option LabelView) (found : LabelView)
     → 1 ≤ q.size
     → IsStretch memory reserved from until label → label ≡ Some found
-    → serves mirror q.node (Some found) ≡ false → NoPlaceEnds mirror memory reserved q from until
+    → is_allowed_label mirror q.node (Some found) ≡ false → NoPlaceEnds mirror memory reserved q from until
 none_served mirror memory reserved q from until label found some known is refused b fits ends =
     le_from_not_lt from (b + q.size) (λ past.
     let lies = in_run mirror memory reserved q from until b label some known fits ends past in
     let place = fits_in-parts mirror memory reserved q b fits in
     true≢false (sym (place_serves mirror memory reserved q b place)
-    ∙ ap (λ (o : Option LabelView). serves mirror q.node o) (lies.carries ∙ is) ∙ refused))
+    ∙ ap (λ (o : Option LabelView). is_allowed_label mirror q.node o) (lies.carries ∙ is) ∙ refused))
 
 -- no place ends above all memory
 pub none_above : (mirror : Bool) (memory reserved : Labels) (q : Query) (at : ℕ) → 1 ≤ q.size → NothingFrom at memory
@@ -111,22 +111,22 @@ memory_there carried (Some v) label same = cc
 
 -- bytes in the window that are unclaimed memory of one label that serves are a place
 pub place_of_bytes : (mirror : Bool) (memory reserved : Labels) (q : Query) (a : ℕ) (found : LabelView) → 1 ≤ q.size
-    → IsBetween (max q.lo 4096) q.hi q.size q.align a
-    → ((x : ℕ) → a ≤ x → x < a + q.size → unclaimed memory reserved x ≡ Some found)
-    → serves mirror q.node (Some found) ≡ true → fits_in mirror memory reserved q a ≡ true
+    → FitsBetween (max q.lo 4096) q.hi q.size q.align a
+    → ((x : ℕ) → a ≤ x → x < a + q.size → unclaimed_memory memory reserved x ≡ Some found)
+    → is_allowed_label mirror q.node (Some found) ≡ true → fits_in mirror memory reserved q a ≡ true
 place_of_bytes mirror memory reserved q a found some lies carry served =
     let there : (x : ℕ) → a ≤ x → x < a + q.size → (memory x ≡ Some found) × (reserved x ≡ None) =
     λ x above under. memory_there (memory x) (reserved x) found (carry x above under) in
     let first : memory a ≡ Some found = (there a (omega arith) (omega arith)).0 in
-    let parts = and_parts (allows q.node (Some found)) (suits mirror (Some found)) served in
+    let parts = and_parts (is_allowed_node q.node (Some found)) (is_allowed_mirror mirror (Some found)) served in
     fits_in-whole mirror memory reserved q a (record {
       aligned = lies.aligned;
       low = omega (arith, lies.above);
       first = omega (arith, lies.above);
       high = lies.below;
       held = ap is_some first;
-      allowed = ap (λ (o : Option LabelView). allows q.node o) first ∙ parts.0;
-      suited = ap (λ (o : Option LabelView). suits mirror o) first ∙ parts.1;
+      allowed = ap (λ (o : Option LabelView). is_allowed_node q.node o) first ∙ parts.0;
+      suited = ap (λ (o : Option LabelView). is_allowed_mirror mirror o) first ∙ parts.1;
       label = λ x above under. (there x above under).0 ∙ sym first;
       free = λ x above under. (there x above under).1;
     })
@@ -134,7 +134,7 @@ place_of_bytes mirror memory reserved q a found some lies carry served =
 -- a place that ends in a stretch of memory lies in the stretch and in the window
 between_ends : (mirror : Bool) (memory reserved : Labels) (q : Query) (from until b : ℕ) (label : Option LabelView) → 1 ≤ q.size
     → IsStretch memory reserved from until label → fits_in mirror memory reserved q b ≡ true → b + q.size ≤ until → from < b + q.size
-    → IsBetween (max (max from q.lo) 4096) until q.size q.align b
+    → FitsBetween (max (max from q.lo) 4096) until q.size q.align b
 between_ends mirror memory reserved q from until b label some known fits ends past =
     let inside = in_run mirror memory reserved q from until b label some known fits ends past in
     let place = fits_in-parts mirror memory reserved q b fits in
@@ -145,10 +145,10 @@ between_ends mirror memory reserved q from until b label some known fits ends pa
 pub best_of_stretch : (mirror : Bool) (memory reserved : Labels) (q : Query) (from until : ℕ) (label : Option LabelView) (found : LabelView)
     (answer : Option ℕ)
     → 1 ≤ q.size → until ≤ q.hi
-    → IsStretch memory reserved from until label → label ≡ Some found → serves mirror q.node (Some found) ≡ true
-    → MatchOption answer ((b : ℕ) → IsBetween (max (max from q.lo) 4096) until q.size q.align b → ⊥)
-    (λ a. IsBetween (max (max from q.lo) 4096) until q.size q.align a
-    × ((b : ℕ) → IsBetween (max (max from q.lo) 4096) until q.size q.align b → b ≤ a))
+    → IsStretch memory reserved from until label → label ≡ Some found → is_allowed_label mirror q.node (Some found) ≡ true
+    → MatchOption answer ((b : ℕ) → FitsBetween (max (max from q.lo) 4096) until q.size q.align b → ⊥)
+    (λ a. FitsBetween (max (max from q.lo) 4096) until q.size q.align a
+    × ((b : ℕ) → FitsBetween (max (max from q.lo) 4096) until q.size q.align b → b ≤ a))
     → MatchOption answer (NoPlaceEnds mirror memory reserved q from until) (IsBestBy mirror memory reserved q until)
 best_of_stretch mirror memory reserved q from until label found None some window known is served none =
     λ b fits ends. le_from_not_lt from (b + q.size) (λ past.
@@ -205,7 +205,7 @@ mask_rest t n k is = subst (λ (m : ℕ). bit_and t (m - 1) ≡ t % m) (sym is) 
 
 -- no multiple with room for the bytes is above the last one
 most_is : (low high size align k top place : ℕ) → align ≡ 2 ^ k → size ≤ high → top ≡ high - size
-    → place ≡ top - bit_and top (align - 1) → (place ≡ top - top % align) × ((b : ℕ) → IsBetween low high size align b → b ≤ place)
+    → place ≡ top - bit_and top (align - 1) → (place ≡ top - top % align) × ((b : ℕ) → FitsBetween low high size align b → b ≤ place)
 most_is low high size align k top place power room top_is place_is =
     let rest = mask_rest top align k power in (
       omega arith,
@@ -218,7 +218,7 @@ most_is low high size align k top place power room top_is place_is =
 -- the greatest multiple with room for the bytes, unless it is too low
 pub last_is : (low high size align k top place : ℕ) → align ≡ 2 ^ k → size ≤ high → top ≡ high - size
     → place ≡ top - bit_and top (align - 1) → low ≤ place
-    → IsBetween low high size align place × ((b : ℕ) → IsBetween low high size align b → b ≤ place)
+    → FitsBetween low high size align place × ((b : ℕ) → FitsBetween low high size align b → b ≤ place)
 last_is low high size align k top place power room top_is place_is order =
     let most = most_is low high size align k top place power room top_is place_is in (
       record {
@@ -231,7 +231,7 @@ last_is low high size align k top place power room top_is place_is order =
 
 pub none_last : (low high size align k top place : ℕ) → align ≡ 2 ^ k → size ≤ high → top ≡ high - size
     → place ≡ top - bit_and top (align - 1) → place < low
-    → (b : ℕ) → IsBetween low high size align b → ⊥
+    → (b : ℕ) → FitsBetween low high size align b → ⊥
 none_last low high size align k top place power room top_is place_is order b between =
     let most = (most_is low high size align k top place power room top_is place_is).1 b between in
     omega (arith, between.above)

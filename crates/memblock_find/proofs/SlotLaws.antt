@@ -9,7 +9,7 @@ use Rattle.address_runs.proofs.RunsLaws.{inside, below, behind, none_below, rest
 use Rattle.memblock_model.specs.Labels.{LabelView}
 use Rattle.memblock_ranges.specs.declared.region.Region.{Region}
 use Rattle.memblock_ranges.specs.Spelling.{region_of}
-use Rattle.memblock_find.specs.Walk.{run_at}
+use Rattle.memblock_find.specs.Walk.{nth_record}
 
 -- the base and size of a record
 pub read_of : (g : Region) (r : RunOf LabelView) → g ≡ region_of r → (g.base ≡ r.base) × (g.size ≡ r.size)
@@ -19,42 +19,42 @@ start_sooner : (at from : ℕ) (rs : List (RunOf LabelView)) → at ≤ from →
 start_sooner at from [] le start = tt
 start_sooner at from (r ∷ rs) le start = omega arith
 
-start_at : (at i : ℕ) (rs : List (RunOf LabelView)) → AreRuns rs → StartAtOrPast at rs → i < length rs → at ≤ (run_at rs i).base
+start_at : (at i : ℕ) (rs : List (RunOf LabelView)) → AreRuns rs → StartAtOrPast at rs → i < length rs → at ≤ (nth_record rs i).base
 start_at at i [] runs start less = absurd (omega arith)
 start_at at zero (r ∷ rs) runs start less = start
 start_at at (suc i) (r ∷ rs) runs start less =
     start_at at i rs runs.2 (start_sooner at (run_end r) rs (omega arith) (rest_from r rs runs)) (omega arith)
 
 -- a record ends before any later one begins
-pub ends_before : (i j : ℕ) (rs : List (RunOf LabelView)) → AreRuns rs → i < j → j < length rs → run_end (run_at rs i) ≤ (run_at rs j).base
+pub ends_before : (i j : ℕ) (rs : List (RunOf LabelView)) → AreRuns rs → i < j → j < length rs → run_end (nth_record rs i) ≤ (nth_record rs j).base
 ends_before i j [] runs less within = absurd (omega arith)
 ends_before i zero (r ∷ rs) runs less within = absurd (omega arith)
 ends_before zero (suc j) (r ∷ rs) runs less within = start_at (run_end r) j rs runs.2 (rest_from r rs runs) (omega arith)
 ends_before (suc i) (suc j) (r ∷ rs) runs less within = ends_before i j rs runs.2 (omega arith) (omega arith)
 
-pub size_at : (i : ℕ) (rs : List (RunOf LabelView)) → AreRuns rs → i < length rs → 0 < (run_at rs i).size
+pub size_at : (i : ℕ) (rs : List (RunOf LabelView)) → AreRuns rs → i < length rs → 0 < (nth_record rs i).size
 size_at i [] runs less = absurd (omega arith)
 size_at zero (r ∷ rs) runs less = runs.0
 size_at (suc i) (r ∷ rs) runs less = size_at i rs runs.2 (omega arith)
 
 -- a later record begins no lower, and ends no lower
-pub bases_ascend : (i j : ℕ) (rs : List (RunOf LabelView)) → AreRuns rs → i ≤ j → j < length rs → (run_at rs i).base ≤ (run_at rs j).base
+pub bases_ascend : (i j : ℕ) (rs : List (RunOf LabelView)) → AreRuns rs → i ≤ j → j < length rs → (nth_record rs i).base ≤ (nth_record rs j).base
 bases_ascend i j rs runs order within =
-    elim (cases_lt i j) as (λ _. (run_at rs i).base ≤ (run_at rs j).base) [
+    elim (cases_lt i j) as (λ _. (nth_record rs i).base ≤ (nth_record rs j).base) [
       | inl less ↦ let ends = ends_before i j rs runs less within in omega arith
-      | inr ge ↦ let same : i ≡ j = omega arith in let bases = ap (λ (k : ℕ). (run_at rs k).base) same in omega arith
+      | inr ge ↦ let same : i ≡ j = omega arith in let bases = ap (λ (k : ℕ). (nth_record rs k).base) same in omega arith
     ]
 
-pub ends_ascend : (i j : ℕ) (rs : List (RunOf LabelView)) → AreRuns rs → i ≤ j → j < length rs → run_end (run_at rs i) ≤ run_end (run_at rs j)
+pub ends_ascend : (i j : ℕ) (rs : List (RunOf LabelView)) → AreRuns rs → i ≤ j → j < length rs → run_end (nth_record rs i) ≤ run_end (nth_record rs j)
 ends_ascend i j rs runs order within =
-    elim (cases_lt i j) as (λ _. run_end (run_at rs i) ≤ run_end (run_at rs j)) [
+    elim (cases_lt i j) as (λ _. run_end (nth_record rs i) ≤ run_end (nth_record rs j)) [
       | inl less ↦ let ends = ends_before i j rs runs less within in omega arith
-      | inr ge ↦ let same : i ≡ j = omega arith in let ends = ap (λ (k : ℕ). run_end (run_at rs k)) same in omega arith
+      | inr ge ↦ let same : i ≡ j = omega arith in let ends = ap (λ (k : ℕ). run_end (nth_record rs k)) same in omega arith
     ]
 
 -- the list gives a record's addresses its label
-pub value_in : (i x : ℕ) (rs : List (RunOf LabelView)) → AreRuns rs → i < length rs → (run_at rs i).base ≤ x → x < run_end (run_at rs i)
-    → value_at rs x ≡ Some (run_at rs i).value
+pub value_in : (i x : ℕ) (rs : List (RunOf LabelView)) → AreRuns rs → i < length rs → (nth_record rs i).base ≤ x → x < run_end (nth_record rs i)
+    → value_at rs x ≡ Some (nth_record rs i).value
 value_in i x [] runs less above under = absurd (omega arith)
 value_in zero x (r ∷ rs) runs less above under = rw (inside r x above under) refl
 value_in (suc i) x (r ∷ rs) runs less above under =
@@ -62,7 +62,7 @@ value_in (suc i) x (r ∷ rs) runs less above under =
     rw (behind r x (omega arith)) (value_in i x rs runs.2 (omega arith) above under)
 
 -- an address outside all records has no label
-pub none_beside : (x : ℕ) (rs : List (RunOf LabelView)) → ((i : ℕ) → i < length rs → (run_end (run_at rs i) ≤ x) ⊎ (x < (run_at rs i).base))
+pub none_beside : (x : ℕ) (rs : List (RunOf LabelView)) → ((i : ℕ) → i < length rs → (run_end (nth_record rs i) ≤ x) ⊎ (x < (nth_record rs i).base))
     → value_at rs x ≡ None
 none_beside x [] beside = refl
 none_beside x (r ∷ rs) beside =
@@ -73,7 +73,7 @@ none_beside x (r ∷ rs) beside =
     ]
 
 -- from the end of the last record on there is no label
-pub nothing_behind : (rs : List (RunOf LabelView)) (at : ℕ) → AreRuns rs → (0 < length rs → at ≡ run_end (run_at rs (length rs - 1)))
+pub nothing_behind : (rs : List (RunOf LabelView)) (at : ℕ) → AreRuns rs → (0 < length rs → at ≡ run_end (nth_record rs (length rs - 1)))
     → NothingFrom at (value_at rs)
 nothing_behind rs at runs end x from = none_beside x rs (λ i less.
     let is = end (omega arith) in
@@ -81,8 +81,8 @@ nothing_behind rs at runs end x from = none_beside x rs (λ i less.
     inl (omega arith))
 
 -- the address below a record has another label
-pub other_under : (i x : ℕ) (rs : List (RunOf LabelView)) → AreRuns rs → i < length rs → x + 1 ≡ (run_at rs i).base
-    → value_at rs x ≢ Some (run_at rs i).value
+pub other_under : (i x : ℕ) (rs : List (RunOf LabelView)) → AreRuns rs → i < length rs → x + 1 ≡ (nth_record rs i).base
+    → value_at rs x ≢ Some (nth_record rs i).value
 other_under i x [] runs less next = absurd (omega arith)
 other_under zero x (r ∷ rs) runs less next =
     let none : value_at (r ∷ rs) x ≡ None = none_below r.base x (r ∷ rs) runs (omega arith) (omega arith) in λ same. cc
@@ -106,9 +106,9 @@ other_under (suc (suc i)) x (r ∷ rs) runs less next =
 
 -- the address after a record has another label
 pub other_past : (i : ℕ) (rs : List (RunOf LabelView)) → AreRuns rs → i < length rs
-    → value_at rs (run_end (run_at rs i)) ≢ Some (run_at rs i).value
+    → value_at rs (run_end (nth_record rs i)) ≢ Some (nth_record rs i).value
 other_past i [] runs less = absurd (omega arith)
 other_past zero (r ∷ rs) runs less = rw (behind r (run_end r) (omega arith)) (other_behind r rs runs)
 other_past (suc i) (r ∷ rs) runs less =
     let start = start_at (run_end r) i rs runs.2 (rest_from r rs runs) (omega arith) in
-    rw (behind r (run_end (run_at rs i)) (omega arith)) (other_past i rs runs.2 (omega arith))
+    rw (behind r (run_end (nth_record rs i)) (omega arith)) (other_past i rs runs.2 (omega arith))

@@ -7,19 +7,19 @@ use Rattle.address_runs.specs.Sweep.{Stays}
 use Rattle.memblock_model.specs.Labels.{LabelView}
 use Rattle.memblock_find.specs.declared.cursor.Look.{Look}
 use Rattle.memblock_find.specs.declared.cursor.Cursor.{Cursor}
-use Rattle.memblock_find.specs.Free.{unclaimed, IsUpTo}
-use Rattle.memblock_find.specs.Walk.{run_at, EndedBy, IsLookUp, IsUpAt, label_at}
+use Rattle.memblock_find.specs.Free.{unclaimed_memory, ReachesUpTo}
+use Rattle.memblock_find.specs.Walk.{nth_record, EndAtOrBelow, IsLookUp, IsWalkUpAt, unclaimed_label}
 use Rattle.memblock_find.proofs.DownLaws.{unclaimed_is, unclaimed_changes}
 use Rattle.memblock_find.proofs.SlotLaws.{ends_before, ends_ascend, bases_ascend, size_at, value_in, none_beside, other_past}
 
 -- if every record ends at or below the address, there is no label from it on
-none_left : (rs : List (RunOf LabelView)) (at : ℕ) → EndedBy at rs (length rs) → NothingFrom at (value_at rs)
+none_left : (rs : List (RunOf LabelView)) (at : ℕ) → EndAtOrBelow at rs (length rs) → NothingFrom at (value_at rs)
 none_left rs at ended x above = none_beside x rs (λ i less. let ends = ended.before i less in inl (omega arith))
 
-pub look_top : (rs : List (RunOf LabelView)) (slot at : ℕ) → slot ≡ length rs → at < 2 ^ 64 → EndedBy at rs slot
+pub look_top : (rs : List (RunOf LabelView)) (slot at : ℕ) → slot ≡ length rs → at < 2 ^ 64 → EndAtOrBelow at rs slot
     → IsLookUp rs at (record { label = None; bound = 2 ^ 64 - 1; slot = slot })
 look_top rs slot at all small known =
-    let ended : EndedBy at rs (length rs) = subst (λ (n : ℕ). EndedBy at rs n) all known in
+    let ended : EndAtOrBelow at rs (length rs) = subst (λ (n : ℕ). EndAtOrBelow at rs n) all known in
     record {
       stays = λ x above under. none_left rs at ended x above;
       another = λ some. absurd (some refl);
@@ -37,22 +37,22 @@ look_top rs slot at all small known =
     }
 
 -- up to the next record there is no label
-pub look_hole : (rs : List (RunOf LabelView)) (slot at : ℕ) → slot < length rs → EndedBy at rs slot → at < (run_at rs slot).base
-    → (run_at rs slot).base < 2 ^ 64
-    → IsLookUp rs at (record { label = None; bound = (run_at rs slot).base; slot = slot })
+pub look_hole : (rs : List (RunOf LabelView)) (slot at : ℕ) → slot < length rs → EndAtOrBelow at rs slot → at < (nth_record rs slot).base
+    → (nth_record rs slot).base < 2 ^ 64
+    → IsLookUp rs at (record { label = None; bound = (nth_record rs slot).base; slot = slot })
 look_hole rs slot at within ended before_base base_small =
     let runs : AreRuns rs = ended.runs in
     let size = size_at slot rs runs within in
     record {
       stays = λ x above under. none_beside x rs (λ j less.
-          elim (cases_lt j slot) as (λ _. (run_end (run_at rs j) ≤ x) ⊎ (x < (run_at rs j).base)) [
+          elim (cases_lt j slot) as (λ _. (run_end (nth_record rs j) ≤ x) ⊎ (x < (nth_record rs j).base)) [
             | inl before ↦ let ends = ended.before j before in inl (omega arith)
             | inr after ↦ let bases = bases_ascend slot j rs runs after less in inr (omega arith)
           ]);
       another = λ some. absurd (some refl);
       other = λ less same.
-          let here : value_at rs (run_at rs slot).base ≡ Some (run_at rs slot).value =
-          value_in slot (run_at rs slot).base rs runs within (omega arith) (omega arith) in
+          let here : value_at rs (nth_record rs slot).base ≡ Some (nth_record rs slot).value =
+          value_in slot (nth_record rs slot).base rs runs within (omega arith) (omega arith) in
           cc;
       next = record {
         runs = runs;
@@ -70,12 +70,12 @@ look_hole rs slot at within ended before_base base_small =
     }
 
 -- in the next record, the label is the record's
-pub look_over : (rs : List (RunOf LabelView)) (slot at : ℕ) → slot < length rs → EndedBy at rs slot → (run_at rs slot).base ≤ at
-    → run_end (run_at rs slot) < 2 ^ 64
-    → IsLookUp rs at (record { label = Some (run_at rs slot).value; bound = run_end (run_at rs slot); slot = slot + 1 })
+pub look_over : (rs : List (RunOf LabelView)) (slot at : ℕ) → slot < length rs → EndAtOrBelow at rs slot → (nth_record rs slot).base ≤ at
+    → run_end (nth_record rs slot) < 2 ^ 64
+    → IsLookUp rs at (record { label = Some (nth_record rs slot).value; bound = run_end (nth_record rs slot); slot = slot + 1 })
 look_over rs slot at within ended from_base end_small =
     let runs : AreRuns rs = ended.runs in
-    let end : at < run_end (run_at rs slot) = ended.behind slot (omega arith) within in
+    let end : at < run_end (nth_record rs slot) = ended.behind slot (omega arith) within in
     record {
       stays = λ x above under. value_in slot x rs runs within (omega arith) under;
       another = λ some. other_past slot rs runs within;
@@ -96,25 +96,25 @@ look_over rs slot at within ended from_base end_small =
     }
 
 -- if a record ends at or below the address, so do all before it
-pub ended_so_far : (rs : List (RunOf LabelView)) (at middle : ℕ) → AreRuns rs → middle < length rs → run_end (run_at rs middle) ≤ at
-    → (i : ℕ) → i < middle + 1 → run_end (run_at rs i) ≤ at
+pub ended_so_far : (rs : List (RunOf LabelView)) (at middle : ℕ) → AreRuns rs → middle < length rs → run_end (nth_record rs middle) ≤ at
+    → (i : ℕ) → i < middle + 1 → run_end (nth_record rs i) ≤ at
 ended_so_far rs at middle runs within ended i less = omega (arith, ends_ascend i middle rs runs (omega arith) within)
 
-pub not_ended_from : (rs : List (RunOf LabelView)) (at middle : ℕ) → AreRuns rs → at < run_end (run_at rs middle)
-    → (i : ℕ) → middle ≤ i → i < length rs → at < run_end (run_at rs i)
+pub not_ended_from : (rs : List (RunOf LabelView)) (at middle : ℕ) → AreRuns rs → at < run_end (nth_record rs middle)
+    → (i : ℕ) → middle ≤ i → i < length rs → at < run_end (nth_record rs i)
 not_ended_from rs at middle runs behind i from within = omega (arith, ends_ascend middle i rs runs from within)
 
 -- the addresses of a cursor's stretch upward have its label
-pub stretch_rises : (ms rs : List (RunOf LabelView)) (c : Cursor) (until : ℕ) (label : Option LabelView) → IsUpAt ms rs c
-    → until ≡ min c.memory.bound c.reserved.bound → label ≡ label_at c → Stays (unclaimed (value_at ms) (value_at rs)) c.at until label
+pub stretch_rises : (ms rs : List (RunOf LabelView)) (c : Cursor) (until : ℕ) (label : Option LabelView) → IsWalkUpAt ms rs c
+    → until ≡ min c.memory.bound c.reserved.bound → label ≡ unclaimed_label c → Stays (unclaimed_memory (value_at ms) (value_at rs)) c.at until label
 stretch_rises ms rs c until label known until_is label_is x above under =
     unclaimed_is (value_at ms) (value_at rs) x c.memory.label c.reserved.label
     (known.memory.stays x above (omega arith)) (known.reserved.stays x above (omega arith)) ∙ sym label_is
 
 stretch_stops : (ms rs : List (RunOf LabelView)) (at : ℕ) (m r : Look) → IsLookUp ms at m → IsLookUp rs at r → r.label ≡ None → m.label ≢ None
-    → unclaimed (value_at ms) (value_at rs) (min m.bound r.bound) ≢ m.label
+    → unclaimed_memory (value_at ms) (value_at rs) (min m.bound r.bound) ≢ m.label
 stretch_stops ms rs at m r memory reserved bare some =
-    elim (cases_lt r.bound m.bound) as (λ _. unclaimed (value_at ms) (value_at rs) (min m.bound r.bound) ≢ m.label) [
+    elim (cases_lt r.bound m.bound) as (λ _. unclaimed_memory (value_at ms) (value_at rs) (min m.bound r.bound) ≢ m.label) [
       | inl lt ↦
           let small = memory.small in
           let least : min m.bound r.bound ≡ r.bound = omega arith in
@@ -132,16 +132,16 @@ bare_claims carried None some = (refl, refl)
 bare_claims carried (Some v) some = absurd (some refl)
 
 -- after a stretch of unclaimed memory the address has another label
-pub stretch_up : (ms rs : List (RunOf LabelView)) (c : Cursor) (until : ℕ) (label : Option LabelView) → IsUpAt ms rs c
-    → until ≡ min c.memory.bound c.reserved.bound → label ≡ label_at c → label ≢ None
-    → IsUpTo (unclaimed (value_at ms) (value_at rs)) c.at until label
+pub stretch_up : (ms rs : List (RunOf LabelView)) (c : Cursor) (until : ℕ) (label : Option LabelView) → IsWalkUpAt ms rs c
+    → until ≡ min c.memory.bound c.reserved.bound → label ≡ unclaimed_label c → label ≢ None
+    → ReachesUpTo (unclaimed_memory (value_at ms) (value_at rs)) c.at until label
 stretch_up ms rs c until label known until_is label_is some =
-    let held : label_at c ≢ None = subst (λ (o : Option LabelView). o ≢ None) label_is some in
+    let held : unclaimed_label c ≢ None = subst (λ (o : Option LabelView). o ≢ None) label_is some in
     let parts = bare_claims c.memory.label c.reserved.label held in
     let is : label ≡ c.memory.label = label_is ∙ parts.1 in
     let told : c.memory.label ≢ None = subst (λ (o : Option LabelView). o ≢ None) is some in
     record {
       stays = stretch_rises ms rs c until label known until_is label_is;
       another = λ same. stretch_stops ms rs c.at c.memory c.reserved known.memory known.reserved parts.0 told
-          (ap (unclaimed (value_at ms) (value_at rs)) (sym until_is) ∙ same ∙ is);
+          (ap (unclaimed_memory (value_at ms) (value_at rs)) (sym until_is) ∙ same ∙ is);
     }

@@ -1,19 +1,19 @@
 -- What a search knows of places: those in one stretch of addresses, and those that remain.
 use Rattle.std.specs.Prelude.{◌≡◌, ℕ, ◌+◌, ◌%◌, ◌≤◌, ◌<◌, Bool, true, false, ◌&&◌, Option}
 use Rattle.memblock_model.specs.Labels.{LabelView, Labels}
-use Rattle.memblock_model.specs.Search.{allows, suits, fits_in}
+use Rattle.memblock_model.specs.Search.{is_allowed_node, is_allowed_mirror, fits_in}
 use Rattle.memblock_model.specs.declared.query.Query.{Query}
 
 -- a is a multiple of `align`, and the `size` bytes from it lie between the two addresses
-pub record IsBetween (low high size align a : ℕ) : Type 0 where
+pub record FitsBetween (low high size align a : ℕ) : Type 0 where
   pub aligned : a % align ≡ 0
   pub above : low ≤ a
   pub below : a + size ≤ high
 
 -- whether a search for the node, or for any, may return a byte that carries this, mirrored only or
 -- any
-abbrev pub serves : Bool → Option ℕ → Option LabelView → Bool
-serves mirror node carried = allows node carried && suits mirror carried
+abbrev pub is_allowed_label : Bool → Option ℕ → Option LabelView → Bool
+is_allowed_label mirror node carried = is_allowed_node node carried && is_allowed_mirror mirror carried
 
 -- every place that ends at or below `until` also ends at or below `from`
 abbrev pub NoPlaceEnds : Bool → Labels → Labels → Query → ℕ → ℕ → Type 0
@@ -25,8 +25,8 @@ abbrev pub NoPlaceBegins : Bool → Labels → Labels → Query → ℕ → ℕ 
 NoPlaceBegins mirror memory reserved q from until = (b : ℕ) → fits_in mirror memory reserved q b ≡ true → from ≤ b → until ≤ b
 
 -- no address from `from` to below `until` is memory that serves the search
-abbrev pub NoAddressServes : Bool → Labels → Option ℕ → ℕ → ℕ → Type 0
-NoAddressServes mirror memory node from until = (x : ℕ) → from ≤ x → x < until → serves mirror node (memory x) ≡ false
+abbrev pub NoAddressIsAllowed : Bool → Labels → Option ℕ → ℕ → ℕ → Type 0
+NoAddressIsAllowed mirror memory node from until = (x : ℕ) → from ≤ x → x < until → is_allowed_label mirror node (memory x) ≡ false
 
 -- a place fits at a, and no place at a greater address ends at or below `until`
 pub record IsBestBy (mirror : Bool) (memory reserved : Labels) (q : Query) (until a : ℕ) : Type 0 where

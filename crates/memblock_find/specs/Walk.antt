@@ -5,39 +5,39 @@ use Rattle.address_runs.specs.Runs.{RunOf, run_end, value_at, AreRuns}
 use Rattle.address_runs.specs.Edits.{NothingFrom}
 use Rattle.address_runs.specs.Sweep.{Stays}
 use Rattle.memblock_model.specs.Labels.{LabelView, plain_label}
-use Rattle.memblock_find.specs.Free.{IsDownTo}
+use Rattle.memblock_find.specs.Free.{ReachesDownTo}
 use Rattle.memblock_find.specs.declared.cursor.Look.{Look}
 use Rattle.memblock_find.specs.declared.cursor.Cursor.{Cursor}
 
 -- the record at index i
-abbrev pub run_at : List (RunOf LabelView) → ℕ → RunOf LabelView
-run_at rs i = get_or rs i (record { base = 0; size = 0; value = plain_label })
+abbrev pub nth_record : List (RunOf LabelView) → ℕ → RunOf LabelView
+nth_record rs i = get_or rs i (record { base = 0; size = 0; value = plain_label })
 
 -- at most the first `count` records of the list, which is in order, begin below the address
-pub record BegunAmong (at : ℕ) (rs : List (RunOf LabelView)) (count : ℕ) : Type 0 where
+pub record BeginAmong (at : ℕ) (rs : List (RunOf LabelView)) (count : ℕ) : Type 0 where
   pub runs : AreRuns rs
   pub within : count ≤ length rs
-  pub behind : (i : ℕ) → count ≤ i → i < length rs → at ≤ (run_at rs i).base
+  pub behind : (i : ℕ) → count ≤ i → i < length rs → at ≤ (nth_record rs i).base
 
 -- exactly the first `count` records of the list, which is in order, begin below the address
-pub record BegunBelow (at : ℕ) (rs : List (RunOf LabelView)) (count : ℕ) : Type 0 where
+pub record BeginBelow (at : ℕ) (rs : List (RunOf LabelView)) (count : ℕ) : Type 0 where
   pub runs : AreRuns rs
   pub within : count ≤ length rs
-  pub before : (i : ℕ) → i < count → (run_at rs i).base < at
-  pub behind : (i : ℕ) → count ≤ i → i < length rs → at ≤ (run_at rs i).base
+  pub before : (i : ℕ) → i < count → (nth_record rs i).base < at
+  pub behind : (i : ℕ) → count ≤ i → i < length rs → at ≤ (nth_record rs i).base
 
 -- exactly the first `count` records of the list, which is in order, end at or below the address
-pub record EndedBy (at : ℕ) (rs : List (RunOf LabelView)) (count : ℕ) : Type 0 where
+pub record EndAtOrBelow (at : ℕ) (rs : List (RunOf LabelView)) (count : ℕ) : Type 0 where
   pub runs : AreRuns rs
   pub within : count ≤ length rs
-  pub before : (i : ℕ) → i < count → run_end (run_at rs i) ≤ at
-  pub behind : (i : ℕ) → count ≤ i → i < length rs → at < run_end (run_at rs i)
+  pub before : (i : ℕ) → i < count → run_end (nth_record rs i) ≤ at
+  pub behind : (i : ℕ) → count ≤ i → i < length rs → at < run_end (nth_record rs i)
 
 -- the look has the label of the addresses from its bound to below `at`, the label changes below
 -- the bound, and the next look continues there
 pub record IsLookDown (rs : List (RunOf LabelView)) (at : ℕ) (look : Look) : Type 0 where
-  pub down : IsDownTo (value_at rs) look.bound at look.label
-  pub next : BegunBelow look.bound rs look.slot
+  pub down : ReachesDownTo (value_at rs) look.bound at look.label
+  pub next : BeginBelow look.bound rs look.slot
   pub order : look.bound ≤ at
   pub below : 0 < at → look.bound < at
 
@@ -47,21 +47,21 @@ pub record IsLookUp (rs : List (RunOf LabelView)) (at : ℕ) (look : Look) : Typ
   pub stays : Stays (value_at rs) at look.bound look.label
   pub another : look.label ≢ None → value_at rs look.bound ≢ look.label
   pub other : look.bound < 2 ^ 64 - 1 → value_at rs look.bound ≢ look.label
-  pub next : EndedBy look.bound rs look.slot
+  pub next : EndAtOrBelow look.bound rs look.slot
   pub small : look.bound < 2 ^ 64
   pub order : at ≤ look.bound
   pub ahead : at < 2 ^ 64 - 1 → at < look.bound
   pub left : at ≡ look.bound → NothingFrom at (value_at rs)
 
 -- the label of the addresses that both looks describe if they are unclaimed memory, else None
-abbrev pub label_at : Cursor → Option LabelView
-label_at c = if is_none c.reserved.label then c.memory.label else None
+abbrev pub unclaimed_label : Cursor → Option LabelView
+unclaimed_label c = if is_none c.reserved.label then c.memory.label else None
 
 -- a walk down, or up, over the records of both tables has reached the cursor's address
-pub record IsDownAt (records claims : List (RunOf LabelView)) (c : Cursor) : Type 0 where
+pub record IsWalkDownAt (records claims : List (RunOf LabelView)) (c : Cursor) : Type 0 where
   pub memory : IsLookDown records c.at c.memory
   pub reserved : IsLookDown claims c.at c.reserved
 
-pub record IsUpAt (records claims : List (RunOf LabelView)) (c : Cursor) : Type 0 where
+pub record IsWalkUpAt (records claims : List (RunOf LabelView)) (c : Cursor) : Type 0 where
   pub memory : IsLookUp records c.at c.memory
   pub reserved : IsLookUp claims c.at c.reserved

@@ -3,7 +3,7 @@
 //! addresses below, a walk up at those from there on. Each look reads one record, and is kept
 //! until the walk has passed it.
 ghost use Rattle.std.specs.Prelude.{◌≡◌};
-ghost use Rattle.memblock_find.specs.Walk.{label_at};
+ghost use Rattle.memblock_find.specs.Walk.{unclaimed_label};
 
 use memblock_model::{Label, Which};
 use memblock_ranges::{Records, Tables};
@@ -54,8 +54,8 @@ pub struct Cursor {
 impl Cursor {
     /// Returns the label of the addresses that both looks describe if they are unclaimed memory,
     /// else `None`.
-    pub fn label(&self) -> Option<Label>
-        ensures { result ≡ label_at self.now }
+    pub fn unclaimed_label(&self) -> Option<Label>
+        ensures { result ≡ unclaimed_label self.now }
     {
         match self.reserved.label {
             None => self.memory.label,

@@ -3,23 +3,23 @@
 //! that a search for a node, or for mirrored memory, passes over (`node.rt`).
 ghost use Rattle.std.specs.Prelude.{◌≡◌, ◌≢◌, ◌<◌, ◌≤◌, max, None};
 ghost use Rattle.address_runs.specs.Sweep.{Stays};
-ghost use Rattle.memblock_find.specs.Free.{free_in, IsDownTo};
-ghost use Rattle.memblock_find.specs.Walk.{BegunAmong, BegunBelow, IsLookDown, IsDownAt};
+ghost use Rattle.memblock_find.specs.Free.{unclaimed_in_tables, ReachesDownTo};
+ghost use Rattle.memblock_find.specs.Walk.{BeginAmong, BeginBelow, IsLookDown, IsWalkDownAt};
 
 use crate::cursor::{Cursor, Lists, Look};
 use memblock_ranges::Records;
 
 /// Counts the records that begin below the address, by binary search.
-fn begun_below(records: &Records<'_>, at: u64) -> u64
-    ensures { BegunBelow at records.now result }
+fn count_begun_below(records: &Records<'_>, at: u64) -> u64
+    ensures { BeginBelow at records.now result }
 {
-    begun_of(records, records.count(), at)
+    count_begun_among(records, records.count(), at)
 }
 
 /// Counts the records that begin below the address, which must all be among the first `count`.
-fn begun_of(records: &Records<'_>, count: u64, at: u64) -> u64
-    requires { BegunAmong at records.now count }
-    ensures { BegunBelow at records.now result }
+fn count_begun_among(records: &Records<'_>, count: u64, at: u64) -> u64
+    requires { BeginAmong at records.now count }
+    ensures { BeginBelow at records.now result }
 {
     if count == 0 || records.get(count - 1).base < at {
         return count;
@@ -40,7 +40,7 @@ fn begun_of(records: &Records<'_>, count: u64, at: u64) -> u64
 /// Returns what the records give the addresses below `at`. Exactly `slot` records must begin below
 /// it.
 pub fn look_down(records: &Records<'_>, slot: u64, at: u64) -> Look
-    requires { BegunBelow at records.now slot }
+    requires { BeginBelow at records.now slot }
     ensures { IsLookDown records.now at result }
 {
     if slot == 0 {
@@ -92,7 +92,7 @@ pub fn look_past(records: &Records<'_>, look: Look, from: u64, at: u64) -> Look
     if look.bound < at {
         return look;
     }
-    let slot = begun_of(records, look.slot, at);
+    let slot = count_begun_among(records, look.slot, at);
     look_down(records, slot, at)
 }
 
@@ -102,10 +102,10 @@ pub fn look_past(records: &Records<'_>, look: Look, from: u64, at: u64) -> Look
 #[inline]
 pub fn cursor_below(lists: &Lists<'_>, at: u64) -> Cursor
     ensures at { result.at ≡ at }
-    ensures down { IsDownAt lists.now.memory lists.now.reserved result }
+    ensures down { IsWalkDownAt lists.now.memory lists.now.reserved result }
 {
-    let memory = begun_below(&lists.memory, at);
-    let reserved = begun_below(&lists.reserved, at);
+    let memory = count_begun_below(&lists.memory, at);
+    let reserved = count_begun_below(&lists.reserved, at);
     Cursor {
         at,
         memory: look_down(&lists.memory, memory, at),
@@ -124,9 +124,9 @@ impl Cursor {
 
     /// Moves the walk down to that address.
     pub fn down(&self, lists: &Lists<'_>) -> Cursor
-        requires { IsDownAt lists.now.memory lists.now.reserved self.now }
+        requires { IsWalkDownAt lists.now.memory lists.now.reserved self.now }
         ensures at { result.at ≡ max self.now.memory.bound self.now.reserved.bound }
-        ensures down { IsDownAt lists.now.memory lists.now.reserved result }
+        ensures down { IsWalkDownAt lists.now.memory lists.now.reserved result }
     {
         let at = self.bottom();
         Cursor {

@@ -5,8 +5,8 @@ ghost use Rattle.std.specs.Prelude.{◌≡◌, ◌-◌, ◌≤◌, MatchOption, 
 ghost use Rattle.address_runs.specs.Runs.{run_end, value_at};
 ghost use Rattle.address_runs.specs.Edits.{NothingFrom};
 ghost use Rattle.address_runs.specs.Sweep.{Stays};
-ghost use Rattle.memblock_find.specs.Walk.{IsUpAt};
-ghost use Rattle.memblock_find.specs.Free.{free_of, unclaimed, free_in, IsRunBelow, IsRunFrom};
+ghost use Rattle.memblock_find.specs.Walk.{IsWalkUpAt};
+ghost use Rattle.memblock_find.specs.Free.{unclaimed_in_walk, unclaimed_memory, unclaimed_in_tables, IsRunBelow, IsRunFrom};
 
 use crate::cursor::{Cursor, Lists, lists_of};
 use crate::down::cursor_below;
@@ -63,19 +63,19 @@ impl FreeRange {
 /// below it is unclaimed memory (`__next_mem_range_rev`). A run that continues above `below` is
 /// cut to end there.
 pub fn prev_free(tables: &Tables, below: u64) -> Option<FreeRange>
-    ensures { MatchOption result (Stays (free_in tables.now) 0 below None) (IsRunBelow (free_in tables.now) below) }
+    ensures { MatchOption result (Stays (unclaimed_in_tables tables.now) 0 below None) (IsRunBelow (unclaimed_in_tables tables.now) below) }
 {
     prev_in(&lists_of(tables), below)
 }
 
 /// Like [`prev_free`], from the records of both tables.
 fn prev_in(lists: &Lists<'_>, below: u64) -> Option<FreeRange>
-    ensures { MatchOption result (Stays (unclaimed (value_at lists.now.memory) (value_at lists.now.reserved)) 0 below None)
-        (IsRunBelow (unclaimed (value_at lists.now.memory) (value_at lists.now.reserved)) below) }
+    ensures { MatchOption result (Stays (unclaimed_memory (value_at lists.now.memory) (value_at lists.now.reserved)) 0 below None)
+        (IsRunBelow (unclaimed_memory (value_at lists.now.memory) (value_at lists.now.reserved)) below) }
 {
     let mut cursor = cursor_below(lists, below);
     while cursor.at > 0 {
-        if let Some(label) = cursor.label() {
+        if let Some(label) = cursor.unclaimed_label() {
             return Some(FreeRange::between(cursor.bottom(), cursor.at, label));
         }
         cursor = cursor.down(lists);
@@ -87,45 +87,45 @@ fn prev_in(lists: &Lists<'_>, below: u64) -> Option<FreeRange>
 /// there on is unclaimed memory (`__next_mem_range`). A run that begins below `from` is cut to
 /// begin there.
 pub fn next_free(tables: &Tables, from: u64) -> Option<FreeRange>
-    ensures { MatchOption result (NothingFrom from (free_in tables.now)) (IsRunFrom (free_in tables.now) from) }
+    ensures { MatchOption result (NothingFrom from (unclaimed_in_tables tables.now)) (IsRunFrom (unclaimed_in_tables tables.now) from) }
 {
     next_in(&lists_of(tables), from)
 }
 
 /// Like [`next_free`], from the records of both tables.
 fn next_in(lists: &Lists<'_>, from: u64) -> Option<FreeRange>
-    ensures { MatchOption result (NothingFrom from (unclaimed (value_at lists.now.memory) (value_at lists.now.reserved)))
-        (IsRunFrom (unclaimed (value_at lists.now.memory) (value_at lists.now.reserved)) from) }
+    ensures { MatchOption result (NothingFrom from (unclaimed_memory (value_at lists.now.memory) (value_at lists.now.reserved)))
+        (IsRunFrom (unclaimed_memory (value_at lists.now.memory) (value_at lists.now.reserved)) from) }
 {
-    climb(lists, cursor_from(lists, from)).run
+    find_run_up(lists, cursor_from(lists, from)).run
 }
 
 /// The first run of a walk up, and the position of the walk after it.
 #[derive(Clone, Copy)]
-struct Rise {
+struct FoundRun {
     run: Option<FreeRange>,
     cursor: Cursor,
 }
 
 /// Walks up to the end of the first run of unclaimed memory, or to the highest address.
-fn climb(lists: &Lists<'_>, from: Cursor) -> Rise
-    requires { IsUpAt lists.now.memory lists.now.reserved from }
-    ensures run { MatchOption result.run (NothingFrom from.at (unclaimed (value_at lists.now.memory) (value_at lists.now.reserved)))
-        (IsRunFrom (unclaimed (value_at lists.now.memory) (value_at lists.now.reserved)) from.at) }
+fn find_run_up(lists: &Lists<'_>, from: Cursor) -> FoundRun
+    requires { IsWalkUpAt lists.now.memory lists.now.reserved from }
+    ensures run { MatchOption result.run (NothingFrom from.at (unclaimed_memory (value_at lists.now.memory) (value_at lists.now.reserved)))
+        (IsRunFrom (unclaimed_memory (value_at lists.now.memory) (value_at lists.now.reserved)) from.at) }
     ensures at { IfSome result.run (λ r. result.cursor.at ≡ run_end r) }
     ensures order { from.at ≤ result.cursor.at }
-    ensures up { IsUpAt lists.now.memory lists.now.reserved result.cursor }
+    ensures up { IsWalkUpAt lists.now.memory lists.now.reserved result.cursor }
 {
     let mut cursor = from;
     while cursor.at < u64::MAX {
         let next = cursor.up(lists);
-        if let Some(label) = cursor.label() {
+        if let Some(label) = cursor.unclaimed_label() {
             let run = Some(FreeRange::between(cursor.at, next.at, label));
-            return Rise { run, cursor: next };
+            return FoundRun { run, cursor: next };
         }
         cursor = next;
     }
-    Rise { run: None, cursor }
+    FoundRun { run: None, cursor }
 }
 
 /// The runs of unclaimed memory from an address up, one after another. Each run costs only the
@@ -138,14 +138,14 @@ pub struct FreeRuns<'a> {
 }
 
 impl<'a> Model for FreeRuns<'a> {
-    ghost use Rattle.memblock_find.specs.Free.{Pass};
-    ghost use Rattle.memblock_find.specs.Walk.{IsUpAt};
+    ghost use Rattle.memblock_find.specs.Free.{FreeRunsView};
+    ghost use Rattle.memblock_find.specs.Walk.{IsWalkUpAt};
 
-    ghost Value = { Pass };
+    ghost Value = { FreeRunsView };
 
     ghost view = { λ w. record { memory = w.lists.memory; reserved = w.lists.reserved; at = w.cursor.at } };
 
-    ghost invariant = { λ w. IsUpAt w.lists.memory w.lists.reserved w.cursor };
+    ghost invariant = { λ w. IsWalkUpAt w.lists.memory w.lists.reserved w.cursor };
 }
 
 impl FreeRuns<'_> {
@@ -161,13 +161,13 @@ impl FreeRuns<'_> {
     /// Returns the next run: the one that [`next_free`] returns for the address that the walk has
     /// reached. The walk then continues at the run's end.
     pub fn next_run(&mut self) -> Option<FreeRange>
-        ensures run { MatchOption result (NothingFrom self.old.at (free_of self.old)) (IsRunFrom (free_of self.old) self.old.at) }
+        ensures run { MatchOption result (NothingFrom self.old.at (unclaimed_in_walk self.old)) (IsRunFrom (unclaimed_in_walk self.old) self.old.at) }
         ensures at { IfSome result (λ r. self.new.at ≡ run_end r) }
         ensures order { self.old.at ≤ self.new.at }
         ensures memory { self.new.memory ≡ self.old.memory }
         ensures reserved { self.new.reserved ≡ self.old.reserved }
     {
-        let rise = climb(&self.lists, self.cursor);
+        let rise = find_run_up(&self.lists, self.cursor);
         self.cursor = rise.cursor;
         rise.run
     }

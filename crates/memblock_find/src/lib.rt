@@ -34,6 +34,6 @@ mod search;
 mod up;
 
 pub use free::{FreeRange, FreeRuns, next_free, prev_free};
-pub use laws::{runs_are_one, searches_follow_the_items};
+pub use laws::{free_runs_are_unique, searches_follow_the_items};
 pub use memblock_model::{Mode, Query};
 pub use search::find;

@@ -3,8 +3,8 @@
 ghost use Rattle.std.specs.Prelude.{◌≡◌, ℕ, ◌-◌, ◌^◌, ◌<◌, ◌≤◌, false, max, Some, None, length};
 ghost use Rattle.address_runs.specs.Runs.{run_end, value_at};
 ghost use Rattle.memblock_model.specs.Search.{top_place_in};
-ghost use Rattle.memblock_find.specs.Places.{serves, NoAddressServes};
-ghost use Rattle.memblock_find.specs.Walk.{run_at, IsDownAt};
+ghost use Rattle.memblock_find.specs.Places.{is_allowed_label, NoAddressIsAllowed};
+ghost use Rattle.memblock_find.specs.Walk.{nth_record, IsWalkDownAt};
 
 use crate::cursor::{Cursor, Lists, lists_of};
 use crate::down::{cursor_below, look_down, look_past};
@@ -15,8 +15,8 @@ use memblock_ranges::{Records, Tables};
 
 /// Tests whether a search may return memory of this label. If `node` is given, the memory must be
 /// on it; if `mirror` is set, it must be mirrored.
-pub fn serves(mirror: bool, node: Option<u32>, label: Label) -> bool
-    ensures { result ≡ serves mirror node (Some label) }
+pub fn is_allowed_label(mirror: bool, node: Option<u32>, label: Label) -> bool
+    ensures { result ≡ is_allowed_label mirror node (Some label) }
 {
     let allowed = match node {
         None => true,
@@ -27,14 +27,14 @@ pub fn serves(mirror: bool, node: Option<u32>, label: Label) -> bool
 
 /// Returns how many of the first `count` records are left after those at the end that don't serve
 /// the search have been removed.
-fn up_to_served(records: &Records<'_>, count: u64, mirror: bool, node: Option<u32>) -> u64
+fn count_to_last_allowed(records: &Records<'_>, count: u64, mirror: bool, node: Option<u32>) -> u64
     requires { count ≤ length records.now }
     ensures within { result ≤ count }
-    ensures passed { (i : ℕ) → result ≤ i → i < count → serves mirror node (Some (run_at records.now i).value) ≡ false }
+    ensures passed { (i : ℕ) → result ≤ i → i < count → is_allowed_label mirror node (Some (nth_record records.now i).value) ≡ false }
 {
     let mut left = count;
     while left > 0 {
-        if serves(mirror, node, records.label(left - 1)) {
+        if is_allowed_label(mirror, node, records.label(left - 1)) {
             return left;
         }
         left -= 1;
@@ -43,10 +43,10 @@ fn up_to_served(records: &Records<'_>, count: u64, mirror: bool, node: Option<u3
 }
 
 /// Returns where the last of the first `count` records ends, or 0 if `count` is 0.
-pub fn end_of(records: &Records<'_>, count: u64) -> u64
+pub fn end_of_records(records: &Records<'_>, count: u64) -> u64
     requires { count ≤ length records.now }
     ensures none { count ≡ 0 → result ≡ 0 }
-    ensures end { 0 < count → result ≡ run_end (run_at records.now (count - 1)) }
+    ensures end { 0 < count → result ≡ run_end (nth_record records.now (count - 1)) }
 {
     if count == 0 {
         return 0;
@@ -58,12 +58,12 @@ pub fn end_of(records: &Records<'_>, count: u64) -> u64
 impl Cursor {
     /// Tests whether the memory at the cursor serves the search. Addresses that aren't memory
     /// don't.
-    fn is_served(&self, mirror: bool, node: Option<u32>) -> bool
-        requires { serves mirror node None ≡ false }
-        ensures { result ≡ serves mirror node self.now.memory.label }
+    fn is_allowed(&self, mirror: bool, node: Option<u32>) -> bool
+        requires { is_allowed_label mirror node None ≡ false }
+        ensures { result ≡ is_allowed_label mirror node self.now.memory.label }
     {
         match self.memory.label {
-            Some(label) => serves(mirror, node, label),
+            Some(label) => is_allowed_label(mirror, node, label),
             None => false,
         }
     }
@@ -72,15 +72,15 @@ impl Cursor {
     /// the cursor. If there is none, it moves to address 0.
     // A hint, as for `cursor_below`.
     #[inline]
-    fn down_to_served(&self, lists: &Lists<'_>, mirror: bool, node: Option<u32>) -> Cursor
-        requires narrow { serves mirror node None ≡ false }
-        requires down { IsDownAt lists.now.memory lists.now.reserved self.now }
+    fn walk_down_to_allowed(&self, lists: &Lists<'_>, mirror: bool, node: Option<u32>) -> Cursor
+        requires narrow { is_allowed_label mirror node None ≡ false }
+        requires down { IsWalkDownAt lists.now.memory lists.now.reserved self.now }
         ensures order { result.at ≤ self.now.memory.bound }
-        ensures passed { NoAddressServes mirror (value_at lists.now.memory) node result.at self.now.memory.bound }
-        ensures down { IsDownAt lists.now.memory lists.now.reserved result }
+        ensures passed { NoAddressIsAllowed mirror (value_at lists.now.memory) node result.at self.now.memory.bound }
+        ensures down { IsWalkDownAt lists.now.memory lists.now.reserved result }
     {
-        let count = up_to_served(&lists.memory, self.memory.slot, mirror, node);
-        let at = end_of(&lists.memory, count);
+        let count = count_to_last_allowed(&lists.memory, self.memory.slot, mirror, node);
+        let at = end_of_records(&lists.memory, count);
         Cursor {
             at,
             memory: look_down(&lists.memory, count, at),
@@ -91,16 +91,16 @@ impl Cursor {
     /// Moves the walk down to the cursor's bottom, or further if no memory in between serves the
     /// search.
     fn down_for(&self, lists: &Lists<'_>, mirror: bool, node: Option<u32>) -> Cursor
-        requires narrow { serves mirror node None ≡ false }
-        requires down { IsDownAt lists.now.memory lists.now.reserved self.now }
+        requires narrow { is_allowed_label mirror node None ≡ false }
+        requires down { IsWalkDownAt lists.now.memory lists.now.reserved self.now }
         ensures order { result.at ≤ max self.now.memory.bound self.now.reserved.bound }
-        ensures passed { NoAddressServes mirror (value_at lists.now.memory) node result.at (max self.now.memory.bound self.now.reserved.bound) }
-        ensures down { IsDownAt lists.now.memory lists.now.reserved result }
+        ensures passed { NoAddressIsAllowed mirror (value_at lists.now.memory) node result.at (max self.now.memory.bound self.now.reserved.bound) }
+        ensures down { IsWalkDownAt lists.now.memory lists.now.reserved result }
     {
-        if self.is_served(mirror, node) {
+        if self.is_allowed(mirror, node) {
             self.down(lists)
         } else {
-            self.down_to_served(lists, mirror, node)
+            self.walk_down_to_allowed(lists, mirror, node)
         }
     }
 }
@@ -110,8 +110,8 @@ impl Cursor {
 // Never compiled into `find`, and with its own loop: with both loops in one function there are too
 // few registers, which costs time at each record of a search for any memory.
 #[inline(never)]
-pub fn find_served(tables: &Tables, query: &Query, mirror: bool) -> Option<u64>
-    requires narrow { serves mirror query.now.node None ≡ false }
+pub fn find_allowed(tables: &Tables, query: &Query, mirror: bool) -> Option<u64>
+    requires narrow { is_allowed_label mirror query.now.node None ≡ false }
     requires some { 1 ≤ query.now.size }
     requires aligned { (k : ℕ) × (query.now.align ≡ 2 ^ k) }
     ensures { result ≡ top_place_in (record { mirror = mirror; up = false })
@@ -125,7 +125,7 @@ pub fn find_served(tables: &Tables, query: &Query, mirror: bool) -> Option<u64>
             query,
             low,
             mirror,
-            cursor.label(),
+            cursor.unclaimed_label(),
             cursor.bottom(),
             cursor.at,
         );

@@ -8,13 +8,13 @@ ghost use Rattle.address_runs.specs.Runs.{value_at};
 ghost use Rattle.address_runs.specs.Sweep.{Stays};
 ghost use Rattle.memblock_model.specs.Labels.{LabelView, Labels};
 ghost use Rattle.memblock_model.specs.Search.{top_place_in};
-ghost use Rattle.memblock_find.specs.Free.{unclaimed, IsDownTo};
-ghost use Rattle.memblock_find.specs.Places.{IsBetween, NoPlaceEnds, IsBestBy};
+ghost use Rattle.memblock_find.specs.Free.{unclaimed_memory, ReachesDownTo};
+ghost use Rattle.memblock_find.specs.Places.{FitsBetween, NoPlaceEnds, IsBestBy};
 
 use crate::bottom::find_upward;
 use crate::cursor::{Lists, lists_of};
 use crate::down::cursor_below;
-use crate::node::{end_of, find_served, serves};
+use crate::node::{end_of_records, find_allowed, is_allowed_label};
 use bm_base::FRAME_SIZE;
 use memblock_model::{Label, Mode, Query};
 use memblock_ranges::Tables;
@@ -34,7 +34,7 @@ pub fn find(tables: &Tables, query: &Query, mode: Mode) -> Option<u64>
     if up {
         find_upward(tables, query, mirror)
     } else if mirror || query.node.is_some() {
-        find_served(tables, query, mirror)
+        find_allowed(tables, query, mirror)
     } else {
         find_in(&lists_of(tables), query)
     }
@@ -48,7 +48,7 @@ fn find_in(lists: &Lists<'_>, query: &Query) -> Option<u64>
     ensures { result ≡ top_place_in (record { mirror = false; up = false }) (value_at lists.now.memory) (value_at lists.now.reserved) query.now }
 {
     let low = query.lo.max(FRAME_SIZE);
-    let end = end_of(&lists.memory, lists.memory.count());
+    let end = end_of_records(&lists.memory, lists.memory.count());
     let high = query.hi.min(end);
     let mut cursor = cursor_below(lists, high);
     while cursor.at > low {
@@ -56,7 +56,7 @@ fn find_in(lists: &Lists<'_>, query: &Query) -> Option<u64>
             query,
             low,
             false,
-            cursor.label(),
+            cursor.unclaimed_label(),
             cursor.bottom(),
             cursor.at,
         );
@@ -83,14 +83,14 @@ pub fn place_in_run(
     requires aligned { (k : ℕ) × (query.now.align ≡ 2 ^ k) }
     requires low { low ≡ max query.now.lo FRAME_SIZE }
     requires window { until ≤ query.now.hi }
-    ensures { (memory reserved : Labels) → Stays (unclaimed memory reserved) from until label →
-        (label ≢ None → IsDownTo (unclaimed memory reserved) from until label) →
+    ensures { (memory reserved : Labels) → Stays (unclaimed_memory memory reserved) from until label →
+        (label ≢ None → ReachesDownTo (unclaimed_memory memory reserved) from until label) →
         MatchOption result (NoPlaceEnds mirror memory reserved query.now from until) (IsBestBy mirror memory reserved query.now until) }
 {
     let Some(found) = label else {
         return None;
     };
-    if !serves(mirror, query.node, found) {
+    if !is_allowed_label(mirror, query.node, found) {
         return None;
     }
     last_between(from.max(low), until, query.size, query.align)
@@ -100,8 +100,8 @@ pub fn place_in_run(
 /// or `None`.
 fn last_between(low: u64, high: u64, size: u64, align: u64) -> Option<u64>
     requires { (k : ℕ) × (align ≡ 2 ^ k) }
-    ensures { MatchOption result ((b : ℕ) → IsBetween low high size align b → ⊥)
-        (λ a. IsBetween low high size align a × ((b : ℕ) → IsBetween low high size align b → b ≤ a)) }
+    ensures { MatchOption result ((b : ℕ) → FitsBetween low high size align b → ⊥)
+        (λ a. FitsBetween low high size align a × ((b : ℕ) → FitsBetween low high size align b → b ≤ a)) }
 {
     let top = high.checked_sub(size)?;
     let place = top - (top & (align - 1));

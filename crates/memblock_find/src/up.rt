@@ -2,14 +2,14 @@
 //! down, except at the highest address. After the last record a look reaches up to 2^64 - 1, which
 //! no record covers, since each record ends below 2^64.
 ghost use Rattle.std.specs.Prelude.{◌≡◌, ◌≤◌, min};
-ghost use Rattle.memblock_find.specs.Walk.{EndedBy, IsLookUp, IsUpAt};
+ghost use Rattle.memblock_find.specs.Walk.{EndAtOrBelow, IsLookUp, IsWalkUpAt};
 
 use crate::cursor::{Cursor, Lists, Look};
 use memblock_ranges::Records;
 
 /// Counts the records that end at or below the address, by binary search.
-fn ended_by(records: &Records<'_>, at: u64) -> u64
-    ensures { EndedBy at records.now result }
+fn count_ended_by(records: &Records<'_>, at: u64) -> u64
+    ensures { EndAtOrBelow at records.now result }
 {
     let mut low = 0;
     let mut high = records.count();
@@ -28,7 +28,7 @@ fn ended_by(records: &Records<'_>, at: u64) -> u64
 /// Returns what the records give the addresses from `at` on. Exactly `slot` records must end at or
 /// below it.
 fn look_up(records: &Records<'_>, slot: u64, at: u64) -> Look
-    requires { EndedBy at records.now slot }
+    requires { EndAtOrBelow at records.now slot }
     ensures { IsLookUp records.now at result }
 {
     if slot == records.count() {
@@ -73,10 +73,10 @@ fn look_on(records: &Records<'_>, look: Look, from: u64, at: u64) -> Look
 /// Starts a walk up at the address.
 pub fn cursor_from(lists: &Lists<'_>, at: u64) -> Cursor
     ensures at { result.at ≡ at }
-    ensures up { IsUpAt lists.now.memory lists.now.reserved result }
+    ensures up { IsWalkUpAt lists.now.memory lists.now.reserved result }
 {
-    let memory = ended_by(&lists.memory, at);
-    let reserved = ended_by(&lists.reserved, at);
+    let memory = count_ended_by(&lists.memory, at);
+    let reserved = count_ended_by(&lists.reserved, at);
     Cursor {
         at,
         memory: look_up(&lists.memory, memory, at),
@@ -95,9 +95,9 @@ impl Cursor {
 
     /// Moves the walk up to that address.
     pub fn up(&self, lists: &Lists<'_>) -> Cursor
-        requires { IsUpAt lists.now.memory lists.now.reserved self.now }
+        requires { IsWalkUpAt lists.now.memory lists.now.reserved self.now }
         ensures at { result.at ≡ min self.now.memory.bound self.now.reserved.bound }
-        ensures up { IsUpAt lists.now.memory lists.now.reserved result }
+        ensures up { IsWalkUpAt lists.now.memory lists.now.reserved result }
     {
         let at = self.top();
         Cursor {

@@ -1,4 +1,4 @@
--- `GoesOn` from call to call, and after a call that only reads. The place that a search found, and
+-- `ContinuesMemblock` from call to call, and after a call that only reads. The place that a search found, and
 -- a range that was claimed, overlap no table.
 use Rattle.std.proofs.Common.{◌≡◌, ℕ, Option, Some, None, List, [], ◌∷◌, ◌++◌, Result, Ok, Err, IfSome, OnOk, refl, sym, ◌∙◌, subst}
 use Rattle.bm_base.specs.Range.{RangeView}
@@ -12,18 +12,18 @@ use Rattle.memblock_model.specs.declared.query.Query.{Query}
 use Rattle.memblock_model.specs.Search.{best_place}
 use Rattle.memblock_model.specs.Tables.{table_bytes}
 use Rattle.growth_model.specs.declared.refusal.Refusal.{Refusal}
-use Rattle.growth_model.specs.Growth.{claimed, new_in}
-use Rattle.growth_model.specs.Ends.{Ends}
-use Rattle.growth_model.specs.Sound.{Clear, Seated, IsAway}
-use Rattle.growth_model.specs.Bytes.{table_for, AreSpelled}
+use Rattle.growth_model.specs.Growth.{claim_range, count_uncovered_pieces}
+use Rattle.growth_model.specs.Ends.{EndsAsChange}
+use Rattle.growth_model.specs.Sound.{AreDisjoint, TablesAreClaimed, TouchesNoTable}
+use Rattle.growth_model.specs.Bytes.{table_for, TablesAreEncoded}
 use Rattle.growth_model.proofs.FollowLaws.{follows-next, follows-none}
 use Rattle.growth_model.proofs.FoundLaws.{found-away}
 use Rattle.growth_model.proofs.PlacedLaws.{table_bytes-same, moves-of, rooms-of, away-still}
-use Rattle.growth_model.proofs.PlacedReservedLaws.{roomy, room-going, claimed-after}
-use Rattle.memblock_grow.specs.Contents.{Contents}
-use Rattle.memblock_grow.specs.Going.{GoesOn}
+use Rattle.growth_model.proofs.PlacedReservedLaws.{roomy, room-going, claim_range-after}
+use Rattle.memblock_grow.specs.Contents.{MemblockView}
+use Rattle.memblock_grow.specs.Going.{ContinuesMemblock}
 
-pub goes-then : (old mid new : Contents) → GoesOn old mid → GoesOn mid new → GoesOn old new
+pub goes-then : (old mid new : MemblockView) → ContinuesMemblock old mid → ContinuesMemblock mid new → ContinuesMemblock old new
 goes-then old mid new first second = record {
   kernel = second.kernel ∙ first.kernel;
   bytes = follows-next old.kernel mid.kernel old.journal.items mid.journal.items new.journal.items (byte_of old.tables.store)
@@ -31,35 +31,35 @@ goes-then old mid new first second = record {
   ready = λ x h. second.ready x (first.ready x h);
 }
 
-pub goes-none : (m : Contents) → m.tables.memory ≡ table_for which.Memory m.kernel m.journal.items
+pub goes-none : (m : MemblockView) → m.tables.memory ≡ table_for which.Memory m.kernel m.journal.items
     → m.tables.reserved ≡ table_for which.Reserved m.kernel m.journal.items
-    → AreSpelled m.tables.memory m.tables.reserved (byte_of m.tables.store) → GoesOn m m
+    → TablesAreEncoded m.tables.memory m.tables.reserved (byte_of m.tables.store) → ContinuesMemblock m m
 goes-none m memory reserved spelled = record {
   kernel = refl;
   bytes = follows-none m.kernel m.journal.items m.tables.memory m.tables.reserved (byte_of m.tables.store) memory reserved spelled;
   ready = λ x h. h;
 }
 
-pub place-away : (kernel : RangeView) (items : List Item) (query : Query) (place : Option ℕ) → Seated kernel items → place ≡ best_place items query
-    → IfSome place (λ base. IsAway kernel (record { base = base; size = query.size }) items)
+pub place-away : (kernel : RangeView) (items : List Item) (query : Query) (place : Option ℕ) → TablesAreClaimed kernel items → place ≡ best_place items query
+    → IfSome place (λ base. TouchesNoTable kernel (record { base = base; size = query.size }) items)
 place-away kernel items query None seated same = tt
 place-away kernel items query (Some base) seated same = found-away kernel items query base seated (sym same)
 
 -- a range that overlapped no table overlaps none after its claim, since the growth for the claim
 -- avoids it
-claimed-away : (kernel r : RangeView) (items new : List Item) (who : Owner) → Seated kernel items → IsAway kernel r items
-    → Ends {T = Unit {0}} (Ok tt) items new (claimed r who) → IsAway kernel r new
-claimed-away kernel r items new who placed away ends =
-    let t : List Item = roomy r (new_in which.Reserved r) items in
+claim_range-away : (kernel r : RangeView) (items new : List Item) (who : Owner) → TablesAreClaimed kernel items → TouchesNoTable kernel r items
+    → EndsAsChange {T = Unit {0}} (Ok tt) items new (claim_range r who) → TouchesNoTable kernel r new
+claim_range-away kernel r items new who placed away ends =
+    let t : List Item = roomy r (count_uncovered_pieces which.Reserved r) items in
     let one : List Item = item.Claim r who ∷ [] in
-    let still : IsAway kernel r t =
-    away-still kernel r items t (room-going kernel r (new_in which.Reserved r) items placed).aside away in
-    let is : new ≡ t ++ one = ends.1 ∙ claimed-after items r who ends.0 in
-    let clear : (w : Which) → Clear r (table_bytes w kernel t) → Clear r (table_bytes w kernel (t ++ one)) = λ w.
-    subst (Clear r) (sym (table_bytes-same w kernel t (t ++ one) (moves-of w t one) (rooms-of w t one))) in
+    let still : TouchesNoTable kernel r t =
+    away-still kernel r items t (room-going kernel r (count_uncovered_pieces which.Reserved r) items placed).aside away in
+    let is : new ≡ t ++ one = ends.1 ∙ claim_range-after items r who ends.0 in
+    let clear : (w : Which) → AreDisjoint r (table_bytes w kernel t) → AreDisjoint r (table_bytes w kernel (t ++ one)) = λ w.
+    subst (AreDisjoint r) (sym (table_bytes-same w kernel t (t ++ one) (moves-of w t one) (rooms-of w t one))) in
     rw is (clear which.Memory still.0, clear which.Reserved still.1)
 
-pub claim-away : (result : Result (Unit {0}) Refusal) (kernel r : RangeView) (items new : List Item) (who : Owner) → Seated kernel items
-    → IsAway kernel r items → Ends result items new (claimed r who) → OnOk result (IsAway kernel r new)
-claim-away (Ok x) kernel r items new who placed away ends = claimed-away kernel r items new who placed away ends
+pub claim-away : (result : Result (Unit {0}) Refusal) (kernel r : RangeView) (items new : List Item) (who : Owner) → TablesAreClaimed kernel items
+    → TouchesNoTable kernel r items → EndsAsChange result items new (claim_range r who) → OnOk result (TouchesNoTable kernel r new)
+claim-away (Ok x) kernel r items new who placed away ends = claim_range-away kernel r items new who placed away ends
 claim-away (Err e) kernel r items new who placed away ends = tt

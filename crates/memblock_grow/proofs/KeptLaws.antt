@@ -11,43 +11,43 @@ use Rattle.memblock_model.specs.declared.item.Item.{Item}
 use Rattle.memblock_model.specs.declared.item.Item.TheVariants as item
 use Rattle.memblock_model.specs.Labels.{LabelView, Labels, plain_label, with_node, with_mirror}
 use Rattle.memblock_model.specs.Items.{trim_frames, limit_after, upward_after}
-use Rattle.memblock_model.specs.Tables.{table_of, table_after, records_for, records_of, pieces, room_of, room_after, moved_to, moved_after, table_place}
+use Rattle.memblock_model.specs.Tables.{table_of, table_after, records_for, records_of, uncovered_run_count, room_of, room_after, moved_to, moved_after, table_place}
 use Rattle.memblock_model.proofs.ItemLaws.{limit_of-push, upward_of-push, table_of-push, room_of-push, moved_to-push}
 use Rattle.memblock_model.proofs.TableLaws.{value_at-records}
 use Rattle.memblock_ranges.specs.Steps.{EndsInSpace}
-use Rattle.memblock_ranges.specs.Tables.{Table, Contents, table_in, other_in, records_in, room_in, place_in}
+use Rattle.memblock_ranges.specs.Tables.{TableView, TablesView, table_in, other_in, records_in, room_in, place_in}
 use Rattle.memblock_ranges.proofs.CountLaws.{length-covered, length-uncovered, length-relabelled, length-trimmed}
 use Rattle.memblock_ranges.proofs.StepLaws.{items-within}
-use Rattle.growth_model.specs.Growth.{in_whole_frames}
-use Rattle.growth_model.specs.Sound.{Fits}
+use Rattle.growth_model.specs.Growth.{round_up_to_frames}
+use Rattle.growth_model.specs.Sound.{TablesHaveRoom}
 use Rattle.growth_model.specs.Bytes.{table_for}
-use Rattle.memblock_grow.specs.declared.aim.Aim.{Aim}
-use Rattle.memblock_grow.specs.Kept.{AreKept, aimed}
+use Rattle.memblock_grow.specs.declared.aim.AllocSettings.{AllocSettings}
+use Rattle.memblock_grow.specs.Kept.{TablesMatchItems, alloc_settings}
 
 -- each table has room for its records
-fits-by : (kernel : RangeView) (items : List Item) (m r : Table) → m ≡ table_for which.Memory kernel items
-    → r ≡ table_for which.Reserved kernel items → length m.records ≤ m.room → length r.records ≤ r.room → Fits items
-fits-by kernel items m r first second few too which.Memory = subst (λ (t : Table). length t.records ≤ t.room) first few
-fits-by kernel items m r first second few too which.Reserved = subst (λ (t : Table). length t.records ≤ t.room) second too
+fits-by : (kernel : RangeView) (items : List Item) (m r : TableView) → m ≡ table_for which.Memory kernel items
+    → r ≡ table_for which.Reserved kernel items → length m.records ≤ m.room → length r.records ≤ r.room → TablesHaveRoom items
+fits-by kernel items m r first second few too which.Memory = subst (λ (t : TableView). length t.records ≤ t.room) first few
+fits-by kernel items m r first second few too which.Reserved = subst (λ (t : TableView). length t.records ≤ t.room) second too
 
 -- an item that moves no table
 abbrev IsQuiet : Item → Type 0
 IsQuiet i = ((w : Which) (n : ℕ) → room_after w n i ≡ n) × ((w : Which) (o : Option ℕ) → moved_after w o i ≡ o)
 
-module _ {kernel : RangeView} {items : List Item} {t : Contents} {at : Aim} (kept : AreKept kernel items t at) where
+module _ {kernel : RangeView} {items : List Item} {t : TablesView} {at : AllocSettings} (kept : TablesMatchItems kernel items t at) where
   -- each of the two tables is that of the items
   pub table-is : (w : Which) → table_in w t ≡ table_for w kernel items
   table-is which.Memory = kept.memory
   table-is which.Reserved = kept.reserved
 
   pub records-are : (w : Which) → records_in w t ≡ records_of w items
-  records-are w = ap (λ (s : Table). s.records) (table-is w)
+  records-are w = ap (λ (s : TableView). s.records) (table-is w)
 
   pub room-is : (w : Which) → room_in w t ≡ room_of w items
-  room-is w = ap (λ (s : Table). s.room) (table-is w)
+  room-is w = ap (λ (s : TableView). s.room) (table-is w)
 
   pub place-is : (w : Which) → place_in w t ≡ table_place w kernel items
-  place-is w = ap (λ (s : Table). s.place) (table-is w)
+  place-is w = ap (λ (s : TableView). s.place) (table-is w)
 
   -- the labels that a table gives are those of the items
   pub values-are : (w : Which) → value_at (records_in w t) ≡ table_of w items
@@ -68,7 +68,7 @@ module _ {kernel : RangeView} {items : List Item} {t : Contents} {at : Aim} (kep
   -- how many records a table has after an edit
   pub few-covered : (w : Which) (range : RangeView) → end_of range < 2 ^ 64
       → length (records_for (cover_range range plain_label (value_at (records_in w t))))
-      ≤ length (records_in w t) + pieces range (value_at (records_in w t))
+      ≤ length (records_in w t) + uncovered_run_count range (value_at (records_in w t))
   few-covered w range ends =
       let few = length-covered range plain_label (value_at (records_in w t)) (omega arith) (values-end w) in
       omega (arith, few, ap length (records-again w))
@@ -87,21 +87,21 @@ module _ {kernel : RangeView} {items : List Item} {t : Contents} {at : Aim} (kep
   -- the frames of a table's place end below 2^64, after an item that moves no table and after a
   -- growth
   far-quiet : (i : Item) → IsQuiet i → (w : Which) (place : ℕ) → moved_after w (moved_to w items) i ≡ Some place
-      → place + in_whole_frames (24 * room_after w (room_of w items) i) < 2 ^ 64
+      → place + round_up_to_frames (24 * room_after w (room_of w items) i) < 2 ^ 64
   far-quiet i quiet w place moved =
       rw (quiet.0 w (room_of w items)) (kept.far w place (sym (quiet.1 w (moved_to w items)) ∙ moved))
 
-  far-grown : (v w : Which) (base room : ℕ) → base + in_whole_frames (48 * room_of w items) < 2 ^ 64 → (place : ℕ)
+  far-grown : (v w : Which) (base room : ℕ) → base + round_up_to_frames (48 * room_of w items) < 2 ^ 64 → (place : ℕ)
       → moved_after v (moved_to v items) (item.Grown w base room) ≡ Some place
-      → place + in_whole_frames (24 * room_after v (room_of v items) (item.Grown w base room)) < 2 ^ 64
+      → place + round_up_to_frames (24 * room_after v (room_of v items) (item.Grown w base room)) < 2 ^ 64
   far-grown which.Memory which.Memory base room small place is = let here = same_Some base place is in omega (arith, here, small)
   far-grown which.Memory which.Reserved base room small place is = kept.far which.Memory place is
   far-grown which.Reserved which.Memory base room small place is = kept.far which.Reserved place is
   far-grown which.Reserved which.Reserved base room small place is = let here = same_Some base place is in omega (arith, here, small)
 
-module _ {kernel : RangeView} {items : List Item} {t : Contents} {at : Aim} (kept : AreKept kernel items t at) (u : Contents) where
+module _ {kernel : RangeView} {items : List Item} {t : TablesView} {at : AllocSettings} (kept : TablesMatchItems kernel items t at) (u : TablesView) where
   -- the tables are unchanged
-  pub kept-same : u.memory ≡ t.memory → u.reserved ≡ t.reserved → AreKept kernel items u at
+  pub kept-same : u.memory ≡ t.memory → u.reserved ≡ t.reserved → TablesMatchItems kernel items u at
   kept-same first second = record {
     memory = first ∙ kept.memory;
     reserved = second ∙ kept.reserved;
@@ -141,19 +141,19 @@ module _ {kernel : RangeView} {items : List Item} {t : Contents} {at : Aim} (kep
   table-quiet w i quiet same is = table-stays w i (same (table_of w items)) (quiet.0 w (room_of w items)) (quiet.1 w (moved_to w items)) is
 
   few-stays : (w : Which) → table_in w u ≡ table_in w t → length (records_in w u) ≤ room_in w u
-  few-stays w is = subst (λ (s : Table). length s.records ≤ s.room) (sym is) (few-kept kept w)
+  few-stays w is = subst (λ (s : TableView). length s.records ≤ s.room) (sym is) (few-kept kept w)
 
   few-moved : (w : Which) (place : ℕ) → table_in w u ≡ record (table_in w t) { place = place; room = 2 * room_in w t }
       → length (records_in w u) ≤ room_in w u
   few-moved w place is =
-      let few = few-kept kept w in subst (λ (s : Table). length s.records ≤ s.room) (sym is) (omega (arith, few))
+      let few = few-kept kept w in subst (λ (s : TableView). length s.records ≤ s.room) (sym is) (omega (arith, few))
 
   -- one more item
-  kept-by : (i : Item) (to : Aim) → EndsInSpace i → limit_after at.limit i ≡ to.limit → upward_after at.upward i ≡ to.upward
+  kept-by : (i : Item) (to : AllocSettings) → EndsInSpace i → limit_after at.limit i ≡ to.limit → upward_after at.upward i ≡ to.upward
       → u.memory ≡ table_for which.Memory kernel (items ++ i ∷ []) → u.reserved ≡ table_for which.Reserved kernel (items ++ i ∷ [])
       → length u.memory.records ≤ u.memory.room → length u.reserved.records ≤ u.reserved.room
       → ((w : Which) (place : ℕ) → moved_after w (moved_to w items) i ≡ Some place
-      → place + in_whole_frames (24 * room_after w (room_of w items) i) < 2 ^ 64) → AreKept kernel (items ++ i ∷ []) u to
+      → place + round_up_to_frames (24 * room_after w (room_of w items) i) < 2 ^ 64) → TablesMatchItems kernel (items ++ i ∷ []) u to
   kept-by i to space limited directed first second few too far = record {
     memory = first;
     reserved = second;
@@ -169,7 +169,7 @@ module _ {kernel : RangeView} {items : List Item} {t : Contents} {at : Aim} (kep
       → ((f : Labels) → table_after which.Memory f i ≡ f)
       → u.reserved ≡ record t.reserved { records = records_for (table_after which.Reserved (value_at t.reserved.records) i) }
       → u.memory ≡ t.memory → length (records_for (table_after which.Reserved (value_at t.reserved.records) i)) ≤ t.reserved.room
-      → AreKept kernel (items ++ i ∷ []) u at
+      → TablesMatchItems kernel (items ++ i ∷ []) u at
   kept-reserved i quiet space limited directed other is same few =
       kept-by i at space limited directed (table-quiet which.Memory i quiet other same) (table-edited which.Reserved i quiet is)
       (few-stays which.Memory same) (rw is few) (far-quiet kept i quiet)
@@ -178,15 +178,15 @@ module _ {kernel : RangeView} {items : List Item} {t : Contents} {at : Aim} (kep
       → ((f : Labels) → table_after which.Reserved f i ≡ f)
       → u.memory ≡ record t.memory { records = records_for (table_after which.Memory (value_at t.memory.records) i) }
       → u.reserved ≡ t.reserved → length (records_for (table_after which.Memory (value_at t.memory.records) i)) ≤ t.memory.room
-      → AreKept kernel (items ++ i ∷ []) u at
+      → TablesMatchItems kernel (items ++ i ∷ []) u at
   kept-memory i quiet space limited directed other is same few =
       kept-by i at space limited directed (table-edited which.Memory i quiet is) (table-quiet which.Reserved i quiet other same)
       (rw is few) (few-stays which.Reserved same) (far-quiet kept i quiet)
 
   pub kept-claim : (range : RangeView) (who : Owner) → end_of range < 2 ^ 64
-      → length t.reserved.records + pieces range (value_at t.reserved.records) ≤ t.reserved.room
+      → length t.reserved.records + uncovered_run_count range (value_at t.reserved.records) ≤ t.reserved.room
       → u.reserved ≡ record t.reserved { records = records_for (cover_range range plain_label (value_at t.reserved.records)) }
-      → u.memory ≡ t.memory → AreKept kernel (items ++ item.Claim range who ∷ []) u at
+      → u.memory ≡ t.memory → TablesMatchItems kernel (items ++ item.Claim range who ∷ []) u at
   kept-claim range who ends room is same =
       let few = few-covered kept which.Reserved range ends in
       kept-reserved (item.Claim range who) (λ w n. refl, λ w o. refl) (omega arith) refl refl (λ f. refl) is same
@@ -194,15 +194,15 @@ module _ {kernel : RangeView} {items : List Item} {t : Contents} {at : Aim} (kep
 
   pub kept-free : (range : RangeView) → end_of range < 2 ^ 64 → length t.reserved.records + 2 ≤ t.reserved.room
       → u.reserved ≡ record t.reserved { records = records_for (uncover_range range (value_at t.reserved.records)) }
-      → u.memory ≡ t.memory → AreKept kernel (items ++ item.Free range ∷ []) u at
+      → u.memory ≡ t.memory → TablesMatchItems kernel (items ++ item.Free range ∷ []) u at
   kept-free range ends room is same =
       let few = few-uncovered kept which.Reserved range in
       kept-reserved (item.Free range) (λ w n. refl, λ w o. refl) (omega arith) refl refl (λ f. refl) is same (omega (arith, few, room))
 
   pub kept-mem : (range : RangeView) → end_of range < 2 ^ 64
-      → length t.memory.records + pieces range (value_at t.memory.records) ≤ t.memory.room
+      → length t.memory.records + uncovered_run_count range (value_at t.memory.records) ≤ t.memory.room
       → u.memory ≡ record t.memory { records = records_for (cover_range range plain_label (value_at t.memory.records)) }
-      → u.reserved ≡ t.reserved → AreKept kernel (items ++ item.Mem range ∷ []) u at
+      → u.reserved ≡ t.reserved → TablesMatchItems kernel (items ++ item.Mem range ∷ []) u at
   kept-mem range ends room is same =
       let few = few-covered kept which.Memory range ends in
       kept-memory (item.Mem range) (λ w n. refl, λ w o. refl) (omega arith) refl refl (λ f. refl) is same (omega (arith, few, room))
@@ -210,20 +210,20 @@ module _ {kernel : RangeView} {items : List Item} {t : Contents} {at : Aim} (kep
   -- an edit that changes labels
   pub kept-node : (range : RangeView) (node : ℕ) → end_of range < 2 ^ 64 → length t.memory.records + 2 ≤ t.memory.room
       → u.memory ≡ record t.memory { records = records_for (relabel_range range (with_node (Some node)) (value_at t.memory.records)) }
-      → u.reserved ≡ t.reserved → AreKept kernel (items ++ item.Node range node ∷ []) u at
+      → u.reserved ≡ t.reserved → TablesMatchItems kernel (items ++ item.Node range node ∷ []) u at
   kept-node range node ends room is same =
       let few = few-relabelled kept range (with_node (Some node)) in
       kept-memory (item.Node range node) (λ w n. refl, λ w o. refl) (omega arith) refl refl (λ f. refl) is same (omega (arith, few, room))
 
   pub kept-mirror : (range : RangeView) → end_of range < 2 ^ 64 → length t.memory.records + 2 ≤ t.memory.room
       → u.memory ≡ record t.memory { records = records_for (relabel_range range with_mirror (value_at t.memory.records)) }
-      → u.reserved ≡ t.reserved → AreKept kernel (items ++ item.Mirror range ∷ []) u at
+      → u.reserved ≡ t.reserved → TablesMatchItems kernel (items ++ item.Mirror range ∷ []) u at
   kept-mirror range ends room is same =
       let few = few-relabelled kept range with_mirror in
       kept-memory (item.Mirror range) (λ w n. refl, λ w o. refl) (omega arith) refl refl (λ f. refl) is same (omega (arith, few, room))
 
   pub kept-trim : u.memory ≡ record t.memory { records = records_for (trim_frames (value_at t.memory.records)) } → u.reserved ≡ t.reserved
-      → AreKept kernel (items ++ item.Trim ∷ []) u at
+      → TablesMatchItems kernel (items ++ item.Trim ∷ []) u at
   kept-trim is same =
       let few = length-trimmed (value_at t.memory.records) (values-end kept which.Memory) in
       let was = few-kept kept which.Memory in
@@ -231,9 +231,9 @@ module _ {kernel : RangeView} {items : List Item} {t : Contents} {at : Aim} (kep
       (omega (arith, few, was, ap length (records-again kept which.Memory)))
 
   -- the table that a growth moves, and the other one
-  pub kept-grown : (w : Which) (place room : ℕ) → place + in_whole_frames (48 * room_of w items) < 2 ^ 64
+  pub kept-grown : (w : Which) (place room : ℕ) → place + round_up_to_frames (48 * room_of w items) < 2 ^ 64
       → table_in w u ≡ record (table_in w t) { place = place; room = 2 * room_in w t } → other_in w u ≡ other_in w t
-      → AreKept kernel (items ++ item.Grown w place room ∷ []) u at
+      → TablesMatchItems kernel (items ++ item.Grown w place room ∷ []) u at
   kept-grown which.Memory place room small is same =
       kept-by (item.Grown which.Memory place room) at tt refl refl (table-moved which.Memory place room refl refl refl is)
       (table-stays which.Reserved (item.Grown which.Memory place room) refl refl refl same) (few-moved which.Memory place is)
@@ -245,19 +245,19 @@ module _ {kernel : RangeView} {items : List Item} {t : Contents} {at : Aim} (kep
       (λ v. far-grown kept v which.Reserved place room small)
 
 -- items that change only the limit or the search direction
-module _ {kernel : RangeView} {items : List Item} {t : Contents} {at : Aim} (kept : AreKept kernel items t at) where
-  kept-aimed : (i : Item) (to : Aim) → IsQuiet i → EndsInSpace i → limit_after at.limit i ≡ to.limit
+module _ {kernel : RangeView} {items : List Item} {t : TablesView} {at : AllocSettings} (kept : TablesMatchItems kernel items t at) where
+  kept-aimed : (i : Item) (to : AllocSettings) → IsQuiet i → EndsInSpace i → limit_after at.limit i ≡ to.limit
       → upward_after at.upward i ≡ to.upward → ((f : Labels) → table_after which.Memory f i ≡ f)
-      → ((f : Labels) → table_after which.Reserved f i ≡ f) → AreKept kernel (items ++ i ∷ []) t to
+      → ((f : Labels) → table_after which.Reserved f i ≡ f) → TablesMatchItems kernel (items ++ i ∷ []) t to
   kept-aimed i to quiet space limited directed first second =
       kept-by kept t i to space limited directed
       (table-quiet kept t which.Memory i quiet first refl) (table-quiet kept t which.Reserved i quiet second refl)
       (few-kept kept which.Memory) (few-kept kept which.Reserved) (far-quiet kept i quiet)
 
-  pub kept-limit : (to : ℕ) → AreKept kernel (items ++ item.Limit to ∷ []) t (aimed to at.upward)
+  pub kept-limit : (to : ℕ) → TablesMatchItems kernel (items ++ item.Limit to ∷ []) t (alloc_settings to at.upward)
   kept-limit to =
-      kept-aimed (item.Limit to) (aimed to at.upward) (λ w n. refl, λ w o. refl) tt refl refl (λ f. refl) (λ f. refl)
+      kept-aimed (item.Limit to) (alloc_settings to at.upward) (λ w n. refl, λ w o. refl) tt refl refl (λ f. refl) (λ f. refl)
 
-  pub kept-upward : (on : Bool) → AreKept kernel (items ++ item.Upward on ∷ []) t (aimed at.limit on)
+  pub kept-upward : (on : Bool) → TablesMatchItems kernel (items ++ item.Upward on ∷ []) t (alloc_settings at.limit on)
   kept-upward on =
-      kept-aimed (item.Upward on) (aimed at.limit on) (λ w n. refl, λ w o. refl) tt refl refl (λ f. refl) (λ f. refl)
+      kept-aimed (item.Upward on) (alloc_settings at.limit on) (λ w n. refl, λ w o. refl) tt refl refl (λ f. refl) (λ f. refl)

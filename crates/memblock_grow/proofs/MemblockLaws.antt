@@ -3,22 +3,22 @@ use Rattle.std.proofs.Common.{◌≡◌, ℕ, ◌-◌, ◌*◌, false, List, [],
 use Rattle.std.proofs.lemmas.Bool.Decides.{nat_tests}
 use Rattle.std.proofs.lemmas.List.{get_or-replicate, get_or_past, length-replicate}
 use Rattle.bm_base.specs.Range.{RangeView}
-use Rattle.phys_store.specs.Bytes.{Stored, byte_of, Wrote}
+use Rattle.phys_store.specs.Bytes.{ExtentView, byte_of, WritesBytes}
 use Rattle.memblock_model.specs.declared.owner.Which.{Which}
 use Rattle.memblock_model.specs.declared.owner.Which.TheVariants as which
 use Rattle.memblock_model.specs.declared.item.Item.{Item}
 use Rattle.memblock_model.specs.Tables.{records_of, table_of, built_in_place}
 use Rattle.memblock_model.proofs.TableLaws.{records_for-is}
-use Rattle.memblock_ranges.specs.Spelling.{spelled_table}
-use Rattle.memblock_ranges.specs.Tables.{Table, Contents, bytes_of}
-use Rattle.growth_model.specs.Sound.{IsImage, IsAway, Clear}
-use Rattle.growth_model.specs.Bytes.{table_for, spelled_at, shown_by, AreSpelled, leaves, byte, Filled, put, Follows}
+use Rattle.memblock_ranges.specs.Spelling.{encode_table}
+use Rattle.memblock_ranges.specs.Tables.{TableView, TablesView, bytes_of}
+use Rattle.growth_model.specs.Sound.{IsKernelImage, TouchesNoTable, AreDisjoint}
+use Rattle.growth_model.specs.Bytes.{table_for, table_byte_at, byte_with_tables, TablesAreEncoded, is_vacated_by, byte_from_history, Fill, byte_after_fill, Follows}
 use Rattle.growth_model.proofs.FirstLaws.{no_table_full, nothing_said}
 use Rattle.growth_model.proofs.SoundLaws.{Stands}
 use Rattle.growth_model.proofs.FollowLaws.{follows-item, follows-stands}
 use Rattle.growth_model.proofs.FillLaws.{fill-spelled}
-use Rattle.memblock_grow.specs.declared.aim.Aim.{Aim}
-use Rattle.memblock_grow.specs.Kept.{AreKept, IsMemblock, AreTold, aimed}
+use Rattle.memblock_grow.specs.declared.aim.AllocSettings.{AllocSettings}
+use Rattle.memblock_grow.specs.Kept.{TablesMatchItems, IsMemblock, ChangesOnlyTables, alloc_settings}
 use Rattle.memblock_grow.proofs.KeptLaws.{kept-same}
 
 -- a table without records is all zeros
@@ -28,15 +28,15 @@ zeros_at n k =
     let past = get_or_past {X = ℕ} (replicate n 0) k 0 in
     grind (arith, inside, past, length-replicate {A = ℕ} n 0)
 
-empty_at : (t : Table) (x : ℕ) → t.records ≡ [] → spelled_at t x ≡ 0
-unfolding spelled_table
+empty_at : (t : TableView) (x : ℕ) → t.records ≡ [] → table_byte_at t x ≡ 0
+unfolding encode_table
 empty_at t x none = rw none (zeros_at (24 * t.room) (x - t.place))
 
-shown-empty : (m r : Table) (x : ℕ) → m.records ≡ [] → r.records ≡ [] → shown_by m r x 0 ≡ 0
+shown-empty : (m r : TableView) (x : ℕ) → m.records ≡ [] → r.records ≡ [] → byte_with_tables m r x 0 ≡ 0
 shown-empty m r x first second = let a = empty_at m x first in let b = empty_at r x second in grind (arith, a, b)
 
 -- both tables at first
-abbrev pub first_table : Which → RangeView → Table
+abbrev pub first_table : Which → RangeView → TableView
 first_table w kernel = record { records = []; place = built_in_place w kernel; room = 128 }
 
 no_records_at_first : (w : Which) → records_of w [] ≡ []
@@ -47,9 +47,9 @@ no_records_at_first w = sym (records_for-is (table_of w []) [] (λ x le. nothing
 first-is : (w : Which) (kernel : RangeView) → first_table w kernel ≡ table_for w kernel []
 first-is w kernel = rw (no_records_at_first w) refl
 
-pub whole-new : (kernel : RangeView) (items : List Item) (t : Contents) → IsImage kernel → items ≡ []
+pub whole-new : (kernel : RangeView) (items : List Item) (t : TablesView) → IsKernelImage kernel → items ≡ []
     → t.memory ≡ first_table which.Memory kernel → t.reserved ≡ first_table which.Reserved kernel
-    → ((x : ℕ) → byte_of t.store x ≡ 0) → IsMemblock kernel items t (aimed 0 false)
+    → ((x : ℕ) → byte_of t.store x ≡ 0) → IsMemblock kernel items t (alloc_settings 0 false)
 whole-new kernel items t image none first second zero = rw none (record {
   image = image;
   kept = record {
@@ -65,21 +65,21 @@ whole-new kernel items t image none first second zero = rw none (record {
   spelled = λ x. rw (zero x) (sym (shown-empty t.memory t.reserved x (λ k. (first k).records) (λ k. (second k).records)));
 })
 
-pub bytes-new : (kernel : RangeView) (x : ℕ) → byte kernel [] [] x ≡ 0
-unfolding byte
+pub bytes-new : (kernel : RangeView) (x : ℕ) → byte_from_history kernel [] [] x ≡ 0
+unfolding byte_from_history
 bytes-new kernel x = shown-empty (table_for which.Memory kernel []) (table_for which.Reserved kernel []) x
     (no_records_at_first which.Memory) (no_records_at_first which.Reserved)
 
 -- after one item that moves no table
-module _ (i : Item) {kernel : RangeView} {items longer : List Item} {t u : Contents} {at to : Aim} (m : IsMemblock kernel items t at)
-    (more : longer ≡ items ++ i ∷ []) (now : AreKept kernel (items ++ i ∷ []) u to) (stays : (x : ℕ) → leaves kernel items i x ≡ false)
-    (told : AreTold t u) where
+module _ (i : Item) {kernel : RangeView} {items longer : List Item} {t u : TablesView} {at to : AllocSettings} (m : IsMemblock kernel items t at)
+    (more : longer ≡ items ++ i ∷ []) (now : TablesMatchItems kernel (items ++ i ∷ []) u to) (stays : (x : ℕ) → is_vacated_by kernel items i x ≡ false)
+    (told : ChangesOnlyTables t u) where
   pub follows-one : Follows kernel items longer (byte_of t.store) (byte_of u.store)
   follows-one = rw more (follows-item kernel items i u.memory u.reserved _ _ stays now.memory now.reserved told)
 
   pub whole-one : Stands kernel longer → IsMemblock kernel longer u to
   whole-one stands =
-      let after = subst (λ (l : List Item). AreKept kernel l u to) (sym more) now in
+      let after = subst (λ (l : List Item). TablesMatchItems kernel l u to) (sym more) now in
       record {
         image = m.image;
         kept = after;
@@ -88,19 +88,19 @@ module _ (i : Item) {kernel : RangeView} {items longer : List Item} {t u : Conte
       }
 
 -- a write of one byte to each address of a range
-pub wrote-put : (old new : List Stored) (fill : Filled) → Wrote old new fill.range.base fill.range.size (λ _. fill.byte)
-    → (x : ℕ) → byte_of new x ≡ put fill x (byte_of old x)
+pub wrote-put : (old new : List ExtentView) (fill : Fill) → WritesBytes old new fill.range.base fill.range.size (λ _. fill.byte)
+    → (x : ℕ) → byte_of new x ≡ byte_after_fill fill x (byte_of old x)
 wrote-put old new fill wrote x =
     let within = wrote.within (x - fill.range.base) in
     let outside = wrote.outside x in
     grind (arith, nat_tests, within, outside)
 
-pub whole-fill : {kernel : RangeView} {items : List Item} {t : Contents} (u : Contents) {at : Aim} (fill : Filled) → u.memory ≡ t.memory
-    → u.reserved ≡ t.reserved → ((x : ℕ) → byte_of u.store x ≡ put fill x (byte_of t.store x)) → IsAway kernel fill.range items
+pub whole-fill : {kernel : RangeView} {items : List Item} {t : TablesView} (u : TablesView) {at : AllocSettings} (fill : Fill) → u.memory ≡ t.memory
+    → u.reserved ≡ t.reserved → ((x : ℕ) → byte_of u.store x ≡ byte_after_fill fill x (byte_of t.store x)) → TouchesNoTable kernel fill.range items
     → IsMemblock kernel items t at → IsMemblock kernel items u at
 whole-fill {t} u fill first second wrote away m =
-    let memory : Clear fill.range (bytes_of t.memory) = rw m.kept.memory away.0 in
-    let reserved : Clear fill.range (bytes_of t.reserved) = rw m.kept.reserved away.1 in
-    let spelled : AreSpelled t.memory t.reserved (byte_of u.store) =
+    let memory : AreDisjoint fill.range (bytes_of t.memory) = rw m.kept.memory away.0 in
+    let reserved : AreDisjoint fill.range (bytes_of t.reserved) = rw m.kept.reserved away.1 in
+    let spelled : TablesAreEncoded t.memory t.reserved (byte_of u.store) =
     fill-spelled t.memory t.reserved fill (byte_of t.store) (byte_of u.store) memory reserved m.spelled wrote in
     record { image = m.image; kept = kept-same m.kept u first second; placed = m.placed; spelled = rw (first, second) spelled }

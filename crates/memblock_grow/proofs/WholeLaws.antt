@@ -2,14 +2,14 @@
 use Rattle.std.proofs.Common.{List}
 use Rattle.bm_base.specs.Range.{RangeView}
 use Rattle.memblock_model.specs.declared.item.Item.{Item}
-use Rattle.memblock_ranges.specs.Tables.{Contents}
+use Rattle.memblock_ranges.specs.Tables.{TablesView}
 use Rattle.growth_model.proofs.SoundLaws.{Stands}
 use Rattle.growth_model.proofs.FollowLaws.{follows-stands, follows-then}
-use Rattle.memblock_grow.specs.declared.aim.Aim.{Aim}
-use Rattle.memblock_grow.specs.Kept.{IsMemblock, Keeps, KeepsBytes}
+use Rattle.memblock_grow.specs.declared.aim.AllocSettings.{AllocSettings}
+use Rattle.memblock_grow.specs.Kept.{IsMemblock, KeepsTables, KeepsBytes}
 
-pub whole-on : {kernel : RangeView} {items longer : List Item} {t u : Contents} {at : Aim} → IsMemblock kernel items t at
-    → Keeps items t longer u at → KeepsBytes items t longer u at → Stands kernel longer → IsMemblock kernel longer u at
+pub whole-on : {kernel : RangeView} {items longer : List Item} {t u : TablesView} {at : AllocSettings} → IsMemblock kernel items t at
+    → KeepsTables items t longer u at → KeepsBytes items t longer u at → Stands kernel longer → IsMemblock kernel longer u at
 whole-on {kernel} m keeps bytes stands =
     let kept = keeps kernel m.kept in
     record {
@@ -20,11 +20,11 @@ whole-on {kernel} m keeps bytes stands =
     }
 
 -- one call after another
-pub keeps-then : {items mid last : List Item} {t u v : Contents} {at : Aim} → Keeps items t mid u at → Keeps mid u last v at
-    → Keeps items t last v at
+pub keeps-then : {items mid last : List Item} {t u v : TablesView} {at : AllocSettings} → KeepsTables items t mid u at → KeepsTables mid u last v at
+    → KeepsTables items t last v at
 keeps-then first second = λ kernel kept. second kernel (first kernel kept)
 
-pub bytes-then : {items mid last : List Item} {t u : Contents} (v : Contents) {at : Aim} → Keeps items t mid u at
+pub bytes-then : {items mid last : List Item} {t u : TablesView} (v : TablesView) {at : AllocSettings} → KeepsTables items t mid u at
     → KeepsBytes items t mid u at → KeepsBytes mid u last v at → KeepsBytes items t last v at
 bytes-then v keeps first second = λ kernel kept spelled.
     let there = keeps kernel kept in

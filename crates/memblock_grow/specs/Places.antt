@@ -5,43 +5,43 @@ use Rattle.bm_base.specs.Range.{RangeView, end_of}
 use Rattle.address_runs.specs.Runs.{value_at}
 use Rattle.memblock_model.specs.declared.query.Query.{Query}
 use Rattle.memblock_model.specs.declared.item.Item.{Item}
-use Rattle.memblock_model.specs.Search.{suits, top_place_in, best_place_in}
-use Rattle.boot_journal.specs.Mirrors.{mirrors_in}
-use Rattle.memblock_ranges.specs.Tables.{Contents}
-use Rattle.growth_model.specs.Growth.{frames_at, table_query}
+use Rattle.memblock_model.specs.Search.{is_allowed_mirror, top_place_in, best_place_in}
+use Rattle.boot_journal.specs.Mirrors.{has_mirrors}
+use Rattle.memblock_ranges.specs.Tables.{TablesView}
+use Rattle.growth_model.specs.Growth.{frames_for_bytes, table_query}
 use Rattle.growth_model.specs.Request.{Attempt}
-use Rattle.memblock_grow.specs.declared.aim.Aim.{Aim}
+use Rattle.memblock_grow.specs.declared.aim.AllocSettings.{AllocSettings}
 
 -- if no item mirrors memory, the table has no mirrored memory
-abbrev pub KnowsMirrors : List Item → Contents → Type 0
-KnowsMirrors items t = mirrors_in items ≡ false → (x : ℕ) → suits true (value_at t.memory.records x) ≡ false
+abbrev pub MirrorsComeFromItems : List Item → TablesView → Type 0
+MirrorsComeFromItems items t = has_mirrors items ≡ false → (x : ℕ) → is_allowed_mirror true (value_at t.memory.records x) ≡ false
 
 -- the top place of a search in both tables, and of a query in mirrored memory
-abbrev pub top_of : Contents → Bool → Attempt → Option ℕ
-top_of t up a = top_place_in (record { mirror = a.mirror; up = up }) (value_at t.memory.records) (value_at t.reserved.records) a.query
+abbrev pub top_place_in_tables : TablesView → Bool → Attempt → Option ℕ
+top_place_in_tables t up a = top_place_in (record { mirror = a.mirror; up = up }) (value_at t.memory.records) (value_at t.reserved.records) a.query
 
-abbrev pub mirrored_of : Contents → Bool → Query → Option ℕ
-mirrored_of t up q = top_of t up (record { query = q; mirror = true })
+abbrev pub mirrored_place_in_tables : TablesView → Bool → Query → Option ℕ
+mirrored_place_in_tables t up q = top_place_in_tables t up (record { query = q; mirror = true })
 
 -- the best place
-abbrev pub best_of : Contents → Bool → Query → Option ℕ
-best_of t up q = best_place_in up (value_at t.memory.records) (value_at t.reserved.records) q
+abbrev pub best_place_in_tables : TablesView → Bool → Query → Option ℕ
+best_place_in_tables t up q = best_place_in up (value_at t.memory.records) (value_at t.reserved.records) q
 
 -- the frames for twice as many records, at the best place in a window
-abbrev pub frames_between : Contents → Bool → ℕ → ℕ → ℕ → Option RangeView
-frames_between t up room lo hi = option_map (λ place. frames_at place (48 * room)) (best_of t up (table_query room lo hi))
+abbrev pub frames_between : TablesView → Bool → ℕ → ℕ → ℕ → Option RangeView
+frames_between t up room lo hi = option_map (λ place. frames_for_bytes place (48 * room)) (best_place_in_tables t up (table_query room lo hi))
 
 -- these frames above the range, else below it
-abbrev pub frames_beside : Contents → Aim → ℕ → RangeView → Option RangeView
-frames_beside t aim room avoid = option_map (λ place. frames_at place (48 * room)) (option_or
-    (best_of t aim.upward (table_query room (end_of avoid) aim.limit))
-    (best_of t aim.upward (table_query room 0 (min avoid.base aim.limit))))
+abbrev pub frames_beside : TablesView → AllocSettings → ℕ → RangeView → Option RangeView
+frames_beside t aim room avoid = option_map (λ place. frames_for_bytes place (48 * room)) (option_or
+    (best_place_in_tables t aim.upward (table_query room (end_of avoid) aim.limit))
+    (best_place_in_tables t aim.upward (table_query room 0 (min avoid.base aim.limit))))
 
 -- the frames of a table's old place; a table with room for 128 records has never moved
-abbrev pub left_frames : ℕ → ℕ → Option RangeView
-left_frames place room = if room == 128 then None else Some (frames_at place (24 * room))
+abbrev pub old_place_frames : ℕ → ℕ → Option RangeView
+old_place_frames place room = if room == 128 then None else Some (frames_for_bytes place (24 * room))
 
 -- the place that the first successful search finds
-abbrev pub first_of : Contents → Bool → List Attempt → Option ℕ
-first_of t up [] = None
-first_of t up (a ∷ rest) = option_or (top_of t up a) (first_of t up rest)
+abbrev pub first_place_in_tables : TablesView → Bool → List Attempt → Option ℕ
+first_place_in_tables t up [] = None
+first_place_in_tables t up (a ∷ rest) = option_or (top_place_in_tables t up a) (first_place_in_tables t up rest)

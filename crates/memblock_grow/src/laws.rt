@@ -1,11 +1,11 @@
 //! A law of memblock, with which loops of the layers above begin.
-ghost use Rattle.memblock_grow.specs.Going.{GoesOn};
+ghost use Rattle.memblock_grow.specs.Going.{ContinuesMemblock};
 
 use crate::memblock::Memblock;
 
-/// Law: `GoesOn` holds from a memblock to itself, since without new items no byte changes.
+/// Law: `ContinuesMemblock` holds from a memblock to itself, since without new items no byte changes.
 pub fn no_items_no_change(memblock: &Memblock)
-    ensures { GoesOn memblock.now memblock.now }
+    ensures { ContinuesMemblock memblock.now memblock.now }
 {
     memblock.tables();
 }

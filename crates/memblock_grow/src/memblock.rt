@@ -11,27 +11,27 @@
 ghost use Rattle.std.specs.Prelude.{◌≡◌, ℕ, ◌+◌, ◌-◌, ◌*◌, ◌^◌, ◌<◌, ◌≤◌, ◌↔◌, ◌||◌, Bool, false, max, Some, [], ◌++◌, length, OnOk, OnErr, IfOk, IfSome, IsOk, IsTrue};
 ghost use Rattle.bm_base.specs.Range.{covers};
 ghost use Rattle.address_runs.specs.Edits.{NothingFrom};
-ghost use Rattle.phys_store.specs.Bytes.{AreReady, byte_of, is_ready, bytes_at};
+ghost use Rattle.phys_store.specs.Bytes.{ArePrepared, byte_of, is_prepared_at, bytes_at};
 ghost use Rattle.memblock_model.specs.declared.owner.Which.{Which as AnyWhich};
 ghost use Rattle.memblock_model.specs.declared.owner.Which.TheVariants as tables_of;
 ghost use Rattle.memblock_model.specs.declared.item.Item.TheVariants as item;
 ghost use Rattle.memblock_model.specs.Items.{memory_of};
 ghost use Rattle.memblock_model.specs.Tables.{records_of, room_of, table_place, table_bytes};
 ghost use Rattle.memblock_model.specs.Search.{best_place};
-ghost use Rattle.memblock_ranges.specs.Spelling.{spelled_table};
-ghost use Rattle.memblock_ranges.specs.Tables.{head_of, StandsIn, HaveNoNode};
-ghost use Rattle.growth_model.specs.Growth.{claimed, freed, added, noded, mirrored, new_in, two, is_full as is_full_by};
-ghost use Rattle.growth_model.specs.Ends.{Ends, Allocates};
+ghost use Rattle.memblock_ranges.specs.Spelling.{encode_table};
+ghost use Rattle.memblock_ranges.specs.Tables.{head_of, IsInStore, HaveNoNode};
+ghost use Rattle.growth_model.specs.Growth.{claim_range, free_range, add_range, set_range_node, set_range_mirror, count_uncovered_pieces, split_record_count, is_full as is_full_by};
+ghost use Rattle.growth_model.specs.Ends.{EndsAsChange, Allocates};
 ghost use Rattle.growth_model.specs.Request.{place_for};
-ghost use Rattle.growth_model.specs.Sound.{Sound, IsImage, HasBegun, IsAway, MayClaim};
-ghost use Rattle.growth_model.specs.Bytes.{table_for, AreSpelled, byte as byte_by, put, Follows};
-ghost use Rattle.memblock_grow.specs.Going.{AppendsItem, GoesOn};
-ghost use Rattle.memblock_grow.specs.Kept.{StayReady};
+ghost use Rattle.growth_model.specs.Sound.{TablesAreSound, IsKernelImage, HasBegun, TouchesNoTable, MayClaim};
+ghost use Rattle.growth_model.specs.Bytes.{table_for, TablesAreEncoded, byte_from_history as byte_by, byte_after_fill, Follows};
+ghost use Rattle.memblock_grow.specs.Going.{AppendsItem, ContinuesMemblock};
+ghost use Rattle.memblock_grow.specs.Kept.{StayPrepared};
 ghost use Rattle.memblock_grow.specs.Prepared.{Prepares, PreparesBy};
 ghost use Rattle.memblock_grow.specs.Touch.{TouchesTable};
 
-use crate::aim::Aim;
-use crate::table_laws::tables_stand;
+use crate::aim::AllocSettings;
+use crate::table_laws::tables_are_in_store;
 use crate::{memory, places, request, reserved};
 use bm_base::{Memory, Range};
 use boot_journal::{Item, Journal, Owner, Which};
@@ -54,14 +54,14 @@ pub struct Memblock {
     kernel: Range,
     journal: Journal,
     tables: Tables,
-    aim: Aim,
+    aim: AllocSettings,
 }
 
 impl Model for Memblock {
-    ghost use Rattle.memblock_grow.specs.Contents.{Contents};
+    ghost use Rattle.memblock_grow.specs.Contents.{MemblockView};
     ghost use Rattle.memblock_grow.specs.Kept.{IsMemblock};
 
-    ghost Value = { Contents };
+    ghost Value = { MemblockView };
 
     ghost view = { λ m. record { kernel = m.kernel; journal = m.journal; tables = m.tables } };
 
@@ -77,11 +77,11 @@ impl Memblock {
     ///
     /// `Memory` if this program is out of memory.
     pub fn new(alloc: Global, kernel: Range) -> Result<Memblock, Memory>
-        requires { IsImage kernel }
+        requires { IsKernelImage kernel }
         ensures kernel { IfOk result (λ m. m.kernel ≡ kernel) }
         ensures journal { IfOk result (λ m. m.journal ≡ record { items = []; spare = 0 }) }
         ensures bytes { IfOk result (λ m. (x : ℕ) → byte_of m.tables.store x ≡ byte_by kernel [] [] x) }
-        ensures prepared { IfOk result (λ m. (x : ℕ) → is_ready m.tables.store x
+        ensures prepared { IfOk result (λ m. (x : ℕ) → is_prepared_at m.tables.store x
             ≡ (covers (table_bytes tables_of.Reserved kernel []) x || covers (table_bytes tables_of.Memory kernel []) x)) }
     {
         let journal = Journal::new(alloc);
@@ -90,7 +90,7 @@ impl Memblock {
             kernel,
             journal,
             tables,
-            aim: Aim {
+            aim: AllocSettings {
                 limit: 0,
                 upward: false,
             },
@@ -129,13 +129,13 @@ impl Memblock {
     pub fn claim(&mut self, range: Range, owner: Owner) -> Result<(), Refusal>
         requires some { 0 < range.size }
         requires may { MayClaim self.old.kernel self.old.journal.items range owner }
-        ensures ends { Ends result self.old.journal.items self.new.journal.items (claimed range owner) }
-        ensures goes_on { GoesOn self.old self.new }
-        ensures away { HasBegun self.old.journal.items → IsAway self.old.kernel range self.old.journal.items →
-            OnOk result (IsAway self.new.kernel range self.new.journal.items) }
+        ensures ends { EndsAsChange result self.old.journal.items self.new.journal.items (claim_range range owner) }
+        ensures goes_on { ContinuesMemblock self.old self.new }
+        ensures away { HasBegun self.old.journal.items → TouchesNoTable self.old.kernel range self.old.journal.items →
+            OnOk result (TouchesNoTable self.new.kernel range self.new.journal.items) }
         ensures prepared { Prepares self.old.journal.items self.new.journal.items self.old.tables.store self.new.tables.store }
         ensures ready { 0 < self.old.journal.spare →
-            is_full_by tables_of.Reserved (new_in tables_of.Reserved range) self.old.journal.items ≡ false →
+            is_full_by tables_of.Reserved (count_uncovered_pieces tables_of.Reserved range) self.old.journal.items ≡ false →
             IsOk result × (self.new.journal.spare ≡ self.old.journal.spare - 1) }
     {
         range_end_fits(&range);
@@ -153,11 +153,11 @@ impl Memblock {
     pub fn free(&mut self, range: Range) -> Result<(), Refusal>
         requires some { 0 < range.size }
         requires begun { HasBegun self.old.journal.items }
-        requires away { IsAway self.old.kernel range self.old.journal.items }
-        ensures ends { Ends result self.old.journal.items self.new.journal.items (freed range) }
-        ensures goes_on { GoesOn self.old self.new }
+        requires away { TouchesNoTable self.old.kernel range self.old.journal.items }
+        ensures ends { EndsAsChange result self.old.journal.items self.new.journal.items (free_range range) }
+        ensures goes_on { ContinuesMemblock self.old self.new }
         ensures prepared { Prepares self.old.journal.items self.new.journal.items self.old.tables.store self.new.tables.store }
-        ensures ready { 0 < self.old.journal.spare → is_full_by tables_of.Reserved two self.old.journal.items ≡ false →
+        ensures ready { 0 < self.old.journal.spare → is_full_by tables_of.Reserved split_record_count self.old.journal.items ≡ false →
             IsOk result × (self.new.journal.spare ≡ self.old.journal.spare - 1) }
     {
         reserved::free(&mut self.journal, &mut self.tables, self.aim, range)
@@ -175,14 +175,14 @@ impl Memblock {
     pub fn add_memory(&mut self, range: Range) -> Result<(), Refusal>
         requires some { 0 < range.size }
         requires begun { HasBegun self.old.journal.items }
-        ensures ends { Ends result self.old.journal.items self.new.journal.items (added range) }
-        ensures goes_on { GoesOn self.old self.new }
+        ensures ends { EndsAsChange result self.old.journal.items self.new.journal.items (add_range range) }
+        ensures goes_on { ContinuesMemblock self.old self.new }
         ensures prepared { PreparesBy result self.old.journal.items self.new.journal.items self.old.tables.store self.new.tables.store }
         ensures ready { 0 < self.old.journal.spare →
-            is_full_by tables_of.Memory (new_in tables_of.Memory range) self.old.journal.items ≡ false →
+            is_full_by tables_of.Memory (count_uncovered_pieces tables_of.Memory range) self.old.journal.items ≡ false →
             IsOk result × (self.new.journal.spare ≡ self.old.journal.spare - 1) }
     {
-        memory::add(&mut self.journal, &mut self.tables, self.aim, range)
+        memory::add_memory(&mut self.journal, &mut self.tables, self.aim, range)
     }
 
     /// Gives the node, which is below 1,024, to the memory of the range (`memblock_set_node`).
@@ -198,10 +198,10 @@ impl Memblock {
         requires some { 0 < range.size }
         requires node { node < 1024 }
         requires begun { HasBegun self.old.journal.items }
-        ensures ends { Ends result self.old.journal.items self.new.journal.items (noded range node) }
-        ensures goes_on { GoesOn self.old self.new }
+        ensures ends { EndsAsChange result self.old.journal.items self.new.journal.items (set_range_node range node) }
+        ensures goes_on { ContinuesMemblock self.old self.new }
         ensures prepared { PreparesBy result self.old.journal.items self.new.journal.items self.old.tables.store self.new.tables.store }
-        ensures ready { 0 < self.old.journal.spare → is_full_by tables_of.Memory two self.old.journal.items ≡ false →
+        ensures ready { 0 < self.old.journal.spare → is_full_by tables_of.Memory split_record_count self.old.journal.items ≡ false →
             IsOk result × (self.new.journal.spare ≡ self.old.journal.spare - 1) }
     {
         memory::set_node(&mut self.journal, &mut self.tables, self.aim, range, node)
@@ -219,10 +219,10 @@ impl Memblock {
     pub fn set_mirror(&mut self, range: Range) -> Result<(), Refusal>
         requires some { 0 < range.size }
         requires begun { HasBegun self.old.journal.items }
-        ensures ends { Ends result self.old.journal.items self.new.journal.items (mirrored range) }
-        ensures goes_on { GoesOn self.old self.new }
+        ensures ends { EndsAsChange result self.old.journal.items self.new.journal.items (set_range_mirror range) }
+        ensures goes_on { ContinuesMemblock self.old self.new }
         ensures prepared { PreparesBy result self.old.journal.items self.new.journal.items self.old.tables.store self.new.tables.store }
-        ensures ready { 0 < self.old.journal.spare → is_full_by tables_of.Memory two self.old.journal.items ≡ false →
+        ensures ready { 0 < self.old.journal.spare → is_full_by tables_of.Memory split_record_count self.old.journal.items ≡ false →
             IsOk result × (self.new.journal.spare ≡ self.old.journal.spare - 1) }
     {
         memory::set_mirror(&mut self.journal, &mut self.tables, self.aim, range)
@@ -236,12 +236,12 @@ impl Memblock {
     pub fn trim(&mut self) -> Result<(), Memory>
         requires { HasBegun self.old.journal.items }
         ensures appends { AppendsItem result item.Trim self.old self.new }
-        ensures goes_on { GoesOn self.old self.new }
-        ensures prepared { (x : ℕ) → is_ready self.new.tables.store x ≡ is_ready self.old.tables.store x }
+        ensures goes_on { ContinuesMemblock self.old self.new }
+        ensures prepared { (x : ℕ) → is_prepared_at self.new.tables.store x ≡ is_prepared_at self.old.tables.store x }
     {
         self.journal.push(Item::Trim)?;
         self.tables.trim();
-        tables_stand(&self.tables);
+        tables_are_in_store(&self.tables);
         Ok(())
     }
 
@@ -254,7 +254,7 @@ impl Memblock {
     pub fn set_limit(&mut self, at: u64) -> Result<(), Memory>
         requires { HasBegun self.old.journal.items }
         ensures appends { AppendsItem result (item.Limit at) self.old self.new }
-        ensures goes_on { GoesOn self.old self.new }
+        ensures goes_on { ContinuesMemblock self.old self.new }
         ensures tables { self.new.tables ≡ self.old.tables }
     {
         self.journal.push(Item::Limit { at })?;
@@ -271,7 +271,7 @@ impl Memblock {
     pub fn set_upward(&mut self, on: bool) -> Result<(), Memory>
         requires { HasBegun self.old.journal.items }
         ensures appends { AppendsItem result (item.Upward on) self.old self.new }
-        ensures goes_on { GoesOn self.old self.new }
+        ensures goes_on { ContinuesMemblock self.old self.new }
         ensures tables { self.new.tables ≡ self.old.tables }
     {
         self.journal.push(Item::Upward { on })?;
@@ -288,9 +288,9 @@ impl Memblock {
         requires aligned { (k : ℕ) × (query.now.align ≡ 2 ^ k) }
         ensures place { result ≡ best_place self.now.journal.items query.now }
         ensures away { HasBegun self.now.journal.items → IfSome result (λ base.
-            IsAway self.now.kernel (record { base = base; size = query.now.size }) self.now.journal.items) }
+            TouchesNoTable self.now.kernel (record { base = base; size = query.now.size }) self.now.journal.items) }
     {
-        places::best(&self.journal, &self.tables, self.aim.upward, query)
+        places::best_place_in_tables(&self.journal, &self.tables, self.aim.upward, query)
     }
 
     /// Finds a place for the request, claims it for the owner, and returns its address
@@ -309,10 +309,10 @@ impl Memblock {
         ensures ends { Allocates result self.old.journal.items self.new.journal.items
             (place_for request.now self.old.journal.items) request.now.size owner }
         ensures inside { IfOk result (λ base. base + request.now.size < 2 ^ 64) }
-        ensures goes_on { GoesOn self.old self.new }
+        ensures goes_on { ContinuesMemblock self.old self.new }
         ensures prepared { Prepares self.old.journal.items self.new.journal.items self.old.tables.store self.new.tables.store }
         ensures ready { (place : ℕ) → place_for request.now self.old.journal.items ≡ Some place → 0 < self.old.journal.spare →
-            is_full_by tables_of.Reserved (new_in tables_of.Reserved (record { base = place; size = request.now.size }))
+            is_full_by tables_of.Reserved (count_uncovered_pieces tables_of.Reserved (record { base = place; size = request.now.size }))
             self.old.journal.items ≡ false → IsOk result × (self.new.journal.spare ≡ self.old.journal.spare - 1) }
     {
         request::allocate(
@@ -331,15 +331,15 @@ impl Memblock {
     /// `Memory` if this program is out of memory. Nothing is then changed, and some address of the
     /// range wasn't prepared.
     pub fn fill(&mut self, range: Range, byte: u8) -> Result<(), Memory>
-        requires { IsAway self.old.kernel range self.old.journal.items }
+        requires { TouchesNoTable self.old.kernel range self.old.journal.items }
         ensures kernel { self.new.kernel ≡ self.old.kernel }
         ensures journal { self.new.journal ≡ self.old.journal }
         ensures ok { OnOk result ((x : ℕ) → byte_of self.new.tables.store x ≡
-            put (record { range = range; byte = byte; at = length self.old.journal.items }) x (byte_of self.old.tables.store x)) }
+            byte_after_fill (record { range = range; byte = byte; at = length self.old.journal.items }) x (byte_of self.old.tables.store x)) }
         ensures err { OnErr result (self.new ≡ self.old) }
-        ensures prepared { OnOk result ((x : ℕ) → is_ready self.new.tables.store x ≡ (covers range x || is_ready self.old.tables.store x)) }
-        ensures still_ready { StayReady self.old.tables.store self.new.tables.store }
-        ensures memory { OnErr result (AreReady self.old.tables.store range.base range.size → ⊥) }
+        ensures prepared { OnOk result ((x : ℕ) → is_prepared_at self.new.tables.store x ≡ (covers range x || is_prepared_at self.old.tables.store x)) }
+        ensures still_ready { StayPrepared self.old.tables.store self.new.tables.store }
+        ensures memory { OnErr result (ArePrepared self.old.tables.store range.base range.size → ⊥) }
     {
         self.tables.prepare(range)?;
         self.tables.fill(range, byte);
@@ -357,7 +357,7 @@ impl Memblock {
     /// Tests whether an address of the range belongs to a table.
     pub fn touches_table(&self, range: Range) -> bool
         ensures touches { IsTrue result ↔ TouchesTable self.now.kernel range self.now.journal.items }
-        ensures away { result ≡ false → IsAway self.now.kernel range self.now.journal.items }
+        ensures away { result ≡ false → TouchesNoTable self.now.kernel range self.now.journal.items }
     {
         self.tables.overlaps_table(range)
     }
@@ -365,7 +365,7 @@ impl Memblock {
     /// Returns the journal of what happened to memory.
     pub fn journal(&self) -> &Journal
         ensures journal { result.now ≡ self.now.journal }
-        ensures sound { HasBegun self.now.journal.items → Sound self.now.kernel self.now.journal.items }
+        ensures sound { HasBegun self.now.journal.items → TablesAreSound self.now.kernel self.now.journal.items }
     {
         &self.journal
     }
@@ -376,13 +376,13 @@ impl Memblock {
         ensures memory { result.now.memory ≡ table_for tables_of.Memory self.now.kernel self.now.journal.items }
         ensures reserved { result.now.reserved ≡ table_for tables_of.Reserved self.now.kernel self.now.journal.items }
         ensures within { NothingFrom (2 ^ 64) (memory_of self.now.journal.items) }
-        ensures bytes { AreSpelled result.now.memory result.now.reserved (byte_of result.now.store) }
-        ensures still { GoesOn self.now self.now }
+        ensures bytes { TablesAreEncoded result.now.memory result.now.reserved (byte_of result.now.store) }
+        ensures still { ContinuesMemblock self.now self.now }
         ensures spelled { (w : AnyWhich) → bytes_at (byte_of self.now.tables.store) (table_place w self.now.kernel self.now.journal.items)
             (24 * room_of w self.now.journal.items)
-            ≡ spelled_table (records_of w self.now.journal.items) (room_of w self.now.journal.items) }
+            ≡ encode_table (records_of w self.now.journal.items) (room_of w self.now.journal.items) }
     {
-        tables_stand(&self.tables);
+        tables_are_in_store(&self.tables);
         &self.tables
     }
 
@@ -391,10 +391,10 @@ impl Memblock {
         ensures store { result.0 ≡ self.tables.store }
         ensures heads { result.1 ≡ record { memory = head_of self.tables.memory; reserved = head_of self.tables.reserved } }
         ensures journal { result.2 ≡ self.journal }
-        ensures memory { StandsIn (table_for tables_of.Memory self.kernel self.journal.items) result.0 }
-        ensures reserved { StandsIn (table_for tables_of.Reserved self.kernel self.journal.items) result.0 }
+        ensures memory { IsInStore (table_for tables_of.Memory self.kernel self.journal.items) result.0 }
+        ensures reserved { IsInStore (table_for tables_of.Reserved self.kernel self.journal.items) result.0 }
         ensures plain { HaveNoNode (records_of tables_of.Reserved self.journal.items) }
-        ensures sound { HasBegun self.journal.items → Sound self.kernel self.journal.items }
+        ensures sound { HasBegun self.journal.items → TablesAreSound self.kernel self.journal.items }
     {
         let Memblock {
             kernel: _,
@@ -421,6 +421,6 @@ fn memblock_is_four_parts(rt: HostRuntime) -> Result<(), std::test::Fail> {
         tables,
         aim,
     } = Memblock::new(rt.alloc(), image)?;
-    let _parts: (Range, Journal, Tables, Aim) = (kernel, journal, tables, aim);
+    let _parts: (Range, Journal, Tables, AllocSettings) = (kernel, journal, tables, aim);
     Ok(())
 }

@@ -4,23 +4,23 @@
 //! may also have to grow when the old place is freed. If that growth is refused, the old place
 //! stays claimed and the call continues (`memblock_double_array` ignores it).
 ghost use Rattle.std.specs.Prelude.{◌≡◌, ◌⊎◌, ◌+◌, ◌-◌, ◌<◌, ◌≤◌, false, OnOk, OnErr, IsOk, IfSome, length};
-ghost use Rattle.phys_store.specs.Bytes.{AreReady};
+ghost use Rattle.phys_store.specs.Bytes.{ArePrepared};
 ghost use Rattle.memblock_model.specs.declared.owner.Which.TheVariants as tables_of;
 ghost use Rattle.memblock_model.specs.declared.owner.Owner.TheVariants as owners;
 ghost use Rattle.memblock_model.specs.Items.{owner_of};
 ghost use Rattle.growth_model.specs.Outcome.{if_due};
-ghost use Rattle.growth_model.specs.Growth.{memory_growth, grown, claimed, added, noded, mirrored, new_in, two, leave as left_by, is_full as is_full_by};
-ghost use Rattle.growth_model.specs.Ends.{Ends};
-ghost use Rattle.growth_model.specs.Sound.{HasBegun, Unclaimed};
-ghost use Rattle.memblock_grow.specs.Kept.{IsKept, AllowsFree, Keeps, KeepsBytes};
+ghost use Rattle.growth_model.specs.Growth.{memory_growth, make_table_room, claim_range, add_range, set_range_node, set_range_mirror, count_uncovered_pieces, split_record_count, free_old_place as left_by, is_full as is_full_by};
+ghost use Rattle.growth_model.specs.Ends.{EndsAsChange};
+ghost use Rattle.growth_model.specs.Sound.{HasBegun, IsUnclaimed};
+ghost use Rattle.memblock_grow.specs.Kept.{IsSomeMemblock, AllowsFree, KeepsTables, KeepsBytes};
 ghost use Rattle.memblock_grow.specs.Prepared.{Prepares, PreparesWith, PreparesBy};
-ghost use Rattle.memblock_grow.specs.More.{more_by, HasRoom, EndsInSpace};
+ghost use Rattle.memblock_grow.specs.More.{new_records_by_items, HasRoomFor, RangeEndsInSpace};
 
-use crate::aim::Aim;
-use crate::more::{More, is_full};
-use crate::places::{left_place, place_between};
+use crate::aim::AllocSettings;
+use crate::more::{MaxNewRecords, lacks_room};
+use crate::places::{old_place_frames, table_frames_between};
 use crate::reserved::{claim, free, may_claim};
-use crate::table_laws::tables_stand;
+use crate::table_laws::tables_are_in_store;
 use bm_base::Range;
 use boot_journal::{Item, Journal, Owner, Which};
 use growth_model::Refusal;
@@ -28,17 +28,17 @@ use memblock_ranges::{NO_NODE, Tables};
 use run_edits::range_end_fits;
 
 /// Frees the old place, if there is one. A refused growth is ignored; the only error is `Memory`.
-fn leave(
+fn free_old_place(
     journal: &mut Journal,
     tables: &mut Tables,
-    aim: Aim,
+    aim: AllocSettings,
     old: Option<Range>,
 ) -> Result<(), Refusal>
     requires begun { HasBegun journal.old.items }
     requires some { IfSome old (λ range. 0 < range.size) }
     requires away { IfSome old (λ range. AllowsFree journal.old.items tables.old aim range) }
-    ensures ends { Ends result journal.old.items journal.new.items (left_by old) }
-    ensures kept { Keeps journal.old.items tables.old journal.new.items tables.new aim }
+    ensures ends { EndsAsChange result journal.old.items journal.new.items (left_by old) }
+    ensures kept { KeepsTables journal.old.items tables.old journal.new.items tables.new aim }
     ensures bytes { KeepsBytes journal.old.items tables.old journal.new.items tables.new aim }
     ensures prepared { Prepares journal.old.items journal.new.items tables.old.store tables.new.store }
     ensures memory { tables.new.memory ≡ tables.old.memory }
@@ -53,23 +53,23 @@ fn leave(
 /// Prepares the new place and claims it for the memory table. It first tests whether the claim
 /// would be refused, so that nothing is prepared for a claim that is refused. No item is written
 /// before the place is prepared.
-fn take_place(
+fn claim_new_place(
     journal: &mut Journal,
     tables: &mut Tables,
-    aim: Aim,
+    aim: AllocSettings,
     place: Range,
 ) -> Result<(), Refusal>
     requires some { 0 < place.size }
-    requires kept { IsKept journal.old.items tables.old aim }
+    requires kept { IsSomeMemblock journal.old.items tables.old aim }
     requires begun { HasBegun journal.old.items }
-    requires free { Unclaimed (owner_of journal.old.items) place }
-    ensures ends { Ends result journal.old.items journal.new.items (claimed place (owners.Table tables_of.Memory)) }
-    ensures kept { Keeps journal.old.items tables.old journal.new.items tables.new aim }
+    requires free { IsUnclaimed (owner_of journal.old.items) place }
+    ensures ends { EndsAsChange result journal.old.items journal.new.items (claim_range place (owners.Table tables_of.Memory)) }
+    ensures kept { KeepsTables journal.old.items tables.old journal.new.items tables.new aim }
     ensures bytes { KeepsBytes journal.old.items tables.old journal.new.items tables.new aim }
     ensures memory { tables.new.memory ≡ tables.old.memory }
     ensures prepared { OnOk result (PreparesWith place journal.old.items journal.new.items tables.old.store tables.new.store) }
     ensures err { OnErr result (PreparesBy result journal.old.items journal.new.items tables.old.store tables.new.store) }
-    ensures first { (journal.new.items ≡ journal.old.items) ⊎ AreReady tables.new.store place.base place.size }
+    ensures first { (journal.new.items ≡ journal.old.items) ⊎ ArePrepared tables.new.store place.base place.size }
 {
     may_claim(journal, tables, aim, place)?;
     tables.prepare(place)?;
@@ -77,52 +77,52 @@ fn take_place(
 }
 
 /// Doubles the memory table's room, at the best place below the limit (`memblock_double_array`).
-fn grow_memory(journal: &mut Journal, tables: &mut Tables, aim: Aim) -> Result<(), Refusal>
-    requires kept { IsKept journal.old.items tables.old aim }
+fn grow_memory(journal: &mut Journal, tables: &mut Tables, aim: AllocSettings) -> Result<(), Refusal>
+    requires kept { IsSomeMemblock journal.old.items tables.old aim }
     requires begun { HasBegun journal.old.items }
-    ensures ends { Ends result journal.old.items journal.new.items memory_growth }
-    ensures kept { Keeps journal.old.items tables.old journal.new.items tables.new aim }
+    ensures ends { EndsAsChange result journal.old.items journal.new.items memory_growth }
+    ensures kept { KeepsTables journal.old.items tables.old journal.new.items tables.new aim }
     ensures bytes { KeepsBytes journal.old.items tables.old journal.new.items tables.new aim }
     ensures prepared { PreparesBy result journal.old.items journal.new.items tables.old.store tables.new.store }
 {
     let head = tables.head(Which::Memory);
-    let Some(place) = place_between(journal, tables, aim.upward, head.room, 0, aim.limit) else {
+    let Some(place) = table_frames_between(journal, tables, aim.upward, head.room, 0, aim.limit) else {
         return Err(Refusal::NoGapForTable {
             which: Which::Memory,
             room: head.room,
         });
     };
-    let old = left_place(head);
-    take_place(journal, tables, aim, place)?;
+    let old = old_place_frames(head);
+    claim_new_place(journal, tables, aim, place)?;
     journal.push(Item::Grown {
         which: Which::Memory,
         place: place.base,
         room: 2 * head.room,
     })?;
     tables.relocate(Which::Memory, place.base);
-    tables_stand(tables);
-    leave(journal, tables, aim, old)
+    tables_are_in_store(tables);
+    free_old_place(journal, tables, aim, old)
 }
 
 /// Doubles the memory table's room if it is full.
-fn grow_memory_once(
+fn grow_memory_if_full(
     journal: &mut Journal,
     tables: &mut Tables,
-    aim: Aim,
-    more: &More,
+    aim: AllocSettings,
+    more: &MaxNewRecords,
 ) -> Result<(), Refusal>
-    requires kept { IsKept journal.old.items tables.old aim }
+    requires kept { IsSomeMemblock journal.old.items tables.old aim }
     requires begun { HasBegun journal.old.items }
-    ensures ends { Ends result journal.old.items journal.new.items
-        (if_due (is_full_by tables_of.Memory (more_by tables_of.Memory more.now)) memory_growth) }
-    ensures kept { Keeps journal.old.items tables.old journal.new.items tables.new aim }
+    ensures ends { EndsAsChange result journal.old.items journal.new.items
+        (if_due (is_full_by tables_of.Memory (new_records_by_items tables_of.Memory more.now)) memory_growth) }
+    ensures kept { KeepsTables journal.old.items tables.old journal.new.items tables.new aim }
     ensures bytes { KeepsBytes journal.old.items tables.old journal.new.items tables.new aim }
     ensures prepared { PreparesBy result journal.old.items journal.new.items tables.old.store tables.new.store }
-    ensures within { EndsInSpace more.now }
-    ensures idle { HasRoom more.now tables.old.memory →
+    ensures within { RangeEndsInSpace more.now }
+    ensures idle { HasRoomFor more.now tables.old.memory →
         IsOk result × (journal.new ≡ journal.old) × (tables.new ≡ tables.old) }
 {
-    if is_full(tables, Which::Memory, more) {
+    if lacks_room(tables, Which::Memory, more) {
         grow_memory(journal, tables, aim)
     } else {
         Ok(())
@@ -134,48 +134,48 @@ fn grow_memory_once(
 fn make_memory_room(
     journal: &mut Journal,
     tables: &mut Tables,
-    aim: Aim,
-    more: &More,
+    aim: AllocSettings,
+    more: &MaxNewRecords,
 ) -> Result<(), Refusal>
-    requires kept { IsKept journal.old.items tables.old aim }
+    requires kept { IsSomeMemblock journal.old.items tables.old aim }
     requires begun { HasBegun journal.old.items }
-    ensures ends { Ends result journal.old.items journal.new.items
-        (grown tables_of.Memory (more_by tables_of.Memory more.now) memory_growth) }
-    ensures kept { Keeps journal.old.items tables.old journal.new.items tables.new aim }
+    ensures ends { EndsAsChange result journal.old.items journal.new.items
+        (make_table_room tables_of.Memory (new_records_by_items tables_of.Memory more.now) memory_growth) }
+    ensures kept { KeepsTables journal.old.items tables.old journal.new.items tables.new aim }
     ensures bytes { KeepsBytes journal.old.items tables.old journal.new.items tables.new aim }
     ensures prepared { PreparesBy result journal.old.items journal.new.items tables.old.store tables.new.store }
-    ensures room { OnOk result (HasRoom more.now tables.new.memory) }
-    ensures idle { HasRoom more.now tables.old.memory →
+    ensures room { OnOk result (HasRoomFor more.now tables.new.memory) }
+    ensures idle { HasRoomFor more.now tables.old.memory →
         IsOk result × (journal.new ≡ journal.old) × (tables.new ≡ tables.old) }
 {
-    grow_memory_once(journal, tables, aim, more)?;
-    grow_memory_once(journal, tables, aim, more)
+    grow_memory_if_full(journal, tables, aim, more)?;
+    grow_memory_if_full(journal, tables, aim, more)
 }
 
 /// Adds the range to memory, without a node; what is memory already keeps its node
 /// (`memblock_add`). If the table has room, and the journal has room for an item, the call can't
 /// fail.
-pub fn add(
+pub fn add_memory(
     journal: &mut Journal,
     tables: &mut Tables,
-    aim: Aim,
+    aim: AllocSettings,
     range: Range,
 ) -> Result<(), Refusal>
     requires some { 0 < range.size }
-    requires kept { IsKept journal.old.items tables.old aim }
+    requires kept { IsSomeMemblock journal.old.items tables.old aim }
     requires begun { HasBegun journal.old.items }
-    ensures ends { Ends result journal.old.items journal.new.items (added range) }
-    ensures kept { Keeps journal.old.items tables.old journal.new.items tables.new aim }
+    ensures ends { EndsAsChange result journal.old.items journal.new.items (add_range range) }
+    ensures kept { KeepsTables journal.old.items tables.old journal.new.items tables.new aim }
     ensures bytes { KeepsBytes journal.old.items tables.old journal.new.items tables.new aim }
     ensures prepared { PreparesBy result journal.old.items journal.new.items tables.old.store tables.new.store }
-    ensures ready { 0 < journal.old.spare → is_full_by tables_of.Memory (new_in tables_of.Memory range) journal.old.items ≡ false →
+    ensures ready { 0 < journal.old.spare → is_full_by tables_of.Memory (count_uncovered_pieces tables_of.Memory range) journal.old.items ≡ false →
         IsOk result × (journal.new.spare ≡ journal.old.spare - 1) }
 {
-    make_memory_room(journal, tables, aim, &More::PiecesOf(range))?;
+    make_memory_room(journal, tables, aim, &MaxNewRecords::PiecesOf(range))?;
     journal.push(Item::Mem { range })?;
     range_end_fits(&range);
     tables.insert(Which::Memory, range, NO_NODE);
-    tables_stand(tables);
+    tables_are_in_store(tables);
     Ok(())
 }
 
@@ -184,26 +184,26 @@ pub fn add(
 pub fn set_node(
     journal: &mut Journal,
     tables: &mut Tables,
-    aim: Aim,
+    aim: AllocSettings,
     range: Range,
     node: u32,
 ) -> Result<(), Refusal>
     requires some { 0 < range.size }
     requires node { node < 1024 }
-    requires kept { IsKept journal.old.items tables.old aim }
+    requires kept { IsSomeMemblock journal.old.items tables.old aim }
     requires begun { HasBegun journal.old.items }
-    ensures ends { Ends result journal.old.items journal.new.items (noded range node) }
-    ensures kept { Keeps journal.old.items tables.old journal.new.items tables.new aim }
+    ensures ends { EndsAsChange result journal.old.items journal.new.items (set_range_node range node) }
+    ensures kept { KeepsTables journal.old.items tables.old journal.new.items tables.new aim }
     ensures bytes { KeepsBytes journal.old.items tables.old journal.new.items tables.new aim }
     ensures prepared { PreparesBy result journal.old.items journal.new.items tables.old.store tables.new.store }
-    ensures ready { 0 < journal.old.spare → is_full_by tables_of.Memory two journal.old.items ≡ false →
+    ensures ready { 0 < journal.old.spare → is_full_by tables_of.Memory split_record_count journal.old.items ≡ false →
         IsOk result × (journal.new.spare ≡ journal.old.spare - 1) }
 {
-    make_memory_room(journal, tables, aim, &More::Two)?;
+    make_memory_room(journal, tables, aim, &MaxNewRecords::Two)?;
     journal.push(Item::Node { range, node })?;
     range_end_fits(&range);
     tables.set_node(range, node);
-    tables_stand(tables);
+    tables_are_in_store(tables);
     Ok(())
 }
 
@@ -212,23 +212,23 @@ pub fn set_node(
 pub fn set_mirror(
     journal: &mut Journal,
     tables: &mut Tables,
-    aim: Aim,
+    aim: AllocSettings,
     range: Range,
 ) -> Result<(), Refusal>
     requires some { 0 < range.size }
-    requires kept { IsKept journal.old.items tables.old aim }
+    requires kept { IsSomeMemblock journal.old.items tables.old aim }
     requires begun { HasBegun journal.old.items }
-    ensures ends { Ends result journal.old.items journal.new.items (mirrored range) }
-    ensures kept { Keeps journal.old.items tables.old journal.new.items tables.new aim }
+    ensures ends { EndsAsChange result journal.old.items journal.new.items (set_range_mirror range) }
+    ensures kept { KeepsTables journal.old.items tables.old journal.new.items tables.new aim }
     ensures bytes { KeepsBytes journal.old.items tables.old journal.new.items tables.new aim }
     ensures prepared { PreparesBy result journal.old.items journal.new.items tables.old.store tables.new.store }
-    ensures ready { 0 < journal.old.spare → is_full_by tables_of.Memory two journal.old.items ≡ false →
+    ensures ready { 0 < journal.old.spare → is_full_by tables_of.Memory split_record_count journal.old.items ≡ false →
         IsOk result × (journal.new.spare ≡ journal.old.spare - 1) }
 {
-    make_memory_room(journal, tables, aim, &More::Two)?;
+    make_memory_room(journal, tables, aim, &MaxNewRecords::Two)?;
     journal.push(Item::Mirror { range })?;
     range_end_fits(&range);
     tables.set_mirror(range);
-    tables_stand(tables);
+    tables_are_in_store(tables);
     Ok(())
 }

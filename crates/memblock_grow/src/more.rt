@@ -3,7 +3,7 @@
 //! piece that isn't covered yet (the count in `memblock_add_range`).
 ghost use Rattle.std.specs.Prelude.{◌≡◌, ◌+◌, nat_lt, length};
 ghost use Rattle.memblock_ranges.specs.Tables.{table_in, records_in, room_in};
-ghost use Rattle.memblock_grow.specs.More.{more_in, EndsInSpace};
+ghost use Rattle.memblock_grow.specs.More.{new_records_in_table, RangeEndsInSpace};
 
 use bm_base::Range;
 use memblock_model::Which;
@@ -12,7 +12,7 @@ use run_edits::range_end_fits;
 
 /// The greatest number of records that an edit may add to a table.
 #[derive(Clone, Copy, Debug, PartialEq, Eq)]
-pub enum More {
+pub enum MaxNewRecords {
     /// One for each run of the range's bytes that the table doesn't cover.
     PiecesOf(Range),
     /// Two.
@@ -20,18 +20,18 @@ pub enum More {
 }
 
 /// Tests whether the table's records and `more` further ones exceed its room.
-pub fn is_full(tables: &Tables, which: Which, more: &More) -> bool
+pub fn lacks_room(tables: &Tables, which: Which, more: &MaxNewRecords) -> bool
     ensures full { result ≡
-        nat_lt (room_in which tables.now) (length (records_in which tables.now) + more_in more.now (table_in which tables.now)) }
-    ensures within { EndsInSpace more.now }
+        nat_lt (room_in which tables.now) (length (records_in which tables.now) + new_records_in_table more.now (table_in which tables.now)) }
+    ensures within { RangeEndsInSpace more.now }
 {
     let head = tables.head(which);
     let free = head.room - head.count;
     match more {
-        More::PiecesOf(range) => {
+        MaxNewRecords::PiecesOf(range) => {
             range_end_fits(range);
             free < tables.pieces(which, *range)
         }
-        More::Two => free < 2,
+        MaxNewRecords::Two => free < 2,
     }
 }

@@ -2,18 +2,18 @@
 //! (`choose_memblock_flags`). Also the frames of a table that grows (`memblock_double_array`):
 //! those of its new place and of its old one.
 ghost use Rattle.std.specs.Prelude.{◌≡◌, ◌≢◌, ℕ, ◌+◌, ◌*◌, ◌^◌, ◌<◌, ◌≤◌, SomeIff};
-ghost use Rattle.growth_model.specs.Growth.{in_whole_frames};
-ghost use Rattle.memblock_grow.specs.Places.{KnowsMirrors, best_of, mirrored_of, frames_between, frames_beside, left_frames};
+ghost use Rattle.growth_model.specs.Growth.{round_up_to_frames};
+ghost use Rattle.memblock_grow.specs.Places.{MirrorsComeFromItems, best_place_in_tables, mirrored_place_in_tables, frames_between, frames_beside, old_place_frames};
 
-use crate::aim::Aim;
+use crate::aim::AllocSettings;
 use bm_base::{FRAME_SIZE, Range};
 use boot_journal::Journal;
 use memblock_find::{Mode, Query, find};
 use memblock_ranges::{FIRST_ROOM, Head, Tables};
 
 /// Rounds a number of bytes up to frames, or returns `None` if it would exceed 2^64 - 1.
-fn frames(bytes: u64) -> Option<u64>
-    ensures { SomeIff result (in_whole_frames bytes < 2 ^ 64) (in_whole_frames bytes) }
+fn round_up_to_frames(bytes: u64) -> Option<u64>
+    ensures { SomeIff result (round_up_to_frames bytes < 2 ^ 64) (round_up_to_frames bytes) }
 {
     let behind = bytes.checked_add(FRAME_SIZE - 1)?;
     Some(behind / FRAME_SIZE * FRAME_SIZE)
@@ -24,8 +24,8 @@ fn frames(bytes: u64) -> Option<u64>
 fn mirrored_place(journal: &Journal, tables: &Tables, upward: bool, query: &Query) -> Option<u64>
     requires some { 1 ≤ query.now.size }
     requires aligned { (k : ℕ) × (query.now.align ≡ 2 ^ k) }
-    requires mirrors { KnowsMirrors journal.now.items tables.now }
-    ensures { result ≡ mirrored_of tables.now upward query.now }
+    requires mirrors { MirrorsComeFromItems journal.now.items tables.now }
+    ensures { result ≡ mirrored_place_in_tables tables.now upward query.now }
 {
     if !journal.has_mirrors() {
         return None;
@@ -38,11 +38,11 @@ fn mirrored_place(journal: &Journal, tables: &Tables, upward: bool, query: &Quer
 }
 
 /// Returns the best place: the top one in mirrored memory, or in any memory if none fits there.
-pub fn best(journal: &Journal, tables: &Tables, upward: bool, query: &Query) -> Option<u64>
+pub fn best_place_in_tables(journal: &Journal, tables: &Tables, upward: bool, query: &Query) -> Option<u64>
     requires some { 1 ≤ query.now.size }
     requires aligned { (k : ℕ) × (query.now.align ≡ 2 ^ k) }
-    requires mirrors { KnowsMirrors journal.now.items tables.now }
-    ensures { result ≡ best_of tables.now upward query.now }
+    requires mirrors { MirrorsComeFromItems journal.now.items tables.now }
+    ensures { result ≡ best_place_in_tables tables.now upward query.now }
 {
     if let Some(place) = mirrored_place(journal, tables, upward, query) {
         return Some(place);
@@ -56,7 +56,7 @@ pub fn best(journal: &Journal, tables: &Tables, upward: bool, query: &Query) -> 
 
 /// Returns the frames for a table of twice the room, at the best place in the window. If their
 /// size would exceed 2^64 - 1, there is no place.
-pub fn place_between(
+pub fn table_frames_between(
     journal: &Journal,
     tables: &Tables,
     upward: bool,
@@ -65,10 +65,10 @@ pub fn place_between(
     hi: u64,
 ) -> Option<Range>
     requires some { 0 < room }
-    requires mirrors { KnowsMirrors journal.now.items tables.now }
+    requires mirrors { MirrorsComeFromItems journal.now.items tables.now }
     ensures { result ≡ frames_between tables.now upward room lo hi }
 {
-    let size = frames(room.checked_mul(48)?)?;
+    let size = round_up_to_frames(room.checked_mul(48)?)?;
     let query = Query {
         lo,
         hi,
@@ -76,39 +76,39 @@ pub fn place_between(
         align: FRAME_SIZE,
         node: None,
     };
-    let base = best(journal, tables, upward, &query)?;
+    let base = best_place_in_tables(journal, tables, upward, &query)?;
     Range::new(base, size)
 }
 
 /// Returns the frames for a table of twice the room: above the range to avoid, else below it. In
 /// both cases they end at or below the limit.
-pub fn place_beside(
+pub fn table_frames_beside(
     journal: &Journal,
     tables: &Tables,
-    aim: Aim,
+    aim: AllocSettings,
     room: u64,
     avoid: Range,
 ) -> Option<Range>
     requires some { 0 < room }
-    requires mirrors { KnowsMirrors journal.now.items tables.now }
+    requires mirrors { MirrorsComeFromItems journal.now.items tables.now }
     ensures { result ≡ frames_beside tables.now aim room avoid }
 {
-    let Aim { limit, upward } = aim;
-    if let Some(place) = place_between(journal, tables, upward, room, avoid.end(), limit) {
+    let AllocSettings { limit, upward } = aim;
+    if let Some(place) = table_frames_between(journal, tables, upward, room, avoid.end(), limit) {
         return Some(place);
     }
-    place_between(journal, tables, upward, room, 0, avoid.base.min(limit))
+    table_frames_between(journal, tables, upward, room, 0, avoid.base.min(limit))
 }
 
 /// Returns the frames of a table's old place, or `None` as long as the table is in its first
 /// place. They end below 2^64.
-pub fn left_place(head: Head) -> Option<Range>
-    requires far { head.room ≢ 128 → head.place + in_whole_frames (24 * head.room) < 2 ^ 64 }
-    ensures { result ≡ left_frames head.place head.room }
+pub fn old_place_frames(head: Head) -> Option<Range>
+    requires far { head.room ≢ 128 → head.place + round_up_to_frames (24 * head.room) < 2 ^ 64 }
+    ensures { result ≡ old_place_frames head.place head.room }
 {
     if head.room == FIRST_ROOM {
         return None;
     }
-    let size = frames(head.room.checked_mul(24)?)?;
+    let size = round_up_to_frames(head.room.checked_mul(24)?)?;
     Range::new(head.place, size)
 }

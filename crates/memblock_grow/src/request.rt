@@ -8,15 +8,15 @@
 //! `memblock_alloc_internal`).
 ghost use Rattle.std.specs.Prelude.{◌≡◌, ℕ, ◌+◌, ◌-◌, ◌^◌, ◌<◌, ◌≤◌, true, false, Some, IsOk, IfOk};
 ghost use Rattle.memblock_model.specs.declared.owner.Which.TheVariants as tables_of;
-ghost use Rattle.growth_model.specs.Growth.{new_in, is_full as is_full_by};
-ghost use Rattle.growth_model.specs.Request.{attempt as attempt_by, nodes, round, attempts, place_for as place_by};
+ghost use Rattle.growth_model.specs.Growth.{count_uncovered_pieces, is_full as is_full_by};
+ghost use Rattle.growth_model.specs.Request.{attempt as attempt_by, node_attempts, attempts_from, attempts, place_for as place_by};
 ghost use Rattle.growth_model.specs.Ends.{Allocates};
 ghost use Rattle.growth_model.specs.Sound.{HasBegun};
-ghost use Rattle.memblock_grow.specs.Kept.{IsKept, Keeps, KeepsBytes};
+ghost use Rattle.memblock_grow.specs.Kept.{IsSomeMemblock, KeepsTables, KeepsBytes};
 ghost use Rattle.memblock_grow.specs.Prepared.{Prepares};
-ghost use Rattle.memblock_grow.specs.Places.{KnowsMirrors, top_of, first_of};
+ghost use Rattle.memblock_grow.specs.Places.{MirrorsComeFromItems, top_place_in_tables, first_place_in_tables};
 
-use crate::aim::Aim;
+use crate::aim::AllocSettings;
 use crate::reserved::claim;
 use bm_base::Range;
 use boot_journal::{Journal, Owner};
@@ -25,19 +25,19 @@ use memblock_find::{Mode, Query, find};
 use memblock_ranges::Tables;
 
 /// Returns the top place from `lo` on, on the node or on any, in mirrored memory or in any.
-fn attempt(
+fn place_of_attempt(
     tables: &Tables,
     request: &Request,
-    aim: Aim,
+    aim: AllocSettings,
     lo: u64,
     mirror: bool,
     node: Option<u32>,
 ) -> Option<u64>
     requires some { 1 ≤ request.now.size }
     requires aligned { (k : ℕ) × (request.now.align ≡ 2 ^ k) }
-    ensures { result ≡ top_of tables.now aim.upward (attempt_by request.now aim.limit lo mirror node) }
+    ensures { result ≡ top_place_in_tables tables.now aim.upward (attempt_by request.now aim.limit lo mirror node) }
 {
-    let Aim { limit, upward } = aim;
+    let AllocSettings { limit, upward } = aim;
     let query = Query {
         lo,
         hi: request.max.unwrap_or(limit).min(limit),
@@ -51,16 +51,16 @@ fn attempt(
 
 /// Returns the top place from `lo` on, on the request's node and then, unless only that one is
 /// allowed, on any.
-fn place_in(tables: &Tables, request: &Request, aim: Aim, lo: u64, mirror: bool) -> Option<u64>
+fn place_in(tables: &Tables, request: &Request, aim: AllocSettings, lo: u64, mirror: bool) -> Option<u64>
     requires some { 1 ≤ request.now.size }
     requires aligned { (k : ℕ) × (request.now.align ≡ 2 ^ k) }
-    ensures { result ≡ first_of tables.now aim.upward (nodes request.now aim.limit lo mirror) }
+    ensures { result ≡ first_place_in_tables tables.now aim.upward (node_attempts request.now aim.limit lo mirror) }
 {
-    let place = attempt(tables, request, aim, lo, mirror, request.node);
+    let place = place_of_attempt(tables, request, aim, lo, mirror, request.node);
     if place.is_some() || request.node.is_none() || request.exact {
         return place;
     }
-    attempt(tables, request, aim, lo, mirror, None)
+    place_of_attempt(tables, request, aim, lo, mirror, None)
 }
 
 /// Like [`place_in`] for mirrored memory. It doesn't search if the journal has no item that
@@ -69,13 +69,13 @@ fn mirrored_place(
     journal: &Journal,
     tables: &Tables,
     request: &Request,
-    aim: Aim,
+    aim: AllocSettings,
     lo: u64,
 ) -> Option<u64>
     requires some { 1 ≤ request.now.size }
     requires aligned { (k : ℕ) × (request.now.align ≡ 2 ^ k) }
-    requires mirrors { KnowsMirrors journal.now.items tables.now }
-    ensures { result ≡ first_of tables.now aim.upward (nodes request.now aim.limit lo true) }
+    requires mirrors { MirrorsComeFromItems journal.now.items tables.now }
+    ensures { result ≡ first_place_in_tables tables.now aim.upward (node_attempts request.now aim.limit lo true) }
 {
     if !journal.has_mirrors() {
         return None;
@@ -88,13 +88,13 @@ fn first_place(
     journal: &Journal,
     tables: &Tables,
     request: &Request,
-    aim: Aim,
+    aim: AllocSettings,
     lo: u64,
 ) -> Option<u64>
     requires some { 1 ≤ request.now.size }
     requires aligned { (k : ℕ) × (request.now.align ≡ 2 ^ k) }
-    requires mirrors { KnowsMirrors journal.now.items tables.now }
-    ensures { result ≡ first_of tables.now aim.upward (round request.now aim.limit lo) }
+    requires mirrors { MirrorsComeFromItems journal.now.items tables.now }
+    ensures { result ≡ first_place_in_tables tables.now aim.upward (attempts_from request.now aim.limit lo) }
 {
     if let Some(place) = mirrored_place(journal, tables, request, aim, lo) {
         return Some(place);
@@ -104,11 +104,11 @@ fn first_place(
 
 /// Returns the place that the first round finds, from the request's minimum on, or else the
 /// second, from 0 on.
-fn place_for(journal: &Journal, tables: &Tables, request: &Request, aim: Aim) -> Option<u64>
+fn place_for(journal: &Journal, tables: &Tables, request: &Request, aim: AllocSettings) -> Option<u64>
     requires some { 1 ≤ request.now.size }
     requires aligned { (k : ℕ) × (request.now.align ≡ 2 ^ k) }
-    requires mirrors { KnowsMirrors journal.now.items tables.now }
-    ensures { result ≡ first_of tables.now aim.upward (attempts request.now aim.limit) }
+    requires mirrors { MirrorsComeFromItems journal.now.items tables.now }
+    ensures { result ≡ first_place_in_tables tables.now aim.upward (attempts request.now aim.limit) }
 {
     let place = first_place(journal, tables, request, aim, request.min);
     if place.is_some() || request.min == 0 {
@@ -123,21 +123,21 @@ fn place_for(journal: &Journal, tables: &Tables, request: &Request, aim: Aim) ->
 pub fn allocate(
     journal: &mut Journal,
     tables: &mut Tables,
-    aim: Aim,
+    aim: AllocSettings,
     request: &Request,
     owner: Owner,
 ) -> Result<u64, Refusal>
     requires some { 1 ≤ request.now.size }
     requires aligned { (k : ℕ) × (request.now.align ≡ 2 ^ k) }
-    requires kept { IsKept journal.old.items tables.old aim }
+    requires kept { IsSomeMemblock journal.old.items tables.old aim }
     requires begun { HasBegun journal.old.items }
     ensures ends { Allocates result journal.old.items journal.new.items (place_by request.now journal.old.items) request.now.size owner }
     ensures inside { IfOk result (λ base. base + request.now.size < 2 ^ 64) }
-    ensures kept { Keeps journal.old.items tables.old journal.new.items tables.new aim }
+    ensures kept { KeepsTables journal.old.items tables.old journal.new.items tables.new aim }
     ensures bytes { KeepsBytes journal.old.items tables.old journal.new.items tables.new aim }
     ensures prepared { Prepares journal.old.items journal.new.items tables.old.store tables.new.store }
     ensures ready { (place : ℕ) → place_by request.now journal.old.items ≡ Some place → 0 < journal.old.spare →
-        is_full_by tables_of.Reserved (new_in tables_of.Reserved (record { base = place; size = request.now.size })) journal.old.items ≡ false →
+        is_full_by tables_of.Reserved (count_uncovered_pieces tables_of.Reserved (record { base = place; size = request.now.size })) journal.old.items ≡ false →
         IsOk result × (journal.new.spare ≡ journal.old.spare - 1) }
 {
     let Some(base) = place_for(journal, tables, request, aim) else {

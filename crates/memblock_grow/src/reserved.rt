@@ -9,17 +9,17 @@ ghost use Rattle.memblock_model.specs.Items.{owner_of};
 ghost use Rattle.memblock_model.specs.declared.owner.Which.TheVariants as tables_of;
 ghost use Rattle.growth_model.specs.declared.refusal.Refusal.TheVariants as refusals;
 ghost use Rattle.growth_model.specs.Outcome.{if_due};
-ghost use Rattle.growth_model.specs.Growth.{reserved_growth, grown, claimed, freed, new_in, two, is_full as is_full_by};
-ghost use Rattle.growth_model.specs.Ends.{Ends};
-ghost use Rattle.growth_model.specs.Sound.{HasBegun, Unclaimed};
-ghost use Rattle.memblock_grow.specs.Kept.{IsKept, AllowsClaim, AllowsFree, Keeps, KeepsBytes};
+ghost use Rattle.growth_model.specs.Growth.{reserved_growth, make_table_room, claim_range, free_range, count_uncovered_pieces, split_record_count, is_full as is_full_by};
+ghost use Rattle.growth_model.specs.Ends.{EndsAsChange};
+ghost use Rattle.growth_model.specs.Sound.{HasBegun, IsUnclaimed};
+ghost use Rattle.memblock_grow.specs.Kept.{IsSomeMemblock, AllowsClaim, AllowsFree, KeepsTables, KeepsBytes};
 ghost use Rattle.memblock_grow.specs.Prepared.{Prepares};
-ghost use Rattle.memblock_grow.specs.More.{more_by, HasRoom, EndsInSpace};
+ghost use Rattle.memblock_grow.specs.More.{new_records_by_items, HasRoomFor, RangeEndsInSpace};
 
-use crate::aim::Aim;
-use crate::more::{More, is_full};
-use crate::places::{left_place, place_beside};
-use crate::table_laws::tables_stand;
+use crate::aim::AllocSettings;
+use crate::more::{MaxNewRecords, lacks_room};
+use crate::places::{old_place_frames, table_frames_beside};
+use crate::table_laws::tables_are_in_store;
 use bm_base::Range;
 use boot_journal::{Item, Journal, Owner, Which};
 use growth_model::Refusal;
@@ -33,29 +33,29 @@ use run_edits::range_end_fits;
 fn grow_reserved(
     journal: &mut Journal,
     tables: &mut Tables,
-    aim: Aim,
+    aim: AllocSettings,
     avoid: Range,
 ) -> Result<(), Refusal>
-    requires kept { IsKept journal.old.items tables.old aim }
+    requires kept { IsSomeMemblock journal.old.items tables.old aim }
     requires begun { HasBegun journal.old.items }
-    ensures ends { Ends result journal.old.items journal.new.items (reserved_growth avoid) }
-    ensures kept { Keeps journal.old.items tables.old journal.new.items tables.new aim }
+    ensures ends { EndsAsChange result journal.old.items journal.new.items (reserved_growth avoid) }
+    ensures kept { KeepsTables journal.old.items tables.old journal.new.items tables.new aim }
     ensures bytes { KeepsBytes journal.old.items tables.old journal.new.items tables.new aim }
     ensures prepared { Prepares journal.old.items journal.new.items tables.old.store tables.new.store }
     ensures memory { tables.new.memory ≡ tables.old.memory }
 {
     let head = tables.head(Which::Reserved);
-    let Some(place) = place_beside(journal, tables, aim, head.room, avoid) else {
+    let Some(place) = table_frames_beside(journal, tables, aim, head.room, avoid) else {
         return Err(Refusal::NoGapForTable {
             which: Which::Reserved,
             room: head.room,
         });
     };
-    let left = left_place(head);
+    let left = old_place_frames(head);
     journal.ready(3)?;
     tables.prepare(place)?;
     tables.relocate(Which::Reserved, place.base);
-    tables_stand(tables);
+    tables_are_in_store(tables);
     journal.push_ready(Item::Grown {
         which: Which::Reserved,
         place: place.base,
@@ -66,13 +66,13 @@ fn grow_reserved(
         owner: Owner::Table(Which::Reserved),
     });
     tables.insert(Which::Reserved, place, NO_NODE);
-    tables_stand(tables);
+    tables_are_in_store(tables);
     match left {
         Some(range) => {
             journal.push_ready(Item::Free { range });
             range_end_fits(&range);
             tables.remove(Which::Reserved, range);
-            tables_stand(tables);
+            tables_are_in_store(tables);
             Ok(())
         }
         None => Ok(()),
@@ -80,25 +80,25 @@ fn grow_reserved(
 }
 
 /// Doubles the reserved table's room if it is full.
-fn grow_reserved_once(
+fn grow_reserved_if_full(
     journal: &mut Journal,
     tables: &mut Tables,
-    aim: Aim,
+    aim: AllocSettings,
     avoid: Range,
-    more: &More,
+    more: &MaxNewRecords,
 ) -> Result<(), Refusal>
-    requires { IsKept journal.old.items tables.old aim }
-    ensures ends { Ends result journal.old.items journal.new.items
-        (if_due (is_full_by tables_of.Reserved (more_by tables_of.Reserved more.now)) (reserved_growth avoid)) }
-    ensures kept { Keeps journal.old.items tables.old journal.new.items tables.new aim }
+    requires { IsSomeMemblock journal.old.items tables.old aim }
+    ensures ends { EndsAsChange result journal.old.items journal.new.items
+        (if_due (is_full_by tables_of.Reserved (new_records_by_items tables_of.Reserved more.now)) (reserved_growth avoid)) }
+    ensures kept { KeepsTables journal.old.items tables.old journal.new.items tables.new aim }
     ensures bytes { KeepsBytes journal.old.items tables.old journal.new.items tables.new aim }
     ensures prepared { Prepares journal.old.items journal.new.items tables.old.store tables.new.store }
     ensures memory { tables.new.memory ≡ tables.old.memory }
-    ensures within { EndsInSpace more.now }
-    ensures idle { HasRoom more.now tables.old.reserved →
+    ensures within { RangeEndsInSpace more.now }
+    ensures idle { HasRoomFor more.now tables.old.reserved →
         IsOk result × (journal.new ≡ journal.old) × (tables.new ≡ tables.old) }
 {
-    if is_full(tables, Which::Reserved, more) {
+    if lacks_room(tables, Which::Reserved, more) {
         grow_reserved(journal, tables, aim, avoid)
     } else {
         Ok(())
@@ -110,23 +110,23 @@ fn grow_reserved_once(
 fn make_reserved_room(
     journal: &mut Journal,
     tables: &mut Tables,
-    aim: Aim,
+    aim: AllocSettings,
     avoid: Range,
-    more: &More,
+    more: &MaxNewRecords,
 ) -> Result<(), Refusal>
-    requires { IsKept journal.old.items tables.old aim }
-    ensures ends { Ends result journal.old.items journal.new.items
-        (grown tables_of.Reserved (more_by tables_of.Reserved more.now) (reserved_growth avoid)) }
-    ensures kept { Keeps journal.old.items tables.old journal.new.items tables.new aim }
+    requires { IsSomeMemblock journal.old.items tables.old aim }
+    ensures ends { EndsAsChange result journal.old.items journal.new.items
+        (make_table_room tables_of.Reserved (new_records_by_items tables_of.Reserved more.now) (reserved_growth avoid)) }
+    ensures kept { KeepsTables journal.old.items tables.old journal.new.items tables.new aim }
     ensures bytes { KeepsBytes journal.old.items tables.old journal.new.items tables.new aim }
     ensures prepared { Prepares journal.old.items journal.new.items tables.old.store tables.new.store }
     ensures memory { tables.new.memory ≡ tables.old.memory }
-    ensures room { OnOk result (HasRoom more.now tables.new.reserved) }
-    ensures idle { HasRoom more.now tables.old.reserved →
+    ensures room { OnOk result (HasRoomFor more.now tables.new.reserved) }
+    ensures idle { HasRoomFor more.now tables.old.reserved →
         IsOk result × (journal.new ≡ journal.old) × (tables.new ≡ tables.old) }
 {
-    grow_reserved_once(journal, tables, aim, avoid, more)?;
-    grow_reserved_once(journal, tables, aim, avoid, more)
+    grow_reserved_if_full(journal, tables, aim, avoid, more)?;
+    grow_reserved_if_full(journal, tables, aim, avoid, more)
 }
 
 /// Tests whether a claim of the range, which must be unclaimed, would be refused. That is so if
@@ -136,20 +136,20 @@ fn make_reserved_room(
 /// # Errors
 ///
 /// `NoGapForTable` if the claim would be refused.
-pub fn may_claim(journal: &Journal, tables: &Tables, aim: Aim, range: Range) -> Result<(), Refusal>
+pub fn may_claim(journal: &Journal, tables: &Tables, aim: AllocSettings, range: Range) -> Result<(), Refusal>
     requires some { 0 < range.size }
-    requires kept { IsKept journal.now.items tables.now aim }
+    requires kept { IsSomeMemblock journal.now.items tables.now aim }
     requires begun { HasBegun journal.now.items }
-    requires free { Unclaimed (owner_of journal.now.items) range }
-    ensures ok { (who : ModelOwner) → OnOk result ((claimed range who journal.now.items).refused ≡ None) }
-    ensures refused { (who : ModelOwner) → OnErr result (Ends result journal.now.items journal.now.items (claimed range who)) }
+    requires free { IsUnclaimed (owner_of journal.now.items) range }
+    ensures ok { (who : ModelOwner) → OnOk result ((claim_range range who journal.now.items).refused ≡ None) }
+    ensures refused { (who : ModelOwner) → OnErr result (EndsAsChange result journal.now.items journal.now.items (claim_range range who)) }
     ensures short { result ≢ Err refusals.Memory }
 {
-    if !is_full(tables, Which::Reserved, &More::PiecesOf(range)) {
+    if !lacks_room(tables, Which::Reserved, &MaxNewRecords::PiecesOf(range)) {
         return Ok(());
     }
     let head = tables.head(Which::Reserved);
-    match place_beside(journal, tables, aim, head.room, range) {
+    match table_frames_beside(journal, tables, aim, head.room, range) {
         Some(_) => Ok(()),
         None => Err(Refusal::NoGapForTable {
             which: Which::Reserved,
@@ -163,25 +163,25 @@ pub fn may_claim(journal: &Journal, tables: &Tables, aim: Aim, range: Range) -> 
 pub fn claim(
     journal: &mut Journal,
     tables: &mut Tables,
-    aim: Aim,
+    aim: AllocSettings,
     range: Range,
     owner: Owner,
 ) -> Result<(), Refusal>
     requires some { 0 < range.size }
     requires may { AllowsClaim journal.old.items tables.old aim range owner }
-    ensures ends { Ends result journal.old.items journal.new.items (claimed range owner) }
-    ensures kept { Keeps journal.old.items tables.old journal.new.items tables.new aim }
+    ensures ends { EndsAsChange result journal.old.items journal.new.items (claim_range range owner) }
+    ensures kept { KeepsTables journal.old.items tables.old journal.new.items tables.new aim }
     ensures bytes { KeepsBytes journal.old.items tables.old journal.new.items tables.new aim }
     ensures prepared { Prepares journal.old.items journal.new.items tables.old.store tables.new.store }
     ensures memory { tables.new.memory ≡ tables.old.memory }
-    ensures ready { 0 < journal.old.spare → is_full_by tables_of.Reserved (new_in tables_of.Reserved range) journal.old.items ≡ false →
+    ensures ready { 0 < journal.old.spare → is_full_by tables_of.Reserved (count_uncovered_pieces tables_of.Reserved range) journal.old.items ≡ false →
         IsOk result × (journal.new.spare ≡ journal.old.spare - 1) }
 {
-    make_reserved_room(journal, tables, aim, range, &More::PiecesOf(range))?;
+    make_reserved_room(journal, tables, aim, range, &MaxNewRecords::PiecesOf(range))?;
     journal.push(Item::Claim { range, owner })?;
     range_end_fits(&range);
     tables.insert(Which::Reserved, range, NO_NODE);
-    tables_stand(tables);
+    tables_are_in_store(tables);
     Ok(())
 }
 
@@ -190,24 +190,24 @@ pub fn claim(
 pub fn free(
     journal: &mut Journal,
     tables: &mut Tables,
-    aim: Aim,
+    aim: AllocSettings,
     range: Range,
 ) -> Result<(), Refusal>
     requires some { 0 < range.size }
     requires begun { HasBegun journal.old.items }
     requires away { AllowsFree journal.old.items tables.old aim range }
-    ensures ends { Ends result journal.old.items journal.new.items (freed range) }
-    ensures kept { Keeps journal.old.items tables.old journal.new.items tables.new aim }
+    ensures ends { EndsAsChange result journal.old.items journal.new.items (free_range range) }
+    ensures kept { KeepsTables journal.old.items tables.old journal.new.items tables.new aim }
     ensures bytes { KeepsBytes journal.old.items tables.old journal.new.items tables.new aim }
     ensures prepared { Prepares journal.old.items journal.new.items tables.old.store tables.new.store }
     ensures memory { tables.new.memory ≡ tables.old.memory }
-    ensures ready { 0 < journal.old.spare → is_full_by tables_of.Reserved two journal.old.items ≡ false →
+    ensures ready { 0 < journal.old.spare → is_full_by tables_of.Reserved split_record_count journal.old.items ≡ false →
         IsOk result × (journal.new.spare ≡ journal.old.spare - 1) }
 {
-    make_reserved_room(journal, tables, aim, range, &More::Two)?;
+    make_reserved_room(journal, tables, aim, range, &MaxNewRecords::Two)?;
     journal.push(Item::Free { range })?;
     range_end_fits(&range);
     tables.remove(Which::Reserved, range);
-    tables_stand(tables);
+    tables_are_in_store(tables);
     Ok(())
 }

@@ -1,13 +1,13 @@
 //! A law of the tables, from which a growth knows every byte after an edit.
-ghost use Rattle.memblock_ranges.specs.Tables.{StandsIn};
+ghost use Rattle.memblock_ranges.specs.Tables.{IsInStore};
 
 use memblock_model::Which;
 use memblock_ranges::Tables;
 
 /// Law: the bytes of both tables are the encoding of their records.
-pub fn tables_stand(tables: &Tables)
-    ensures memory { StandsIn tables.now.memory tables.now.store }
-    ensures reserved { StandsIn tables.now.reserved tables.now.store }
+pub fn tables_are_in_store(tables: &Tables)
+    ensures memory { IsInStore tables.now.memory tables.now.store }
+    ensures reserved { IsInStore tables.now.reserved tables.now.store }
 {
     tables.head(Which::Memory);
     tables.head(Which::Reserved);

@@ -13,15 +13,15 @@ use Rattle.bm_base.specs.Range.{RangeView}
 use Rattle.bm_base.specs.Each.{each_from, each_in}
 use Rattle.memblock_model.specs.Labels.{plain_label, with_node, with_mirror}
 use Rattle.memblock_model.specs.Same.{same_owner}
-use Rattle.memblock_model.specs.Items.{IsItem, owner_of, trim_frames, memory_of, tag_of, limit_of, upward_of, owner_runs_of}
+use Rattle.memblock_model.specs.Items.{ItemHasBytes, owner_of, trim_frames, memory_of, tag_of, limit_of, upward_of, owner_runs_of}
 use Rattle.memblock_model.proofs.SameLaws.{owner_tells}
 
 abbrev pub bytes : ℕ → ℕ → RangeView
 bytes base size = record { base = base; size = size }
 
 -- a range of one byte isn't empty; the range of no item may be: memory, a node, a claim, a free, a mirror
-item_examples : (IsItem (item.Mem (bytes 7 1))) × (IsItem (item.Mem (bytes 7 0)) → ⊥) × (IsItem (item.Node (bytes 7 0) 1) → ⊥)
-    × (IsItem (item.Claim (bytes 7 0) owner.Kernel) → ⊥) × (IsItem (item.Free (bytes 7 0)) → ⊥) × (IsItem (item.Mirror (bytes 7 0)) → ⊥)
+item_examples : (ItemHasBytes (item.Mem (bytes 7 1))) × (ItemHasBytes (item.Mem (bytes 7 0)) → ⊥) × (ItemHasBytes (item.Node (bytes 7 0) 1) → ⊥)
+    × (ItemHasBytes (item.Claim (bytes 7 0) owner.Kernel) → ⊥) × (ItemHasBytes (item.Free (bytes 7 0)) → ⊥) × (ItemHasBytes (item.Mirror (bytes 7 0)) → ⊥)
 item_examples = (omega arith, λ some. omega arith, λ some. omega arith, λ some. omega arith, λ some. omega arith, λ some. omega arith)
 
 -- the newest item that covers a byte decides: a claim over a claim, and a byte that only the older claim covers; a free after a claim, a

@@ -12,8 +12,8 @@ use Rattle.memblock_model.specs.declared.item.Item.{Item}
 use Rattle.memblock_model.specs.declared.item.Item.TheVariants as item
 use Rattle.address_runs.specs.Edits.{cover_range, uncover_range, relabel_range, replace_in_range}
 use Rattle.memblock_model.specs.Labels.{LabelView, Labels, plain_label, with_node, with_mirror}
-use Rattle.memblock_model.specs.Items.{IsItem, AreItems, Owners, owners_after, no_owners, owner_of, memory_after, no_memory, memory_of, limit_after, limit_of, upward_after, upward_of}
-use Rattle.memblock_model.specs.Tables.{without_owner, reserved_of, reserved_after, table_of, table_after, room_after, room_of, moved_after, moved_to}
+use Rattle.memblock_model.specs.Items.{ItemHasBytes, ItemsHaveBytes, Owners, owners_after, no_owners, owner_of, memory_after, no_memory, memory_of, limit_after, limit_of, upward_after, upward_of}
+use Rattle.memblock_model.specs.Tables.{without_owner, reserved_labels, reserved_after, table_of, table_after, room_after, room_of, moved_after, moved_to}
 use Rattle.memblock_model.proofs.LabelLaws.{IsInFrame, frame_join, frame_back, trim_frames-local}
 
 pub owner_of-push : (items : List Item) (i : Item) → owner_of (items ++ i ∷ []) ≡ owners_after (owner_of items) i
@@ -45,21 +45,21 @@ free_at : (b : Bool) (old : Option Owner) → without_owner (if b then None else
 free_at true old = refl
 free_at false old = refl
 
-pub reserved_of-replaced : (r : RangeView) (o : Owner) (f : Owners) → reserved_of (replace_in_range r o f) ≡ cover_range r plain_label (reserved_of f)
-reserved_of-replaced r o f = λ k x. claim_at (covers r x) o (f x) k
+pub reserved_labels-replaced : (r : RangeView) (o : Owner) (f : Owners) → reserved_labels (replace_in_range r o f) ≡ cover_range r plain_label (reserved_labels f)
+reserved_labels-replaced r o f = λ k x. claim_at (covers r x) o (f x) k
 
-pub reserved_of-uncovered : (r : RangeView) (f : Owners) → reserved_of (uncover_range r f) ≡ uncover_range r (reserved_of f)
-reserved_of-uncovered r f = λ k x. free_at (covers r x) (f x) k
+pub reserved_labels-uncovered : (r : RangeView) (f : Owners) → reserved_labels (uncover_range r f) ≡ uncover_range r (reserved_labels f)
+reserved_labels-uncovered r f = λ k x. free_at (covers r x) (f x) k
 
-reserved_of-after : (f : Owners) (i : Item) → reserved_of (owners_after f i) ≡ reserved_after (reserved_of f) i
-reserved_of-after f (item.Claim range owner) = reserved_of-replaced range owner f
-reserved_of-after f (item.Free range) = reserved_of-uncovered range f
-reserved_of-after f i = refl
+reserved_labels-after : (f : Owners) (i : Item) → reserved_labels (owners_after f i) ≡ reserved_after (reserved_labels f) i
+reserved_labels-after f (item.Claim range owner) = reserved_labels-replaced range owner f
+reserved_labels-after f (item.Free range) = reserved_labels-uncovered range f
+reserved_labels-after f i = refl
 
 -- what a table says, its room and its place don't depend on the owners
 pub table_of-push : (w : Which) (items : List Item) (i : Item) → table_of w (items ++ i ∷ []) ≡ table_after w (table_of w items) i
 table_of-push which.Memory items i = memory_of-push items i
-table_of-push which.Reserved items i = ap reserved_of (owner_of-push items i) ∙ reserved_of-after (owner_of items) i
+table_of-push which.Reserved items i = ap reserved_labels (owner_of-push items i) ∙ reserved_labels-after (owner_of items) i
 
 -- what memory is in a frame depends on what it was there
 covers_alike : (r : RangeView) (v : LabelView) (f g : Labels) (y : ℕ) → f y ≡ g y → cover_range r v f y ≡ cover_range r v g y
@@ -84,6 +84,6 @@ memory_fold-local f g (i ∷ is) x alike y at_y = memory_fold-local (memory_afte
     (memory_after-local f g i x alike) y at_y
 
 -- one more item whose range isn't empty
-pub AreItems-push : (items : List Item) (i : Item) → AreItems items → IsItem i → AreItems (items ++ i ∷ [])
-AreItems-push [] i known some = (some, tt)
-AreItems-push (j ∷ is) i known some = (known.0, AreItems-push is i known.1 some)
+pub ItemsHaveBytes-push : (items : List Item) (i : Item) → ItemsHaveBytes items → ItemHasBytes i → ItemsHaveBytes (items ++ i ∷ [])
+ItemsHaveBytes-push [] i known some = (some, tt)
+ItemsHaveBytes-push (j ∷ is) i known some = (known.0, ItemsHaveBytes-push is i known.1 some)

@@ -12,7 +12,7 @@ use Rattle.bm_base.specs.Each.{each_from, each_in}
 use Rattle.memblock_model.specs.Labels.{LabelView, Labels, plain_label, with_node, with_mirror}
 use Rattle.memblock_model.specs.Items.{no_memory}
 use Rattle.memblock_model.specs.Tables.{table_of}
-use Rattle.memblock_model.specs.Search.{suits, fits_in, top_place_in, fits, best_place}
+use Rattle.memblock_model.specs.Search.{is_allowed_mirror, fits_in, top_place_in, fits, best_place}
 use Rattle.memblock_model.proofs.SearchLaws.{fits_in-parts, top_place_in-first, best_place_in-plain, best_place_in-last, best_place_in-fails, plain_or_none}
 use Rattle.memblock_model.proofs.ItemExamples.{bytes}
 
@@ -74,7 +74,7 @@ page_fits = refl
 page_ends : (b : ℕ) → fits_in false (table_of which.Memory small) (table_of which.Reserved small) page b ≡ true → b ≤ 0xF000
 page_ends b h = let high = (fits_in-parts false (table_of which.Memory small) (table_of which.Reserved small) page b h).high in omega arith
 
-small_is_plain : (x : ℕ) → suits true (table_of which.Memory small x) ≡ false
+small_is_plain : (x : ℕ) → is_allowed_mirror true (table_of which.Memory small x) ≡ false
 small_is_plain x = plain_or_none (covers (bytes 0 0x10000) x)
 
 best_page : best_place small page ≡ Some 0xF000
@@ -116,7 +116,7 @@ lowest_page = top_place_in-first false (table_of which.Memory turned) (table_of 
   first = λ b lt h. (fits_in-parts false (table_of which.Memory turned) (table_of which.Reserved turned) page b h).first;
 })
 
-turned_is_plain : (x : ℕ) → suits true (table_of which.Memory turned x) ≡ false
+turned_is_plain : (x : ℕ) → is_allowed_mirror true (table_of which.Memory turned x) ≡ false
 turned_is_plain x = plain_or_none (covers (bytes 0 0x10000) x)
 
 best_page_upward : best_place turned page ≡ Some 0x1000

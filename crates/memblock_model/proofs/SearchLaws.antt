@@ -12,7 +12,7 @@ use Rattle.bm_base.specs.Each.{each_in}
 use Rattle.memblock_model.specs.Labels.{LabelView, Labels, plain_label}
 use Rattle.memblock_model.specs.Same.{same_label}
 use Rattle.memblock_model.specs.declared.query.Mode.{Mode}
-use Rattle.memblock_model.specs.Search.{last_below, first_below, outermost_below, allows, suits, fits_in, top_place_in, best_place_in}
+use Rattle.memblock_model.specs.Search.{last_below, first_below, outermost_below, is_allowed_node, is_allowed_mirror, fits_in, top_place_in, best_place_in}
 use Rattle.memblock_model.proofs.SameLaws.{label_tells}
 use Rattle.bm_base.proofs.EachLaws.{each_in-all, each_in-each}
 
@@ -96,8 +96,8 @@ pub record IsPlace (mirror : Bool) (memory reserved : Labels) (q : Query) (a : �
   pub first : 4096 ≤ a
   pub high : a + q.size ≤ q.hi
   pub held : is_some (memory a) ≡ true
-  pub allowed : allows q.node (memory a) ≡ true
-  pub suited : suits mirror (memory a) ≡ true
+  pub allowed : is_allowed_node q.node (memory a) ≡ true
+  pub suited : is_allowed_mirror mirror (memory a) ≡ true
   pub label : (x : ℕ) → a ≤ x → x < a + q.size → memory x ≡ memory a
   pub free : (x : ℕ) → a ≤ x → x < a + q.size → reserved x ≡ None
 
@@ -168,7 +168,7 @@ unfit : (mirror : Bool) (memory reserved : Labels) (q : Query) (a : ℕ) → fit
 unfit mirror memory reserved q a fails =
     false_from_ne_true _ (λ fits. true≢false (sym (fits_unmirrored mirror memory reserved q a fits) ∙ fails))
 
-unsuited : (mirror : Bool) (memory reserved : Labels) (q : Query) (a : ℕ) → suits mirror (memory a) ≡ false
+unsuited : (mirror : Bool) (memory reserved : Labels) (q : Query) (a : ℕ) → is_allowed_mirror mirror (memory a) ≡ false
     → fits_in mirror memory reserved q a ≡ false
 unsuited mirror memory reserved q a fails =
     false_from_ne_true _ (λ fits. true≢false (sym (fits_in-parts mirror memory reserved q a fits).suited ∙ fails))
@@ -337,21 +337,21 @@ best_place_in-fails up memory reserved q none =
     (top_place_in-fails (record { mirror = false; up = up }) memory reserved q none)
 
 -- plain memory is not mirrored
-pub plain_or_none : (b : Bool) → suits true (if b then Some plain_label else None) ≡ false
+pub plain_or_none : (b : Bool) → is_allowed_mirror true (if b then Some plain_label else None) ≡ false
 plain_or_none true = refl
 plain_or_none false = refl
 
 -- if nothing is mirrored, it is the top place of any memory
-pub top_place_in-mirrorless : (up : Bool) (memory reserved : Labels) (q : Query) → ((x : ℕ) → suits true (memory x) ≡ false)
+pub top_place_in-mirrorless : (up : Bool) (memory reserved : Labels) (q : Query) → ((x : ℕ) → is_allowed_mirror true (memory x) ≡ false)
     → top_place_in (record { mirror = true; up = up }) memory reserved q ≡ None
 top_place_in-mirrorless up memory reserved q none = top_place_in-fails (record { mirror = true; up = up }) memory reserved q
     (λ b lt. unsuited true memory reserved q b (none b))
 
-pub best_place_in-plain : (up : Bool) (memory reserved : Labels) (q : Query) → ((x : ℕ) → suits true (memory x) ≡ false)
+pub best_place_in-plain : (up : Bool) (memory reserved : Labels) (q : Query) → ((x : ℕ) → is_allowed_mirror true (memory x) ≡ false)
     → best_place_in up memory reserved q ≡ top_place_in (record { mirror = false; up = up }) memory reserved q
 best_place_in-plain up memory reserved q none = best_place_in-other up memory reserved q (top_place_in-mirrorless up memory reserved q none)
 
 -- to show that an address is the best place if nothing is mirrored: it is the last one that fits
-pub best_place_in-last : (memory reserved : Labels) (q : Query) (a : ℕ) → ((x : ℕ) → suits true (memory x) ≡ false)
+pub best_place_in-last : (memory reserved : Labels) (q : Query) (a : ℕ) → ((x : ℕ) → is_allowed_mirror true (memory x) ≡ false)
     → IsLastBelow (fits_in false memory reserved q) (2 ^ 64) a → best_place_in false memory reserved q ≡ Some a
 best_place_in-last memory reserved q a none known = best_place_in-plain false memory reserved q none ∙ top_place_in-last false memory reserved q a known

@@ -10,7 +10,7 @@ use Rattle.memblock_model.specs.declared.item.Item.{Item}
 use Rattle.memblock_model.specs.declared.item.Item.TheVariants as item
 use Rattle.memblock_model.specs.Labels.{LabelView, Labels, plain_label, with_node}
 use Rattle.memblock_model.specs.Same.{same_label}
-use Rattle.memblock_model.specs.Tables.{table_of, records_for, records_of, pieces, room_of, table_place, table_bytes}
+use Rattle.memblock_model.specs.Tables.{table_of, records_for, records_of, uncovered_run_count, room_of, table_place, table_bytes}
 use Rattle.memblock_model.proofs.TableLaws.{records_for-is}
 use Rattle.memblock_model.proofs.ItemExamples.{bytes}
 
@@ -69,8 +69,8 @@ records_for_bare = sym (records_for-is (gaps_in_range (bytes 1 6) plain_label pa
       each = λ x. grind (arith, nat_tests);
     }))
 
-two_pieces : pieces (bytes 1 6) partly ≡ 2
-unfolding pieces
+two_pieces : uncovered_run_count (bytes 1 6) partly ≡ 2
+unfolding uncovered_run_count
 two_pieces = ap length records_for_bare
 
 -- room doubles for the table that grew, and is 128 at first

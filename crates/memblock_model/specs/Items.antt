@@ -12,17 +12,17 @@ use Rattle.memblock_model.specs.declared.item.Item.{Item}
 use Rattle.memblock_model.specs.declared.item.Item.TheVariants as item
 
 -- the range of the item, if it has one, isn't empty
-abbrev pub IsItem : Item → Type 0
-IsItem (item.Mem range) = 0 < range.size
-IsItem (item.Node range node) = 0 < range.size
-IsItem (item.Mirror range) = 0 < range.size
-IsItem (item.Claim range owner) = 0 < range.size
-IsItem (item.Free range) = 0 < range.size
-IsItem i = Unit {0}
+abbrev pub ItemHasBytes : Item → Type 0
+ItemHasBytes (item.Mem range) = 0 < range.size
+ItemHasBytes (item.Node range node) = 0 < range.size
+ItemHasBytes (item.Mirror range) = 0 < range.size
+ItemHasBytes (item.Claim range owner) = 0 < range.size
+ItemHasBytes (item.Free range) = 0 < range.size
+ItemHasBytes i = Unit {0}
 
-abbrev pub AreItems : List Item → Type 0
-AreItems [] = Unit {0}
-AreItems (i ∷ is) = IsItem i × AreItems is
+abbrev pub ItemsHaveBytes : List Item → Type 0
+ItemsHaveBytes [] = Unit {0}
+ItemsHaveBytes (i ∷ is) = ItemHasBytes i × ItemsHaveBytes is
 
 -- the owner of each byte
 abbrev pub Owners : Type 0

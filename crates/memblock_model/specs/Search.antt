@@ -30,16 +30,16 @@ outermost_below true p n = first_below p n
 outermost_below false p n = last_below p n
 
 -- whether a byte that carries this may be part of a place of the node, or of any node
-abbrev pub allows : Option ℕ → Option LabelView → Bool
-allows None carried = true
-allows (Some node) None = false
-allows (Some node) (Some label) = same_node_or_none label.node (Some node)
+abbrev pub is_allowed_node : Option ℕ → Option LabelView → Bool
+is_allowed_node None carried = true
+is_allowed_node (Some node) None = false
+is_allowed_node (Some node) (Some label) = same_node_or_none label.node (Some node)
 
 -- whether a byte that carries this may be part of a place in mirrored memory, or in any memory
-abbrev pub suits : Bool → Option LabelView → Bool
-suits false carried = true
-suits true None = false
-suits true (Some label) = label.mirror
+abbrev pub is_allowed_mirror : Bool → Option LabelView → Bool
+is_allowed_mirror false carried = true
+is_allowed_mirror true None = false
+is_allowed_mirror true (Some label) = label.mirror
 
 -- whether a place fits that begins at the address: the address is aligned and at or above the window's start and the second frame; the
 -- place ends in the window; all its bytes are unclaimed memory of one label; and that label has the query's node, and is mirrored if
@@ -47,7 +47,7 @@ suits true (Some label) = label.mirror
 unfoldable pub fits_in : Bool → Labels → Labels → Query → ℕ → Bool
 fits_in mirror memory reserved q a =
     (a % q.align == 0) && nat_le q.lo a && nat_le FRAME_SIZE a && nat_le (a + q.size) q.hi
-    && is_some (memory a) && allows q.node (memory a) && suits mirror (memory a)
+    && is_some (memory a) && is_allowed_node q.node (memory a) && is_allowed_mirror mirror (memory a)
     && each_in (record { base = a; size = q.size }) (λ x. agree same_label (memory x) (memory a) && is_none (reserved x))
 
 -- the greatest address that fits, or the least if the search goes up

@@ -18,13 +18,13 @@ abbrev pub without_owner : Option Owner → Option LabelView
 without_owner None = None
 without_owner (Some owner) = Some plain_label
 
-abbrev pub reserved_of : Owners → Labels
-reserved_of f x = without_owner (f x)
+abbrev pub reserved_labels : Owners → Labels
+reserved_labels f x = without_owner (f x)
 
 -- what a table says of each byte
 abbrev pub table_of : Which → List Item → Labels
 table_of which.Memory items = memory_of items
-table_of which.Reserved items = reserved_of (owner_of items)
+table_of which.Reserved items = reserved_labels (owner_of items)
 
 -- what the reserved table says after an item: a claim covers its range, whoever owned the bytes before
 abbrev pub reserved_after : Labels → Item → Labels
@@ -46,8 +46,8 @@ unfoldable pub records_of : Which → List Item → List (RunOf LabelView)
 records_of w items = records_for (table_of w items)
 
 -- the number of records that covering the range adds before any are merged (`memblock_add_range`, its count)
-unfoldable pub pieces : RangeView → Labels → ℕ
-pieces r f = length (records_for (gaps_in_range r plain_label f))
+unfoldable pub uncovered_run_count : RangeView → Labels → ℕ
+uncovered_run_count r f = length (records_for (gaps_in_range r plain_label f))
 
 -- the number of records that a table has room for: 128 (`INIT_MEMBLOCK_REGIONS`), doubled with each growth, whatever number the item has
 abbrev pub room_after : Which → ℕ → Item → ℕ

@@ -14,7 +14,7 @@ ghost use Rattle.memblock_model.specs.Labels.{Labels};
 ghost use Rattle.memblock_model.specs.Same.{same_label, same_owner};
 ghost use Rattle.memblock_model.specs.Items.{trim_frames, owners_after, owner_of, memory_after, memory_of, limit_after, limit_of, upward_after, upward_of, owner_runs_of};
 ghost use Rattle.memblock_model.specs.Tables.{table_of, table_after, room_of, room_after, moved_to, moved_after, records_of};
-ghost use Rattle.memblock_model.specs.Search.{suits, fits_in, top_place_in, best_place_in};
+ghost use Rattle.memblock_model.specs.Search.{is_allowed_mirror, fits_in, top_place_in, best_place_in};
 
 /// Law: an item appended to a list changes owners, memory, limit and direction as its definition
 /// says, at every address at once.
@@ -94,7 +94,7 @@ pub fn best_is_mirrored_first()
         best_place_in up memory reserved q
         ≡ top_place_in (record { mirror = false; up = up }) memory reserved q }
     ensures unmirrored { (up : Bool) (memory reserved : Labels) (q : Query) →
-        ((x : ℕ) → suits true (memory x) ≡ false) →
+        ((x : ℕ) → is_allowed_mirror true (memory x) ≡ false) →
         best_place_in up memory reserved q
         ≡ top_place_in (record { mirror = false; up = up }) memory reserved q }
     ensures none { (up : Bool) (memory reserved : Labels) (q : Query) (b : ℕ) →

@@ -4,13 +4,13 @@ use Rattle.std.proofs.Common.{◌≡◌, ℕ, suc, ◌+◌, ◌-◌, ◌*◌, �
 use Rattle.std.proofs.lemmas.Bool.{cases_Bool, cases_eq, cases_lt, cases_order}
 use Rattle.std.proofs.lemmas.Bool.Decides.{nat_tests}
 use Rattle.std.proofs.lemmas.List.{set_at, take_at, drop_at}
-use Rattle.phys_store.specs.Bytes.{Stored, byte_of, is_ready, bytes_at, Wrote}
+use Rattle.phys_store.specs.Bytes.{ExtentView, byte_of, is_prepared_at, bytes_at, WritesBytes}
 use Rattle.phys_store.proofs.ByteLists.{told_bytes}
 use Rattle.address_runs.specs.Runs.{RunOf}
 use Rattle.memblock_model.specs.Labels.{LabelView}
 use Rattle.memblock_ranges.specs.declared.region.Head.{Head}
-use Rattle.memblock_ranges.specs.Spelling.{run_in, spelling_of, records_at, FitsRecord, IsRecord}
-use Rattle.memblock_ranges.specs.Tables.{IsTable, outside, kept_of}
+use Rattle.memblock_ranges.specs.Spelling.{decode_record, encode_record, records_at, FitsRecord, IsRecord}
+use Rattle.memblock_ranges.specs.Tables.{IsTable, bytes_outside_table, unedited_part}
 use Rattle.memblock_ranges.proofs.SpellLaws.{same_bytes, same_records, split_records, length-records_at, length-fields_of, run_back, is_record}
 
 -- the list of records after the bytes of one or several have changed
@@ -20,19 +20,19 @@ module _ (f g : ℕ → ℕ) (a i : ℕ) (below : (x : ℕ) → a ≤ x → x < 
 
   pub put_list : (m : ℕ) (bs : List ℕ) → bytes_at g (a + 24 * i) 24 ≡ bs →
       ((x : ℕ) → a + 24 * i + 24 ≤ x → x < a + 24 * (i + suc m) → g x ≡ f x) →
-      records_at g a (i + suc m) ≡ set (records_at f a (i + suc m)) i (run_in bs)
+      records_at g a (i + suc m) ≡ set (records_at f a (i + suc m)) i (decode_record bs)
   unfolding records_at
   put_list m bs new behind =
       let back : records_at g (a + 24 * i + 24) m ≡ records_at f (a + 24 * i + 24) m =
       same_records f g (a + 24 * i + 24) (a + 24 * i + 24) m (λ k less. behind (a + 24 * i + 24 + k) (omega arith) (omega arith)) in
       split_records g a i (suc m) ∙ rw (front, new, back) refl
-      ∙ sym (ap (λ (rs : List (RunOf LabelView)). set rs i (run_in bs)) (split_records f a i (suc m))
-      ∙ set_at (records_at f a i) (run_in (bytes_at f (a + 24 * i) 24)) (records_at f (a + 24 * i + 24) m) (run_in bs) i
+      ∙ sym (ap (λ (rs : List (RunOf LabelView)). set rs i (decode_record bs)) (split_records f a i (suc m))
+      ∙ set_at (records_at f a i) (decode_record (bytes_at f (a + 24 * i) 24)) (records_at f (a + 24 * i + 24) m) (decode_record bs) i
       (length-records_at f a i))
 
   pub insert_list : (m : ℕ) (bs : List ℕ) → bytes_at g (a + 24 * i) 24 ≡ bs →
       ((k : ℕ) → k < 24 * m → g (a + 24 * i + 24 + k) ≡ f (a + 24 * i + k)) →
-      records_at g a (i + suc m) ≡ take i (records_at f a (i + m)) ++ run_in bs ∷ drop i (records_at f a (i + m))
+      records_at g a (i + suc m) ≡ take i (records_at f a (i + m)) ++ decode_record bs ∷ drop i (records_at f a (i + m))
   unfolding records_at
   insert_list m bs new moved =
       let back : records_at g (a + 24 * i + 24) m ≡ records_at f (a + 24 * i) m = same_records f g (a + 24 * i) (a + 24 * i + 24) m moved in
@@ -59,9 +59,9 @@ module _ (f g : ℕ → ℕ) (a i : ℕ) (below : (x : ℕ) → a ≤ x → x < 
 
 -- the bytes outside the table stay
 pub same_outside : (f g : ℕ → ℕ) (place room : ℕ) → ((x : ℕ) → IsTrue (nat_lt x place || nat_le (place + 24 * room) x) → g x ≡ f x) →
-    outside g place room ≡ outside f place room
+    bytes_outside_table g place room ≡ bytes_outside_table f place room
 same_outside f g place room same =
-    let at : (x : ℕ) → outside g place room x ≡ outside f place room x =
+    let at : (x : ℕ) → bytes_outside_table g place room x ≡ bytes_outside_table f place room x =
     λ x. elim (cases_Bool (nat_le place x && nat_lt x (place + 24 * room))) [
       | inl within ↦ rw within refl
       | inr out ↦ rw out (same x (grind (arith, nat_tests)))
@@ -69,7 +69,7 @@ same_outside f g place room same =
     λ j x. at x j
 
 -- the bytes that were written are read back
-written_is : (s t : List Stored) (at n : ℕ) (bs : List ℕ) → Wrote s t at n (λ k. get_or bs k 0) → n ≡ 24 → length bs ≡ 24 →
+written_is : (s t : List ExtentView) (at n : ℕ) (bs : List ℕ) → WritesBytes s t at n (λ k. get_or bs k 0) → n ≡ 24 → length bs ≡ 24 →
     bytes_at (byte_of t) at 24 ≡ bs
 written_is s t at n bs w count long =
     sym (told_bytes (byte_of t) at 24 bs long (λ k below. sym (w.within k (omega (arith, below, count)))))
@@ -79,21 +79,21 @@ pub record_there : (f g : ℕ → ℕ) (a b : ℕ) → ((k : ℕ) → k < 24 →
 record_there f g a b same known = subst IsRecord (sym (same_bytes f g a b 24 same)) known
 
 -- the table after an edit
-pub record Edited (s u : List Stored) (place room count : ℕ) (list : List (RunOf LabelView)) : Type 0 where
+pub record Edited (s u : List ExtentView) (place room count : ℕ) (list : List (RunOf LabelView)) : Type 0 where
   pub list_is : records_at (byte_of u) place count ≡ list
-  pub table : IsTable (byte_of u) (is_ready u) place room count
-  pub others : outside (byte_of u) place room ≡ outside (byte_of s) place room
-  pub ready : is_ready u ≡ is_ready s
+  pub table : IsTable (byte_of u) (is_prepared_at u) place room count
+  pub others : bytes_outside_table (byte_of u) place room ≡ bytes_outside_table (byte_of s) place room
+  pub ready : is_prepared_at u ≡ is_prepared_at s
 
 -- an edited table keeps the rest
-pub edited_kept : (s u : List Stored) (place room count : ℕ) (list : List (RunOf LabelView)) → Edited s u place room count list →
-    let h : Head = record { place = place; room = room; count = count } in kept_of u h ≡ kept_of s h
+pub edited_kept : (s u : List ExtentView) (place room count : ℕ) (list : List (RunOf LabelView)) → Edited s u place room count list →
+    let h : Head = record { place = place; room = room; count = count } in unedited_part u h ≡ unedited_part s h
 edited_kept s u place room count list e = λ j. record { place = place; room = room; others = e.others j; ready = e.ready j }
 
 -- a record is written over the i-th
-pub put_table : (s t : List Stored) (place room count i at n : ℕ) (r : RunOf LabelView) (bs : List ℕ) →
-    IsTable (byte_of s) (is_ready s) place room count →
-    i < count → FitsRecord r → bs ≡ spelling_of r → Wrote s t at n (λ k. get_or bs k 0) → at ≡ place + 24 * i → n ≡ length bs →
+pub put_table : (s t : List ExtentView) (place room count i at n : ℕ) (r : RunOf LabelView) (bs : List ℕ) →
+    IsTable (byte_of s) (is_prepared_at s) place room count →
+    i < count → FitsRecord r → bs ≡ encode_record r → WritesBytes s t at n (λ k. get_or bs k 0) → at ≡ place + 24 * i → n ≡ length bs →
     Edited s t place room count (set (records_at (byte_of s) place count) i r)
 put_table s t place room count i at n r bs table less fits is w here size =
     let f = byte_of s in
@@ -108,7 +108,7 @@ put_table s t place room count i at n r bs table less fits is w here size =
     let whole : i + suc m ≡ count = omega arith in
     let list = put_list f g place i (λ x from to. off x (grind (arith, nat_tests))) m bs new
     (λ x from to. off x (grind (arith, nat_tests))) in
-    let back : run_in bs ≡ r = ap run_in is ∙ run_back r fits in
+    let back : decode_record bs ≡ r = ap decode_record is ∙ run_back r fits in
     record {
       list_is = subst (λ c. records_at g place c ≡ set (records_at f place c) i r) whole
           (list ∙ ap (set (records_at f place (i + suc m)) i) back);
@@ -129,10 +129,10 @@ put_table s t place room count i at n r bs table less fits is w here size =
     }
 
 -- the records from the i-th on move up, and a record is written in the gap
-pub insert_table : (s t u : List Stored) (place room count i to rest at n : ℕ) (r : RunOf LabelView) (bs : List ℕ) →
-    IsTable (byte_of s) (is_ready s) place room count →
-    i ≤ count → count < room → FitsRecord r → bs ≡ spelling_of r →
-    Wrote s t to rest (λ k. byte_of s (at + k)) → Wrote t u at n (λ k. get_or bs k 0) →
+pub insert_table : (s t u : List ExtentView) (place room count i to rest at n : ℕ) (r : RunOf LabelView) (bs : List ℕ) →
+    IsTable (byte_of s) (is_prepared_at s) place room count →
+    i ≤ count → count < room → FitsRecord r → bs ≡ encode_record r →
+    WritesBytes s t to rest (λ k. byte_of s (at + k)) → WritesBytes t u at n (λ k. get_or bs k 0) →
     at ≡ place + 24 * i → to ≡ at + 24 → rest ≡ 24 * (count - i) → n ≡ length bs →
     Edited s u place room (count + 1) (take i (records_at (byte_of s) place count) ++ r ∷ drop i (records_at (byte_of s) place count))
 insert_table s t u place room count i to rest at n r bs table less space fits is v w here there left size =
@@ -151,7 +151,7 @@ insert_table s t u place room count i to rest at n r bs table less space fits is
     let whole : i + m ≡ count = omega arith in
     let more : i + suc m ≡ count + 1 = omega arith in
     let list = insert_list f g place i (λ x from below. off x (grind (arith, nat_tests))) m bs new moved in
-    let back : run_in bs ≡ r = ap run_in is ∙ run_back r fits in
+    let back : decode_record bs ≡ r = ap decode_record is ∙ run_back r fits in
     record {
       list_is = ap (λ c. records_at g place c) (sym more) ∙ list
           ∙ ap (λ q. take i (records_at f place (i + m)) ++ q ∷ drop i (records_at f place (i + m))) back
@@ -178,9 +178,9 @@ insert_table s t u place room count i to rest at n r bs table less space fits is
     }
 
 -- the records after the n ones from the i-th on move down, and the bytes that they leave are 0
-pub close_table : (s t u : List Stored) (place room count i n from to rest at size : ℕ)
-    → IsTable (byte_of s) (is_ready s) place room count →
-    i + n ≤ count → Wrote s t to rest (λ k. byte_of s (from + k)) → Wrote t u at size (λ _. 0) →
+pub close_table : (s t u : List ExtentView) (place room count i n from to rest at size : ℕ)
+    → IsTable (byte_of s) (is_prepared_at s) place room count →
+    i + n ≤ count → WritesBytes s t to rest (λ k. byte_of s (from + k)) → WritesBytes t u at size (λ _. 0) →
     from ≡ place + 24 * (i + n) → to ≡ place + 24 * i → rest ≡ 24 * (count - (i + n)) → at ≡ place + 24 * (count - n) → size ≡ 24 * n →
     Edited s u place room (count - n) (take i (records_at (byte_of s) place count) ++ drop (i + n) (records_at (byte_of s) place count))
 close_table s t u place room count i n from to rest at size table less v w from_is to_is rest_is at_is size_is =

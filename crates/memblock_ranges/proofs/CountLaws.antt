@@ -15,7 +15,7 @@ use Rattle.run_edits.proofs.CountLaws.{covered_length, uncovered_length, relabel
 use Rattle.memblock_model.specs.Labels.{LabelView, Labels, plain_label}
 use Rattle.memblock_model.specs.Same.{same_label}
 use Rattle.memblock_model.specs.Items.{trim_frames}
-use Rattle.memblock_model.specs.Tables.{records_for, pieces}
+use Rattle.memblock_model.specs.Tables.{records_for, uncovered_run_count}
 use Rattle.memblock_model.proofs.SameLaws.{label_tells}
 use Rattle.memblock_model.proofs.TableLaws.{records_for-runs, records_for-is, value_at-records, nothing-trimmed}
 use Rattle.memblock_ranges.proofs.EditLaws.{pieces_are}
@@ -23,8 +23,8 @@ use Rattle.memblock_ranges.proofs.PieceLaws.{edge_bare, one_at_most}
 use Rattle.memblock_ranges.proofs.TrimLaws.{Turns, turns_all, turns_next, trim_step, trim_all}
 
 pub length-covered : (r : RangeView) (v : LabelView) (f : Labels) → end_of r ≤ 2 ^ 64 → NothingFrom (2 ^ 64) f →
-    length (records_for (cover_range r v f)) ≤ length (records_for f) + pieces r f
-unfolding records_for pieces
+    length (records_for (cover_range r v f)) ≤ length (records_for f) + uncovered_run_count r f
+unfolding records_for uncovered_run_count
 length-covered r v f ends none = covered_length same_label label_tells r v plain_label f ends none
 
 pub length-uncovered : (r : RangeView) (f : Labels) → NothingFrom (2 ^ 64) f →
@@ -118,7 +118,7 @@ first_or_spike r f n = elim (cases_Bool (covers r 0)) as (λ _. one (covers r 0 
   | inr out ↦ let few = spikes_few r.base 0 n in rw out (omega (arith, few))
 ]
 
-pub few-pieces : (r : RangeView) (f : Labels) → end_of r ≤ 2 ^ 64 → NothingFrom (2 ^ 64) f → pieces r f ≤ length (records_for f) + 1
+pub few-pieces : (r : RangeView) (f : Labels) → end_of r ≤ 2 ^ 64 → NothingFrom (2 ^ 64) f → uncovered_run_count r f ≤ length (records_for f) + 1
 few-pieces r f ends none =
     let h : ℕ → Bool = λ x. covers r x && is_none (f x) in
     let known = records_for-runs f none in
@@ -138,8 +138,8 @@ few-pieces r f ends none =
 
 -- a range of which nothing is covered is one piece
 pub one-piece : (r : RangeView) (f : Labels) → end_of r ≤ 2 ^ 64 → 0 < r.size → ((x : ℕ) → r.base ≤ x → x < end_of r → f x ≡ None) →
-    pieces r f ≡ 1
-unfolding pieces
+    uncovered_run_count r f ≡ 1
+unfolding uncovered_run_count
 one-piece r f ends some blank =
     let g = gaps_in_range r plain_label f in
     let whole : RunOf LabelView = record { base = r.base; size = r.size; value = plain_label } in

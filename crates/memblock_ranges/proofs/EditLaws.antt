@@ -10,25 +10,25 @@ use Rattle.run_edits.proofs.AmendLaws.{amended_ends}
 use Rattle.run_edits.proofs.CountLaws.{room_by, covered_edges, pieces_ends}
 use Rattle.memblock_model.specs.Labels.{LabelView, Labels, plain_label}
 use Rattle.memblock_model.specs.Same.{same_label}
-use Rattle.memblock_model.specs.Tables.{records_for, pieces}
+use Rattle.memblock_model.specs.Tables.{records_for, uncovered_run_count}
 use Rattle.memblock_model.proofs.SameLaws.{label_tells}
 use Rattle.memblock_model.proofs.TableLaws.{records_for-is}
 use Rattle.memblock_ranges.specs.Tables.{AreRecords}
 
 -- the number of pieces is the number of runs of bare bytes that end in the range
 pub pieces_are : (r : RangeView) (f : Labels) → r.base + r.size ≤ 2 ^ 64 →
-    pieces r f ≡ total (edges same_label (gaps_in_range r plain_label f)) 0 (2 ^ 64)
-unfolding pieces records_for
+    uncovered_run_count r f ≡ total (edges same_label (gaps_in_range r plain_label f)) 0 (2 ^ 64)
+unfolding uncovered_run_count records_for
 pieces_are r f ends = pieces_ends same_label label_tells r plain_label f ends
 
 -- room for the pieces of a range is enough to cover it
 pub cover_room : (rs : List (RunOf LabelView)) (r : RangeView) (v : LabelView) (room : ℕ) → AreRecords rs → r.base + r.size ≤ 2 ^ 64 →
-    length rs + pieces r (value_at rs) ≤ room → HasRoomToEdit same_label (value_at rs) (cover_range r v (value_at rs)) room
+    length rs + uncovered_run_count r (value_at rs) ≤ room → HasRoomToEdit same_label (value_at rs) (cover_range r v (value_at rs)) room
 cover_room rs r v room known ends fits =
     let f = value_at rs in
     let count : length rs ≡ total (edges same_label f) 0 (2 ^ 64) = all_ends same_label label_tells rs known.runs known.within in
     let more = pieces_are r f ends in
-    room_by same_label label_tells f (cover_range r v f) (edges same_label (gaps_in_range r plain_label f)) (pieces r f) room
+    room_by same_label label_tells f (cover_range r v f) (edges same_label (gaps_in_range r plain_label f)) (uncovered_run_count r f) room
     (covered_edges same_label label_tells r v plain_label f)
     (λ at le. let parts = total-split (edges same_label (gaps_in_range r plain_label f)) 0 at (2 ^ 64 - at) (2 ^ 64) at (omega arith)
     (omega arith) in

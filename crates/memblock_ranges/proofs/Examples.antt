@@ -1,16 +1,16 @@
 -- Small tables, computed or proved by the laws: examples of bytes, of one table and of both.
 use Rattle.std.proofs.Common.{◌≡◌, ℕ, ◌-◌, ◌^◌, ◌<◌, true, false, Some, None, List, [], ◌∷◌, ◌++◌, replicate, refl, ap, arith}
 use Rattle.address_runs.proofs.RunsLaws.{behind}
-use Rattle.phys_store.specs.Bytes.{Stored, byte_of, bytes_at}
+use Rattle.phys_store.specs.Bytes.{ExtentView, byte_of, bytes_at}
 use Rattle.address_runs.specs.Runs.{RunOf, AreRuns}
 use Rattle.memblock_model.specs.Labels.{LabelView, plain_label, with_node, with_mirror}
 use Rattle.memblock_model.specs.declared.owner.Which.TheVariants as which
 use Rattle.memblock_model.specs.declared.owner.Owner.TheVariants as owner
 use Rattle.memblock_model.specs.declared.item.Item.TheVariants as item
 use Rattle.memblock_ranges.specs.declared.region.Head.{Head}
-use Rattle.memblock_ranges.specs.Spelling.{base_in, size_in, flags_in, node_in, region_in, fields_of, node_of_field, label_of, node_field, run_in, region_of, spelling_of, records_at, spelled_table, FitsRecord, IsRecord}
-use Rattle.memblock_ranges.specs.Tables.{outside, HasTable, AreRecords, Table, Contents, bytes_of, bytes_in, Overlaps, IsNodeOf, HaveNoNode, bytes_by}
-use Rattle.memblock_ranges.specs.Lent.{AreLent}
+use Rattle.memblock_ranges.specs.Spelling.{base_in, size_in, flags_in, node_in, decode_region, encode_fields, node_of_field, label_of, node_field, decode_record, region_of, encode_record, records_at, encode_table, FitsRecord, IsRecord}
+use Rattle.memblock_ranges.specs.Tables.{bytes_outside_table, HasTable, AreRecords, TableView, TablesView, bytes_of, bytes_in, OverlapsTable, IsNodeOf, HaveNoNode, bytes_of_head}
+use Rattle.memblock_ranges.specs.Lent.{AreRecordBytes}
 use Rattle.memblock_ranges.specs.Steps.{EndsInSpace}
 use Rattle.memblock_ranges.proofs.NewLaws.{first_head}
 
@@ -35,18 +35,18 @@ mirrored_run = record { base = 0x1000; size = 0x9E000; value = with_mirror in_no
 abbrev kernel_run : RunOf LabelView
 kernel_run = record { base = 0x1000000; size = 0x2000000; value = plain_label }
 
-region_examples : (region_in first_record ≡ region_of first_run) × (region_in mirrored_record ≡ region_of mirrored_run)
+region_examples : (decode_region first_record ≡ region_of first_run) × (decode_region mirrored_record ≡ region_of mirrored_run)
     × (region_of kernel_run ≡ record { base = 0x1000000; size = 0x2000000; flags = 0; node = 1024 })
 unfolding base_in size_in flags_in node_in
 region_examples = (refl, refl, refl)
 
-spelling_examples : (spelling_of first_run ≡ first_record) × (spelling_of mirrored_run ≡ mirrored_record)
-    × (fields_of 0x1000 0x9E000 2 0 ≡ mirrored_record)
-unfolding fields_of
+spelling_examples : (encode_record first_run ≡ first_record) × (encode_record mirrored_run ≡ mirrored_record)
+    × (encode_fields 0x1000 0x9E000 2 0 ≡ mirrored_record)
+unfolding encode_fields
 spelling_examples = (refl, refl, refl)
 
-run_examples : (run_in first_record ≡ first_run) × (run_in mirrored_record ≡ mirrored_run) × (run_in (spelling_of kernel_run) ≡ kernel_run)
-unfolding base_in size_in flags_in node_in fields_of
+run_examples : (decode_record first_record ≡ first_run) × (decode_record mirrored_record ≡ mirrored_run) × (decode_record (encode_record kernel_run) ≡ kernel_run)
+unfolding base_in size_in flags_in node_in encode_fields
 run_examples = (refl, refl, refl)
 
 -- 1,024 means no node, and 2 means mirrored, in both directions
@@ -75,20 +75,20 @@ no_fit = (
 )
 
 -- the empty list isn't a record, and neither are bytes with flags other than 0 and 2
-no_record : ¬ IsRecord [] × ¬ IsRecord (fields_of 0x1000 0x9E000 1 0)
-unfolding fields_of flags_in node_in
+no_record : ¬ IsRecord [] × ¬ IsRecord (encode_fields 0x1000 0x9E000 1 0)
+unfolding encode_fields flags_in node_in
 no_record = ((λ known. cc known.spells), λ known. let clash : 1 ≡ 0 = known.flags in absurd (omega arith))
 
 -- two adjacent records, and a table without a record
-abbrev two : List Stored
+abbrev two : List ExtentView
 two = record { base = 0; bytes = first_record ++ first_record } ∷ []
 
 two_records : (records_at (byte_of two) 0 2 ≡ first_run ∷ (first_run ∷ [])) × (records_at (byte_of two) 0 0 ≡ [])
 unfolding records_at bytes_at base_in size_in flags_in node_in
 two_records = (refl, refl)
 
-table_examples : (spelled_table (first_run ∷ []) 2 ≡ first_record ++ replicate 24 0) × (spelled_table [] 1 ≡ replicate 24 0)
-unfolding spelled_table fields_of
+table_examples : (encode_table (first_run ∷ []) 2 ≡ first_record ++ replicate 24 0) × (encode_table [] 1 ≡ replicate 24 0)
+unfolding encode_table encode_fields
 table_examples = (refl, refl)
 
 -- records in order; two that touch and have the same label aren't
@@ -98,7 +98,7 @@ ordered = (
   record { runs = (omega arith, tt, tt); within = λ x le. rw (behind first_run x (omega (arith, le))) refl },
 )
 
-not_lent : ¬ AreLent first_record 2
+not_lent : ¬ AreRecordBytes first_record 2
 not_lent lent = let long : 24 ≡ 48 = lent.long in absurd (omega arith)
 
 -- an empty table without room, at any address
@@ -118,8 +118,8 @@ empty_table : HasTable [] (nowhere 5) × ¬ HasTable [] (first_head 5)
 empty_table = (no_table 5 (omega arith), λ table. cc (table.prepared 5 (omega arith) (omega arith)))
 
 -- bytes outside a table, and in it
-outside_examples : (outside (λ x. 7) 24 1 23 ≡ 7) × (outside (λ x. 7) 24 1 24 ≡ 0) × (outside (λ x. 7) 24 1 47 ≡ 0)
-    × (outside (λ x. 7) 24 1 48 ≡ 7)
+outside_examples : (bytes_outside_table (λ x. 7) 24 1 23 ≡ 7) × (bytes_outside_table (λ x. 7) 24 1 24 ≡ 0) × (bytes_outside_table (λ x. 7) 24 1 47 ≡ 0)
+    × (bytes_outside_table (λ x. 7) 24 1 48 ≡ 7)
 outside_examples = (refl, refl, refl, refl)
 
 touching : ¬ AreRecords (first_run ∷ record { base = 0x9F000; size = 1; value = in_node_0 } ∷ [])
@@ -134,22 +134,22 @@ parted = (
 )
 
 -- both tables
-abbrev memory : Table
+abbrev memory : TableView
 memory = record { records = first_run ∷ []; place = 0x2FFE000; room = 128 }
 
-abbrev reserved : Table
+abbrev reserved : TableView
 reserved = record { records = kernel_run ∷ []; place = 0x2FFF000; room = 128 }
 
-abbrev both : Contents
+abbrev both : TablesView
 both = record { memory = memory; reserved = reserved; store = [] }
 
 bytes_examples : (bytes_of memory ≡ record { base = 0x2FFE000; size = 3072 })
     × (bytes_in which.Reserved both ≡ record { base = 0x2FFF000; size = 3072 })
-    × (bytes_by (nowhere 5) ≡ record { base = 5; size = 0 })
+    × (bytes_of_head (nowhere 5) ≡ record { base = 5; size = 0 })
 bytes_examples = (refl, refl, refl)
 
 -- the last byte of the memory table belongs to a table
-overlap : Overlaps both (record { base = 0x2FFEBFF; size = 1 })
+overlap : OverlapsTable both (record { base = 0x2FFEBFF; size = 1 })
 overlap = (which.Memory, (0x2FFEBFF, refl))
 
 node_examples : IsNodeOf which.Memory 1024 × IsNodeOf which.Memory 3 × IsNodeOf which.Reserved 1024 × ¬ IsNodeOf which.Reserved 3

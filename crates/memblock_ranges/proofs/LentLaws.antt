@@ -3,14 +3,14 @@ use Rattle.std.proofs.Common.{◌≡◌, ℕ, zero, suc, ◌+◌, ◌-◌, ◌*�
 use Rattle.std.specs.Prelude.{slice_index}
 use Rattle.std.specs.List.{slice_range}
 use Rattle.std.proofs.lemmas.List.{get_or-take, get_or-drop, length-take-le, length-drop}
-use Rattle.phys_store.specs.Bytes.{Stored, byte_of, bytes_at}
+use Rattle.phys_store.specs.Bytes.{ExtentView, byte_of, bytes_at}
 use Rattle.phys_store.proofs.ByteLists.{length-bytes_at, get-bytes_at, told_bytes}
 use Rattle.address_runs.specs.Runs.{RunOf}
 use Rattle.memblock_model.specs.Labels.{LabelView}
 use Rattle.memblock_ranges.specs.declared.region.Head.{Head}
-use Rattle.memblock_ranges.specs.Spelling.{flags_in, node_in, label_of, region_in, region_of, run_in, records_at, node_field, FitsRecord, IsRecord}
-use Rattle.memblock_ranges.specs.Tables.{HasTable, AreRecords, list_in}
-use Rattle.memblock_ranges.specs.Lent.{runs_in, AreLent}
+use Rattle.memblock_ranges.specs.Spelling.{flags_in, node_in, label_of, decode_region, region_of, decode_record, records_at, node_field, FitsRecord, IsRecord}
+use Rattle.memblock_ranges.specs.Tables.{HasTable, AreRecords, records_of_head}
+use Rattle.memblock_ranges.specs.Lent.{records_in_bytes, AreRecordBytes}
 use Rattle.memblock_ranges.proofs.SpellLaws.{length-records_at, get-records_at}
 use Rattle.memblock_ranges.proofs.TableSpelling.{node_field-label_of, region_back}
 
@@ -27,18 +27,18 @@ unfolding records_at
 runs_at f a m x zero within = refl
 runs_at f a m x (suc count) within =
     let there : a + (x + 24) ≡ a + x + 24 = omega arith in
-    ap (λ (bs : List ℕ). run_in bs ∷ records_at (slice_index (bytes_at f a m)) (x + 24) count) (piece_at f a m x 24 (omega arith))
-    ∙ ap (λ (rs : List (RunOf LabelView)). run_in (bytes_at f (a + x) 24) ∷ rs) (runs_at f a m (x + 24) count (omega arith)
+    ap (λ (bs : List ℕ). decode_record bs ∷ records_at (slice_index (bytes_at f a m)) (x + 24) count) (piece_at f a m x 24 (omega arith))
+    ∙ ap (λ (rs : List (RunOf LabelView)). decode_record (bytes_at f (a + x) 24) ∷ rs) (runs_at f a m (x + 24) count (omega arith)
     ∙ ap (λ (y : ℕ). records_at f y count) there)
 
 -- the table's records are those of the slice of its bytes
-pub lent_runs : (f : ℕ → ℕ) (a count : ℕ) → runs_in (bytes_at f a (24 * count)) count ≡ records_at f a count
+pub lent_runs : (f : ℕ → ℕ) (a count : ℕ) → records_in_bytes (bytes_at f a (24 * count)) count ≡ records_at f a count
 lent_runs f a count =
     let here : a + 0 ≡ a = omega arith in
     runs_at f a (24 * count) 0 count (omega arith) ∙ ap (λ (y : ℕ). records_at f y count) here
 
-pub are_lent : (s : List Stored) (h : Head) → HasTable s h → AreRecords (list_in s h)
-    → AreLent (bytes_at (byte_of s) h.place (24 * h.count)) h.count
+pub are_lent : (s : List ExtentView) (h : Head) → HasTable s h → AreRecords (records_of_head s h)
+    → AreRecordBytes (bytes_at (byte_of s) h.place (24 * h.count)) h.count
 are_lent s h table known = record {
   long = length-bytes_at (byte_of s) h.place (24 * h.count);
   small = omega (arith, table.few, table.fits);
@@ -58,14 +58,14 @@ slice_is bs from until n is within =
     (λ k less. get_or-take (until - from) (drop from bs) k 0 (omega arith) ∙ get_or-drop from bs k 0)
 
 -- the region at an index is that of the record there
-pub record_is : (bs : List ℕ) (count i : ℕ) (r : RunOf LabelView) → AreLent bs count → i < count
-    → region_in (bytes_at (slice_index bs) (24 * i) 24) ≡ region_of (get_or (runs_in bs count) i r)
+pub record_is : (bs : List ℕ) (count i : ℕ) (r : RunOf LabelView) → AreRecordBytes bs count → i < count
+    → decode_region (bytes_at (slice_index bs) (24 * i) 24) ≡ region_of (get_or (records_in_bytes bs count) i r)
 record_is bs count i r lent less =
     let here : 0 + 24 * i ≡ 24 * i = omega arith in
     region_back (bytes_at (slice_index bs) (24 * i) 24) (lent.each i less)
-    ∙ sym (ap region_of (get-records_at (slice_index bs) 0 count i r less ∙ ap (λ (y : ℕ). run_in (bytes_at (slice_index bs) y 24)) here))
+    ∙ sym (ap region_of (get-records_at (slice_index bs) 0 count i r less ∙ ap (λ (y : ℕ). decode_record (bytes_at (slice_index bs) y 24)) here))
 
-run_fits : (bs : List ℕ) → IsRecord bs → FitsRecord (run_in bs)
+run_fits : (bs : List ℕ) → IsRecord bs → FitsRecord (decode_record bs)
 run_fits bs known =
     let back = node_field-label_of (flags_in bs) (node_in bs) in
     record {
@@ -75,13 +75,13 @@ run_fits bs known =
           ∙ ap (label_of (flags_in bs)) back;
     }
 
-pub record_fits : (bs : List ℕ) (count i : ℕ) (r : RunOf LabelView) → AreLent bs count → i < count
-    → FitsRecord (get_or (runs_in bs count) i r)
+pub record_fits : (bs : List ℕ) (count i : ℕ) (r : RunOf LabelView) → AreRecordBytes bs count → i < count
+    → FitsRecord (get_or (records_in_bytes bs count) i r)
 record_fits bs count i r lent less =
     let here : 0 + 24 * i ≡ 24 * i = omega arith in
-    subst FitsRecord (sym (get-records_at (slice_index bs) 0 count i r less ∙ ap (λ (y : ℕ). run_in (bytes_at (slice_index bs) y 24)) here))
+    subst FitsRecord (sym (get-records_at (slice_index bs) 0 count i r less ∙ ap (λ (y : ℕ). decode_record (bytes_at (slice_index bs) y 24)) here))
     (run_fits (bytes_at (slice_index bs) (24 * i) 24) (lent.each i less))
 
 -- the number of records of a table in a store
-pub count_is : (s : List Stored) (h : Head) → length (list_in s h) ≡ h.count
+pub count_is : (s : List ExtentView) (h : Head) → length (records_of_head s h) ≡ h.count
 count_is s h = length-records_at (byte_of s) h.place h.count

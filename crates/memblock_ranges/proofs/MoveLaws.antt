@@ -3,9 +3,9 @@ use Rattle.std.proofs.Common.{◌≡◌, ℕ, ◌+◌, ◌-◌, ◌*◌, ◌^◌
 use Rattle.std.proofs.lemmas.Bool.{true_from_ne_false}
 use Rattle.std.proofs.lemmas.Bool.Decides.{nat_tests}
 use Rattle.bm_base.specs.Range.{RangeView, Meet}
-use Rattle.phys_store.specs.Bytes.{Stored, byte_of, is_ready, AreReady, Wrote}
+use Rattle.phys_store.specs.Bytes.{ExtentView, byte_of, is_prepared_at, ArePrepared, WritesBytes}
 use Rattle.memblock_ranges.specs.declared.region.Head.{Head}
-use Rattle.memblock_ranges.specs.Tables.{HasTable, bytes_by, Moves}
+use Rattle.memblock_ranges.specs.Tables.{HasTable, bytes_of_head, MovesTable}
 use Rattle.memblock_ranges.proofs.SpellLaws.{same_records}
 use Rattle.memblock_ranges.proofs.ByteEdits.{record_there}
 
@@ -25,18 +25,18 @@ copied_apart old room count place few apart =
     let over : old < place + 24 * count = grind (arith, nat_tests) in
     apart (both (bytes old (24 * room)) (bytes place (48 * room)) (max old place) (omega arith) (omega arith) (omega arith) (omega arith)))
 
-pub moves : (s t u v : List Stored) (g : Head) (place used free size : ℕ) → HasTable s g → place + 48 * g.room < 2 ^ 64 →
-    AreReady s place (48 * g.room) →
-    ¬ Meet (bytes_by g) (bytes place (48 * g.room)) →
-    Wrote s t place used (λ k. byte_of s (g.place + k)) → Wrote t u (place + used) free (λ _. 0) → Wrote u v g.place size (λ _. 0) →
+pub moves : (s t u v : List ExtentView) (g : Head) (place used free size : ℕ) → HasTable s g → place + 48 * g.room < 2 ^ 64 →
+    ArePrepared s place (48 * g.room) →
+    ¬ Meet (bytes_of_head g) (bytes place (48 * g.room)) →
+    WritesBytes s t place used (λ k. byte_of s (g.place + k)) → WritesBytes t u (place + used) free (λ _. 0) → WritesBytes u v g.place size (λ _. 0) →
     used ≡ 24 * g.count → free ≡ 48 * g.room - used → size ≡ 24 * g.room →
-    Moves s v g (record { place = place; room = 2 * g.room; count = g.count }) place
+    MovesTable s v g (record { place = place; room = 2 * g.room; count = g.count }) place
 moves s t u v g place used free size table small prepared apart copied cleared zeroed used_is free_is size_is =
     let old : ℕ = g.place in
     let few = table.few in
     let off : (x : ℕ) → place ≤ x → x < place + 48 * g.room → byte_of v x ≡ byte_of u x = λ x low high.
     zeroed.outside x (true_from_ne_false (nat_lt x old || nat_le (old + size) x) (λ within.
-    apart (both (bytes_by g) (bytes place (48 * g.room)) x (grind (arith, nat_tests)) (grind (arith, nat_tests)) low high))) in
+    apart (both (bytes_of_head g) (bytes place (48 * g.room)) x (grind (arith, nat_tests)) (grind (arith, nat_tests)) low high))) in
     let there : (k : ℕ) → k < 24 * g.count → byte_of v (place + k) ≡ byte_of s (old + k) = λ k less.
     off (place + k) (omega arith) (omega arith) ∙ cleared.outside (place + k) (grind (arith, nat_tests))
     ∙ copied.within k (omega (arith, used_is, less)) in
@@ -44,7 +44,7 @@ moves s t u v g place used free size table small prepared apart copied cleared z
     let here : place + used + (x - (place + used)) ≡ x = omega (arith, used_is, low) in
     off x (omega arith) high ∙ ap (byte_of u) (sym here)
     ∙ cleared.within (x - (place + used)) (omega (arith, used_is, free_is, low, high)) in
-    let ready : (x : ℕ) → is_ready v x ≡ is_ready s x = λ x. zeroed.ready x ∙ cleared.ready x ∙ copied.ready x in
+    let ready : (x : ℕ) → is_prepared_at v x ≡ is_prepared_at s x = λ x. zeroed.ready x ∙ cleared.ready x ∙ copied.ready x in
     record {
       list_is = same_records (byte_of s) (byte_of v) old place g.count there;
       table = record {

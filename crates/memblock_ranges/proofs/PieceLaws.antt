@@ -12,7 +12,7 @@ use Rattle.run_edits.specs.Ends.{edge, edges, total}
 use Rattle.run_edits.proofs.EndLaws.{total-split, total-quiet, total-next, edge-self}
 use Rattle.memblock_model.specs.Labels.{LabelView, Labels, plain_label}
 use Rattle.memblock_model.specs.Same.{same_label}
-use Rattle.memblock_model.specs.Tables.{pieces}
+use Rattle.memblock_model.specs.Tables.{uncovered_run_count}
 use Rattle.memblock_model.proofs.SameLaws.{label_tells}
 use Rattle.memblock_ranges.proofs.EditLaws.{pieces_are}
 
@@ -75,7 +75,7 @@ module _ (r : RangeView) (f : Labels) where
 
   -- past the range no further piece ends
   pub all_pieces : (count : ℕ) → r.base + r.size ≤ 2 ^ 64 → count ≡ total (edges same_label (gaps_in_range r plain_label f)) 0 (r.base + r.size) →
-      count ≡ pieces r f
+      count ≡ uncovered_run_count r f
   all_pieces count ends so_far =
       let g = gaps_in_range r plain_label f in
       let until : ℕ = r.base + r.size in

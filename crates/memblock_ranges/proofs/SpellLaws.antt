@@ -10,7 +10,7 @@ use Rattle.phys_store.proofs.ByteLists.{length-bytes_at, get-bytes_at, told_byte
 use Rattle.address_runs.specs.Runs.{RunOf}
 use Rattle.memblock_model.specs.Labels.{LabelView}
 use Rattle.memblock_ranges.specs.declared.region.Region.{Region}
-use Rattle.memblock_ranges.specs.Spelling.{base_in, size_in, flags_in, node_in, region_in, fields_of, label_of, flags_field, node_field, run_in, region_of, spelling_of, records_at, FitsRecord, IsRecord}
+use Rattle.memblock_ranges.specs.Spelling.{base_in, size_in, flags_in, node_in, decode_region, encode_fields, label_of, flags_field, node_field, decode_record, region_of, encode_record, records_at, FitsRecord, IsRecord}
 
 -- the same bytes at two places
 pub same_bytes : (f g : ℕ → ℕ) (a b n : ℕ) → ((k : ℕ) → k < n → g (b + k) ≡ f (a + k)) → bytes_at g b n ≡ bytes_at f a n
@@ -35,7 +35,7 @@ split_records f a (suc m) n =
     let more : suc m + n ≡ suc (m + n) = omega arith in
     let there : a + 24 + 24 * m ≡ a + 24 * suc m = omega arith in
     ap (λ k. records_at f a k) more
-    ∙ ap (λ (rs : List (RunOf LabelView)). run_in (bytes_at f a 24) ∷ rs)
+    ∙ ap (λ (rs : List (RunOf LabelView)). decode_record (bytes_at f a 24) ∷ rs)
     (split_records f (a + 24) m n ∙ ap (λ x. records_at f (a + 24) m ++ records_at f x n) there)
 
 pub length-records_at : (f : ℕ → ℕ) (a n : ℕ) → length (records_at f a n) ≡ n
@@ -43,12 +43,12 @@ unfolding records_at
 length-records_at f a zero = refl
 length-records_at f a (suc n) = let rest = length-records_at f (a + 24) n in omega (arith, rest)
 
-pub get-records_at : (f : ℕ → ℕ) (a n i : ℕ) (d : RunOf LabelView) → i < n → get_or (records_at f a n) i d ≡ run_in (bytes_at f (a + 24 * i) 24)
+pub get-records_at : (f : ℕ → ℕ) (a n i : ℕ) (d : RunOf LabelView) → i < n → get_or (records_at f a n) i d ≡ decode_record (bytes_at f (a + 24 * i) 24)
 unfolding records_at
 get-records_at f a zero i d below = absurd (omega arith)
-get-records_at f a (suc n) zero d below = ap (λ x. run_in (bytes_at f x 24)) (omega arith)
+get-records_at f a (suc n) zero d below = ap (λ x. decode_record (bytes_at f x 24)) (omega arith)
 get-records_at f a (suc n) (suc i) d below =
-    get-records_at f (a + 24) n i d (omega arith) ∙ ap (λ x. run_in (bytes_at f x 24)) (omega arith)
+    get-records_at f (a + 24) n i d (omega arith) ∙ ap (λ x. decode_record (bytes_at f x 24)) (omega arith)
 
 -- the lengths of the parts of a record's bytes
 long8 : (n : ℕ) → length (little_bytes 8 n) ≡ 8
@@ -57,8 +57,8 @@ long8 n = length-bytes_low_first 0 8 n
 long4 : (n : ℕ) → length (little_bytes 4 n) ≡ 4
 long4 n = length-bytes_low_first 0 4 n
 
-pub length-fields_of : (base size flags node : ℕ) → length (fields_of base size flags node) ≡ 24
-unfolding fields_of
+pub length-fields_of : (base size flags node : ℕ) → length (encode_fields base size flags node) ≡ 24
+unfolding encode_fields
 length-fields_of base size flags node =
     grind (arith, common_steps, long8 base, long8 size, long4 flags, long4 node)
 
@@ -71,42 +71,42 @@ behind_three a b c rest first second third =
     ap (λ (l : List ℕ). drop 20 (a ++ l)) (sym (append_assoc b c rest)) ∙ ap (drop 20) (sym (append_assoc a (b ++ c) rest))
     ∙ drop_at (a ++ (b ++ c)) rest 20 (omega (arith, first, second, third, length-append a (b ++ c), length-append b c))
 
-behind_base : (base size flags node : ℕ) → drop 8 (fields_of base size flags node) ≡ little_bytes 8 size
+behind_base : (base size flags node : ℕ) → drop 8 (encode_fields base size flags node) ≡ little_bytes 8 size
     ++ (little_bytes 4 flags ++ little_bytes 4 node)
-unfolding fields_of
+unfolding encode_fields
 behind_base base size flags node =
     drop_at (little_bytes 8 base) (little_bytes 8 size ++ (little_bytes 4 flags ++ little_bytes 4 node)) 8 (long8 base)
 
-behind_size : (base size flags node : ℕ) → drop 16 (fields_of base size flags node) ≡ little_bytes 4 flags ++ little_bytes 4 node
-unfolding fields_of
+behind_size : (base size flags node : ℕ) → drop 16 (encode_fields base size flags node) ≡ little_bytes 4 flags ++ little_bytes 4 node
+unfolding encode_fields
 behind_size base size flags node = behind_two (little_bytes 8 base) (little_bytes 8 size) (little_bytes 4 flags ++ little_bytes 4 node)
     (long8 base)
     (long8 size)
 
-behind_flags : (base size flags node : ℕ) → drop 20 (fields_of base size flags node) ≡ little_bytes 4 node
-unfolding fields_of
+behind_flags : (base size flags node : ℕ) → drop 20 (encode_fields base size flags node) ≡ little_bytes 4 node
+unfolding encode_fields
 behind_flags base size flags node =
     behind_three (little_bytes 8 base) (little_bytes 8 size) (little_bytes 4 flags) (little_bytes 4 node) (long8 base) (long8 size)
     (long4 flags)
 
 -- what was written is read back
-pub base-fields_of : (base size flags node : ℕ) → base < 2 ^ 64 → base_in (fields_of base size flags node) ≡ base
-unfolding base_in fields_of
+pub base-fields_of : (base size flags node : ℕ) → base < 2 ^ 64 → base_in (encode_fields base size flags node) ≡ base
+unfolding base_in encode_fields
 base-fields_of base size flags node small = little_number-reads_back 8 base
     (little_bytes 8 size ++ (little_bytes 4 flags ++ little_bytes 4 node)) small
 
-pub size-fields_of : (base size flags node : ℕ) → size < 2 ^ 64 → size_in (fields_of base size flags node) ≡ size
+pub size-fields_of : (base size flags node : ℕ) → size < 2 ^ 64 → size_in (encode_fields base size flags node) ≡ size
 unfolding size_in
 size-fields_of base size flags node small =
     ap (little_number 8) (behind_base base size flags node) ∙ little_number-reads_back 8 size
     (little_bytes 4 flags ++ little_bytes 4 node) small
 
-pub flags-fields_of : (base size flags node : ℕ) → flags < 2 ^ 32 → flags_in (fields_of base size flags node) ≡ flags
+pub flags-fields_of : (base size flags node : ℕ) → flags < 2 ^ 32 → flags_in (encode_fields base size flags node) ≡ flags
 unfolding flags_in
 flags-fields_of base size flags node small =
     ap (little_number 4) (behind_size base size flags node) ∙ little_number-reads_back 4 flags (little_bytes 4 node) small
 
-pub node-fields_of : (base size flags node : ℕ) → node < 2 ^ 32 → node_in (fields_of base size flags node) ≡ node
+pub node-fields_of : (base size flags node : ℕ) → node < 2 ^ 32 → node_in (encode_fields base size flags node) ≡ node
 unfolding node_in
 node-fields_of base size flags node small =
     ap (little_number 4) (behind_flags base size flags node) ∙ little_number-reads_back 4 node [] small
@@ -119,7 +119,7 @@ few_flags label = elim (cases_Bool label.mirror) as (λ _. flags_field label ≤
 ]
 
 -- all numbers of a record's bytes are read back
-read_back : (r : RunOf LabelView) → FitsRecord r → region_in (spelling_of r) ≡ region_of r
+read_back : (r : RunOf LabelView) → FitsRecord r → decode_region (encode_record r) ≡ region_of r
 read_back r fits =
     let few = few_flags r.value in
     let f = flags_field r.value in
@@ -130,16 +130,16 @@ read_back r fits =
     let node = node-fields_of r.base r.size f n (omega (arith, fits.node)) in
     λ j. record { base = base j; size = size j; flags = flags j; node = node j }
 
-pub run_back : (r : RunOf LabelView) → FitsRecord r → run_in (spelling_of r) ≡ r
+pub run_back : (r : RunOf LabelView) → FitsRecord r → decode_record (encode_record r) ≡ r
 run_back r fits =
     ap (λ (g : Region). record { base = g.base; size = g.size; value = label_of g.flags g.node }) (read_back r fits)
     ∙ ap (λ (l : LabelView). record { base = r.base; size = r.size; value = l }) fits.back
 
-pub is_record : (r : RunOf LabelView) → FitsRecord r → IsRecord (spelling_of r)
+pub is_record : (r : RunOf LabelView) → FitsRecord r → IsRecord (encode_record r)
 is_record r fits =
     let is = read_back r fits in
     record {
-      spells = sym (ap (λ (g : Region). fields_of g.base g.size g.flags g.node) is);
+      spells = sym (ap (λ (g : Region). encode_fields g.base g.size g.flags g.node) is);
       within = subst (λ (g : Region). g.base + g.size < 2 ^ 64) (sym is) fits.small;
       flags = ap (λ (g : Region). g.flags) is
           ∙ sym (ap (λ (l : LabelView). flags_field l) (ap (λ (g : Region). label_of g.flags g.node) is ∙ fits.back));

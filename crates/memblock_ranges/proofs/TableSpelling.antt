@@ -2,11 +2,11 @@
 use Rattle.std.proofs.Common.{◌≡◌, ℕ, zero, suc, ◌+◌, ◌-◌, ◌*◌, ◌<◌, ◌≤◌, ◌==◌, List, ◌∷◌, ◌++◌, replicate, refl, sym, ◌∙◌, ap, subst, arith, inl, inr}
 use Rattle.std.proofs.lemmas.Bool.{cases_Bool, eqb-true}
 use Rattle.std.proofs.lemmas.List.{get_or-replicate, length-replicate}
-use Rattle.phys_store.specs.Bytes.{Stored, byte_of, bytes_at}
+use Rattle.phys_store.specs.Bytes.{ExtentView, byte_of, bytes_at}
 use Rattle.phys_store.proofs.ByteLists.{told_bytes}
 use Rattle.memblock_ranges.specs.declared.region.Head.{Head}
-use Rattle.memblock_ranges.specs.Spelling.{base_in, size_in, flags_in, node_in, region_in, region_of, fields_of, label_of, node_field, run_in, spelling_of, records_at, spelled_table, IsRecord}
-use Rattle.memblock_ranges.specs.Tables.{HasTable, AreRecords, list_in, table_by, head_of, StandsIn}
+use Rattle.memblock_ranges.specs.Spelling.{base_in, size_in, flags_in, node_in, decode_region, region_of, encode_fields, label_of, node_field, decode_record, encode_record, records_at, encode_table, IsRecord}
+use Rattle.memblock_ranges.specs.Tables.{HasTable, AreRecords, records_of_head, table_of_head, head_of, IsInStore}
 use Rattle.memblock_ranges.proofs.SpellLaws.{length-records_at, get-records_at}
 
 -- a node field is read back from the label that it gives
@@ -16,10 +16,10 @@ node_field-label_of flags n = elim (cases_Bool (n == 1024)) as (λ _. node_field
   | inr some ↦ rw some refl
 ]
 
-pub spell_back : (bs : List ℕ) → IsRecord bs → spelling_of (run_in bs) ≡ bs
+pub spell_back : (bs : List ℕ) → IsRecord bs → encode_record (decode_record bs) ≡ bs
 spell_back bs known =
-    ap (λ (flags : ℕ). fields_of (base_in bs) (size_in bs) flags (node_field (label_of (flags_in bs) (node_in bs)))) (sym known.flags)
-    ∙ ap (fields_of (base_in bs) (size_in bs) (flags_in bs)) (node_field-label_of (flags_in bs) (node_in bs)) ∙ sym known.spells
+    ap (λ (flags : ℕ). encode_fields (base_in bs) (size_in bs) flags (node_field (label_of (flags_in bs) (node_in bs)))) (sym known.flags)
+    ∙ ap (encode_fields (base_in bs) (size_in bs) (flags_in bs)) (node_field-label_of (flags_in bs) (node_in bs)) ∙ sym known.spells
 
 pub split_bytes : (f : ℕ → ℕ) (a m n : ℕ) → bytes_at f a (m + n) ≡ bytes_at f a m ++ bytes_at f (a + m) n
 unfolding bytes_at
@@ -34,8 +34,8 @@ split_bytes f a (suc m) n =
     ∙ ap (λ (bs : List ℕ). f a ∷ bs) (split_bytes f (a + 1) m n ∙ ap (λ x. bytes_at f (a + 1) m ++ bytes_at f x n) there)
 
 spelled_from : (f : ℕ → ℕ) (count room a : ℕ) → count ≤ room → ((i : ℕ) → i < count → IsRecord (bytes_at f (a + 24 * i) 24)) →
-    ((x : ℕ) → a + 24 * count ≤ x → x < a + 24 * room → f x ≡ 0) → bytes_at f a (24 * room) ≡ spelled_table (records_at f a count) room
-unfolding records_at spelled_table
+    ((x : ℕ) → a + 24 * count ≤ x → x < a + 24 * room → f x ≡ 0) → bytes_at f a (24 * room) ≡ encode_table (records_at f a count) room
+unfolding records_at encode_table
 spelled_from f zero room a few known zeros =
     sym (told_bytes f a (24 * room) (replicate (24 * room) 0) (length-replicate (24 * room) 0)
     (λ k less. get_or-replicate (24 * room) k 0 0 less ∙ sym (zeros (a + k) (omega arith) (omega arith))))
@@ -43,7 +43,7 @@ spelled_from f (suc count) zero a few known zeros = absurd (omega arith)
 spelled_from f (suc count) (suc room) a few known zeros =
     let long : 24 * suc room ≡ 24 + 24 * room = omega arith in
     let here : a + 24 * 0 ≡ a = omega arith in
-    let first : spelling_of (run_in (bytes_at f a 24)) ≡ bytes_at f a 24 =
+    let first : encode_record (decode_record (bytes_at f a 24)) ≡ bytes_at f a 24 =
     spell_back (bytes_at f a 24) (subst (λ x. IsRecord (bytes_at f x 24)) here (known 0 (omega arith))) in
     let left : suc room - 1 ≡ room = omega arith in
     let rest = spelled_from f count room (a + 24) (omega arith)
@@ -52,16 +52,16 @@ spelled_from f (suc count) (suc room) a few known zeros =
     (λ x low high. zeros x (omega arith) (omega arith)) in
     ap (λ n. bytes_at f a n) long ∙ split_bytes f a 24 (24 * room)
     ∙ ap (λ (bs : List ℕ). bytes_at f a 24 ++ bs) rest
-    ∙ sym (ap (λ (bs : List ℕ). bs ++ spelled_table (records_at f (a + 24) count) (suc room - 1)) first
-    ∙ ap (λ n. bytes_at f a 24 ++ spelled_table (records_at f (a + 24) count) n) left)
+    ∙ sym (ap (λ (bs : List ℕ). bs ++ encode_table (records_at f (a + 24) count) (suc room - 1)) first
+    ∙ ap (λ n. bytes_at f a 24 ++ encode_table (records_at f (a + 24) count) n) left)
 
 -- the region of a record's bytes is that of the run that they describe
-pub region_back : (bs : List ℕ) → IsRecord bs → region_in bs ≡ region_of (run_in bs)
+pub region_back : (bs : List ℕ) → IsRecord bs → decode_region bs ≡ region_of (decode_record bs)
 region_back bs known =
     let node : node_in bs ≡ node_field (label_of (flags_in bs) (node_in bs)) = sym (node_field-label_of (flags_in bs) (node_in bs)) in
     λ j. record { base = base_in bs; size = size_in bs; flags = known.flags j; node = node j }
 
-pub stands : (s : List Stored) (h : Head) → HasTable s h → AreRecords (list_in s h) → StandsIn (table_by s h) s
+pub stands : (s : List ExtentView) (h : Head) → HasTable s h → AreRecords (records_of_head s h) → IsInStore (table_of_head s h) s
 stands s h table known =
     let count = length-records_at (byte_of s) h.place h.count in
     record {
@@ -76,6 +76,6 @@ stands s h table known =
       prepared = table.prepared;
     }
 
-pub head_is : (s : List Stored) (h : Head) → h ≡ head_of (table_by s h)
+pub head_is : (s : List ExtentView) (h : Head) → h ≡ head_of (table_of_head s h)
 head_is s h = ap (λ (n : ℕ). let g : Head = record { place = h.place; room = h.room; count = n } in
     g) (sym (length-records_at (byte_of s) h.place h.count))

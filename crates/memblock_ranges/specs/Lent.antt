@@ -7,13 +7,13 @@ use Rattle.memblock_ranges.specs.Spelling.{IsRecord, records_at}
 use Rattle.memblock_ranges.specs.Tables.{AreRecords}
 
 -- the runs of the first `count` records in the bytes
-abbrev pub runs_in : List ℕ → ℕ → List (RunOf LabelView)
-runs_in bs count = records_at (slice_index bs) 0 count
+abbrev pub records_in_bytes : List ℕ → ℕ → List (RunOf LabelView)
+records_in_bytes bs count = records_at (slice_index bs) 0 count
 
 -- the bytes are those of `count` records, which are in order
-pub record AreLent (bs : List ℕ) (count : ℕ) : Type 0 where
+pub record AreRecordBytes (bs : List ℕ) (count : ℕ) : Type 0 where
   pub long : length bs ≡ 24 * count
   pub small : 24 * count < 2 ^ 64
-  pub counted : length (runs_in bs count) ≡ count
+  pub counted : length (records_in_bytes bs count) ≡ count
   pub each : (i : ℕ) → i < count → IsRecord (bytes_at (slice_index bs) (24 * i) 24)
-  pub records : AreRecords (runs_in bs count)
+  pub records : AreRecords (records_in_bytes bs count)

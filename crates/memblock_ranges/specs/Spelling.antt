@@ -22,12 +22,12 @@ unfoldable pub node_in : List ℕ → ℕ
 node_in bs = little_number 4 (drop 20 bs)
 
 -- the record of any four numbers
-abbrev pub region_in : List ℕ → Region
-region_in bs = record { base = base_in bs; size = size_in bs; flags = flags_in bs; node = node_in bs }
+abbrev pub decode_region : List ℕ → Region
+decode_region bs = record { base = base_in bs; size = size_in bs; flags = flags_in bs; node = node_in bs }
 
 -- the four numbers as bytes
-unfoldable pub fields_of : ℕ → ℕ → ℕ → ℕ → List ℕ
-fields_of base size flags node = little_bytes 8 base ++ (little_bytes 8 size ++ (little_bytes 4 flags ++ little_bytes 4 node))
+unfoldable pub encode_fields : ℕ → ℕ → ℕ → ℕ → List ℕ
+encode_fields base size flags node = little_bytes 8 base ++ (little_bytes 8 size ++ (little_bytes 4 flags ++ little_bytes 4 node))
 
 -- the node that a node field means, and the label for flags and a node field
 abbrev pub node_of_field : ℕ → Option ℕ
@@ -44,24 +44,24 @@ abbrev pub node_field : LabelView → ℕ
 node_field label = unwrap_or label.node 1024
 
 -- the run that the bytes describe, and a run as a region and as bytes
-abbrev pub run_in : List ℕ → RunOf LabelView
-run_in bs = record { base = base_in bs; size = size_in bs; value = label_of (flags_in bs) (node_in bs) }
+abbrev pub decode_record : List ℕ → RunOf LabelView
+decode_record bs = record { base = base_in bs; size = size_in bs; value = label_of (flags_in bs) (node_in bs) }
 
 abbrev pub region_of : RunOf LabelView → Region
 region_of r = record { base = r.base; size = r.size; flags = flags_field r.value; node = node_field r.value }
 
-abbrev pub spelling_of : RunOf LabelView → List ℕ
-spelling_of r = fields_of r.base r.size (flags_field r.value) (node_field r.value)
+abbrev pub encode_record : RunOf LabelView → List ℕ
+encode_record r = encode_fields r.base r.size (flags_field r.value) (node_field r.value)
 
 -- the runs of n records, from address a on
 unfoldable pub records_at : (ℕ → ℕ) → ℕ → ℕ → List (RunOf LabelView)
 records_at f a zero = []
-records_at f a (suc n) = run_in (bytes_at f a 24) ∷ records_at f (a + 24) n
+records_at f a (suc n) = decode_record (bytes_at f a 24) ∷ records_at f (a + 24) n
 
 -- the bytes of a table with room for n records: those of its runs, then zeros
-unfoldable pub spelled_table : List (RunOf LabelView) → ℕ → List ℕ
-spelled_table [] n = replicate (24 * n) 0
-spelled_table (r ∷ rs) n = spelling_of r ++ spelled_table rs (n - 1)
+unfoldable pub encode_table : List (RunOf LabelView) → ℕ → List ℕ
+encode_table [] n = replicate (24 * n) 0
+encode_table (r ∷ rs) n = encode_record r ++ encode_table rs (n - 1)
 
 -- the run can be written as a record, and read back from it
 pub record FitsRecord (r : RunOf LabelView) : Type 0 where
@@ -72,7 +72,7 @@ pub record FitsRecord (r : RunOf LabelView) : Type 0 where
 -- the 24 bytes are a record: its end is below 2^64, its flags are those of a label, and its node
 -- is at most 1,024
 pub record IsRecord (bs : List ℕ) : Type 0 where
-  pub spells : bs ≡ fields_of (base_in bs) (size_in bs) (flags_in bs) (node_in bs)
+  pub spells : bs ≡ encode_fields (base_in bs) (size_in bs) (flags_in bs) (node_in bs)
   pub within : base_in bs + size_in bs < 2 ^ 64
   pub flags : flags_in bs ≡ flags_field (label_of (flags_in bs) (node_in bs))
   pub node : node_in bs ≤ 1024

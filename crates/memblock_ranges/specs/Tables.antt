@@ -1,13 +1,13 @@
 -- A table in the bytes of the memory that it describes, and both tables together.
 use Rattle.std.specs.Prelude.{◌≡◌, ℕ, ◌+◌, ◌*◌, ◌^◌, ◌<◌, ◌≤◌, Bool, true, false, if◌then◌else◌, Some, List, length, get_or, IsTrue}
 use Rattle.bm_base.specs.Range.{RangeView, covers, Meet}
-use Rattle.phys_store.specs.Bytes.{Stored, byte_of, is_ready, AreReady, bytes_at}
+use Rattle.phys_store.specs.Bytes.{ExtentView, byte_of, is_prepared_at, ArePrepared, bytes_at}
 use Rattle.address_runs.specs.Runs.{RunOf, AreRuns, value_at}
 use Rattle.address_runs.specs.Edits.{NothingFrom}
 use Rattle.memblock_model.specs.Labels.{LabelView, plain_label}
 use Rattle.memblock_model.specs.declared.owner.Which.{Which}
 use Rattle.memblock_model.specs.declared.owner.Which.TheVariants as which
-use Rattle.memblock_ranges.specs.Spelling.{IsRecord, region_in, region_of, records_at, spelled_table}
+use Rattle.memblock_ranges.specs.Spelling.{IsRecord, decode_region, region_of, records_at, encode_table}
 use Rattle.memblock_ranges.specs.declared.region.Head.{Head}
 
 -- a table at `place` with `room` slots, of which the first `count` have records (`struct
@@ -20,26 +20,26 @@ pub record IsTable (f : ℕ → ℕ) (ready : ℕ → Bool) (place room count : 
   pub prepared : (x : ℕ) → place ≤ x → x < place + 24 * room → IsTrue (ready x)
 
 -- the bytes outside the table, and 0 for those in it
-abbrev pub outside : (ℕ → ℕ) → ℕ → ℕ → ℕ → ℕ
-outside f place room x = if covers (record { base = place; size = 24 * room }) x then 0 else f x
+abbrev pub bytes_outside_table : (ℕ → ℕ) → ℕ → ℕ → ℕ → ℕ
+bytes_outside_table f place room x = if covers (record { base = place; size = 24 * room }) x then 0 else f x
 
 -- what an edit of a table's records keeps: its address and room, the bytes outside it, and which
 -- addresses are prepared
-pub record Kept : Type 0 where
+pub record UneditedPart : Type 0 where
   pub place : ℕ
   pub room : ℕ
   pub others : ℕ → ℕ
   pub ready : ℕ → Bool
 
-abbrev pub kept_of : List Stored → Head → Kept
-kept_of s h = record { place = h.place; room = h.room; others = outside (byte_of s) h.place h.room; ready = is_ready s }
+abbrev pub unedited_part : List ExtentView → Head → UneditedPart
+unedited_part s h = record { place = h.place; room = h.room; others = bytes_outside_table (byte_of s) h.place h.room; ready = is_prepared_at s }
 
 -- the table of a head in a store
-abbrev pub list_in : List Stored → Head → List (RunOf LabelView)
-list_in s h = records_at (byte_of s) h.place h.count
+abbrev pub records_of_head : List ExtentView → Head → List (RunOf LabelView)
+records_of_head s h = records_at (byte_of s) h.place h.count
 
-abbrev pub HasTable : List Stored → Head → Type 0
-HasTable s h = IsTable (byte_of s) (is_ready s) h.place h.room h.count
+abbrev pub HasTable : List ExtentView → Head → Type 0
+HasTable s h = IsTable (byte_of s) (is_prepared_at s) h.place h.room h.count
 
 -- records in order: none is empty, no two that touch have the same label, and none ends past 2^64
 pub record AreRecords (rs : List (RunOf LabelView)) : Type 0 where
@@ -48,59 +48,59 @@ pub record AreRecords (rs : List (RunOf LabelView)) : Type 0 where
 
 -- a table as contracts see it: its records as runs, its address, and the number of records that it
 -- has room for
-pub record Table : Type 0 where
+pub record TableView : Type 0 where
   pub records : List (RunOf LabelView)
   pub place : ℕ
   pub room : ℕ
 
 -- both tables, and the store that has their bytes
-pub record Contents : Type 0 where
-  pub memory : Table
-  pub reserved : Table
-  pub store : List Stored
+pub record TablesView : Type 0 where
+  pub memory : TableView
+  pub reserved : TableView
+  pub store : List ExtentView
 
-abbrev pub table_in : Which → Contents → Table
+abbrev pub table_in : Which → TablesView → TableView
 table_in which.Memory t = t.memory
 table_in which.Reserved t = t.reserved
 
-abbrev pub other_in : Which → Contents → Table
+abbrev pub other_in : Which → TablesView → TableView
 other_in which.Memory t = t.reserved
 other_in which.Reserved t = t.memory
 
-abbrev pub records_in : Which → Contents → List (RunOf LabelView)
+abbrev pub records_in : Which → TablesView → List (RunOf LabelView)
 records_in w t = (table_in w t).records
 
-abbrev pub place_in : Which → Contents → ℕ
+abbrev pub place_in : Which → TablesView → ℕ
 place_in w t = (table_in w t).place
 
-abbrev pub room_in : Which → Contents → ℕ
+abbrev pub room_in : Which → TablesView → ℕ
 room_in w t = (table_in w t).room
 
 -- the bytes of a table: 24 for each record that it has room for
-abbrev pub bytes_of : Table → RangeView
+abbrev pub bytes_of : TableView → RangeView
 bytes_of t = record { base = t.place; size = 24 * t.room }
 
-abbrev pub bytes_in : Which → Contents → RangeView
+abbrev pub bytes_in : Which → TablesView → RangeView
 bytes_in w t = bytes_of (table_in w t)
 
 -- some address of the range belongs to a table
-abbrev pub Overlaps : Contents → RangeView → Type 0
-Overlaps t r = (w : Which) × Meet (bytes_in w t) r
+abbrev pub OverlapsTable : TablesView → RangeView → Type 0
+OverlapsTable t r = (w : Which) × Meet (bytes_in w t) r
 
 -- where a table lies, and how many records it has
-abbrev pub head_of : Table → Head
+abbrev pub head_of : TableView → Head
 head_of t = record { place = t.place; room = t.room; count = length t.records }
 
 -- The table is in the store. Its records are in order and fit, and each can be read from its 24
 -- bytes. All bytes of the table are prepared: those of its records, then zeros.
-pub record StandsIn (t : Table) (store : List Stored) : Type 0 where
+pub record IsInStore (t : TableView) (store : List ExtentView) : Type 0 where
   pub few : length t.records ≤ t.room
   pub fits : t.place + 24 * t.room < 2 ^ 64
   pub records : AreRecords t.records
-  pub bytes : bytes_at (byte_of store) t.place (24 * t.room) ≡ spelled_table t.records t.room
+  pub bytes : bytes_at (byte_of store) t.place (24 * t.room) ≡ encode_table t.records t.room
   pub regions : (i : ℕ) (r : RunOf LabelView) → i < length t.records →
-      region_in (bytes_at (byte_of store) (t.place + 24 * i) 24) ≡ region_of (get_or t.records i r)
-  pub prepared : AreReady store t.place (24 * t.room)
+      decode_region (bytes_at (byte_of store) (t.place + 24 * i) 24) ≡ region_of (get_or t.records i r)
+  pub prepared : ArePrepared store t.place (24 * t.room)
 
 -- the node fields that a new record may have: in the reserved table only 1,024, so none
 -- (`memblock_add_range` with `MAX_NUMNODES`)
@@ -113,28 +113,28 @@ abbrev pub HaveNoNode : List (RunOf LabelView) → Type 0
 HaveNoNode rs = (x : ℕ) (label : LabelView) → value_at rs x ≡ Some label → label ≡ plain_label
 
 -- the table of a head, as contracts see it
-abbrev pub table_by : List Stored → Head → Table
-table_by s h = record { records = list_in s h; place = h.place; room = h.room }
+abbrev pub table_of_head : List ExtentView → Head → TableView
+table_of_head s h = record { records = records_of_head s h; place = h.place; room = h.room }
 
-abbrev pub bytes_by : Head → RangeView
-bytes_by h = record { base = h.place; size = 24 * h.room }
+abbrev pub bytes_of_head : Head → RangeView
+bytes_of_head h = record { base = h.place; size = 24 * h.room }
 
 -- two tables in one store: the records of both are in order, and the tables have no byte in common
-pub record AreTables (s : List Stored) (m r : Head) : Type 0 where
+pub record AreTables (s : List ExtentView) (m r : Head) : Type 0 where
   pub memory : HasTable s m
   pub reserved : HasTable s r
-  pub apart : ¬ Meet (bytes_by m) (bytes_by r)
-  pub memory_records : AreRecords (list_in s m)
-  pub reserved_records : AreRecords (list_in s r)
-  pub plain : HaveNoNode (list_in s r)
+  pub apart : ¬ Meet (bytes_of_head m) (bytes_of_head r)
+  pub memory_records : AreRecords (records_of_head s m)
+  pub reserved_records : AreRecords (records_of_head s r)
+  pub plain : HaveNoNode (records_of_head s r)
 
 -- the table of head g moves to `place` with twice the room; its old bytes are 0, and nothing else
 -- changes
-pub record Moves (s t : List Stored) (g h : Head) (place : ℕ) : Type 0 where
-  pub list_is : list_in t h ≡ list_in s g
+pub record MovesTable (s t : List ExtentView) (g h : Head) (place : ℕ) : Type 0 where
+  pub list_is : records_of_head t h ≡ records_of_head s g
   pub table : HasTable t h
   pub place_is : h.place ≡ place
   pub room_is : h.room ≡ 2 * g.room
-  pub left : (x : ℕ) → covers (bytes_by g) x ≡ true → byte_of t x ≡ 0
-  pub elsewhere : (x : ℕ) → covers (bytes_by h) x ≡ false → covers (bytes_by g) x ≡ false → byte_of t x ≡ byte_of s x
-  pub ready : (x : ℕ) → is_ready t x ≡ is_ready s x
+  pub left : (x : ℕ) → covers (bytes_of_head g) x ≡ true → byte_of t x ≡ 0
+  pub elsewhere : (x : ℕ) → covers (bytes_of_head h) x ≡ false → covers (bytes_of_head g) x ≡ false → byte_of t x ≡ byte_of s x
+  pub ready : (x : ℕ) → is_prepared_at t x ≡ is_prepared_at s x

@@ -8,7 +8,7 @@ ghost use Rattle.memblock_model.specs.declared.owner.Which.{Which};
 ghost use Rattle.memblock_model.specs.declared.item.Item.{Item};
 ghost use Rattle.memblock_model.specs.Labels.{LabelView, Labels};
 ghost use Rattle.memblock_model.specs.Items.{trim_frames};
-ghost use Rattle.memblock_model.specs.Tables.{table_of, table_after, records_for, records_of, pieces};
+ghost use Rattle.memblock_model.specs.Tables.{table_of, table_after, records_for, records_of, uncovered_run_count};
 ghost use Rattle.memblock_ranges.specs.Steps.{EndsInSpace};
 
 /// Law: covering a range adds at most as many records as the range has pieces that aren't covered
@@ -16,7 +16,7 @@ ghost use Rattle.memblock_ranges.specs.Steps.{EndsInSpace};
 /// at most two (`memblock_isolate_range`), and trimming none.
 pub fn edits_add_few_records()
     ensures covered { (r : RangeView) (label : LabelView) (f : Labels) → end_of r ≤ 2 ^ 64 → NothingFrom (2 ^ 64) f →
-        length (records_for (cover_range r label f)) ≤ length (records_for f) + pieces r f }
+        length (records_for (cover_range r label f)) ≤ length (records_for f) + uncovered_run_count r f }
     ensures uncovered { (r : RangeView) (f : Labels) → NothingFrom (2 ^ 64) f →
         length (records_for (uncover_range r f)) ≤ length (records_for f) + 1 }
     ensures relabelled { (r : RangeView) (change : LabelView → LabelView) (f : Labels) → NothingFrom (2 ^ 64) f →
@@ -29,9 +29,9 @@ pub fn edits_add_few_records()
 /// isn't empty and none of it is covered.
 pub fn pieces_are_few()
     ensures few { (r : RangeView) (f : Labels) → end_of r ≤ 2 ^ 64 → NothingFrom (2 ^ 64) f →
-        pieces r f ≤ length (records_for f) + 1 }
+        uncovered_run_count r f ≤ length (records_for f) + 1 }
     ensures one { (r : RangeView) (f : Labels) → end_of r ≤ 2 ^ 64 → 0 < r.size →
-        ((x : ℕ) → r.base ≤ x → x < end_of r → f x ≡ None) → pieces r f ≡ 1 }
+        ((x : ℕ) → r.base ≤ x → x < end_of r → f x ≡ None) → uncovered_run_count r f ≡ 1 }
 {}
 
 /// Law: if a table has the records of a list of items and is edited as one more item says, it has

@@ -2,13 +2,13 @@
 //! the head.
 ghost use Rattle.std.specs.Prelude.{◌≡◌, ◌+◌, ◌*◌, ◌^◌, ◌<◌, length, get_or};
 ghost use Rattle.bm_base.specs.Range.{Meet};
-ghost use Rattle.phys_store.specs.Bytes.{AreReady};
+ghost use Rattle.phys_store.specs.Bytes.{ArePrepared};
 ghost use Rattle.address_runs.specs.Runs.{RunOf};
 ghost use Rattle.memblock_model.specs.Labels.{LabelView};
 ghost use Rattle.memblock_ranges.specs.Spelling.{region_of, FitsRecord};
-ghost use Rattle.memblock_ranges.specs.Tables.{HasTable, list_in, bytes_by, Moves, AreRecords};
+ghost use Rattle.memblock_ranges.specs.Tables.{HasTable, records_of_head, bytes_of_head, MovesTable, AreRecords};
 
-use crate::live::Seen;
+use crate::live::TableRef;
 use crate::record::region_of;
 use crate::records::Records;
 use crate::region::{Head, RECORD_SIZE, Region};
@@ -21,9 +21,9 @@ use run_edits::Rows;
 pub fn relocate(store: &mut Store, head: &mut Head, place: u64)
     requires table { HasTable store.old head.old }
     requires small { place + 48 * head.old.room < 2 ^ 64 }
-    requires prepared { AreReady store.old place (48 * head.old.room) }
-    requires apart { ¬ Meet (bytes_by head.old) (record { base = place; size = 48 * head.old.room }) }
-    ensures { Moves store.old store.new head.old head.new place }
+    requires prepared { ArePrepared store.old place (48 * head.old.room) }
+    requires apart { ¬ Meet (bytes_of_head head.old) (record { base = place; size = 48 * head.old.room }) }
+    ensures { MovesTable store.old store.new head.old head.new place }
 {
     let Head {
         place: old,
@@ -31,7 +31,7 @@ pub fn relocate(store: &mut Store, head: &mut Head, place: u64)
         count,
     } = *head;
     let used = RECORD_SIZE * count;
-    store.copy(old, place, used);
+    store.copy_bytes(old, place, used);
     let free = Range {
         base: place + used,
         size: 2 * RECORD_SIZE * room - used,
@@ -52,19 +52,19 @@ pub fn relocate(store: &mut Store, head: &mut Head, place: u64)
 /// Returns the record at index `i`, as plain numbers.
 pub fn region(store: &Store, head: &Head, i: u64) -> Region
     requires table { HasTable store.now head.now }
-    requires within { i < length (list_in store.now head.now) }
-    ensures region { (r : RunOf LabelView) → result ≡ region_of (get_or (list_in store.now head.now) i r) }
-    ensures fits { (r : RunOf LabelView) → FitsRecord (get_or (list_in store.now head.now) i r) }
+    requires within { i < length (records_of_head store.now head.now) }
+    ensures region { (r : RunOf LabelView) → result ≡ region_of (get_or (records_of_head store.now head.now) i r) }
+    ensures fits { (r : RunOf LabelView) → FitsRecord (get_or (records_of_head store.now head.now) i r) }
 {
-    let seen = Seen { store, head };
+    let seen = TableRef { store, head };
     region_of(&seen.get(i))
 }
 
 /// Returns a reader for the records of the head's table.
 pub fn records<'a>(store: &'a Store, head: &Head) -> Records<'a>
     requires table { HasTable store.now head.now }
-    requires records { AreRecords (list_in store.now head.now) }
-    ensures { result ≡ list_in store.now head.now }
+    requires records { AreRecords (records_of_head store.now head.now) }
+    ensures { result ≡ records_of_head store.now head.now }
 {
     Records::of(
         store.slice(head.place, RECORD_SIZE * head.count),
@@ -75,7 +75,7 @@ pub fn records<'a>(store: &'a Store, head: &Head) -> Records<'a>
 /// Returns the range of the table's bytes: all of its room.
 pub fn bytes(head: &Head) -> Range
     requires { head.now.place + 24 * head.now.room < 2 ^ 64 }
-    ensures { result ≡ bytes_by head.now }
+    ensures { result ≡ bytes_of_head head.now }
 {
     Range {
         base: head.place,

@@ -1,9 +1,9 @@
 //! Records as edits see them (runs of addresses with one label), and their conversion from and to
 //! bytes. No other file of this crate converts a label.
 ghost use Rattle.std.specs.Prelude.{◌≡◌, ◌+◌, ◌^◌, ◌<◌, ◌≤◌, length};
-ghost use Rattle.memblock_ranges.specs.Spelling.{fields_of, node_of_field, label_of, flags_field, node_field, run_in, spelling_of, region_of, FitsRecord, IsRecord};
+ghost use Rattle.memblock_ranges.specs.Spelling.{encode_fields, node_of_field, label_of, flags_field, node_field, decode_record, encode_record, region_of, FitsRecord, IsRecord};
 
-use crate::region::{RECORD_SIZE, Region, read_region};
+use crate::region::{RECORD_SIZE, Region, decode_region};
 use address_runs::RunOf;
 use bm_base::Range;
 use byteorder::{ByteOrder, LittleEndian};
@@ -44,12 +44,12 @@ pub fn node_field(label: Label) -> u32
 }
 
 /// Decodes a record from 24 bytes.
-pub fn read_record(bytes: &[u8]) -> Record
+pub fn decode_record(bytes: &[u8]) -> Record
     requires long { length bytes.now ≡ 24 }
     requires record { IsRecord bytes.now }
-    ensures { result ≡ run_in bytes.now }
+    ensures { result ≡ decode_record bytes.now }
 {
-    let region = read_region(bytes);
+    let region = decode_region(bytes);
     RunOf {
         range: Range {
             base: region.base,
@@ -60,9 +60,9 @@ pub fn read_record(bytes: &[u8]) -> Record
 }
 
 /// Encodes the four numbers, little-endian.
-#[tactic(auto, unfolding(crate::specs::Spelling::fields_of))]
-fn write_fields(base: u64, size: u64, flags: u32, node: u32) -> [u8; 24]
-    ensures { result ≡ fields_of base size flags node }
+#[tactic(auto, unfolding(crate::specs::Spelling::encode_fields))]
+fn encode_fields(base: u64, size: u64, flags: u32, node: u32) -> [u8; 24]
+    ensures { result ≡ encode_fields base size flags node }
 {
     let mut bytes = [0; RECORD_SIZE as usize];
     LittleEndian::write_u64(&mut bytes, base);
@@ -73,11 +73,11 @@ fn write_fields(base: u64, size: u64, flags: u32, node: u32) -> [u8; 24]
 }
 
 /// Encodes the record in 24 bytes, from which it can be decoded again.
-pub fn spell(record: &Record) -> [u8; 24]
-    ensures bytes { result ≡ spelling_of record.now }
+pub fn encode_record(record: &Record) -> [u8; 24]
+    ensures bytes { result ≡ encode_record record.now }
     ensures fits { FitsRecord record.now }
 {
-    write_fields(
+    encode_fields(
         record.range.base,
         record.range.size,
         record.value.flags(),

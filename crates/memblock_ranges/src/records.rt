@@ -7,7 +7,7 @@ ghost use Rattle.memblock_ranges.specs.Spelling.{region_of, FitsRecord};
 ghost use Rattle.memblock_ranges.specs.Tables.{AreRecords};
 
 use crate::record::label_of;
-use crate::region::{RECORD_SIZE, Region, read_region};
+use crate::region::{RECORD_SIZE, Region, decode_region};
 use memblock_model::Label;
 use std::marker::Model;
 
@@ -22,22 +22,22 @@ impl<'a> Model for Records<'a> {
     ghost use Rattle.std.specs.Prelude.{List};
     ghost use Rattle.address_runs.specs.Runs.{RunOf};
     ghost use Rattle.memblock_model.specs.Labels.{LabelView};
-    ghost use Rattle.memblock_ranges.specs.Lent.{runs_in, AreLent};
+    ghost use Rattle.memblock_ranges.specs.Lent.{records_in_bytes, AreRecordBytes};
 
     ghost Value = { List (RunOf LabelView) };
 
-    ghost view = { λ r. runs_in r.bytes.now r.count };
+    ghost view = { λ r. records_in_bytes r.bytes.now r.count };
 
-    ghost invariant = { λ r. AreLent r.bytes.now r.count };
+    ghost invariant = { λ r. AreRecordBytes r.bytes.now r.count };
 }
 
 impl<'a> Records<'a> {
-    ghost use Rattle.memblock_ranges.specs.Lent.{runs_in, AreLent};
+    ghost use Rattle.memblock_ranges.specs.Lent.{records_in_bytes, AreRecordBytes};
 
     /// Wraps the bytes of `count` records.
     pub(crate) fn of(bytes: &'a [u8], count: u64) -> Records<'a>
-        requires { AreLent bytes.now count }
-        ensures { result ≡ runs_in bytes.entry.now count }
+        requires { AreRecordBytes bytes.now count }
+        ensures { result ≡ records_in_bytes bytes.entry.now count }
     {
         Records { bytes, count }
     }
@@ -61,7 +61,7 @@ impl Records<'_> {
     {
         let bytes = self.bytes;
         let from = (RECORD_SIZE * i) as usize;
-        read_region(&bytes[from..from + RECORD_SIZE as usize])
+        decode_region(&bytes[from..from + RECORD_SIZE as usize])
     }
 
     /// Returns the label of the record at index `i`: its node and whether it is mirrored.

@@ -2,7 +2,7 @@
 //! invariant. It also reads a table's record if only the store and the head are at hand.
 ghost use Rattle.std.specs.Prelude.{◌≡◌, ◌+◌, ◌*◌, ◌^◌, ◌<◌, ◌≤◌, length};
 ghost use Rattle.phys_store.specs.Bytes.{byte_of, bytes_at};
-ghost use Rattle.memblock_ranges.specs.Spelling.{region_in};
+ghost use Rattle.memblock_ranges.specs.Spelling.{decode_region};
 
 use byteorder::{ByteOrder, LittleEndian};
 use phys_store::Store;
@@ -43,9 +43,9 @@ pub struct Heads {
 
 /// Decodes a record from any 24 bytes, without a check.
 #[tactic(auto, unfolding(crate::specs::Spelling::base_in, crate::specs::Spelling::size_in, crate::specs::Spelling::flags_in, crate::specs::Spelling::node_in))]
-pub fn read_region(bytes: &[u8]) -> Region
+pub fn decode_region(bytes: &[u8]) -> Region
     requires { length bytes.now ≡ 24 }
-    ensures { result ≡ region_in bytes.now }
+    ensures { result ≡ decode_region bytes.now }
 {
     Region {
         base: LittleEndian::read_u64(bytes),
@@ -59,9 +59,9 @@ pub fn read_region(bytes: &[u8]) -> Region
 /// prepared reads as 0.
 pub fn region_at(store: &Store, head: &Head, i: u64) -> Region
     requires { head.now.place + 24 * i + 24 < 2 ^ 64 }
-    ensures { result ≡ region_in (bytes_at (byte_of store.now) (head.now.place + 24 * i) 24) }
+    ensures { result ≡ decode_region (bytes_at (byte_of store.now) (head.now.place + 24 * i) 24) }
 {
     let mut bytes = [0; RECORD_SIZE as usize];
     store.read(head.place + RECORD_SIZE * i, &mut bytes);
-    read_region(&bytes)
+    decode_region(&bytes)
 }

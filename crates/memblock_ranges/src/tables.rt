@@ -3,20 +3,20 @@
 //! is unchanged.
 ghost use Rattle.std.specs.Prelude.{◌≡◌, ℕ, ◌+◌, ◌-◌, ◌*◌, ◌^◌, ◌<◌, ◌≤◌, ◌↔◌, ◌||◌, Bool, true, false, Some, [], length, get_or, OnOk, OnErr, IfOk, IsTrue};
 ghost use Rattle.bm_base.specs.Range.{covers, end_of, Meet};
-ghost use Rattle.phys_store.specs.Bytes.{byte_of, is_ready, AreReady, Wrote, bytes_at};
+ghost use Rattle.phys_store.specs.Bytes.{byte_of, is_prepared_at, ArePrepared, WritesBytes, bytes_at};
 ghost use Rattle.address_runs.specs.Runs.{RunOf, value_at};
 ghost use Rattle.address_runs.specs.Edits.{cover_range, uncover_range, relabel_range};
 ghost use Rattle.memblock_model.specs.declared.owner.Which.{Which as AnyWhich};
 ghost use Rattle.memblock_model.specs.declared.owner.Which.TheVariants as which;
 ghost use Rattle.memblock_model.specs.Labels.{LabelView, with_node, with_mirror};
 ghost use Rattle.memblock_model.specs.Items.{trim_frames};
-ghost use Rattle.memblock_model.specs.Tables.{records_for, pieces, built_in_place};
+ghost use Rattle.memblock_model.specs.Tables.{records_for, uncovered_run_count, built_in_place};
 ghost use Rattle.memblock_ranges.specs.Spelling.{label_of, region_of, FitsRecord};
-ghost use Rattle.memblock_ranges.specs.Tables.{table_in, other_in, records_in, place_in, room_in, bytes_of, bytes_in, head_of, Overlaps, StandsIn, IsNodeOf, HaveNoNode};
+ghost use Rattle.memblock_ranges.specs.Tables.{table_in, other_in, records_in, place_in, room_in, bytes_of, bytes_in, head_of, OverlapsTable, IsInStore, IsNodeOf, HaveNoNode};
 
 use crate::changes::{SetMirror, SetNode};
 use crate::lent;
-use crate::live::{Live, Seen};
+use crate::live::{TableMut, TableRef};
 use crate::pieces::count_pieces;
 use crate::record::label_of;
 use crate::records::Records;
@@ -40,13 +40,13 @@ pub struct Tables {
 }
 
 impl Model for Tables {
-    ghost use Rattle.memblock_ranges.specs.Tables.{Contents, table_by, AreTables};
+    ghost use Rattle.memblock_ranges.specs.Tables.{TablesView, table_of_head, AreTables};
 
-    ghost Value = { Contents };
+    ghost Value = { TablesView };
 
     ghost view = { λ t. record {
-      memory = table_by t.store t.heads.memory;
-      reserved = table_by t.store t.heads.reserved;
+      memory = table_of_head t.store t.heads.memory;
+      reserved = table_of_head t.store t.heads.reserved;
       store = t.store;
     } };
 
@@ -67,7 +67,7 @@ impl Tables {
         ensures reserved { IfOk result (λ t. t.reserved ≡ record { records = []; place = built_in_place which.Reserved kernel; room = 128 }) }
         ensures bytes { IfOk result (λ t. (x : ℕ) → byte_of t.store x ≡ 0) }
         ensures ready { IfOk result (λ t. (x : ℕ) →
-            is_ready t.store x ≡ (covers (bytes_in which.Reserved t) x || covers (bytes_in which.Memory t) x)) }
+            is_prepared_at t.store x ≡ (covers (bytes_in which.Reserved t) x || covers (bytes_in which.Memory t) x)) }
     {
         let heads = Heads {
             memory: built_in(kernel, 2),
@@ -83,7 +83,7 @@ impl Tables {
     #[tactic(auto, using(crate::proofs::TableSpelling::head_is))]
     pub fn head(&self, which: Which) -> Head
         ensures head { result ≡ head_of (table_in which self.now) }
-        ensures table { StandsIn (table_in which self.now) self.now.store }
+        ensures table { IsInStore (table_in which self.now) self.now.store }
         ensures apart { ¬ Meet (bytes_of self.now.memory) (bytes_of self.now.reserved) }
         ensures plain { HaveNoNode self.now.reserved.records }
     {
@@ -120,18 +120,18 @@ impl Tables {
     /// Counts the runs of the range's bytes that the table doesn't cover. Covering the range adds
     /// at most that many records.
     pub fn pieces(&self, which: Which, range: Range) -> u64
-        ensures { result ≡ pieces range (value_at (records_in which self.now)) }
+        ensures { result ≡ uncovered_run_count range (value_at (records_in which self.now)) }
     {
         match which {
             Which::Memory => {
-                let seen = Seen {
+                let seen = TableRef {
                     store: &self.store,
                     head: &self.heads.memory,
                 };
                 count_pieces(&seen, &range)
             }
             Which::Reserved => {
-                let seen = Seen {
+                let seen = TableRef {
                     store: &self.store,
                     head: &self.heads.reserved,
                 };
@@ -146,26 +146,26 @@ impl Tables {
     pub fn insert(&mut self, which: Which, range: Range, node: u32)
         requires some { 0 < range.size }
         requires node { IsNodeOf which node }
-        requires room { length (records_in which self.old) + pieces range (value_at (records_in which self.old)) ≤ room_in which self.old }
+        requires room { length (records_in which self.old) + uncovered_run_count range (value_at (records_in which self.old)) ≤ room_in which self.old }
         ensures table { table_in which self.new ≡ record (table_in which self.old) {
           records = records_for (cover_range range (label_of 0 node) (value_at (records_in which self.old)));
         } }
         ensures other { other_in which self.new ≡ other_in which self.old }
         ensures elsewhere { (x : ℕ) → covers (bytes_in which self.old) x ≡ false → byte_of self.new.store x ≡ byte_of self.old.store x }
-        ensures ready { (x : ℕ) → is_ready self.new.store x ≡ is_ready self.old.store x }
+        ensures ready { (x : ℕ) → is_prepared_at self.new.store x ≡ is_prepared_at self.old.store x }
     {
         range_end_fits(&range);
         let change = Cover(label_of(0, node));
         match which {
             Which::Memory => {
-                let mut live = Live {
+                let mut live = TableMut {
                     store: &mut self.store,
                     head: &mut self.heads.memory,
                 };
                 rewrite(&mut live, &range, change);
             }
             Which::Reserved => {
-                let mut live = Live {
+                let mut live = TableMut {
                     store: &mut self.store,
                     head: &mut self.heads.reserved,
                 };
@@ -184,12 +184,12 @@ impl Tables {
         } }
         ensures other { other_in which self.new ≡ other_in which self.old }
         ensures elsewhere { (x : ℕ) → covers (bytes_in which self.old) x ≡ false → byte_of self.new.store x ≡ byte_of self.old.store x }
-        ensures ready { (x : ℕ) → is_ready self.new.store x ≡ is_ready self.old.store x }
+        ensures ready { (x : ℕ) → is_prepared_at self.new.store x ≡ is_prepared_at self.old.store x }
     {
         match which {
             Which::Memory => {
                 let head = &mut self.heads.memory;
-                let mut live = Live {
+                let mut live = TableMut {
                     store: &mut self.store,
                     head,
                 };
@@ -200,7 +200,7 @@ impl Tables {
             }
             Which::Reserved => {
                 let head = &mut self.heads.reserved;
-                let mut live = Live {
+                let mut live = TableMut {
                     store: &mut self.store,
                     head,
                 };
@@ -223,9 +223,9 @@ impl Tables {
         } }
         ensures reserved { self.new.reserved ≡ self.old.reserved }
         ensures elsewhere { (x : ℕ) → covers (bytes_of self.old.memory) x ≡ false → byte_of self.new.store x ≡ byte_of self.old.store x }
-        ensures ready { (x : ℕ) → is_ready self.new.store x ≡ is_ready self.old.store x }
+        ensures ready { (x : ℕ) → is_prepared_at self.new.store x ≡ is_prepared_at self.old.store x }
     {
-        let mut live = Live {
+        let mut live = TableMut {
             store: &mut self.store,
             head: &mut self.heads.memory,
         };
@@ -245,9 +245,9 @@ impl Tables {
         } }
         ensures reserved { self.new.reserved ≡ self.old.reserved }
         ensures elsewhere { (x : ℕ) → covers (bytes_of self.old.memory) x ≡ false → byte_of self.new.store x ≡ byte_of self.old.store x }
-        ensures ready { (x : ℕ) → is_ready self.new.store x ≡ is_ready self.old.store x }
+        ensures ready { (x : ℕ) → is_prepared_at self.new.store x ≡ is_prepared_at self.old.store x }
     {
-        let mut live = Live {
+        let mut live = TableMut {
             store: &mut self.store,
             head: &mut self.heads.memory,
         };
@@ -263,9 +263,9 @@ impl Tables {
         ensures memory { self.new.memory ≡ record self.old.memory { records = records_for (trim_frames (value_at self.old.memory.records)) } }
         ensures reserved { self.new.reserved ≡ self.old.reserved }
         ensures elsewhere { (x : ℕ) → covers (bytes_of self.old.memory) x ≡ false → byte_of self.new.store x ≡ byte_of self.old.store x }
-        ensures ready { (x : ℕ) → is_ready self.new.store x ≡ is_ready self.old.store x }
+        ensures ready { (x : ℕ) → is_prepared_at self.new.store x ≡ is_prepared_at self.old.store x }
     {
-        let mut live = Live {
+        let mut live = TableMut {
             store: &mut self.store,
             head: &mut self.heads.memory,
         };
@@ -282,9 +282,9 @@ impl Tables {
         ensures memory { self.new.memory ≡ self.old.memory }
         ensures reserved { self.new.reserved ≡ self.old.reserved }
         ensures bytes { (x : ℕ) → byte_of self.new.store x ≡ byte_of self.old.store x }
-        ensures ready { OnOk result ((x : ℕ) → is_ready self.new.store x ≡ (covers range x || is_ready self.old.store x)) }
+        ensures ready { OnOk result ((x : ℕ) → is_prepared_at self.new.store x ≡ (covers range x || is_prepared_at self.old.store x)) }
         ensures err { OnErr result (self.new.store ≡ self.old.store) }
-        ensures wants { OnErr result (AreReady self.old.store range.base range.size → ⊥) }
+        ensures wants { OnErr result (ArePrepared self.old.store range.base range.size → ⊥) }
     {
         self.store.prepare(range)?;
         Ok(())
@@ -294,14 +294,14 @@ impl Tables {
     /// (`memblock_double_array`). The new bytes must be prepared, and must not overlap a table.
     pub fn relocate(&mut self, which: Which, place: u64)
         requires small { place + 48 * room_in which self.old < 2 ^ 64 }
-        requires prepared { AreReady self.old.store place (48 * room_in which self.old) }
-        requires apart { ¬ Overlaps self.old (record { base = place; size = 48 * room_in which self.old }) }
+        requires prepared { ArePrepared self.old.store place (48 * room_in which self.old) }
+        requires apart { ¬ OverlapsTable self.old (record { base = place; size = 48 * room_in which self.old }) }
         ensures table { table_in which self.new ≡ record (table_in which self.old) { place = place; room = 2 * room_in which self.old } }
         ensures other { other_in which self.new ≡ other_in which self.old }
         ensures left { (x : ℕ) → covers (bytes_in which self.old) x ≡ true → byte_of self.new.store x ≡ 0 }
         ensures elsewhere { (x : ℕ) → covers (bytes_in which self.new) x ≡ false → covers (bytes_in which self.old) x ≡ false →
             byte_of self.new.store x ≡ byte_of self.old.store x }
-        ensures ready { (x : ℕ) → is_ready self.new.store x ≡ is_ready self.old.store x }
+        ensures ready { (x : ℕ) → is_prepared_at self.new.store x ≡ is_prepared_at self.old.store x }
     {
         match which {
             Which::Memory => {
@@ -315,7 +315,7 @@ impl Tables {
 
     /// Tests whether an address of the range belongs to a table.
     pub fn overlaps_table(&self, range: Range) -> bool
-        ensures { IsTrue result ↔ Overlaps self.now range }
+        ensures { IsTrue result ↔ OverlapsTable self.now range }
     {
         lent::bytes(&self.heads.memory).overlaps(&range)
             || lent::bytes(&self.heads.reserved).overlaps(&range)
@@ -324,11 +324,11 @@ impl Tables {
     /// Writes the byte to each address of the range, which must be prepared and must not overlap a
     /// table.
     pub fn fill(&mut self, range: Range, byte: u8)
-        requires prepared { AreReady self.old.store range.base range.size }
-        requires apart { ¬ Overlaps self.old range }
+        requires prepared { ArePrepared self.old.store range.base range.size }
+        requires apart { ¬ OverlapsTable self.old range }
         ensures memory { self.new.memory ≡ self.old.memory }
         ensures reserved { self.new.reserved ≡ self.old.reserved }
-        ensures bytes { Wrote self.old.store self.new.store range.base range.size (λ _. byte) }
+        ensures bytes { WritesBytes self.old.store self.new.store range.base range.size (λ _. byte) }
     {
         self.store.fill(range, byte);
     }
@@ -346,8 +346,8 @@ impl Tables {
     pub fn into_parts(self) -> (Store, Heads)
         ensures store { result.0 ≡ self.store }
         ensures heads { result.1 ≡ record { memory = head_of self.memory; reserved = head_of self.reserved } }
-        ensures memory { StandsIn self.memory result.0 }
-        ensures reserved { StandsIn self.reserved result.0 }
+        ensures memory { IsInStore self.memory result.0 }
+        ensures reserved { IsInStore self.reserved result.0 }
         ensures plain { HaveNoNode self.reserved.records }
     {
         let Tables { store, heads } = self;

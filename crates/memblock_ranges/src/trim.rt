@@ -14,7 +14,7 @@ use run_edits::{Slots, emit};
 
 /// Returns where the whole frames of the range begin and end. If it has none, the first address
 /// isn't below the second.
-fn frames(range: &Range) -> (u64, u64)
+fn whole_frame_bounds(range: &Range) -> (u64, u64)
     ensures start { result.0 < result.1 → result.0 ≡ range.now.base + (FRAME_SIZE - range.now.base % FRAME_SIZE) % FRAME_SIZE }
     ensures until { result.1 ≡ end_of range.now - end_of range.now % FRAME_SIZE }
     ensures none { result.1 ≤ result.0 →
@@ -38,7 +38,7 @@ pub fn trim<T: Slots<Record>>(table: &mut T)
     let mut read = 0;
     while read < table.count() {
         let record = table.get(read);
-        let (start, until) = frames(&record.range());
+        let (start, until) = whole_frame_bounds(&record.range());
         (write, read) = emit(table, write, read + 1, start, until, Some(record.value()));
     }
     table.close(write, read - write);

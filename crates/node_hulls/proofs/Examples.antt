@@ -6,14 +6,14 @@ use Rattle.address_runs.specs.Runs.{AreRuns, runs_from, value_at}
 use Rattle.bm_base.specs.Each.{each_from, each_in}
 use Rattle.bm_base.specs.Range.{RangeView}
 use Rattle.srat_reader.specs.declared.table.SratBlock.{SratBlock}
-use Rattle.srat_reader.specs.Table.{Affinity}
+use Rattle.srat_reader.specs.Table.{SratView}
 use Rattle.node_hulls.specs.declared.kept.KeptBlock.{KeptBlock}
 use Rattle.node_hulls.specs.declared.reasons.Why.TheVariants as why
-use Rattle.node_hulls.specs.Domains.{named_once, domains_named}
+use Rattle.node_hulls.specs.Domains.{domains_once, named_domains}
 use Rattle.node_hulls.specs.Hulls.{NumaBlock, node_at, same_node}
-use Rattle.node_hulls.specs.Judgement.{frames_given, lower, lowest, unused, used, if_covering, nodes_by, left_by, judged_kept, judged_table, judged}
+use Rattle.node_hulls.specs.Judgement.{count_frames_with_node, lower_node, lowest_node, unused_srat, used_srat, nodes_if_covering, nodes_by_blocks, node_outside_blocks, judge_kept_blocks, judge_srat_table, judge_srat}
 use Rattle.node_hulls.proofs.RestLaws.{frames_none, frames_step}
-use Rattle.node_hulls.specs.Kept.{in_any, framed, meets_memory, of_node, kept_from, kept_of, clash, first_clash}
+use Rattle.node_hulls.specs.Kept.{is_in_any_range, round_ends_down, meets_memory, block_in_frames, keep_blocks_from, keep_blocks, is_clash, first_clash}
 
 abbrev block : ℕ → ℕ → ℕ → NumaBlock
 block n base size = record { base = base; size = size; value = n }
@@ -42,20 +42,20 @@ abbrev told : ℕ → ℕ → ℕ → SratBlock
 told domain base size = record { domain = domain; range = record { base = base; size = size } }
 
 -- the domains of processors come first, even if memory names others
-processors_first : (domains_named (12 ∷ 11 ∷ []) (told 3 0 1 ∷ told 12 1 1 ∷ []) ≡ 12 ∷ 11 ∷ 3 ∷ [])
-    × (domains_named [] (told 3 0 1 ∷ told 12 1 1 ∷ []) ≡ 3 ∷ 12 ∷ [])
-unfolding named_once
+processors_first : (named_domains (12 ∷ 11 ∷ []) (told 3 0 1 ∷ told 12 1 1 ∷ []) ≡ 12 ∷ 11 ∷ 3 ∷ [])
+    × (named_domains [] (told 3 0 1 ∷ told 12 1 1 ∷ []) ≡ 3 ∷ 12 ∷ [])
+unfolding domains_once
 processors_first = (refl, refl)
 
 -- memory as ranges: 0x1000 to 0x2FFF, and one byte at 0x5000
 abbrev memory : ℕ → Bool
-memory = in_any (record { base = 0x1000; size = 0x2000 } ∷ record { base = 0x5000; size = 1 } ∷ [])
+memory = is_in_any_range (record { base = 0x1000; size = 0x2000 } ∷ record { base = 0x5000; size = 1 } ∷ [])
 
 abbrev range : ℕ → ℕ → RangeView
 range base size = record { base = base; size = size }
 
 -- both ends are rounded down, so a range inside a frame becomes empty
-framed_examples : (framed (range 0x1800 0x1000) ≡ range 0x1000 0x1000) × (framed (range 0x1800 0x7FF) ≡ range 0x1000 0)
+framed_examples : (round_ends_down (range 0x1800 0x1000) ≡ range 0x1000 0x1000) × (round_ends_down (range 0x1800 0x7FF) ≡ range 0x1000 0)
 framed_examples = (refl, refl)
 
 -- one byte of memory is enough, and no byte isn't
@@ -68,14 +68,14 @@ has_memory_examples = (refl, refl, refl)
 abbrev some_frames : ℕ → Bool
 some_frames x = (x == 0x1000) || (x == 0x3000)
 
-of_node_examples : (of_node (8 ∷ 5 ∷ []) (told 5 0x1800 0x1000) ≡ block 1 0x1000 0x1000)
-    × (of_node (8 ∷ 5 ∷ []) (told 8 0 0xFFF) ≡ block 0 0 0)
+of_node_examples : (block_in_frames (8 ∷ 5 ∷ []) (told 5 0x1800 0x1000) ≡ block 1 0x1000 0x1000)
+    × (block_in_frames (8 ∷ 5 ∷ []) (told 8 0 0xFFF) ≡ block 0 0 0)
 of_node_examples = (refl, refl)
 
 -- blocks that aren't kept are numbered too: here the first one, which is empty after rounding
-kept_examples : (kept_of some_frames (5 ∷ 6 ∷ []) (told 5 0 0xFFF ∷ told 6 0x1000 0x1000 ∷ [])
+kept_examples : (keep_blocks some_frames (5 ∷ 6 ∷ []) (told 5 0 0xFFF ∷ told 6 0x1000 0x1000 ∷ [])
     ≡ record { number = 1; block = block 1 0x1000 0x1000 } ∷ [])
-    × (kept_from some_frames (5 ∷ []) 4 (told 5 0 0x800 ∷ []) ≡ [])
+    × (keep_blocks_from some_frames (5 ∷ []) 4 (told 5 0 0x800 ∷ []) ≡ [])
 unfolding each_in each_from
 kept_examples = (refl, refl)
 
@@ -84,9 +84,9 @@ kept i b = record { number = i; block = b }
 
 -- blocks of different nodes that share an address; blocks that touch don't, and blocks of one node
 -- may overlap
-clash_examples : (clash (kept 0 (block 0 1 2)) (kept 1 (block 1 2 2)) ≡ true)
-    × (clash (kept 0 (block 0 1 2)) (kept 1 (block 1 3 2)) ≡ false)
-    × (clash (kept 0 (block 0 1 2)) (kept 1 (block 0 2 2)) ≡ false)
+clash_examples : (is_clash (kept 0 (block 0 1 2)) (kept 1 (block 1 2 2)) ≡ true)
+    × (is_clash (kept 0 (block 0 1 2)) (kept 1 (block 1 3 2)) ≡ false)
+    × (is_clash (kept 0 (block 0 1 2)) (kept 1 (block 0 2 2)) ≡ false)
 clash_examples = (refl, refl, refl)
 
 -- the least pair, by its first number and then by its second; and no pair
@@ -100,69 +100,69 @@ pair_examples = (refl, refl)
 abbrev below_4 : ℕ → Bool
 below_4 x = nat_lt x 4
 
-lowest_examples : (lower 3 (block 1 0 1) ≡ 1) × (lower 0 (block 1 0 1) ≡ 0) × (lowest (block 3 0 1 ∷ block 1 2 1 ∷ block 2 4 1 ∷ []) ≡ 1)
-    × (lowest [] ≡ 0)
+lowest_examples : (lower_node 3 (block 1 0 1) ≡ 1) × (lower_node 0 (block 1 0 1) ≡ 0) × (lowest_node (block 3 0 1 ∷ block 1 2 1 ∷ block 2 4 1 ∷ []) ≡ 1)
+    × (lowest_node [] ≡ 0)
 lowest_examples = (refl, refl, refl, refl)
 
 -- the node of an address by the kept blocks, and the memory that they don't cover, which gets the
 -- lowest node
-by_kept_examples : (nodes_by (kept 3 (block 2 1 1) ∷ kept 4 (block 2 3 1) ∷ []) 2 ≡ Some 2)
-    × (left_by below_4 (kept 3 (block 2 1 1) ∷ kept 4 (block 2 3 1) ∷ []) 0 ≡ Some 2)
-    × (left_by below_4 (kept 3 (block 2 1 1) ∷ kept 4 (block 2 3 1) ∷ []) 2 ≡ None)
+by_kept_examples : (nodes_by_blocks (kept 3 (block 2 1 1) ∷ kept 4 (block 2 3 1) ∷ []) 2 ≡ Some 2)
+    × (node_outside_blocks below_4 (kept 3 (block 2 1 1) ∷ kept 4 (block 2 3 1) ∷ []) 0 ≡ Some 2)
+    × (node_outside_blocks below_4 (kept 3 (block 2 1 1) ∷ kept 4 (block 2 3 1) ∷ []) 2 ≡ None)
 unfolding node_at
 by_kept_examples = (refl, refl, refl)
 
-two_overlap : judged_kept below_4 (5 ∷ 6 ∷ []) (kept 3 (block 0 1 2) ∷ kept 4 (block 1 2 1) ∷ []) ≡ unused (why.Overlap 3 4)
-unfolding judged_kept
+two_overlap : judge_kept_blocks below_4 (5 ∷ 6 ∷ []) (kept 3 (block 0 1 2) ∷ kept 4 (block 1 2 1) ∷ []) ≡ unused_srat (why.Overlap 3 4)
+unfolding judge_kept_blocks
 two_overlap = refl
 
-off_or_absent : (judged below_4 true (Some (record { processors = []; blocks = [] })) ≡ unused why.Off)
-    × (judged below_4 true None ≡ unused why.Off)
-    × (judged below_4 false None ≡ unused why.Absent)
+off_or_absent : (judge_srat below_4 true (Some (record { processors = []; blocks = [] })) ≡ unused_srat why.Off)
+    × (judge_srat below_4 true None ≡ unused_srat why.Off)
+    × (judge_srat below_4 false None ≡ unused_srat why.Absent)
 off_or_absent = (refl, refl, refl)
 
 -- frames that begin in runs: a frame that begins below a run isn't counted, and one that ends
 -- above it is
-frames_of_runs : frames_given (value_at (block 0 0x800 0x1000 ∷ (block 1 0x3000 0x2001 ∷ []))) ≡ 4
+frames_of_runs : count_frames_with_node (value_at (block 0 0x800 0x1000 ∷ (block 1 0x3000 0x2001 ∷ []))) ≡ 4
 frames_of_runs =
     let runs : AreRuns (block 0 0x800 0x1000 ∷ (block 1 0x3000 0x2001 ∷ [])) =
     (lit< tt, (lit≤ tt, λ touch. absurd (omega arith)), (lit< tt, tt, tt)) in
     frames_step (block 0 0x800 0x1000) (block 1 0x3000 0x2001 ∷ []) runs (lit< tt)
     ∙ rw (frames_step (block 1 0x3000 0x2001) [] runs.2 (lit< tt), frames_none) refl
 
-one_mebibyte : frames_given (value_at (block 0 0 0x100000 ∷ [])) ≡ 256
+one_mebibyte : count_frames_with_node (value_at (block 0 0 0x100000 ∷ [])) ≡ 256
 one_mebibyte = frames_step (block 0 0 0x100000) [] (lit< tt, tt, tt) (lit< tt) ∙ rw frames_none refl
 
-one_frame_less : frames_given (value_at (block 0 0 0xFF000 ∷ [])) ≡ 255
+one_frame_less : count_frames_with_node (value_at (block 0 0 0xFF000 ∷ [])) ≡ 255
 one_frame_less = frames_step (block 0 0 0xFF000) [] (lit< tt, tt, tt) (lit< tt) ∙ rw frames_none refl
 
 -- 256 frames without a node are too many; 255 and none aren't
-covering_examples : (if_covering (5 ∷ []) (value_at []) (value_at (block 0 0 0x100000 ∷ [])) ≡ unused (why.NotCovered 256))
-    × (if_covering (5 ∷ []) (value_at []) (value_at (block 0 0 0xFF000 ∷ []))
-    ≡ used (5 ∷ []) (value_at []) (value_at (block 0 0 0xFF000 ∷ [])))
-    × (if_covering (5 ∷ []) (value_at (block 0 0 1 ∷ [])) (value_at []) ≡ used (5 ∷ []) (value_at (block 0 0 1 ∷ [])) (value_at []))
+covering_examples : (nodes_if_covering (5 ∷ []) (value_at []) (value_at (block 0 0 0x100000 ∷ [])) ≡ unused_srat (why.NotCovered 256))
+    × (nodes_if_covering (5 ∷ []) (value_at []) (value_at (block 0 0 0xFF000 ∷ []))
+    ≡ used_srat (5 ∷ []) (value_at []) (value_at (block 0 0 0xFF000 ∷ [])))
+    × (nodes_if_covering (5 ∷ []) (value_at (block 0 0 1 ∷ [])) (value_at []) ≡ used_srat (5 ∷ []) (value_at (block 0 0 1 ∷ [])) (value_at []))
 covering_examples = (rw one_mebibyte refl, rw one_frame_less refl, rw frames_none refl)
 
 -- the result if the table is used, and if it isn't
-used_gives : ((used (5 ∷ []) (value_at []) (value_at (block 0 0 0x100000 ∷ []))).uncovered ≡ 256)
-    × ((used (5 ∷ []) (value_at []) (value_at [])).domains ≡ 5 ∷ [])
+used_gives : ((used_srat (5 ∷ []) (value_at []) (value_at (block 0 0 0x100000 ∷ []))).uncovered ≡ 256)
+    × ((used_srat (5 ∷ []) (value_at []) (value_at [])).domains ≡ 5 ∷ [])
 used_gives = (one_mebibyte, refl)
 
 -- a table with one empty block and this many others; and one with this many domains
-abbrev told_often : ℕ → Affinity
+abbrev told_often : ℕ → SratView
 told_often n = record { processors = []; blocks = told 5 0 0 ∷ replicate n (told 5 0x1000 0x1000) }
 
-abbrev told_domains : ℕ → Affinity
+abbrev told_domains : ℕ → SratView
 told_domains n = record { processors = range_with_len 0 n; blocks = told 5 0x1000 0x1000 ∷ [] }
 
 -- no block is kept; 2,048 blocks that aren't empty are accepted, since an empty one doesn't count;
 -- 2,049 are too many; 1,024 domains are accepted, and 1,025 are too many
-table_examples : (judged_table some_frames (record { processors = 4 ∷ []; blocks = told 2 0 0xFFF ∷ [] }) ≡ unused why.NoBlocks)
-    × (judged_table some_frames (told_often 2048)
-    ≡ judged_kept some_frames (5 ∷ []) (kept_of some_frames (5 ∷ []) (told_often 2048).blocks))
-    × (judged_table some_frames (told_often 2049) ≡ unused why.TooManyBlocks)
-    × (judged_table some_frames (told_domains 1024)
-    ≡ judged_kept some_frames (range_with_len 0 1024) (kept_of some_frames (range_with_len 0 1024) (told_domains 1024).blocks))
-    × (judged_table some_frames (told_domains 1025) ≡ unused why.TooManyDomains)
-unfolding judged_table named_once each_in each_from
+table_examples : (judge_srat_table some_frames (record { processors = 4 ∷ []; blocks = told 2 0 0xFFF ∷ [] }) ≡ unused_srat why.NoBlocks)
+    × (judge_srat_table some_frames (told_often 2048)
+    ≡ judge_kept_blocks some_frames (5 ∷ []) (keep_blocks some_frames (5 ∷ []) (told_often 2048).blocks))
+    × (judge_srat_table some_frames (told_often 2049) ≡ unused_srat why.TooManyBlocks)
+    × (judge_srat_table some_frames (told_domains 1024)
+    ≡ judge_kept_blocks some_frames (range_with_len 0 1024) (keep_blocks some_frames (range_with_len 0 1024) (told_domains 1024).blocks))
+    × (judge_srat_table some_frames (told_domains 1025) ≡ unused_srat why.TooManyDomains)
+unfolding judge_srat_table domains_once each_in each_from
 table_examples = (refl, refl, refl, refl, refl)

@@ -9,7 +9,7 @@ use Rattle.address_runs.specs.Runs.{run_end, value_at, AreRuns, IsBefore}
 use Rattle.address_runs.specs.Sweep.{StartAtOrPast}
 use Rattle.address_runs.proofs.RunsLaws.{none_below, rest_from, inside, behind}
 use Rattle.node_hulls.specs.Hulls.{NumaBlock}
-use Rattle.node_hulls.specs.Steps.{filled, led_by_run}
+use Rattle.node_hulls.specs.Steps.{fill_gaps, prepend_joined}
 
 -- a lower and a higher address have node n, and no address between them has another
 pub record IsAround (f : ℕ → Option ℕ) (x n : ℕ) : Type 0 where
@@ -274,20 +274,20 @@ same_step r rs t us runs known same =
     }
 
 -- one more run before the joined ones, also if there are none
-led_step : (r : NumaBlock) (rs ts : List NumaBlock) → AreRuns (r ∷ rs) → IsFilledBy rs ts → IsFilledBy (r ∷ rs) (led_by_run r ts)
+led_step : (r : NumaBlock) (rs ts : List NumaBlock) → AreRuns (r ∷ rs) → IsFilledBy rs ts → IsFilledBy (r ∷ rs) (prepend_joined r ts)
 led_step r rs [] runs known =
     alone_step r rs [] runs known (runs.0, tt, tt)
     (λ x n around low_in from same. none-some n (known.complete around.high n (inl (high_given r rs x n around from))))
-led_step r rs (t ∷ us) runs known = elim (cases_Bool (r.value == t.value)) as (λ _. IsFilledBy (r ∷ rs) (led_by_run r (t ∷ us))) [
+led_step r rs (t ∷ us) runs known = elim (cases_Bool (r.value == t.value)) as (λ _. IsFilledBy (r ∷ rs) (prepend_joined r (t ∷ us))) [
   | inl equal ↦ rw equal (same_step r rs t us runs known (grind (arith, nat_tests)))
   | inr differs ↦ rw differs (apart_step r rs t us runs known (grind (arith, nat_tests)))
 ]
 
 -- the joined runs have the values of the runs, with the gaps filled
-pub filled_by : (rs : List NumaBlock) → AreRuns rs → IsFilledBy rs (filled rs)
+pub filled_by : (rs : List NumaBlock) → AreRuns rs → IsFilledBy rs (fill_gaps rs)
 filled_by [] runs = record {
   runs = tt;
   sound = λ x n some. absurd (none-some n some);
   complete = λ x n filling. elim filling as (λ _. value_at {X = ℕ} [] x ≡ Some n) [ inl here ↦ here | inr around ↦ around.at_low ];
 }
-filled_by (r ∷ rs) runs = led_step r rs (filled rs) runs (filled_by rs runs.2)
+filled_by (r ∷ rs) runs = led_step r rs (fill_gaps rs) runs (filled_by rs runs.2)

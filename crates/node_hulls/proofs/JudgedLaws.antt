@@ -5,12 +5,12 @@ use Rattle.std.proofs.lemmas.Bool.Decides.{nat_tests}
 use Rattle.std.proofs.lemmas.List.{take_all, length-take}
 use Rattle.address_runs.specs.Runs.{DecidesEquality, value_at, IsRunsOf, runs_of}
 use Rattle.address_runs.proofs.RunsLaws.{the_list}
-use Rattle.srat_reader.specs.Table.{Affinity}
+use Rattle.srat_reader.specs.Table.{SratView}
 use Rattle.node_hulls.specs.declared.kept.KeptBlock.{KeptBlock}
 use Rattle.node_hulls.specs.declared.reasons.Why.TheVariants as why
 use Rattle.node_hulls.specs.Hulls.{NumaBlock, same_node}
-use Rattle.node_hulls.specs.Judgement.{left_over, frames_given, lowest, nodes_by, left_by, names_of, unused, judged_kept, judged_table}
-use Rattle.node_hulls.specs.Kept.{any_kept, numa_blocks_of, count_some, first_clash, kept_of}
+use Rattle.node_hulls.specs.Judgement.{node_if_uncovered, count_frames_with_node, lowest_node, nodes_by_blocks, node_outside_blocks, srat_domains, unused_srat, judge_kept_blocks, judge_srat_table}
+use Rattle.node_hulls.specs.Kept.{is_any_kept, numa_blocks_of, count_with_addresses, first_clash, keep_blocks}
 use Rattle.node_hulls.specs.Steps.{EndInSpace}
 use Rattle.node_hulls.proofs.NodesLaws.{node_none}
 use Rattle.node_hulls.proofs.RestLaws.{space_none}
@@ -29,72 +29,72 @@ whole_domains domains full is few = is ∙ take_all 1025 full (omega (arith, few
 pub record Found (memory : ℕ → Bool) (kept : List KeptBlock) (joined rest : List NumaBlock) (frames : ℕ) : Type 0 where
   pub apart : first_clash kept ≡ None
   pub kept_space : EndInSpace (numa_blocks_of kept)
-  pub hulls : IsRunsOf (nodes_by kept) joined
-  pub left : IsRunsOf (left_over memory (value_at joined) (lowest (numa_blocks_of kept))) rest
+  pub hulls : IsRunsOf (nodes_by_blocks kept) joined
+  pub left : IsRunsOf (node_if_uncovered memory (value_at joined) (lowest_node (numa_blocks_of kept))) rest
   pub left_space : EndInSpace rest
-  pub counted : frames ≡ frames_given (value_at rest)
+  pub counted : frames ≡ count_frames_with_node (value_at rest)
 
 pub tells_nodes : DecidesEquality same_node
 tells_nodes = record { true_is_equal = λ a b same. grind (arith, nat_tests); equal_is_true = λ a b same. grind (arith, nat_tests) }
 
 -- the same facts in terms of the definitions
 record Spoken (memory : ℕ → Bool) (kept : List KeptBlock) (joined rest : List NumaBlock) (frames : ℕ) : Type 0 where
-  hulls : joined ≡ runs_of same_node (nodes_by kept)
-  left : rest ≡ runs_of same_node (left_by memory kept)
-  counted : frames_given (left_by memory kept) ≡ frames
+  hulls : joined ≡ runs_of same_node (nodes_by_blocks kept)
+  left : rest ≡ runs_of same_node (node_outside_blocks memory kept)
+  counted : count_frames_with_node (node_outside_blocks memory kept) ≡ frames
 
 module _ (memory : ℕ → Bool) (kept : List KeptBlock) (joined rest : List NumaBlock) (frames : ℕ)
     (found : Found memory kept joined rest frames) where
   spoken : Spoken memory kept joined rest frames
   spoken =
-      let at_nodes : value_at joined ≡ nodes_by kept = λ i x. found.hulls.each x i in
-      let left : IsRunsOf (left_by memory kept) rest =
-      subst (λ (f : ℕ → Option ℕ). IsRunsOf (left_over memory f (lowest (numa_blocks_of kept))) rest) at_nodes found.left in
-      let at_left : value_at rest ≡ left_by memory kept = λ i x. left.each x i in
+      let at_nodes : value_at joined ≡ nodes_by_blocks kept = λ i x. found.hulls.each x i in
+      let left : IsRunsOf (node_outside_blocks memory kept) rest =
+      subst (λ (f : ℕ → Option ℕ). IsRunsOf (node_if_uncovered memory f (lowest_node (numa_blocks_of kept))) rest) at_nodes found.left in
+      let at_left : value_at rest ≡ node_outside_blocks memory kept = λ i x. left.each x i in
       record {
-        hulls = the_list same_node tells_nodes (nodes_by kept) joined (λ x far. node_none (numa_blocks_of kept) x found.kept_space far)
+        hulls = the_list same_node tells_nodes (nodes_by_blocks kept) joined (λ x far. node_none (numa_blocks_of kept) x found.kept_space far)
             found.hulls;
-        left = the_list same_node tells_nodes (left_by memory kept) rest
+        left = the_list same_node tells_nodes (node_outside_blocks memory kept) rest
             (λ x far. sym (left.each x) ∙ space_none rest x found.left_space far) left;
-        counted = ap (λ (f : ℕ → Option ℕ). frames_given f) (sym at_left) ∙ sym found.counted;
+        counted = ap (λ (f : ℕ → Option ℕ). count_frames_with_node f) (sym at_left) ∙ sym found.counted;
       }
 
-  pub found_uncovered : (domains : List ℕ) → 256 ≤ frames → judged_kept memory domains kept ≡ unused (why.NotCovered frames)
-  unfolding judged_kept
+  pub found_uncovered : (domains : List ℕ) → 256 ≤ frames → judge_kept_blocks memory domains kept ≡ unused_srat (why.NotCovered frames)
+  unfolding judge_kept_blocks
   found_uncovered domains many = rw (found.apart, spoken.counted, le-leb 256 frames many) refl
 
   pub found_used : (domains : List ℕ) → frames < 256
-      → judged_kept memory domains kept ≡ record { why = why.Used; domains = domains; joined = joined; rest = rest; uncovered = frames }
-  unfolding judged_kept
+      → judge_kept_blocks memory domains kept ≡ record { why = why.Used; domains = domains; joined = joined; rest = rest; uncovered = frames }
+  unfolding judge_kept_blocks
   found_used domains few = rw (found.apart, spoken.counted, lt-leb 256 frames few, spoken.hulls, spoken.left) refl
 
 pub found_overlap : (memory : ℕ → Bool) (domains : List ℕ) (kept : List KeptBlock) (i j : ℕ) → first_clash kept ≡ Some (i, j)
-    → judged_kept memory domains kept ≡ unused (why.Overlap i j)
-unfolding judged_kept
+    → judge_kept_blocks memory domains kept ≡ unused_srat (why.Overlap i j)
+unfolding judge_kept_blocks
 found_overlap memory domains kept i j clash = rw clash refl
 
 -- the reasons that are tested before
-module _ (memory : ℕ → Bool) (lists : Affinity) where
-  pub no_blocks : any_kept memory lists.blocks ≡ false → judged_table memory lists ≡ unused why.NoBlocks
-  unfolding judged_table
+module _ (memory : ℕ → Bool) (lists : SratView) where
+  pub no_blocks : is_any_kept memory lists.blocks ≡ false → judge_srat_table memory lists ≡ unused_srat why.NoBlocks
+  unfolding judge_srat_table
   no_blocks none = rw none refl
 
-  pub too_many_domains : any_kept memory lists.blocks ≡ true → 1024 < length (names_of lists) → judged_table memory lists
-      ≡ unused why.TooManyDomains
-  unfolding judged_table
-  too_many_domains some many = rw (some, lt-ltb 1024 (length (names_of lists)) many) refl
+  pub too_many_domains : is_any_kept memory lists.blocks ≡ true → 1024 < length (srat_domains lists) → judge_srat_table memory lists
+      ≡ unused_srat why.TooManyDomains
+  unfolding judge_srat_table
+  too_many_domains some many = rw (some, lt-ltb 1024 (length (srat_domains lists)) many) refl
 
-  pub too_many_blocks : any_kept memory lists.blocks ≡ true → length (names_of lists) ≤ 1024 → 2048 < count_some lists.blocks
-      → judged_table memory lists ≡ unused why.TooManyBlocks
-  unfolding judged_table
+  pub too_many_blocks : is_any_kept memory lists.blocks ≡ true → length (srat_domains lists) ≤ 1024 → 2048 < count_with_addresses lists.blocks
+      → judge_srat_table memory lists ≡ unused_srat why.TooManyBlocks
+  unfolding judge_srat_table
   too_many_blocks some few many =
-      rw (some, le-ltb 1024 (length (names_of lists)) few, lt-ltb 2048 (count_some lists.blocks) many) refl
+      rw (some, le-ltb 1024 (length (srat_domains lists)) few, lt-ltb 2048 (count_with_addresses lists.blocks) many) refl
 
-  pub by_kept : any_kept memory lists.blocks ≡ true → (domains : List ℕ) → domains ≡ take 1025 (names_of lists) → length domains ≤ 1024
-      → count_some lists.blocks ≤ 2048 → (kept : List KeptBlock) → kept ≡ kept_of memory domains lists.blocks
-      → judged_kept memory domains kept ≡ judged_table memory lists
-  unfolding judged_table
+  pub by_kept : is_any_kept memory lists.blocks ≡ true → (domains : List ℕ) → domains ≡ take 1025 (srat_domains lists) → length domains ≤ 1024
+      → count_with_addresses lists.blocks ≤ 2048 → (kept : List KeptBlock) → kept ≡ keep_blocks memory domains lists.blocks
+      → judge_kept_blocks memory domains kept ≡ judge_srat_table memory lists
+  unfolding judge_srat_table
   by_kept some domains names few few_blocks kept is =
-      let whole : domains ≡ names_of lists = whole_domains domains (names_of lists) names few in
-      let count = le-ltb 1024 (length (names_of lists)) (few_domains domains (names_of lists) names few) in
-      rw (some, count, le-ltb 2048 (count_some lists.blocks) few_blocks, is, whole) refl
+      let whole : domains ≡ srat_domains lists = whole_domains domains (srat_domains lists) names few in
+      let count = le-ltb 1024 (length (srat_domains lists)) (few_domains domains (srat_domains lists) names few) in
+      rw (some, count, le-ltb 2048 (count_with_addresses lists.blocks) few_blocks, is, whole) refl

@@ -14,10 +14,10 @@ use Rattle.address_runs.proofs.RunsLaws.{inside}
 use Rattle.bm_base.specs.Each.{each_from, each_in}
 use Rattle.srat_reader.specs.declared.table.SratBlock.{SratBlock}
 use Rattle.node_hulls.specs.declared.kept.KeptBlock.{KeptBlock}
-use Rattle.node_hulls.specs.Domains.{is_named, node_of}
-use Rattle.node_hulls.specs.Hulls.{NumaBlock, is_between, holds, joins, has, first_had, node_at}
-use Rattle.node_hulls.specs.Judgement.{lower, lowest, nodes_by, left_by}
-use Rattle.node_hulls.specs.Kept.{numa_blocks_of, first_clash, frame_base, meets_memory, is_node_of, of_node, kept_from, kept_of}
+use Rattle.node_hulls.specs.Domains.{is_named_domain, node_of_domain}
+use Rattle.node_hulls.specs.Hulls.{NumaBlock, lies_between_blocks, is_in_block_of_node, is_in_gap_of_node, belongs_to_node, first_node_among, node_at}
+use Rattle.node_hulls.specs.Judgement.{lower_node, lowest_node, nodes_by_blocks, node_outside_blocks}
+use Rattle.node_hulls.specs.Kept.{numa_blocks_of, first_clash, frame_base, meets_memory, is_node_of, block_in_frames, keep_blocks_from, keep_blocks}
 use Rattle.node_hulls.proofs.FilledLaws.{IsAround, IsFilled}
 use Rattle.node_hulls.proofs.InListLaws.{IsIn, any_member, member_any}
 use Rattle.node_hulls.proofs.KeptLaws.{addresses_kept}
@@ -37,40 +37,40 @@ one_filled f x m n (inr around) (inl second) = sym (around.only x n (omega (arit
 one_filled f x m n (inr first) (inr second) = one_around f x m n first second
 
 -- the node of an address is the one that it has
-node_had : (blocks : List NumaBlock) (x n : ℕ) → Apart blocks → HaveAddresses blocks → has blocks n x ≡ true → node_at blocks x ≡ Some n
+node_had : (blocks : List NumaBlock) (x n : ℕ) → Apart blocks → HaveAddresses blocks → belongs_to_node blocks n x ≡ true → node_at blocks x ≡ Some n
 unfolding node_at
-node_had blocks x n apart some had = by (first_had blocks x blocks) refl where
-  by : (o : Option ℕ) → first_had blocks x blocks ≡ o → first_had blocks x blocks ≡ Some n
+node_had blocks x n apart some had = by (first_node_among blocks x blocks) refl where
+  by : (o : Option ℕ) → first_node_among blocks x blocks ≡ o → first_node_among blocks x blocks ≡ Some n
   by (Some m) at =
-      let other : has blocks m x ≡ true = first_has blocks x m blocks at in
+      let other : belongs_to_node blocks m x ≡ true = first_has blocks x m blocks at in
       at ∙ ap (λ k. Some k)
       (one_filled (value_at blocks) x m n (has_filled blocks m x apart some other) (has_filled blocks n x apart some had))
   by None at =
       let block = node_block blocks n x had in
       absurd (first_some blocks x blocks block.0 block.1 (rw block.2 had) at)
 
-node_has : (blocks : List NumaBlock) (x n : ℕ) → node_at blocks x ≡ Some n → has blocks n x ≡ true
+node_has : (blocks : List NumaBlock) (x n : ℕ) → node_at blocks x ≡ Some n → belongs_to_node blocks n x ≡ true
 unfolding node_at
 node_has blocks x n at = first_has blocks x n blocks at
 
 pub one_node : (kept : List KeptBlock) → first_clash kept ≡ None → HaveAddresses (numa_blocks_of kept)
-    → (x n : ℕ) → (has (numa_blocks_of kept) n x ≡ true) ↔ (nodes_by kept x ≡ Some n)
+    → (x n : ℕ) → (belongs_to_node (numa_blocks_of kept) n x ≡ true) ↔ (nodes_by_blocks kept x ≡ Some n)
 one_node kept apart some x n =
     ((λ had. node_had (numa_blocks_of kept) x n (apart_blocks kept apart) some had), (λ at. node_has (numa_blocks_of kept) x n at))
 
 -- a named domain has an index
 pub record HasPlace (domains : List ℕ) (d : ℕ) : Type 0 where
-  pub below : node_of domains d < length domains
-  pub there : get_or domains (node_of domains d) 0 ≡ d
-  pub first : (k : ℕ) → k < node_of domains d → (get_or domains k 0 == d) ≡ false
+  pub below : node_of_domain domains d < length domains
+  pub there : get_or domains (node_of_domain domains d) 0 ≡ d
+  pub first : (k : ℕ) → k < node_of_domain domains d → (get_or domains k 0 == d) ≡ false
 
-pub place_of : (domains : List ℕ) (d : ℕ) → is_named domains d ≡ true → HasPlace domains d
+pub place_of : (domains : List ℕ) (d : ℕ) → is_named_domain domains d ≡ true → HasPlace domains d
 place_of domains d named =
     let p : ℕ → Bool = λ e. e == d in
     let i : ℕ = position_or_len p domains in
     elim (cases_lt i (length domains)) as (λ _. HasPlace domains d) [
       | inl less ↦
-          let node : node_of domains d ≡ i = rw (lt-ltb i (length domains) less) refl in
+          let node : node_of_domain domains d ≡ i = rw (lt-ltb i (length domains) less) refl in
           record {
             below = rw node less;
             there = rw node (eqb-true _ d (passes_at_first p domains 0 less));
@@ -81,12 +81,12 @@ place_of domains d named =
           absurd (true≢false (sym named ∙ fails))
     ]
 
-pub one_domain : (domains : List ℕ) (d e : ℕ) → is_named domains d ≡ true → is_named domains e ≡ true
-    → node_of domains d ≡ node_of domains e → d ≡ e
+pub one_domain : (domains : List ℕ) (d e : ℕ) → is_named_domain domains d ≡ true → is_named_domain domains e ≡ true
+    → node_of_domain domains d ≡ node_of_domain domains e → d ≡ e
 one_domain domains d e named_d named_e same =
     sym (place_of domains d named_d).there ∙ ap (λ (i : ℕ). get_or domains i 0) same ∙ (place_of domains e named_e).there
 
-pub node_below : (domains : List ℕ) (d : ℕ) → is_named domains d ≡ true → node_of domains d < length domains
+pub node_below : (domains : List ℕ) (d : ℕ) → is_named_domain domains d ≡ true → node_of_domain domains d < length domains
 node_below domains d named = (place_of domains d named).below
 
 -- the blocks begin and end at frames
@@ -96,24 +96,24 @@ Framed blocks = (b : NumaBlock) → IsIn b blocks → (b.base % 4096 ≡ 0) × (
 in_frame : (b : NumaBlock) (x : ℕ) → b.base % 4096 ≡ 0 → run_end b % 4096 ≡ 0 → lies_in b x ≡ lies_in b (frame_base x)
 in_frame b x first last = grind (arith, nat_tests)
 
-between_frame : (a b : NumaBlock) (x : ℕ) → run_end a % 4096 ≡ 0 → b.base % 4096 ≡ 0 → is_between a b x ≡ is_between a b (frame_base x)
+between_frame : (a b : NumaBlock) (x : ℕ) → run_end a % 4096 ≡ 0 → b.base % 4096 ≡ 0 → lies_between_blocks a b x ≡ lies_between_blocks a b (frame_base x)
 between_frame a b x first last = grind (arith, nat_tests)
 
 any_same : {X : Type 0} (p q : X → Bool) (xs : List X) → ((x : X) → IsIn x xs → p x ≡ q x) → list_any p xs ≡ list_any q xs
 any_same p q [] same = refl
 any_same p q (x ∷ xs) same = rw (same x (inl refl), any_same p q xs (λ y member. same y (inr member))) refl
 
-has_frame : (blocks : List NumaBlock) (n x : ℕ) → Framed blocks → has blocks n x ≡ has blocks n (frame_base x)
+has_frame : (blocks : List NumaBlock) (n x : ℕ) → Framed blocks → belongs_to_node blocks n x ≡ belongs_to_node blocks n (frame_base x)
 has_frame blocks n x framed =
-    let held : holds blocks n x ≡ holds blocks n (frame_base x) = any_same _ _ blocks (λ b member.
+    let held : is_in_block_of_node blocks n x ≡ is_in_block_of_node blocks n (frame_base x) = any_same _ _ blocks (λ b member.
     rw (in_frame b x (framed b member).0 (framed b member).1) refl) in
-    let joined : joins blocks n x ≡ joins blocks n (frame_base x) = any_same _ _ blocks (λ a in_a.
+    let joined : is_in_gap_of_node blocks n x ≡ is_in_gap_of_node blocks n (frame_base x) = any_same _ _ blocks (λ a in_a.
     ap (λ (t : Bool). (a.value == n) && t) (any_same _ _ blocks (λ b in_b.
     rw (between_frame a b x (framed a in_a).1 (framed b in_b).0) refl))) in
     rw (held, joined) refl
 
 first_frame : (blocks : List NumaBlock) (x : ℕ) (bs : List NumaBlock) → Framed blocks
-    → first_had blocks x bs ≡ first_had blocks (frame_base x) bs
+    → first_node_among blocks x bs ≡ first_node_among blocks (frame_base x) bs
 first_frame blocks x [] framed = refl
 first_frame blocks x (b ∷ bs) framed = rw (has_frame blocks b.value x framed, first_frame blocks x bs framed) refl
 
@@ -124,14 +124,14 @@ node_frame blocks x framed = first_frame blocks x blocks framed
 -- a kept block is one of the table, and has a byte of memory
 pub record IsKept (memory : ℕ → Bool) (domains : List ℕ) (k : KeptBlock) : Type 0 where
   pub told : SratBlock
-  pub block : k.block ≡ of_node domains told
+  pub block : k.block ≡ block_in_frames domains told
   pub some : meets_memory memory (extent_of k.block) ≡ true
 
-pub is_kept : (memory : ℕ → Bool) (domains : List ℕ) (i : ℕ) (bs : List SratBlock) (k : KeptBlock) → IsIn k (kept_from memory domains i bs)
+pub is_kept : (memory : ℕ → Bool) (domains : List ℕ) (i : ℕ) (bs : List SratBlock) (k : KeptBlock) → IsIn k (keep_blocks_from memory domains i bs)
     → IsKept memory domains k
 is_kept memory domains i [] k member = absurd member
 is_kept memory domains i (b ∷ bs) k member =
-    elim (cases_Bool (meets_memory memory (extent_of (of_node domains b)))) as (λ _. IsKept memory domains k) [
+    elim (cases_Bool (meets_memory memory (extent_of (block_in_frames domains b)))) as (λ _. IsKept memory domains k) [
       | inl some ↦ elim (rw some at member) as (λ _. IsKept memory domains k) [
         | inl first ↦ record {
           told = b;
@@ -143,18 +143,18 @@ is_kept memory domains i (b ∷ bs) k member =
       | inr none ↦ is_kept memory domains (i + 1) bs k (rw none at member)
     ]
 
-framed_kept : (memory : ℕ → Bool) (domains : List ℕ) (bs : List SratBlock) → Framed (numa_blocks_of (kept_of memory domains bs))
+framed_kept : (memory : ℕ → Bool) (domains : List ℕ) (bs : List SratBlock) → Framed (numa_blocks_of (keep_blocks memory domains bs))
 framed_kept memory domains bs c member =
-    let found = kept_member (kept_of memory domains bs) c member in
+    let found = kept_member (keep_blocks memory domains bs) c member in
     let kept = is_kept memory domains 0 bs found.0 found.1 in
     rw (found.2 ∙ kept.block) (omega arith, omega arith)
 
 pub nodes_frame : (memory : ℕ → Bool) (domains : List ℕ) (blocks : List SratBlock) (x : ℕ)
-    → nodes_by (kept_of memory domains blocks) x ≡ nodes_by (kept_of memory domains blocks) (frame_base x)
-nodes_frame memory domains blocks x = node_frame (numa_blocks_of (kept_of memory domains blocks)) x (framed_kept memory domains blocks)
+    → nodes_by_blocks (keep_blocks memory domains blocks) x ≡ nodes_by_blocks (keep_blocks memory domains blocks) (frame_base x)
+nodes_frame memory domains blocks x = node_frame (numa_blocks_of (keep_blocks memory domains blocks)) x (framed_kept memory domains blocks)
 
 pub left_frame : (memory : ℕ → Bool) → ((x : ℕ) → memory x ≡ memory (frame_base x)) → (domains : List ℕ) (blocks : List SratBlock) (x : ℕ)
-    → left_by memory (kept_of memory domains blocks) x ≡ left_by memory (kept_of memory domains blocks) (frame_base x)
+    → node_outside_blocks memory (keep_blocks memory domains blocks) x ≡ node_outside_blocks memory (keep_blocks memory domains blocks) (frame_base x)
 left_frame memory whole domains blocks x = rw (whole x, nodes_frame memory domains blocks x) refl
 
 -- a byte of memory in a range that has memory
@@ -184,16 +184,16 @@ block_in (j ∷ js) k (inl here) = inl (ap (λ (i : KeptBlock). i.block) here)
 block_in (j ∷ js) k (inr later) = inr (block_in js k later)
 
 -- the node of each kept block has memory
-pub node_memory : (memory : ℕ → Bool) (domains : List ℕ) (blocks : List SratBlock) → first_clash (kept_of memory domains blocks) ≡ None
-    → (n : ℕ) → is_node_of (kept_of memory domains blocks) n ≡ true
-    → (x : ℕ) × (memory x ≡ true) × (nodes_by (kept_of memory domains blocks) x ≡ Some n)
+pub node_memory : (memory : ℕ → Bool) (domains : List ℕ) (blocks : List SratBlock) → first_clash (keep_blocks memory domains blocks) ≡ None
+    → (n : ℕ) → is_node_of (keep_blocks memory domains blocks) n ≡ true
+    → (x : ℕ) × (memory x ≡ true) × (nodes_by_blocks (keep_blocks memory domains blocks) x ≡ Some n)
 node_memory memory domains blocks apart n of_block =
-    let kept : List KeptBlock = kept_of memory domains blocks in
+    let kept : List KeptBlock = keep_blocks memory domains blocks in
     let found = any_member _ kept of_block in
     let k : KeptBlock = found.one in
     let node : k.block.value ≡ n = grind (arith, nat_tests, found.passes) in
     let place = memory_in memory k.block (is_kept memory domains 0 blocks k found.member).some in
-    let held : holds (numa_blocks_of kept) n place.at ≡ true =
+    let held : is_in_block_of_node (numa_blocks_of kept) n place.at ≡ true =
     held_by (numa_blocks_of kept) k.block n place.at (block_in kept k found.member) node
     (inside k.block place.at place.above place.under) in (
       place.at,
@@ -208,11 +208,11 @@ node_kept ks b n member node =
     member_any _ ks found.0 found.1 (eq-eqb _ _ (ap (λ (c : NumaBlock). c.value) (sym found.2) ∙ node))
 
 abbrev IsLeast : ℕ → List NumaBlock → Type 0
-IsLeast start bs = (fold lower start bs ≡ start) ⊎ ((b : NumaBlock) × IsIn b bs × (b.value ≡ fold lower start bs))
+IsLeast start bs = (fold lower_node start bs ≡ start) ⊎ ((b : NumaBlock) × IsIn b bs × (b.value ≡ fold lower_node start bs))
 
 least_in : (start : ℕ) (bs : List NumaBlock) → IsLeast start bs
 least_in start [] = inl refl
-least_in start (b ∷ bs) = elim (least_in (lower start b) bs) as (λ _. IsLeast start (b ∷ bs)) [
+least_in start (b ∷ bs) = elim (least_in (lower_node start b) bs) as (λ _. IsLeast start (b ∷ bs)) [
   | inr later ↦ inr (later.0, inr later.1, later.2)
   | inl first ↦ elim (cases_lt start b.value) as (λ _. IsLeast start (b ∷ bs)) [
     | inl keeps ↦ inl (first ∙ omega arith)
@@ -220,20 +220,20 @@ least_in start (b ∷ bs) = elim (least_in (lower start b) bs) as (λ _. IsLeast
   ]
 ]
 
-lowest_kept : (ks : List KeptBlock) → ks ≢ [] → is_node_of ks (lowest (numa_blocks_of ks)) ≡ true
+lowest_kept : (ks : List KeptBlock) → ks ≢ [] → is_node_of ks (lowest_node (numa_blocks_of ks)) ≡ true
 lowest_kept [] some = absurd (some refl)
 lowest_kept (k ∷ ks) some =
-    elim (least_in k.block.value (numa_blocks_of ks)) as (λ _. is_node_of (k ∷ ks) (lowest (numa_blocks_of (k ∷ ks))) ≡ true) [
-      | inl first ↦ node_kept (k ∷ ks) k.block (lowest (numa_blocks_of (k ∷ ks))) (inl refl) (sym first)
-      | inr later ↦ node_kept (k ∷ ks) later.0 (lowest (numa_blocks_of (k ∷ ks))) (inr later.1) later.2
+    elim (least_in k.block.value (numa_blocks_of ks)) as (λ _. is_node_of (k ∷ ks) (lowest_node (numa_blocks_of (k ∷ ks))) ≡ true) [
+      | inl first ↦ node_kept (k ∷ ks) k.block (lowest_node (numa_blocks_of (k ∷ ks))) (inl refl) (sym first)
+      | inr later ↦ node_kept (k ∷ ks) later.0 (lowest_node (numa_blocks_of (k ∷ ks))) (inr later.1) later.2
     ]
 
 pub node_of_kept : (memory : ℕ → Bool) (kept : List KeptBlock) → kept ≢ [] → (x n : ℕ)
-    → (nodes_by kept x ≡ Some n) ⊎ (left_by memory kept x ≡ Some n)
+    → (nodes_by_blocks kept x ≡ Some n) ⊎ (node_outside_blocks memory kept x ≡ Some n)
     → is_node_of kept n ≡ true
 node_of_kept memory kept some x n (inl at) =
     let block = node_block (numa_blocks_of kept) n x (node_has (numa_blocks_of kept) x n at) in
     node_kept kept block.0 n block.1 block.2
 node_of_kept memory kept some x n (inr left) =
-    let same = (cond_some (memory x && is_none (nodes_by kept x)) (lowest (numa_blocks_of kept)) n left).1 in
+    let same = (cond_some (memory x && is_none (nodes_by_blocks kept x)) (lowest_node (numa_blocks_of kept)) n left).1 in
     subst (λ (m : ℕ). is_node_of kept m ≡ true) same (lowest_kept kept some)

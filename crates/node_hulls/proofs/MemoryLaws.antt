@@ -12,32 +12,32 @@ use Rattle.address_runs.specs.Overlay.{overlay_runs}
 use Rattle.address_runs.specs.Runs.{RunOf, run_end, extent_of, value_at, IsRunsOf}
 use Rattle.address_runs.specs.Sweep.{IsRestFrom}
 use Rattle.address_runs.proofs.RunsLaws.{inside, none_below}
-use Rattle.node_hulls.specs.Kept.{in_any, meets_memory}
-use Rattle.node_hulls.specs.Steps.{nodeless, in_runs}
+use Rattle.node_hulls.specs.Kept.{is_in_any_range, meets_memory}
+use Rattle.node_hulls.specs.Steps.{run_without_node, is_in_runs}
 use Rattle.node_hulls.proofs.RestLaws.{bare_given}
 
 -- an address is in the runs of memory exactly if it is memory
-pub told_memory : (memory : List RangeView) (rs : List (RunOf Bool)) → IsRunsOf (overlay_runs option_or (map nodeless memory)) rs → (x : ℕ)
-    → in_runs rs x ≡ in_any memory x
-told_memory memory rs known x = ap (λ (o : Option Bool). is_some o) (known.each x ∙ bare_given memory x) ∙ by (in_any memory x) where
+pub told_memory : (memory : List RangeView) (rs : List (RunOf Bool)) → IsRunsOf (overlay_runs option_or (map run_without_node memory)) rs → (x : ℕ)
+    → is_in_runs rs x ≡ is_in_any_range memory x
+told_memory memory rs known x = ap (λ (o : Option Bool). is_some o) (known.each x ∙ bare_given memory x) ∙ by (is_in_any_range memory x) where
   by : (m : Bool) → is_some (if m then Some false else None) ≡ m
   by true = refl
   by false = refl
 
 -- a range with a byte of memory, and one without
 some_in : (rs : List (RunOf Bool)) (range : RangeView) (x : ℕ) (v : Bool) → range.base ≤ x → x < range.base + range.size
-    → value_at rs x ≡ Some v → meets_memory (in_runs rs) range ≡ true
+    → value_at rs x ≡ Some v → meets_memory (is_in_runs rs) range ≡ true
 some_in rs range x v low high found =
-    ap not (each_in-fails range (λ y. not (in_runs rs y)) x low high (rw found refl))
+    ap not (each_in-fails range (λ y. not (is_in_runs rs y)) x low high (rw found refl))
 
 none_in : (rs : List (RunOf Bool)) (range : RangeView) → ((y : ℕ) → range.base ≤ y → y < range.base + range.size → value_at rs y ≡ None)
-    → meets_memory (in_runs rs) range ≡ false
+    → meets_memory (is_in_runs rs) range ≡ false
 none_in rs range none =
-    ap not (each_in-all range (λ y. not (in_runs rs y)) (λ y low high. rw (none y low high) refl))
+    ap not (each_in-all range (λ y. not (is_in_runs rs y)) (λ y low high. rw (none y low high) refl))
 
 -- no run is left
 pub nothing_left : (rs : List (RunOf Bool)) (i : ℕ) (range : RangeView) → IsRestFrom (value_at rs) range.base (drop i rs) → length rs ≤ i
-    → meets_memory (in_runs rs) range ≡ false
+    → meets_memory (is_in_runs rs) range ≡ false
 nothing_left rs i range rest all =
     none_in rs range (λ y low high. sym (rest.each y low) ∙ at_drop_all (λ (ss : List (RunOf Bool)). value_at ss y) rs i all)
 
@@ -51,7 +51,7 @@ left_at rs i range r rest few is =
     rw (drop-cons rs i r few, ← is) at rest
 
 first_meets : (rs : List (RunOf Bool)) (i : ℕ) (range : RangeView) (r : RunOf Bool) → IsRestFrom (value_at rs) range.base (drop i rs)
-    → i < length rs → r ≡ get_or rs i r → Meet (extent_of r) range → meets_memory (in_runs rs) range ≡ true
+    → i < length rs → r ≡ get_or rs i r → Meet (extent_of r) range → meets_memory (is_in_runs rs) range ≡ true
 first_meets rs i range r rest few is met =
     let left = left_at rs i range r rest few is in
     let x : ℕ = met.0 in
@@ -66,7 +66,7 @@ begins_above r range y apart ends some low high = lt_of_not-le (λ above.
     apart (max r.base range.base, grind (arith, nat_tests)))
 
 first_misses : (rs : List (RunOf Bool)) (i : ℕ) (range : RangeView) (r : RunOf Bool) → IsRestFrom (value_at rs) range.base (drop i rs)
-    → i < length rs → r ≡ get_or rs i r → (Meet (extent_of r) range → ⊥) → meets_memory (in_runs rs) range ≡ false
+    → i < length rs → r ≡ get_or rs i r → (Meet (extent_of r) range → ⊥) → meets_memory (is_in_runs rs) range ≡ false
 first_misses rs i range r rest few is apart =
     let left = left_at rs i range r rest few is in
     none_in rs range (λ y low high.
@@ -74,7 +74,7 @@ first_misses rs i range r rest few is apart =
     sym (left.each y low) ∙ none_below r.base y (r ∷ drop (suc i) rs) left.runs (omega arith) lower)
 
 pub first_tells : (rs : List (RunOf Bool)) (i : ℕ) (range : RangeView) (r : RunOf Bool) → IsRestFrom (value_at rs) range.base (drop i rs)
-    → i < length rs → r ≡ get_or rs i r → (met : Bool) → (met ≡ true ↔ Meet (extent_of r) range) → met ≡ meets_memory (in_runs rs) range
+    → i < length rs → r ≡ get_or rs i r → (met : Bool) → (met ≡ true ↔ Meet (extent_of r) range) → met ≡ meets_memory (is_in_runs rs) range
 first_tells rs i range r rest few is true tells = sym (first_meets rs i range r rest few is (tells.0 refl))
 first_tells rs i range r rest few is false tells =
     sym (first_misses rs i range r rest few is (λ met. true≢false (sym (tells.1 met))))

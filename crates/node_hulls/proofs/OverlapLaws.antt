@@ -6,7 +6,7 @@ use Rattle.std.specs.Prelude.{find}
 use Rattle.address_runs.specs.Runs.{extent_of}
 use Rattle.srat_reader.specs.declared.table.SratBlock.{SratBlock}
 use Rattle.node_hulls.specs.declared.kept.KeptBlock.{KeptBlock}
-use Rattle.node_hulls.specs.Kept.{meets_memory, of_node, kept_from, kept_of, clash, overlap_at, first_clash}
+use Rattle.node_hulls.specs.Kept.{meets_memory, block_in_frames, keep_blocks_from, keep_blocks, is_clash, is_clash_of_numbers, first_clash}
 use Rattle.node_hulls.proofs.InListLaws.{IsIn, any_member, member_any}
 use Rattle.node_hulls.proofs.NodesLaws.{find_none, first_none_parts}
 
@@ -19,12 +19,12 @@ from_lower : (n : ℕ) (ks : List KeptBlock) → Numbered (n + 1) ks → Numbere
 from_lower n [] numbered = tt
 from_lower n (k ∷ ks) numbered = (omega (arith, numbered.0), numbered.1)
 
-kept_numbered : (memory : ℕ → Bool) (domains : List ℕ) (n : ℕ) (bs : List SratBlock) → Numbered n (kept_from memory domains n bs)
+kept_numbered : (memory : ℕ → Bool) (domains : List ℕ) (n : ℕ) (bs : List SratBlock) → Numbered n (keep_blocks_from memory domains n bs)
 kept_numbered memory domains n [] = tt
-kept_numbered memory domains n (b ∷ bs) = elim (cases_Bool (meets_memory memory (extent_of (of_node domains b)))) as
-    (λ _. Numbered n (kept_from memory domains n (b ∷ bs))) [
+kept_numbered memory domains n (b ∷ bs) = elim (cases_Bool (meets_memory memory (extent_of (block_in_frames domains b)))) as
+    (λ _. Numbered n (keep_blocks_from memory domains n (b ∷ bs))) [
       | inl some ↦ rw some (omega arith, kept_numbered memory domains (n + 1) bs)
-      | inr none ↦ rw none (from_lower n (kept_from memory domains (n + 1) bs) (kept_numbered memory domains (n + 1) bs))
+      | inr none ↦ rw none (from_lower n (keep_blocks_from memory domains (n + 1) bs) (kept_numbered memory domains (n + 1) bs))
     ]
 
 number_from : (n : ℕ) (ks : List KeptBlock) (k : KeptBlock) → Numbered n ks → IsIn k ks → n ≤ k.number
@@ -73,9 +73,9 @@ record Overlap (ks : List KeptBlock) (i j : ℕ) : Type 0 where
   first : one.number ≡ i
   second : other.number ≡ j
   order : i < j
-  clashes : clash one other ≡ true
+  clashes : is_clash one other ≡ true
 
-overlap_from : (ks : List KeptBlock) (i j : ℕ) → overlap_at ks i j ≡ true → Overlap ks i j
+overlap_from : (ks : List KeptBlock) (i j : ℕ) → is_clash_of_numbers ks i j ≡ true → Overlap ks i j
 overlap_from ks i j test =
     let parts = and_parts (nat_lt i j) _ test in
     let a = any_member _ ks parts.1 in
@@ -93,9 +93,9 @@ overlap_from ks i j test =
       clashes = of_b.1;
     }
 
-overlap_test : (ks : List KeptBlock) (i j : ℕ) → Overlap ks i j → overlap_at ks i j ≡ true
+overlap_test : (ks : List KeptBlock) (i j : ℕ) → Overlap ks i j → is_clash_of_numbers ks i j ≡ true
 overlap_test ks i j o =
-    let in_other = member_any (λ (b : KeptBlock). (b.number == j) && clash o.one b) ks o.other o.in_other
+    let in_other = member_any (λ (b : KeptBlock). (b.number == j) && is_clash o.one b) ks o.other o.in_other
     (and_from _ _ (eq-eqb _ _ o.second) o.clashes) in
     and_from _ _ (lt-ltb _ _ o.order) (member_any _ ks o.one o.in_one (and_from _ _ (eq-eqb _ _ o.first) in_other))
 
@@ -105,7 +105,7 @@ record WithFirst (c : KeptBlock) (cs : List KeptBlock) (i j : ℕ) : Type 0 wher
   in_other : IsIn other cs
   first : c.number ≡ i
   second : other.number ≡ j
-  clashes : clash c other ≡ true
+  clashes : is_clash c other ≡ true
 
 with_first : (n : ℕ) (c : KeptBlock) (cs : List KeptBlock) (i j : ℕ) → Numbered n (c ∷ cs) → Overlap (c ∷ cs) i j
     → WithFirst c cs i j ⊎ Overlap cs i j
@@ -120,7 +120,7 @@ with_first n c cs i j numbered o =
           in_other = later;
           first = sym (number o.one c here) ∙ o.first;
           second = o.second;
-          clashes = ap (λ (k : KeptBlock). clash k o.other) (sym here) ∙ o.clashes;
+          clashes = ap (λ (k : KeptBlock). is_clash k o.other) (sym here) ∙ o.clashes;
         })
       ]
       | inr later ↦ elim o.in_other as (λ _. WithFirst c cs i j ⊎ Overlap cs i j) [
@@ -145,14 +145,14 @@ record IsTold (ks : List KeptBlock) (i j : ℕ) : Type 0 where
 
 told : (n : ℕ) (ks : List KeptBlock) (i j : ℕ) → Numbered n ks → first_clash ks ≡ Some (i, j) → IsTold ks i j
 told n [] i j numbered is = absurd (none-some (i, j) is)
-told n (c ∷ cs) i j numbered is = by (find (clash c) cs) refl (told (c.number + 1) cs i j numbered.1) is where
-  by : (o : Option KeptBlock) → find (clash c) cs ≡ o → (first_clash cs ≡ Some (i, j) → IsTold cs i j)
+told n (c ∷ cs) i j numbered is = by (find (is_clash c) cs) refl (told (c.number + 1) cs i j numbered.1) is where
+  by : (o : Option KeptBlock) → find (is_clash c) cs ≡ o → (first_clash cs ≡ Some (i, j) → IsTold cs i j)
       → first_clash (c ∷ cs) ≡ Some (i, j) → IsTold (c ∷ cs) i j
   by (Some d) at rest told_at =
       let same = some_pair_parts c.number i d.number j (rw at at told_at) in
       let first : c.number ≡ i = same.0 in
       let second : d.number ≡ j = same.1 in
-      let found = find_first (clash c) (c.number + 1) cs d numbered.1 at in
+      let found = find_first (is_clash c) (c.number + 1) cs d numbered.1 at in
       record {
         pair = record {
           one = c;
@@ -185,7 +185,7 @@ told n (c ∷ cs) i j numbered is = by (find (clash c) cs) refl (told (c.number 
           clashes = later.pair.clashes;
         };
         least = λ k l o. elim (with_first n c cs k l numbered o) as (λ _. (i < k) ⊎ ((i ≡ k) × (j ≤ l))) [
-          | inl w ↦ absurd (true≢false (sym w.clashes ∙ find_none (clash c) cs w.other at w.in_other))
+          | inl w ↦ absurd (true≢false (sym w.clashes ∙ find_none (is_clash c) cs w.other at w.in_other))
           | inr o_later ↦ later.least k l o_later
         ];
       }
@@ -196,21 +196,21 @@ no_overlap n [] i j numbered none o = absurd o.in_one
 no_overlap n (c ∷ cs) i j numbered none o =
     let parts = first_none_parts c cs none in
     elim (with_first n c cs i j numbered o) as (λ _. ⊥) [
-      | inl w ↦ true≢false (sym w.clashes ∙ find_none (clash c) cs w.other parts.0 w.in_other)
+      | inl w ↦ true≢false (sym w.clashes ∙ find_none (is_clash c) cs w.other parts.0 w.in_other)
       | inr later ↦ no_overlap (c.number + 1) cs i j numbered.1 parts.1 later
     ]
 
 -- the same facts of the kept blocks of a table
 module _ (memory : ℕ → Bool) (domains : List ℕ) (blocks : List SratBlock) where
   abbrev ks : List KeptBlock
-  ks = kept_of memory domains blocks
+  ks = keep_blocks memory domains blocks
 
-  pub pair_overlaps : (i j : ℕ) → first_clash ks ≡ Some (i, j) → overlap_at ks i j ≡ true
+  pub pair_overlaps : (i j : ℕ) → first_clash ks ≡ Some (i, j) → is_clash_of_numbers ks i j ≡ true
   pair_overlaps i j is = overlap_test ks i j (told 0 ks i j (kept_numbered memory domains 0 blocks) is).pair
 
-  pub pair_least : (i j k l : ℕ) → first_clash ks ≡ Some (i, j) → overlap_at ks k l ≡ true → (i < k) ⊎ ((i ≡ k) × (j ≤ l))
+  pub pair_least : (i j k l : ℕ) → first_clash ks ≡ Some (i, j) → is_clash_of_numbers ks k l ≡ true → (i < k) ⊎ ((i ≡ k) × (j ≤ l))
   pair_least i j k l is test = (told 0 ks i j (kept_numbered memory domains 0 blocks) is).least k l (overlap_from ks k l test)
 
-  pub none_overlap : (k l : ℕ) → first_clash ks ≡ None → overlap_at ks k l ≡ false
-  none_overlap k l none = false_from_ne_true (overlap_at ks k l) (λ test.
+  pub none_overlap : (k l : ℕ) → first_clash ks ≡ None → is_clash_of_numbers ks k l ≡ false
+  none_overlap k l none = false_from_ne_true (is_clash_of_numbers ks k l) (λ test.
       no_overlap 0 ks k l (kept_numbered memory domains 0 blocks) none (overlap_from ks k l test))

@@ -9,41 +9,41 @@ abbrev pub NumaBlock : Type 0
 NumaBlock = RunOf ℕ
 
 -- some address of the block is at or above `from` and below `until`
-abbrev pub meets : ℕ → ℕ → NumaBlock → Bool
-meets from until c = nat_lt (max from c.base) (min until (run_end c))
+abbrev pub block_meets : ℕ → ℕ → NumaBlock → Bool
+block_meets from until c = nat_lt (max from c.base) (min until (run_end c))
 
 -- the address is at or above the end of the lower block `a`, and below the start of the upper
 -- block `b`
-abbrev pub is_between : NumaBlock → NumaBlock → ℕ → Bool
-is_between a b x = nat_le (run_end a) x && nat_lt x b.base
+abbrev pub lies_between_blocks : NumaBlock → NumaBlock → ℕ → Bool
+lies_between_blocks a b x = nat_le (run_end a) x && nat_lt x b.base
 
 -- the range from the start of the lower block `a` to the end of the upper block `b` meets no block
 -- of a node other than n
-abbrev pub is_own : List NumaBlock → ℕ → NumaBlock → NumaBlock → Bool
-is_own blocks n a b = list_all (λ c. (c.value == n) || not (meets a.base (run_end b) c)) blocks
+abbrev pub meets_no_other_node : List NumaBlock → ℕ → NumaBlock → NumaBlock → Bool
+meets_no_other_node blocks n a b = list_all (λ c. (c.value == n) || not (block_meets a.base (run_end b) c)) blocks
 
 -- the address is in a block of node n
-abbrev pub holds : List NumaBlock → ℕ → ℕ → Bool
-holds blocks n x = list_any (λ b. (b.value == n) && lies_in b x) blocks
+abbrev pub is_in_block_of_node : List NumaBlock → ℕ → ℕ → Bool
+is_in_block_of_node blocks n x = list_any (λ b. (b.value == n) && lies_in b x) blocks
 
 -- the address is between two blocks of node n, and the range from the lower to the upper one meets
 -- no block of another node
-abbrev pub joins : List NumaBlock → ℕ → ℕ → Bool
-joins blocks n x =
-    list_any (λ a. (a.value == n) && list_any (λ b. (b.value == n) && (is_between a b x && is_own blocks n a b)) blocks) blocks
+abbrev pub is_in_gap_of_node : List NumaBlock → ℕ → ℕ → Bool
+is_in_gap_of_node blocks n x =
+    list_any (λ a. (a.value == n) && list_any (λ b. (b.value == n) && (lies_between_blocks a b x && meets_no_other_node blocks n a b)) blocks) blocks
 
 -- the address has node n
-abbrev pub has : List NumaBlock → ℕ → ℕ → Bool
-has blocks n x = holds blocks n x || joins blocks n x
+abbrev pub belongs_to_node : List NumaBlock → ℕ → ℕ → Bool
+belongs_to_node blocks n x = is_in_block_of_node blocks n x || is_in_gap_of_node blocks n x
 
 -- the node of an address: the first that it has, in the order of the blocks. If blocks of
 -- different nodes share no address, it has at most one.
-abbrev pub first_had : List NumaBlock → ℕ → List NumaBlock → Option ℕ
-first_had blocks x [] = None
-first_had blocks x (b ∷ bs) = if has blocks b.value x then Some b.value else first_had blocks x bs
+abbrev pub first_node_among : List NumaBlock → ℕ → List NumaBlock → Option ℕ
+first_node_among blocks x [] = None
+first_node_among blocks x (b ∷ bs) = if belongs_to_node blocks b.value x then Some b.value else first_node_among blocks x bs
 
 unfoldable pub node_at : List NumaBlock → ℕ → Option ℕ
-node_at blocks x = first_had blocks x blocks
+node_at blocks x = first_node_among blocks x blocks
 
 -- the two nodes are the same
 abbrev pub same_node : ℕ → ℕ → Bool

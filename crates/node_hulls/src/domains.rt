@@ -3,8 +3,8 @@
 
 ghost use Rattle.std.specs.Prelude.{◌≡◌, ℕ, ◌<◌, ◌≤◌, ◌==◌, OnOk, IfOk, IfSome, fold, length, take};
 ghost use Rattle.std.specs.List.{position};
-ghost use Rattle.node_hulls.specs.Domains.{domains_named, node_of};
-ghost use Rattle.node_hulls.specs.Steps.{with_name_in_room, named_by_block};
+ghost use Rattle.node_hulls.specs.Domains.{named_domains, node_of_domain};
+ghost use Rattle.node_hulls.specs.Steps.{with_domain_if_room, with_domain_of_block};
 
 use crate::reasons::MAX_NODES;
 use bm_base::Memory;
@@ -17,16 +17,16 @@ use std::alloc::Global;
 /// # Errors
 ///
 /// - `Memory`: the program ran out of memory.
-pub fn name_domains(
+pub fn named_domains(
     alloc: Global,
     processors: &[u32],
     blocks: &[SratBlock],
 ) -> Result<Vec<u32>, Memory>
-    ensures { IfOk result (λ domains. domains.items ≡ take 1025 (domains_named processors.now blocks.now)) }
+    ensures { IfOk result (λ domains. domains.items ≡ take 1025 (named_domains processors.now blocks.now)) }
 {
     let mut domains = Vec::new(alloc);
-    name_processors(&mut domains, processors)?;
-    name_memory(&mut domains, blocks)?;
+    add_processor_domains(&mut domains, processors)?;
+    add_memory_domains(&mut domains, blocks)?;
     Ok(domains)
 }
 
@@ -35,11 +35,11 @@ pub fn name_domains(
 /// # Errors
 ///
 /// - `Memory`: the program ran out of memory.
-fn name_processors(domains: &mut Vec<u32>, processors: &[u32]) -> Result<(), Memory>
-    ensures { OnOk result (domains.new.items ≡ fold with_name_in_room domains.old.items processors.now) }
+fn add_processor_domains(domains: &mut Vec<u32>, processors: &[u32]) -> Result<(), Memory>
+    ensures { OnOk result (domains.new.items ≡ fold with_domain_if_room domains.old.items processors.now) }
 {
     for domain in processors {
-        name_domain(domains, *domain)?;
+        add_domain(domains, *domain)?;
     }
     Ok(())
 }
@@ -49,11 +49,11 @@ fn name_processors(domains: &mut Vec<u32>, processors: &[u32]) -> Result<(), Mem
 /// # Errors
 ///
 /// - `Memory`: the program ran out of memory.
-fn name_memory(domains: &mut Vec<u32>, blocks: &[SratBlock]) -> Result<(), Memory>
-    ensures { OnOk result (domains.new.items ≡ fold named_by_block domains.old.items blocks.now) }
+fn add_memory_domains(domains: &mut Vec<u32>, blocks: &[SratBlock]) -> Result<(), Memory>
+    ensures { OnOk result (domains.new.items ≡ fold with_domain_of_block domains.old.items blocks.now) }
 {
     for block in blocks {
-        name_domain(domains, block.domain)?;
+        add_domain(domains, block.domain)?;
     }
     Ok(())
 }
@@ -64,8 +64,8 @@ fn name_memory(domains: &mut Vec<u32>, blocks: &[SratBlock]) -> Result<(), Memor
 /// # Errors
 ///
 /// - `Memory`: the program ran out of memory.
-fn name_domain(domains: &mut Vec<u32>, domain: u32) -> Result<(), Memory>
-    ensures { OnOk result (domains.new.items ≡ with_name_in_room domains.old.items domain) }
+fn add_domain(domains: &mut Vec<u32>, domain: u32) -> Result<(), Memory>
+    ensures { OnOk result (domains.new.items ≡ with_domain_if_room domains.old.items domain) }
 {
     if domains.len() <= MAX_NODES && !domains.contains(&domain) {
         domains.push(domain)?;
@@ -74,15 +74,15 @@ fn name_domain(domains: &mut Vec<u32>, domain: u32) -> Result<(), Memory>
 }
 
 /// Returns the node of a domain in the list. A domain that isn't in the list gives 0.
-pub fn node_of(domains: &[u32], domain: u32) -> u32
+pub fn node_of_domain(domains: &[u32], domain: u32) -> u32
     requires { length domains.now ≤ 1024 }
-    ensures { result ≡ node_of domains.now domain }
+    ensures { result ≡ node_of_domain domains.now domain }
 {
-    place_of(domains, domain).unwrap_or(0) as u32
+    index_of_domain(domains, domain).unwrap_or(0) as u32
 }
 
 /// Returns the index of a domain in the list, or `None` if it isn't in the list.
-fn place_of(domains: &[u32], domain: u32) -> Option<usize>
+fn index_of_domain(domains: &[u32], domain: u32) -> Option<usize>
     ensures value { result ≡ position (λ e. e == domain) domains.now }
     ensures within { IfSome result (λ place. place < length domains.now) }
 {

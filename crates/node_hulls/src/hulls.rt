@@ -6,7 +6,7 @@ ghost use Rattle.std.specs.Prelude.{◌≡◌, ℕ, ◌+◌, ◌-◌, ◌<◌, �
 ghost use Rattle.address_runs.specs.Overlay.{HaveAddresses};
 ghost use Rattle.address_runs.specs.Runs.{AreRuns, IsRunsOf, run_end, value_at};
 ghost use Rattle.node_hulls.specs.Kept.{numa_blocks_of};
-ghost use Rattle.node_hulls.specs.Steps.{filled, led_by_run};
+ghost use Rattle.node_hulls.specs.Steps.{fill_gaps, prepend_joined};
 
 use crate::kept::KeptBlock;
 use crate::node_range::NodeRange;
@@ -20,11 +20,11 @@ use std::alloc::Global;
 /// # Errors
 ///
 /// - `Memory`: the program ran out of memory.
-pub fn lay_blocks(alloc: Global, kept: &[KeptBlock]) -> Result<Vec<NodeRange>, Memory>
+pub fn overlay_blocks(alloc: Global, kept: &[KeptBlock]) -> Result<Vec<NodeRange>, Memory>
     requires { HaveAddresses (numa_blocks_of kept.now) }
     ensures { IfOk result (λ laid. IsRunsOf (value_at (numa_blocks_of kept.now)) laid.items) }
 {
-    let blocks = blocks_alone(alloc, kept)?;
+    let blocks = numa_blocks_of(alloc, kept)?;
     overlay_all(alloc, &blocks)
 }
 
@@ -33,7 +33,7 @@ pub fn lay_blocks(alloc: Global, kept: &[KeptBlock]) -> Result<Vec<NodeRange>, M
 /// # Errors
 ///
 /// - `Memory`: the program ran out of memory.
-fn blocks_alone(alloc: Global, kept: &[KeptBlock]) -> Result<Vec<NodeRange>, Memory>
+fn numa_blocks_of(alloc: Global, kept: &[KeptBlock]) -> Result<Vec<NodeRange>, Memory>
     ensures { IfOk result (λ blocks. blocks.items ≡ numa_blocks_of kept.now) }
 {
     let mut blocks = Vec::new(alloc);
@@ -44,7 +44,7 @@ fn blocks_alone(alloc: Global, kept: &[KeptBlock]) -> Result<Vec<NodeRange>, Mem
 }
 
 /// Joins neighbouring runs of one node to a single run, which then covers the gap between them
-/// too. If `runs` is the result of `lay_blocks`, and no two blocks of different nodes overlap, this
+/// too. If `runs` is the result of `overlay_blocks`, and no two blocks of different nodes overlap, this
 /// gives each address its node (`node_at`).
 ///
 /// # Errors
@@ -52,12 +52,12 @@ fn blocks_alone(alloc: Global, kept: &[KeptBlock]) -> Result<Vec<NodeRange>, Mem
 /// - `Memory`: the program ran out of memory.
 pub fn fill_gaps(alloc: Global, runs: &[NodeRange]) -> Result<Vec<NodeRange>, Memory>
     requires { AreRuns runs.now }
-    ensures { IfOk result (λ joined. joined.items ≡ filled runs.now) }
+    ensures { IfOk result (λ joined. joined.items ≡ fill_gaps runs.now) }
 {
     let mut joined = Vec::new(alloc);
     let mut rest = runs;
     while let [others @ .., run] = rest {
-        put_before(&mut joined, *run)?;
+        prepend_joined(&mut joined, *run)?;
         rest = others;
     }
     joined.reverse();
@@ -70,15 +70,15 @@ pub fn fill_gaps(alloc: Global, runs: &[NodeRange]) -> Result<Vec<NodeRange>, Me
 /// # Errors
 ///
 /// - `Memory`: the program ran out of memory.
-fn put_before(joined: &mut Vec<NodeRange>, run: NodeRange) -> Result<(), Memory>
-    ensures { OnOk result (joined.new.items ≡ reverse (led_by_run run (reverse joined.old.items))) }
+fn prepend_joined(joined: &mut Vec<NodeRange>, run: NodeRange) -> Result<(), Memory>
+    ensures { OnOk result (joined.new.items ≡ reverse (prepend_joined run (reverse joined.old.items))) }
 {
     let Some(next) = joined.pop() else {
         joined.push(run)?;
         return Ok(());
     };
     if next.value == run.value {
-        joined.push(spanning(&run, &next))?;
+        joined.push(spanning_run(&run, &next))?;
     } else {
         joined.push(next)?;
         joined.push(run)?;
@@ -87,7 +87,7 @@ fn put_before(joined: &mut Vec<NodeRange>, run: NodeRange) -> Result<(), Memory>
 }
 
 /// Returns the run from the start of `run` to the end of `next`, which must have the same node.
-fn spanning(run: &NodeRange, next: &NodeRange) -> NodeRange
+fn spanning_run(run: &NodeRange, next: &NodeRange) -> NodeRange
     ensures { result ≡ record { base = run.now.base; size = run_end next.now - run.now.base; value = run.now.value } }
 {
     let base = run.range.base;

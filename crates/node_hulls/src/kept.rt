@@ -4,12 +4,12 @@
 
 ghost use Rattle.std.specs.Prelude.{◌≡◌, ◌↔◌, ℕ, ◌+◌, ◌++◌, ◌^◌, ◌<◌, ◌≤◌, None, IsTrue, OnOk, IfOk, length, option_map, find, is_some};
 ghost use Rattle.address_runs.specs.Runs.{AreRuns, IsRunsOf, run_end, value_at};
-ghost use Rattle.node_hulls.specs.Kept.{numa_blocks_of, framed, kept_one, of_node, kept_of, any_kept, count_some, clash, first_clash};
-ghost use Rattle.node_hulls.specs.Steps.{EndInSpace, in_runs};
+ghost use Rattle.node_hulls.specs.Kept.{numa_blocks_of, round_ends_down, keep_block, block_in_frames, keep_blocks, is_any_kept, count_with_addresses, is_clash, first_clash};
+ghost use Rattle.node_hulls.specs.Steps.{EndInSpace, is_in_runs};
 
-use crate::domains::node_of;
+use crate::domains::node_of_domain;
 use crate::memory::meets_memory;
-use crate::node_range::{NodeRange, overlap};
+use crate::node_range::{NodeRange, runs_overlap};
 use address_runs::RunOf;
 use bm_base::{FRAME_SIZE, Memory, Range, round_down};
 use run_edits::has_value_throughout;
@@ -26,8 +26,8 @@ pub struct KeptBlock {
 }
 
 /// Returns the range with both ends rounded down to frames.
-fn framed(range: &Range) -> Range
-    ensures { result ≡ framed range.now }
+fn round_ends_down(range: &Range) -> Range
+    ensures { result ≡ round_ends_down range.now }
 {
     let base = round_down(range.base, FRAME_SIZE);
     let end = round_down(range.end(), FRAME_SIZE);
@@ -40,10 +40,10 @@ fn framed(range: &Range) -> Range
 /// Tests whether any block is kept.
 pub fn is_any_kept(memory: &Vec<RunOf<bool>>, blocks: &[SratBlock]) -> bool
     requires { AreRuns memory.now.items }
-    ensures { result ≡ any_kept (in_runs memory.now.items) blocks.now }
+    ensures { result ≡ is_any_kept (is_in_runs memory.now.items) blocks.now }
 {
     for block in blocks {
-        if meets_memory(memory, &framed(&block.range)) {
+        if meets_memory(memory, &round_ends_down(&block.range)) {
             return true;
         }
     }
@@ -52,7 +52,7 @@ pub fn is_any_kept(memory: &Vec<RunOf<bool>>, blocks: &[SratBlock]) -> bool
 
 /// Returns the number of blocks that aren't empty in the table, before rounding to frames.
 pub fn count_with_addresses(blocks: &[SratBlock]) -> usize
-    ensures { result ≡ count_some blocks.now }
+    ensures { result ≡ count_with_addresses blocks.now }
 {
     blocks.iter().filter(|block| block.range.size > 0).count()
 }
@@ -72,13 +72,13 @@ pub fn keep_blocks(
     requires memory { AreRuns memory.now.items }
     requires nodes { length domains.now ≤ 1024 }
     requires few { length blocks.now < 2 ^ 32 }
-    ensures value { IfOk result (λ kept. kept.items ≡ kept_of (in_runs memory.now.items) domains.now blocks.now) }
+    ensures value { IfOk result (λ kept. kept.items ≡ keep_blocks (is_in_runs memory.now.items) domains.now blocks.now) }
     ensures space { IfOk result (λ kept. EndInSpace (numa_blocks_of kept.items)) }
 {
     let mut kept = Vec::new(alloc);
     for (index, block) in blocks.iter().enumerate() {
-        let block = in_frames(domains, block);
-        keep_one(&mut kept, memory, index as u32, block)?;
+        let block = block_in_frames(domains, block);
+        keep_block(&mut kept, memory, index as u32, block)?;
     }
     Ok(kept)
 }
@@ -88,14 +88,14 @@ pub fn keep_blocks(
 /// # Errors
 ///
 /// - `Memory`: the program ran out of memory.
-fn keep_one(
+fn keep_block(
     kept: &mut Vec<KeptBlock>,
     memory: &Vec<RunOf<bool>>,
     number: u32,
     block: NodeRange,
 ) -> Result<(), Memory>
     requires { AreRuns memory.now.items }
-    ensures { OnOk result (kept.new.items ≡ kept.old.items ++ kept_one (in_runs memory.now.items) number block) }
+    ensures { OnOk result (kept.new.items ≡ kept.old.items ++ keep_block (is_in_runs memory.now.items) number block) }
 {
     if meets_memory(memory, &block.range) {
         kept.push(KeptBlock { number, block })?;
@@ -104,21 +104,21 @@ fn keep_one(
 }
 
 /// Returns the block in whole frames, with the node of its domain.
-fn in_frames(domains: &[u32], block: &SratBlock) -> NodeRange
+fn block_in_frames(domains: &[u32], block: &SratBlock) -> NodeRange
     requires { length domains.now ≤ 1024 }
-    ensures value { result ≡ of_node domains.now block.now }
+    ensures value { result ≡ block_in_frames domains.now block.now }
     ensures space { run_end result < 2 ^ 64 }
 {
     RunOf {
-        range: framed(&block.range),
-        value: node_of(domains, block.domain),
+        range: round_ends_down(&block.range),
+        value: node_of_domain(domains, block.domain),
     }
 }
 
 /// Returns the numbers of two kept blocks of different nodes that share an address, or `None` if
 /// there are none. The first number is the least possible, and then the second. `laid` has the
 /// overlaid blocks; pairs are compared only if there is an overlap.
-pub fn first_overlap(kept: &[KeptBlock], laid: &Vec<NodeRange>) -> Option<(u32, u32)>
+pub fn first_clash(kept: &[KeptBlock], laid: &Vec<NodeRange>) -> Option<(u32, u32)>
     requires { IsRunsOf (value_at (numa_blocks_of kept.now)) laid.now.items }
     ensures { result ≡ first_clash kept.now }
 {
@@ -142,7 +142,7 @@ fn are_apart(kept: &[KeptBlock], laid: &Vec<NodeRange>) -> bool
     true
 }
 
-/// Finds the pair of [`first_overlap`] by comparing each pair of blocks.
+/// Finds the pair of [`first_clash`] by comparing each pair of blocks.
 fn first_pair(kept: &[KeptBlock]) -> Option<(u32, u32)>
     ensures { result ≡ first_clash kept.now }
 {
@@ -159,7 +159,7 @@ fn first_pair(kept: &[KeptBlock]) -> Option<(u32, u32)>
 /// Returns the number of the first of the `others` that has another node than the block and shares
 /// an address with it.
 fn overlapping(block: &KeptBlock, others: &[KeptBlock]) -> Option<u32>
-    ensures { result ≡ option_map (λ other. other.number) (find (clash block.now) others.now) }
+    ensures { result ≡ option_map (λ other. other.number) (find (is_clash block.now) others.now) }
 {
     for other in others {
         if is_clash(block, other) {
@@ -171,7 +171,7 @@ fn overlapping(block: &KeptBlock, others: &[KeptBlock]) -> Option<u32>
 
 /// Tests whether two blocks have different nodes and share an address.
 fn is_clash(block: &KeptBlock, other: &KeptBlock) -> bool
-    ensures { result ≡ clash block.now other.now }
+    ensures { result ≡ is_clash block.now other.now }
 {
-    block.block.value != other.block.value && overlap(&block.block, &other.block)
+    block.block.value != other.block.value && runs_overlap(&block.block, &other.block)
 }

@@ -5,7 +5,7 @@
 //! (`numa_cleanup_meminfo`). It uses the table only if the blocks cover enough of memory
 //! (`numa_meminfo_cover_memory`). This crate does the same on lists.
 //!
-//! [`judge`] takes the ranges of memory and the content of the table, and returns a [`Judged`]. It
+//! [`judge_srat`] takes the ranges of memory and the content of the table, and returns a [`SratNodes`]. It
 //! has the reason why the table is or isn't used ([`Why`]). If it is used, it also has the domain
 //! of each node, the runs of addresses with a node, and the runs of memory that no block covers.
 //! These last get the lowest node that has a block.
@@ -27,7 +27,7 @@
 //!   named.
 //! - [`least_overlap`]: the pair of overlapping blocks in [`Why::Overlap`] is the least one.
 //! - [`one_node_a_frame`]: all addresses of a frame have the same node.
-//! - [`nodes_with_memory`]: a node has memory exactly if it has a kept block.
+//! - [`kept_nodes_have_memory`]: a node has memory exactly if it has a kept block.
 //! - [`runs_cover_memory`]: the runs of a table that is used cover all memory.
 //!
 //! The layer above passes memory as a list of ranges, in any order. It records the nodes of
@@ -45,8 +45,8 @@ mod rest;
 
 pub use kept::KeptBlock;
 pub use laws::{
-    least_overlap, nodes_by_first_naming, nodes_with_memory, one_node_a_domain, one_node_a_frame,
+    least_overlap, nodes_by_first_naming, kept_nodes_have_memory, one_node_a_domain, one_node_a_frame,
     one_node_an_address, runs_cover_memory,
 };
 pub use node_range::NodeRange;
-pub use reasons::{Judged, MAX_BLOCKS, MAX_NODES, UNCOVERED_FRAMES, Why, judge};
+pub use reasons::{SratNodes, MAX_BLOCKS, MAX_NODES, UNCOVERED_FRAMES, Why, judge_srat};

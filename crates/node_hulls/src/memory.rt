@@ -4,8 +4,8 @@
 ghost use Rattle.std.specs.Prelude.{◌≡◌, ℕ, ◌++◌, OnOk, IfOk, map};
 ghost use Rattle.address_runs.specs.Overlay.{HaveAddresses};
 ghost use Rattle.address_runs.specs.Runs.{AreRuns};
-ghost use Rattle.node_hulls.specs.Kept.{in_any, meets_memory, HaveBytes};
-ghost use Rattle.node_hulls.specs.Steps.{nodeless, in_runs};
+ghost use Rattle.node_hulls.specs.Kept.{is_in_any_range, meets_memory, NoMemoryIsEmpty};
+ghost use Rattle.node_hulls.specs.Steps.{run_without_node, is_in_runs};
 
 use address_runs::{RunOf, overlay_all};
 use bm_base::{Memory, Range};
@@ -19,12 +19,12 @@ use std::alloc::Global;
 ///
 /// - `Memory`: the program ran out of memory.
 pub fn memory_runs(alloc: Global, memory: &[Range]) -> Result<Vec<RunOf<bool>>, Memory>
-    requires { HaveBytes memory.now }
+    requires { NoMemoryIsEmpty memory.now }
     ensures runs { IfOk result (λ runs. AreRuns runs.items) }
-    ensures bytes { IfOk result (λ runs. (x : ℕ) → in_runs runs.items x ≡ in_any memory.now x) }
+    ensures bytes { IfOk result (λ runs. (x : ℕ) → is_in_runs runs.items x ≡ is_in_any_range memory.now x) }
 {
     let mut told = Vec::new(alloc);
-    tell_memory(&mut told, memory)?;
+    push_uncovered_memory(&mut told, memory)?;
     overlay_all(alloc, &told)
 }
 
@@ -33,8 +33,8 @@ pub fn memory_runs(alloc: Global, memory: &[Range]) -> Result<Vec<RunOf<bool>>, 
 /// # Errors
 ///
 /// - `Memory`: the program ran out of memory.
-pub fn tell_memory(told: &mut Vec<RunOf<bool>>, memory: &[Range]) -> Result<(), Memory>
-    ensures { OnOk result (told.new.items ≡ told.old.items ++ map nodeless memory.now) }
+pub fn push_uncovered_memory(told: &mut Vec<RunOf<bool>>, memory: &[Range]) -> Result<(), Memory>
+    ensures { OnOk result (told.new.items ≡ told.old.items ++ map run_without_node memory.now) }
 {
     for part in memory {
         let range = Range {
@@ -53,7 +53,7 @@ pub fn tell_memory(told: &mut Vec<RunOf<bool>>, memory: &[Range]) -> Result<(), 
 /// start of the range.
 pub fn meets_memory(memory: &Vec<RunOf<bool>>, range: &Range) -> bool
     requires { AreRuns memory.now.items }
-    ensures { result ≡ meets_memory (in_runs memory.now.items) range.now }
+    ensures { result ≡ meets_memory (is_in_runs memory.now.items) range.now }
 {
     let first = seek(memory, range.base) as usize;
     if first >= memory.len() {

@@ -4,7 +4,7 @@
 
 ghost use Rattle.std.specs.Prelude.{◌≡◌};
 ghost use Rattle.address_runs.specs.Runs.{run_end};
-ghost use Rattle.node_hulls.specs.Hulls.{meets};
+ghost use Rattle.node_hulls.specs.Hulls.{block_meets};
 
 use address_runs::RunOf;
 
@@ -12,8 +12,8 @@ use address_runs::RunOf;
 pub type NodeRange = RunOf<u32>;
 
 /// Tests whether the two ranges share an address.
-pub fn overlap(first: &NodeRange, second: &NodeRange) -> bool
-    ensures { result ≡ meets first.now.base (run_end first.now) second.now }
+pub fn runs_overlap(first: &NodeRange, second: &NodeRange) -> bool
+    ensures { result ≡ block_meets first.now.base (run_end first.now) second.now }
 {
     let from = first.range.base.max(second.range.base);
     let behind = first.range.end().min(second.range.end());

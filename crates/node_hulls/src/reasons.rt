@@ -4,17 +4,17 @@
 ghost use Rattle.std.specs.Prelude.{◌≡◌, ℕ, ◌^◌, ◌<◌, ◌≤◌, IfOk, IsFalse, IsSome, OnErr, length};
 ghost use Rattle.std.specs.Option.{ForSome, option_map, option_copied};
 ghost use Rattle.address_runs.specs.Overlay.{HaveAddresses};
-ghost use Rattle.srat_reader.specs.Table.{affinity};
-ghost use Rattle.node_hulls.specs.Judgement.{lowest, judgement, judged, judged_kept, judged_table, unused};
-ghost use Rattle.node_hulls.specs.Kept.{in_any, numa_blocks_of, HaveBytes};
+ghost use Rattle.srat_reader.specs.Table.{srat_view};
+ghost use Rattle.node_hulls.specs.Judgement.{lowest_node, srat_nodes_view, judge_srat, judge_kept_blocks, judge_srat_table, unused_srat};
+ghost use Rattle.node_hulls.specs.Kept.{is_in_any_range, numa_blocks_of, NoMemoryIsEmpty};
 ghost use Rattle.node_hulls.specs.Steps.{EndInSpace};
 
-use crate::domains::name_domains;
-use crate::hulls::{fill_gaps, lay_blocks};
-use crate::kept::{KeptBlock, count_with_addresses, first_overlap, is_any_kept, keep_blocks};
+use crate::domains::named_domains;
+use crate::hulls::{fill_gaps, overlay_blocks};
+use crate::kept::{KeptBlock, count_with_addresses, first_clash, is_any_kept, keep_blocks};
 use crate::memory::memory_runs;
 use crate::node_range::NodeRange;
-use crate::rest::{count_frames, left_over_runs};
+use crate::rest::{count_frames, uncovered_runs};
 use bm_base::{Memory, Range};
 use srat_reader::{Srat, SratBlock};
 use std::alloc::Global;
@@ -54,7 +54,7 @@ pub enum Why {
 
 /// The result for the table. If the table isn't used, the lists are empty and `uncovered` is 0.
 #[derive(Debug, Drop)]
-pub struct Judged {
+pub struct SratNodes {
     /// The reason why the table is or isn't used.
     pub why: Why,
     /// The domain of each node; the index is the node.
@@ -75,24 +75,24 @@ pub struct Judged {
 /// # Errors
 ///
 /// - `Memory`: the program ran out of memory; there is a table, and `off` is false.
-pub fn judge(
+pub fn judge_srat(
     alloc: Global,
     memory: &[Range],
     srat: Option<&Srat>,
     off: bool,
-) -> Result<Judged, Memory>
-    requires memory { HaveBytes memory.now }
+) -> Result<SratNodes, Memory>
+    requires memory { NoMemoryIsEmpty memory.now }
     requires few { ForSome srat (λ table. length table.now.blocks.items < 2 ^ 32) }
-    ensures value { IfOk result (λ found. judgement found ≡
-        judged (in_any memory.now) off (option_map affinity (option_copied srat.entry))) }
+    ensures value { IfOk result (λ found. srat_nodes_view found ≡
+        judge_srat (is_in_any_range memory.now) off (option_map srat_view (option_copied srat.entry))) }
     ensures memory { OnErr result (IsFalse off × IsSome srat.entry) }
 {
     if off {
-        return Ok(unused(alloc, Why::Off));
+        return Ok(unused_srat(alloc, Why::Off));
     }
     match srat {
-        None => Ok(unused(alloc, Why::Absent)),
-        Some(table) => judge_table(alloc, memory, &table.cpus, &table.blocks),
+        None => Ok(unused_srat(alloc, Why::Absent)),
+        Some(table) => judge_srat_table(alloc, memory, &table.cpus, &table.blocks),
     }
 }
 
@@ -102,30 +102,30 @@ pub fn judge(
 /// # Errors
 ///
 /// - `Memory`: the program ran out of memory.
-fn judge_table(
+fn judge_srat_table(
     alloc: Global,
     memory: &[Range],
     processors: &[u32],
     blocks: &[SratBlock],
-) -> Result<Judged, Memory>
-    requires memory { HaveBytes memory.now }
+) -> Result<SratNodes, Memory>
+    requires memory { NoMemoryIsEmpty memory.now }
     requires few { length blocks.now < 2 ^ 32 }
-    ensures { IfOk result (λ found. judgement found ≡
-        judged_table (in_any memory.now) (record { processors = processors.now; blocks = blocks.now })) }
+    ensures { IfOk result (λ found. srat_nodes_view found ≡
+        judge_srat_table (is_in_any_range memory.now) (record { processors = processors.now; blocks = blocks.now })) }
 {
     let runs = memory_runs(alloc, memory)?;
     if !is_any_kept(&runs, blocks) {
-        return Ok(unused(alloc, Why::NoBlocks));
+        return Ok(unused_srat(alloc, Why::NoBlocks));
     }
-    let domains = name_domains(alloc, processors, blocks)?;
+    let domains = named_domains(alloc, processors, blocks)?;
     if domains.len() > MAX_NODES {
-        return Ok(unused(alloc, Why::TooManyDomains));
+        return Ok(unused_srat(alloc, Why::TooManyDomains));
     }
     if count_with_addresses(blocks) > MAX_BLOCKS {
-        return Ok(unused(alloc, Why::TooManyBlocks));
+        return Ok(unused_srat(alloc, Why::TooManyBlocks));
     }
     let kept = keep_blocks(alloc, &runs, &domains, blocks)?;
-    judge_kept(alloc, memory, domains, &kept)
+    judge_kept_blocks(alloc, memory, domains, &kept)
 }
 
 /// Decides about the table by the kept blocks, none of which may be empty.
@@ -133,28 +133,28 @@ fn judge_table(
 /// # Errors
 ///
 /// - `Memory`: the program ran out of memory.
-fn judge_kept(
+fn judge_kept_blocks(
     alloc: Global,
     memory: &[Range],
     domains: Vec<u32>,
     kept: &[KeptBlock],
-) -> Result<Judged, Memory>
-    requires memory { HaveBytes memory.now }
+) -> Result<SratNodes, Memory>
+    requires memory { NoMemoryIsEmpty memory.now }
     requires some { HaveAddresses (numa_blocks_of kept.now) }
     requires space { EndInSpace (numa_blocks_of kept.now) }
-    ensures { IfOk result (λ found. judgement found ≡ judged_kept (in_any memory.now) domains.items kept.now) }
+    ensures { IfOk result (λ found. srat_nodes_view found ≡ judge_kept_blocks (is_in_any_range memory.now) domains.items kept.now) }
 {
-    let laid = lay_blocks(alloc, kept)?;
-    if let Some((i, j)) = first_overlap(kept, &laid) {
-        return Ok(unused(alloc, Why::Overlap { i, j }));
+    let laid = overlay_blocks(alloc, kept)?;
+    if let Some((i, j)) = first_clash(kept, &laid) {
+        return Ok(unused_srat(alloc, Why::Overlap { i, j }));
     }
     let joined = fill_gaps(alloc, &laid)?;
-    let rest = left_over_runs(alloc, memory, &joined, lowest_node(kept))?;
+    let rest = uncovered_runs(alloc, memory, &joined, lowest_node(kept))?;
     let uncovered = count_frames(&rest);
     if uncovered >= UNCOVERED_FRAMES {
-        return Ok(unused(alloc, Why::NotCovered { frames: uncovered }));
+        return Ok(unused_srat(alloc, Why::NotCovered { frames: uncovered }));
     }
-    Ok(Judged {
+    Ok(SratNodes {
         why: Why::Used,
         domains,
         joined,
@@ -164,10 +164,10 @@ fn judge_kept(
 }
 
 /// Returns the result for a table that isn't used.
-fn unused(alloc: Global, why: Why) -> Judged
-    ensures { judgement result ≡ unused why }
+fn unused_srat(alloc: Global, why: Why) -> SratNodes
+    ensures { srat_nodes_view result ≡ unused_srat why }
 {
-    Judged {
+    SratNodes {
         why,
         domains: Vec::new(alloc),
         joined: Vec::new(alloc),
@@ -178,7 +178,7 @@ fn unused(alloc: Global, why: Why) -> Judged
 
 /// Returns the lowest node of the blocks, or 0 if there are no blocks.
 fn lowest_node(kept: &[KeptBlock]) -> u32
-    ensures { result ≡ lowest (numa_blocks_of kept.now) }
+    ensures { result ≡ lowest_node (numa_blocks_of kept.now) }
 {
     let [first, others @ ..] = kept else {
         return 0;

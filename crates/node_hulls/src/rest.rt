@@ -4,11 +4,11 @@
 ghost use Rattle.std.specs.Prelude.{◌≡◌, ℕ, ◌+◌, ◌-◌, ◌^◌, ◌<◌, ◌≤◌, ◌++◌, [], ◌∷◌, if◌then◌else◌, OnOk, IfOk, map};
 ghost use Rattle.address_runs.specs.Overlay.{HaveAddresses};
 ghost use Rattle.address_runs.specs.Runs.{AreRuns, IsRunsOf, run_end, value_at};
-ghost use Rattle.node_hulls.specs.Judgement.{left_over, frames_given};
-ghost use Rattle.node_hulls.specs.Kept.{in_any, HaveBytes};
-ghost use Rattle.node_hulls.specs.Steps.{nodeless, noded, bare_runs, with_node, begun_before, EndInSpace};
+ghost use Rattle.node_hulls.specs.Judgement.{node_if_uncovered, count_frames_with_node};
+ghost use Rattle.node_hulls.specs.Kept.{is_in_any_range, NoMemoryIsEmpty};
+ghost use Rattle.node_hulls.specs.Steps.{run_without_node, run_with_node, uncovered_runs_with_node, run_of_node, count_frames_below, EndInSpace};
 
-use crate::memory::tell_memory;
+use crate::memory::push_uncovered_memory;
 use crate::node_range::NodeRange;
 use address_runs::{RunOf, overlay_all};
 use bm_base::{FRAME_SIZE, Memory, Range};
@@ -20,20 +20,20 @@ use std::alloc::Global;
 /// # Errors
 ///
 /// - `Memory`: the program ran out of memory.
-pub fn left_over_runs(
+pub fn uncovered_runs(
     alloc: Global,
     memory: &[Range],
     joined: &[NodeRange],
     node: u32,
 ) -> Result<Vec<NodeRange>, Memory>
-    requires memory { HaveBytes memory.now }
+    requires memory { NoMemoryIsEmpty memory.now }
     requires joined { AreRuns joined.now }
-    ensures runs { IfOk result (λ rest. IsRunsOf (left_over (in_any memory.now) (value_at joined.now) node) rest.items) }
+    ensures runs { IfOk result (λ rest. IsRunsOf (node_if_uncovered (is_in_any_range memory.now) (value_at joined.now) node) rest.items) }
     ensures space { IfOk result (λ rest. EndInSpace rest.items) }
 {
-    let told = tell(alloc, memory, joined)?;
+    let told = mark_covered(alloc, memory, joined)?;
     let covered = overlay_all(alloc, &told)?;
-    without_node(alloc, &covered, node)
+    uncovered_runs_with_node(alloc, &covered, node)
 }
 
 /// Returns the runs with a node, followed by the ranges of memory. Each says whether it has a
@@ -42,12 +42,12 @@ pub fn left_over_runs(
 /// # Errors
 ///
 /// - `Memory`: the program ran out of memory.
-fn tell(alloc: Global, memory: &[Range], joined: &[NodeRange]) -> Result<Vec<RunOf<bool>>, Memory>
-    ensures { IfOk result (λ told. told.items ≡ map noded joined.now ++ map nodeless memory.now) }
+fn mark_covered(alloc: Global, memory: &[Range], joined: &[NodeRange]) -> Result<Vec<RunOf<bool>>, Memory>
+    ensures { IfOk result (λ told. told.items ≡ map run_with_node joined.now ++ map run_without_node memory.now) }
 {
     let mut told = Vec::new(alloc);
-    tell_nodes(&mut told, joined)?;
-    tell_memory(&mut told, memory)?;
+    mark_with_nodes(&mut told, joined)?;
+    push_uncovered_memory(&mut told, memory)?;
     Ok(told)
 }
 
@@ -56,8 +56,8 @@ fn tell(alloc: Global, memory: &[Range], joined: &[NodeRange]) -> Result<Vec<Run
 /// # Errors
 ///
 /// - `Memory`: the program ran out of memory.
-fn tell_nodes(told: &mut Vec<RunOf<bool>>, joined: &[NodeRange]) -> Result<(), Memory>
-    ensures { OnOk result (told.new.items ≡ told.old.items ++ map noded joined.now) }
+fn mark_with_nodes(told: &mut Vec<RunOf<bool>>, joined: &[NodeRange]) -> Result<(), Memory>
+    ensures { OnOk result (told.new.items ≡ told.old.items ++ map run_with_node joined.now) }
 {
     for run in joined {
         told.push(RunOf {
@@ -73,13 +73,13 @@ fn tell_nodes(told: &mut Vec<RunOf<bool>>, joined: &[NodeRange]) -> Result<(), M
 /// # Errors
 ///
 /// - `Memory`: the program ran out of memory.
-fn without_node(alloc: Global, covered: &[RunOf<bool>], node: u32) -> Result<Vec<NodeRange>, Memory>
-    ensures value { IfOk result (λ rest. rest.items ≡ bare_runs node covered.now) }
+fn uncovered_runs_with_node(alloc: Global, covered: &[RunOf<bool>], node: u32) -> Result<Vec<NodeRange>, Memory>
+    ensures value { IfOk result (λ rest. rest.items ≡ uncovered_runs_with_node node covered.now) }
     ensures space { IfOk result (λ rest. EndInSpace rest.items) }
 {
     let mut rest = Vec::new(alloc);
     for run in covered {
-        give_node(&mut rest, run, node)?;
+        push_run_of_node(&mut rest, run, node)?;
     }
     Ok(rest)
 }
@@ -89,9 +89,9 @@ fn without_node(alloc: Global, covered: &[RunOf<bool>], node: u32) -> Result<Vec
 /// # Errors
 ///
 /// - `Memory`: the program ran out of memory.
-fn give_node(rest: &mut Vec<NodeRange>, run: &RunOf<bool>, node: u32) -> Result<(), Memory>
+fn push_run_of_node(rest: &mut Vec<NodeRange>, run: &RunOf<bool>, node: u32) -> Result<(), Memory>
     ensures value { OnOk result (rest.new.items ≡
-        (if run.now.value then rest.old.items else rest.old.items ++ with_node node run.now ∷ [])) }
+        (if run.now.value then rest.old.items else rest.old.items ++ run_of_node node run.now ∷ [])) }
     ensures space { run_end run.now < 2 ^ 64 }
 {
     if !run.value {
@@ -106,7 +106,7 @@ fn give_node(rest: &mut Vec<NodeRange>, run: &RunOf<bool>, node: u32) -> Result<
 /// Returns the number of frames that begin in the runs.
 pub fn count_frames(runs: &[NodeRange]) -> u64
     requires { AreRuns runs.now }
-    ensures { result ≡ frames_given (value_at runs.now) }
+    ensures { result ≡ count_frames_with_node (value_at runs.now) }
 {
     let mut frames = 0;
     let mut rest = runs;
@@ -119,7 +119,7 @@ pub fn count_frames(runs: &[NodeRange]) -> u64
 
 /// Returns the number of frames that begin in the run.
 fn frames_begun(run: &NodeRange) -> u64
-    ensures value { result ≡ begun_before (run_end run.now) - begun_before run.now.base }
+    ensures value { result ≡ count_frames_below (run_end run.now) - count_frames_below run.now.base }
     ensures space { run_end run.now < 2 ^ 64 }
 {
     let end = run.range.end();

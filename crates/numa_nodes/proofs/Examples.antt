@@ -7,8 +7,8 @@ use Rattle.memblock_model.specs.Labels.{LabelView, Labels, plain_label, with_nod
 use Rattle.memblock_model.specs.Items.{memory_of}
 use Rattle.node_hulls.specs.declared.reasons.Why.TheVariants as why
 use Rattle.node_hulls.specs.Hulls.{NumaBlock}
-use Rattle.node_hulls.specs.Judgement.{Judgement, unused}
-use Rattle.numa_nodes.specs.Assigned.{has_node, is_of_node, node_data_request, nodes_from, nodes_with_memory, ranges_given}
+use Rattle.node_hulls.specs.Judgement.{SratNodesView, unused_srat}
+use Rattle.numa_nodes.specs.Assigned.{has_node, is_of_node, node_data_request, nodes_from, nodes_with_memory, node_ranges}
 use Rattle.numa_nodes.proofs.ListedLaws.{nodes-listed, nodes-lists}
 use Rattle.numa_nodes.proofs.MemoryLaws.{noded_all}
 
@@ -22,13 +22,13 @@ high = record { base = 0x4000; size = 0x4000; value = 0 }
 abbrev last : NumaBlock
 last = record { base = 0x8000; size = 0x1000; value = 0 }
 
-abbrev two_nodes : Judgement
+abbrev two_nodes : SratNodesView
 two_nodes = record { why = why.Used; domains = 9 ∷ (4 ∷ []); joined = low ∷ (high ∷ []); rest = last ∷ []; uncovered = 1 }
 
 -- the joined ranges before the rest if the table is used, else all addresses below the limit
-range_examples : (ranges_given 0x9000 two_nodes ≡ low ∷ (high ∷ (last ∷ [])))
-    × (ranges_given 0x9000 (unused why.NoBlocks) ≡ record { base = 0; size = 0x9000; value = 0 } ∷ [])
-    × (ranges_given 0x9000 (unused (why.NotCovered 300)) ≡ record { base = 0; size = 0x9000; value = 0 } ∷ [])
+range_examples : (node_ranges 0x9000 two_nodes ≡ low ∷ (high ∷ (last ∷ [])))
+    × (node_ranges 0x9000 (unused_srat why.NoBlocks) ≡ record { base = 0; size = 0x9000; value = 0 } ∷ [])
+    × (node_ranges 0x9000 (unused_srat (why.NotCovered 300)) ≡ record { base = 0; size = 0x9000; value = 0 } ∷ [])
 range_examples = (refl, refl, refl)
 
 -- memory gets the nodes, and other addresses get none

@@ -11,18 +11,18 @@ use Rattle.bm_base.specs.Range.{covers}
 use Rattle.address_runs.specs.Edits.{NothingFrom, relabel_range}
 use Rattle.address_runs.specs.Runs.{AreRuns, extent_of, lies_in, run_end, value_at}
 use Rattle.address_runs.proofs.RunsLaws.{none_below, rest_from}
-use Rattle.srat_reader.specs.Table.{Affinity}
+use Rattle.srat_reader.specs.Table.{SratView}
 use Rattle.memblock_model.specs.declared.item.Item.{Item}
 use Rattle.memblock_model.specs.Items.{limit_of, memory_of}
 use Rattle.memblock_model.specs.Labels.{LabelView, Labels, with_node}
 use Rattle.node_hulls.specs.declared.reasons.Why.TheVariants as why
 use Rattle.node_hulls.specs.Hulls.{NumaBlock}
-use Rattle.node_hulls.specs.Judgement.{Judgement, judged}
+use Rattle.node_hulls.specs.Judgement.{SratNodesView, judge_srat}
 use Rattle.node_hulls.specs.Kept.{frame_base}
 use Rattle.node_hulls.proofs.GivenLaws.{given-covers, given-frames, given-runs, given-small}
-use Rattle.stage_model.specs.Doing.{after}
-use Rattle.stage_model.specs.Noded.{AreOfFrames, IsNoded}
-use Rattle.numa_nodes.specs.Assigned.{Noded, assigned, ranges_given}
+use Rattle.stage_model.specs.Doing.{items_after_step}
+use Rattle.stage_model.specs.Noded.{IsSameInFrames, HasNodes}
+use Rattle.numa_nodes.specs.Assigned.{NodesView, assign_nodes, node_ranges}
 use Rattle.numa_nodes.specs.Steps.{CanGetNodes}
 use Rattle.numa_nodes.proofs.AssignLaws.{ranges-cases}
 use Rattle.numa_nodes.proofs.MemoryLaws.{behind-answer, noded_all}
@@ -86,8 +86,8 @@ label-node n None label at = absurd (none-some label at)
 label-node n (Some l) label at = (refl, ap (λ (k : LabelView). k.node) (sym (same_Some (with_node n l) label at)))
 
 -- so memory satisfies IsNoded
-is-noded : (limit : ℕ) (f g : Labels) (nodes : ℕ → Option ℕ) → IsGiven limit f g nodes → AreOfFrames f
-    → NothingFrom limit f → IsNoded limit g
+is-noded : (limit : ℕ) (f g : Labels) (nodes : ℕ → Option ℕ) → IsGiven limit f g nodes → IsSameInFrames f
+    → NothingFrom limit f → HasNodes limit g
 is-noded limit f g nodes by frames within = record {
   frames = λ x. elim (cases_lt x limit) as (λ _. g x ≡ g (4096 * (x / 4096))) [
     | inl near ↦ rw (by.given x, by.frames x near, frames x) (sym (by.given (4096 * (x / 4096))))
@@ -114,14 +114,14 @@ two-some a (Some m) some = refl
 two-some (Some n) None some = refl
 two-some None None some = absurd (true≢false (sym some))
 
-module _ (f : Labels) (off : Bool) (table : Option Affinity) where
-  abbrev found : Judgement
-  found = judged (λ x. is_some (f x)) off table
+module _ (f : Labels) (off : Bool) (table : Option SratView) where
+  abbrev found : SratNodesView
+  found = judge_srat (λ x. is_some (f x)) off table
 
   abbrev nodes_found : ℕ → Option ℕ
   nodes_found x = option_or (value_at found.rest x) (value_at found.joined x)
 
-  used-given : (limit : ℕ) → limit ≤ 2 ^ 64 → NothingFrom limit f → AreOfFrames (λ x. is_some (f x)) → found.why ≡ why.Used
+  used-given : (limit : ℕ) → limit ≤ 2 ^ 64 → NothingFrom limit f → IsSameInFrames (λ x. is_some (f x)) → found.why ≡ why.Used
       → IsGiven limit f (noded_all (found.joined ++ found.rest) f) nodes_found
   used-given limit reach within frames used =
       let memory : ℕ → Bool = λ x. is_some (f x) in
@@ -173,20 +173,20 @@ below-given reach limit f within = record {
 }
 
 -- from any judgement
-given-noded : (reach limit : ℕ) (f : Labels) (off : Bool) (table : Option Affinity) → reach ≤ 2 ^ 64 → AreOfFrames f
-    → NothingFrom reach f → NothingFrom limit f → IsNoded reach (noded_all (ranges_given limit (judged (λ x. is_some (f x)) off table)) f)
+given-noded : (reach limit : ℕ) (f : Labels) (off : Bool) (table : Option SratView) → reach ≤ 2 ^ 64 → IsSameInFrames f
+    → NothingFrom reach f → NothingFrom limit f → HasNodes reach (noded_all (node_ranges limit (judge_srat (λ x. is_some (f x)) off table)) f)
 given-noded reach limit f off table near frames within low =
-    let j : Judgement = judged (λ x. is_some (f x)) off table in
+    let j : SratNodesView = judge_srat (λ x. is_some (f x)) off table in
     let below : List NumaBlock = record { base = 0; size = limit; value = 0 } ∷ [] in
-    ranges-cases (λ rs. IsNoded reach (noded_all rs f)) j.why limit j
+    ranges-cases (λ rs. HasNodes reach (noded_all rs f)) j.why limit j
     (λ used. is-noded reach f (noded_all (j.joined ++ j.rest) f) (nodes_found f off table)
     (used-given f off table reach near within (λ x. ap is_some (frames x)) used) frames within)
     (is-noded reach f (noded_all below f) (λ x. Some 0) (below-given reach limit f low) frames within)
 
-pub answer-noded : (reach : ℕ) (table : Option Affinity) (off : Bool) (items : List Item) (noded : Noded)
-    → (assigned table off items).answer ≡ Ok noded → reach ≤ 2 ^ 64 → AreOfFrames (memory_of items)
+pub answer-noded : (reach : ℕ) (table : Option SratView) (off : Bool) (items : List Item) (noded : NodesView)
+    → (assign_nodes table off items).answer ≡ Ok noded → reach ≤ 2 ^ 64 → IsSameInFrames (memory_of items)
     → NothingFrom reach (memory_of items) → NothingFrom (limit_of items) (memory_of items)
-    → IsNoded reach (memory_of (after items (assigned table off items)))
+    → HasNodes reach (memory_of (items_after_step items (assign_nodes table off items)))
 answer-noded reach table off items noded answered near frames within low =
     rw (behind-answer table off items noded answered).memory
     (given-noded reach (limit_of items) (memory_of items) off table near frames within low)

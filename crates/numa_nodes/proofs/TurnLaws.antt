@@ -7,48 +7,48 @@ use Rattle.memblock_model.specs.declared.query.Request.{Request}
 use Rattle.memblock_grow.specs.declared.stop.What.TheVariants as what
 use Rattle.memblock_grow.specs.declared.stop.StageStop.{StageStop}
 use Rattle.stage_model.specs.Causes.{StageCause, stage_stop}
-use Rattle.stage_model.specs.Doing.{Doing, StageEnds, in_turn, ok_as, returns}
-use Rattle.stage_model.specs.Requests.{placed}
+use Rattle.stage_model.specs.Doing.{StageStep, EndsAsStage, fold_steps, view_of_result, return_value}
+use Rattle.stage_model.specs.Requests.{place_or_stop}
 use Rattle.stage_model.proofs.DoingLaws.{ends-first, ends-second}
-use Rattle.numa_nodes.specs.Assigned.{data_placed, node_data_request}
+use Rattle.numa_nodes.specs.Assigned.{place_node_data, node_data_request}
 
 -- all steps end as those from index i on
-pub record Turns {X : Type 0} (step : Unit {0} → X → Doing StageCause (Unit {0})) (xs : List X) (i : ℕ) (old here : List Item) : Type 0 where
+pub record Turns {X : Type 0} (step : Unit {0} → X → StageStep StageCause (Unit {0})) (xs : List X) (i : ℕ) (old here : List Item) : Type 0 where
   pub ends : (r : Result (Unit {0}) StageStop) (new : List Item)
-      → StageEnds (in_turn step tt (drop i xs)) stage_stop r here new → StageEnds (in_turn step tt xs) stage_stop r old new
+      → EndsAsStage (fold_steps step tt (drop i xs)) stage_stop r here new → EndsAsStage (fold_steps step tt xs) stage_stop r old new
 
-module _ {X : Type 0} {step : Unit {0} → X → Doing StageCause (Unit {0})} {xs : List X} {i : ℕ} {old here : List Item}
+module _ {X : Type 0} {step : Unit {0} → X → StageStep StageCause (Unit {0})} {xs : List X} {i : ℕ} {old here : List Item}
     (turns : Turns step xs i old here) where
   drop-next : (x d : X) → i < length xs → x ≡ get_or xs i d → drop i xs ≡ x ∷ drop (i + 1) xs
   drop-next x d below is = drop_more xs i d below ∙ ap (λ (y : X). y ∷ drop (i + 1) xs) (sym is)
 
   -- the next step returned
   pub turn-next : (x d : X) (mid : List Item) → i < length xs → x ≡ get_or xs i d
-      → StageEnds (step tt x) stage_stop (Ok tt) here mid → Turns step xs (i + 1) old mid
+      → EndsAsStage (step tt x) stage_stop (Ok tt) here mid → Turns step xs (i + 1) old mid
   turn-next x d mid below is was = record {
     ends = λ r new rest. turns.ends r new (rw (drop-next x d below is) (ends-second tt r stage_stop here mid new (step tt x)
-        (λ next. in_turn step next (drop (i + 1) xs)) was rest));
+        (λ next. fold_steps step next (drop (i + 1) xs)) was rest));
   }
 
   -- the next step failed
   pub turn-stops : (x d : X) (new : List Item) (e : StageStop) → i < length xs → x ≡ get_or xs i d
-      → StageEnds {A = Unit {0}} (step tt x) stage_stop (Err e) here new
-      → StageEnds {A = Unit {0}} (in_turn step tt xs) stage_stop (Err e) old new
+      → EndsAsStage {A = Unit {0}} (step tt x) stage_stop (Err e) here new
+      → EndsAsStage {A = Unit {0}} (fold_steps step tt xs) stage_stop (Err e) old new
   turn-stops x d new e below is was =
       turns.ends (Err e) new (rw (drop-next x d below is) (ends-first e stage_stop here new (step tt x)
-      (λ next. in_turn step next (drop (i + 1) xs)) was))
+      (λ next. fold_steps step next (drop (i + 1) xs)) was))
 
   -- no step remains
-  pub turn-done : length xs ≤ i → StageEnds {A = Unit {0}} (in_turn step tt xs) stage_stop (Ok tt) old here
+  pub turn-done : length xs ≤ i → EndsAsStage {A = Unit {0}} (fold_steps step tt xs) stage_stop (Ok tt) old here
   turn-done all = turns.ends (Ok tt) here (rw (drop_all i xs all) (refl, refl))
 
 -- the data of a node, by its allocation
 pub data-placed : (r : Result ℕ StageStop) (n : ℕ) (here new : List Item) (q : Request) → q ≡ node_data_request n
-    → StageEnds (placed (what.NodeData n) q (owner.NodeData n)) stage_stop r here new
-    → StageEnds (data_placed tt n) stage_stop (ok_as (λ base. tt) r) here new
+    → EndsAsStage (place_or_stop (what.NodeData n) q (owner.NodeData n)) stage_stop r here new
+    → EndsAsStage (place_node_data tt n) stage_stop (view_of_result (λ base. tt) r) here new
 data-placed (Ok base) n here new q is was =
-    ends-second base (Ok tt) stage_stop here new new (placed (what.NodeData n) (node_data_request n) (owner.NodeData n))
-    (λ place. returns tt) (rw is at was) (refl, refl)
+    ends-second base (Ok tt) stage_stop here new new (place_or_stop (what.NodeData n) (node_data_request n) (owner.NodeData n))
+    (λ place. return_value tt) (rw is at was) (refl, refl)
 data-placed (Err e) n here new q is was =
-    ends-first e stage_stop here new (placed (what.NodeData n) (node_data_request n) (owner.NodeData n)) (λ place. returns tt)
+    ends-first e stage_stop here new (place_or_stop (what.NodeData n) (node_data_request n) (owner.NodeData n)) (λ place. return_value tt)
     (rw is at was)

@@ -8,37 +8,37 @@ use Rattle.memblock_model.specs.declared.owner.Owner.TheVariants as owner
 use Rattle.memblock_model.specs.Items.{memory_of, limit_of}
 use Rattle.memblock_model.specs.Labels.{LabelView, Labels}
 use Rattle.memblock_model.specs.Same.{same_node_or_none}
-use Rattle.srat_reader.specs.Table.{Affinity}
+use Rattle.srat_reader.specs.Table.{SratView}
 use Rattle.node_hulls.specs.declared.reasons.Why.{Why}
 use Rattle.node_hulls.specs.declared.reasons.Why.TheVariants as why
 use Rattle.node_hulls.specs.declared.reasons.TheConstants.{MAX_NODES}
 use Rattle.node_hulls.specs.Hulls.{NumaBlock}
-use Rattle.node_hulls.specs.Judgement.{Judgement, judged}
+use Rattle.node_hulls.specs.Judgement.{SratNodesView, judge_srat}
 use Rattle.memblock_model.specs.declared.query.Request.{Request}
-use Rattle.growth_model.specs.Growth.{noded}
+use Rattle.growth_model.specs.Growth.{set_range_node}
 use Rattle.memblock_grow.specs.declared.stop.What.TheVariants as what
 use Rattle.stage_model.specs.Causes.{StageCause}
-use Rattle.stage_model.specs.Doing.{Doing, ◌>>=◌, returns, seen, listed, in_turn}
-use Rattle.stage_model.specs.Requests.{carried, placed}
+use Rattle.stage_model.specs.Doing.{StageStep, ◌>>=◌, return_value, read_items, read_into_list, fold_steps}
+use Rattle.stage_model.specs.Requests.{change_or_stop, place_or_stop}
 use Rattle.numa_nodes.specs.declared.nodes.Nodes.{Nodes}
 
 -- whether the byte is memory
-abbrev pub is_memory : List Item → ℕ → Bool
-is_memory items x = is_some (memory_of items x)
+abbrev pub is_memory_byte : List Item → ℕ → Bool
+is_memory_byte items x = is_some (memory_of items x)
 
 -- the ranges that get a node, each with its node: if the table is used, the runs of addresses of
 -- one node and then the runs of memory that is left over; else all addresses below the limit, with
 -- node 0 (`dummy_numa_init`)
-abbrev pub ranges_by : Why → ℕ → Judgement → List NumaBlock
-ranges_by why.Used limit found = found.joined ++ found.rest
-ranges_by reason limit found = record { base = 0; size = limit; value = 0 } ∷ []
+abbrev pub node_ranges_by : Why → ℕ → SratNodesView → List NumaBlock
+node_ranges_by why.Used limit found = found.joined ++ found.rest
+node_ranges_by reason limit found = record { base = 0; size = limit; value = 0 } ∷ []
 
-abbrev pub ranges_given : ℕ → Judgement → List NumaBlock
-ranges_given limit found = ranges_by found.why limit found
+abbrev pub node_ranges : ℕ → SratNodesView → List NumaBlock
+node_ranges limit found = node_ranges_by found.why limit found
 
 -- each range gets its node (`memblock_set_node`)
-abbrev pub given : Unit {0} → NumaBlock → Doing StageCause (Unit {0})
-given done r = carried (noded (extent_of r) r.value)
+abbrev pub set_block_node : Unit {0} → NumaBlock → StageStep StageCause (Unit {0})
+set_block_node done r = change_or_stop (set_range_node (extent_of r) r.value)
 
 -- whether the byte is memory of the node
 abbrev pub is_of_node : ℕ → Option LabelView → Bool
@@ -63,34 +63,34 @@ nodes_with_memory f = nodes_from f 0 MAX_NODES
 abbrev pub node_data_request : ℕ → Request
 node_data_request node = record { size = 0x2B000; align = 64; min = 0; max = None; node = Some node; exact = false }
 
-abbrev pub data_placed : Unit {0} → ℕ → Doing StageCause (Unit {0})
-data_placed done node =
-    placed (what.NodeData node) (node_data_request node) (owner.NodeData node) >>= λ place. returns tt
+abbrev pub place_node_data : Unit {0} → ℕ → StageStep StageCause (Unit {0})
+place_node_data done node =
+    place_or_stop (what.NodeData node) (node_data_request node) (owner.NodeData node) >>= λ place. return_value tt
 
 -- what contracts see of the nodes of a boot
-pub record Noded : Type 0 where
+pub record NodesView : Type 0 where
   pub why : Why
   pub domains : List ℕ
   pub uncovered : ℕ
   pub with_memory : List ℕ
 
-abbrev pub nodes_view : Nodes → Noded
+abbrev pub nodes_view : Nodes → NodesView
 nodes_view n = record { why = n.why; domains = n.domains.items; uncovered = n.uncovered; with_memory = n.with_memory.items }
 
-abbrev pub noded_by : Judgement → List ℕ → Noded
-noded_by found nodes = record { why = found.why; domains = found.domains; uncovered = found.uncovered; with_memory = nodes }
+abbrev pub nodes_by_judgement : SratNodesView → List ℕ → NodesView
+nodes_by_judgement found nodes = record { why = found.why; domains = found.domains; uncovered = found.uncovered; with_memory = nodes }
 
 -- the data of each node that has memory
-abbrev pub with_data : Judgement → List ℕ → Doing StageCause Noded
-with_data found nodes = in_turn data_placed tt nodes >>= λ done. returns (noded_by found nodes)
+abbrev pub place_data_of_nodes : SratNodesView → List ℕ → StageStep StageCause NodesView
+place_data_of_nodes found nodes = fold_steps place_node_data tt nodes >>= λ done. return_value (nodes_by_judgement found nodes)
 
 -- the whole stage, after the table has been judged
-unfoldable pub assigned_by : Judgement → Doing StageCause Noded
-assigned_by found =
-    listed (λ items. ranges_given (limit_of items) found) >>= λ ranges. (in_turn given tt ranges
-    >>= λ done. (listed (λ items. nodes_with_memory (memory_of items)) >>= λ nodes. with_data found nodes))
+unfoldable pub assign_nodes_by : SratNodesView → StageStep StageCause NodesView
+assign_nodes_by found =
+    read_into_list (λ items. node_ranges (limit_of items) found) >>= λ ranges. (fold_steps set_block_node tt ranges
+    >>= λ done. (read_into_list (λ items. nodes_with_memory (memory_of items)) >>= λ nodes. place_data_of_nodes found nodes))
 
 -- the whole stage for a table and `numa=off`: the table is judged against memory before the first
 -- range gets its node
-unfoldable pub assigned : Option Affinity → Bool → Doing StageCause Noded
-assigned table off = seen (λ items. judged (is_memory items) off table) >>= λ found. assigned_by found
+unfoldable pub assign_nodes : Option SratView → Bool → StageStep StageCause NodesView
+assign_nodes table off = read_items (λ items. judge_srat (is_memory_byte items) off table) >>= λ found. assign_nodes_by found

@@ -4,8 +4,8 @@ use Rattle.std.specs.List.{list_any, All}
 use Rattle.address_runs.specs.Runs.{RunOf}
 use Rattle.memblock_model.specs.Labels.{LabelView}
 use Rattle.memblock_model.specs.Same.{same_node_or_none}
-use Rattle.memblock_grow.specs.Contents.{Contents}
-use Rattle.memblock_grow.specs.Going.{GoesOn}
+use Rattle.memblock_grow.specs.Contents.{MemblockView}
+use Rattle.memblock_grow.specs.Going.{ContinuesMemblock}
 use Rattle.node_hulls.specs.Hulls.{NumaBlock}
 
 -- a record of the table has the node
@@ -17,5 +17,5 @@ abbrev pub CanGetNodes : List NumaBlock → Type 0
 CanGetNodes ranges = All (λ (r : NumaBlock). (0 < r.size) × (r.value < 1024)) ranges
 
 -- if GoesOn holds from some start to `old`, it holds from that start to `new`
-abbrev pub GoesFurther : Contents → Contents → Type 0
-GoesFurther old new = (start : Contents) → GoesOn start old → GoesOn start new
+abbrev pub GoesFurther : MemblockView → MemblockView → Type 0
+GoesFurther old new = (start : MemblockView) → ContinuesMemblock start old → ContinuesMemblock start new

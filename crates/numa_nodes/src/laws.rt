@@ -3,34 +3,34 @@
 ghost use Rattle.std.specs.Prelude.{◌≡◌, ◌↔◌, ℕ, ◌^◌, ◌<◌, ◌≤◌, Bool, true, is_some, Option, List, length, get_or, Ok};
 ghost use Rattle.std.specs.List.{Contains};
 ghost use Rattle.address_runs.specs.Edits.{NothingFrom};
-ghost use Rattle.srat_reader.specs.Table.{Affinity};
+ghost use Rattle.srat_reader.specs.Table.{SratView};
 ghost use Rattle.memblock_model.specs.declared.item.Item.{Item as AnyItem};
 ghost use Rattle.memblock_model.specs.Items.{memory_of, limit_of};
 ghost use Rattle.memblock_model.specs.Labels.{Labels};
-ghost use Rattle.stage_model.specs.Doing.{after};
-ghost use Rattle.stage_model.specs.Noded.{AreOfFrames, IsNoded};
-ghost use Rattle.numa_nodes.specs.Assigned.{Noded, assigned, is_of_node, nodes_with_memory};
+ghost use Rattle.stage_model.specs.Doing.{items_after_step};
+ghost use Rattle.stage_model.specs.Noded.{IsSameInFrames, HasNodes};
+ghost use Rattle.numa_nodes.specs.Assigned.{NodesView, assign_nodes, is_of_node, nodes_with_memory};
 
 /// Law: no byte becomes memory or stops being memory, and the limit is unchanged, whatever the
 /// stage returns.
-pub fn nodes_leave_memory()
-    ensures memory { (table : Option Affinity) (off : Bool) (items : List AnyItem) (x : ℕ) →
-        is_some (memory_of (after items (assigned table off items)) x) ≡ is_some (memory_of items x) }
-    ensures limit { (table : Option Affinity) (off : Bool) (items : List AnyItem) →
-        limit_of (after items (assigned table off items)) ≡ limit_of items }
+pub fn assign_keeps_memory_and_limit()
+    ensures memory { (table : Option SratView) (off : Bool) (items : List AnyItem) (x : ℕ) →
+        is_some (memory_of (items_after_step items (assign_nodes table off items)) x) ≡ is_some (memory_of items x) }
+    ensures limit { (table : Option SratView) (off : Bool) (items : List AnyItem) →
+        limit_of (items_after_step items (assign_nodes table off items)) ≡ limit_of items }
 {}
 
 /// Law: after success each byte of memory has a node below 1,024, and all bytes of a frame have
 /// the same label. This holds if memory was whole frames, each with one label, and ended at or
 /// below the limit. The nodes that the stage returns are those that have memory.
-pub fn nodes_reach_memory()
-    ensures noded { (reach : ℕ) (table : Option Affinity) (off : Bool) (items : List AnyItem) (noded : Noded) →
-        (assigned table off items).answer ≡ Ok noded → reach ≤ 2 ^ 64 → AreOfFrames (memory_of items) →
+pub fn all_memory_gets_nodes()
+    ensures noded { (reach : ℕ) (table : Option SratView) (off : Bool) (items : List AnyItem) (noded : NodesView) →
+        (assign_nodes table off items).answer ≡ Ok noded → reach ≤ 2 ^ 64 → IsSameInFrames (memory_of items) →
         NothingFrom reach (memory_of items) → NothingFrom (limit_of items) (memory_of items) →
-        IsNoded reach (memory_of (after items (assigned table off items))) }
-    ensures nodes { (table : Option Affinity) (off : Bool) (items : List AnyItem) (noded : Noded) →
-        (assigned table off items).answer ≡ Ok noded →
-        noded.with_memory ≡ nodes_with_memory (memory_of (after items (assigned table off items))) }
+        HasNodes reach (memory_of (items_after_step items (assign_nodes table off items))) }
+    ensures nodes { (table : Option SratView) (off : Bool) (items : List AnyItem) (noded : NodesView) →
+        (assign_nodes table off items).answer ≡ Ok noded →
+        noded.with_memory ≡ nodes_with_memory (memory_of (items_after_step items (assign_nodes table off items))) }
 {}
 
 /// Law: a node is listed exactly if it is below 1,024 and some byte of memory has it; and the list

@@ -28,7 +28,7 @@ mod memory;
 mod nodes;
 mod stage;
 
-pub use laws::{listed_nodes_have_memory, nodes_leave_memory, nodes_reach_memory};
+pub use laws::{listed_nodes_have_memory, assign_keeps_memory_and_limit, all_memory_gets_nodes};
 pub use node_hulls::Why;
 pub use nodes::Nodes;
 pub use stage::assign;

@@ -4,13 +4,13 @@
 ghost use Rattle.std.specs.Prelude.{◌≡◌, ◌^◌, ◌<◌, length, IfOk};
 ghost use Rattle.std.specs.Option.{ForSome, option_map, option_copied};
 ghost use Rattle.memblock_model.specs.Items.{limit_of};
-ghost use Rattle.srat_reader.specs.Table.{affinity};
+ghost use Rattle.srat_reader.specs.Table.{srat_view};
 ghost use Rattle.growth_model.specs.Sound.{HasBegun};
 ghost use Rattle.stage_model.specs.Causes.{stage_stop};
-ghost use Rattle.stage_model.specs.Doing.{StageEnds, in_turn, ok_as};
-ghost use Rattle.memblock_grow.specs.Going.{GoesOn};
-ghost use Rattle.node_hulls.specs.Judgement.{judgement};
-ghost use Rattle.numa_nodes.specs.Assigned.{assigned, assigned_by, data_placed, given, node_data_request, nodes_view, ranges_given};
+ghost use Rattle.stage_model.specs.Doing.{EndsAsStage, fold_steps, view_of_result};
+ghost use Rattle.memblock_grow.specs.Going.{ContinuesMemblock};
+ghost use Rattle.node_hulls.specs.Judgement.{srat_nodes_view};
+ghost use Rattle.numa_nodes.specs.Assigned.{assign_nodes, assign_nodes_by, place_node_data, set_block_node, node_data_request, nodes_view, node_ranges};
 ghost use Rattle.numa_nodes.specs.Steps.{CanGetNodes, GoesFurther};
 
 use crate::limit::limit_of;
@@ -20,9 +20,9 @@ use bm_base::{Memory, Range};
 use boot_journal::{Owner, Which};
 use growth_model::Request;
 use memblock_grow::Memblock;
-use node_hulls::{Judged, NodeRange, Why, judge};
+use node_hulls::{SratNodes, NodeRange, Why, judge_srat};
 use srat_reader::Srat;
-use stage_model::{StageStop, What, place, set_node};
+use stage_model::{StageStop, What, place_or_stop, set_node_or_stop};
 use std::alloc::Global;
 
 /// The size in bytes of a node's data (`pg_data_t` of x86-64, in whole pages).
@@ -52,29 +52,29 @@ pub fn assign(
     requires begun { HasBegun memblock.old.journal.items }
     requires limit { 0 < limit_of memblock.old.journal.items }
     requires few { ForSome srat (λ table. length table.now.blocks.items < 2 ^ 32) }
-    ensures ends { StageEnds (assigned (option_map affinity (option_copied srat.entry)) off) stage_stop (ok_as nodes_view result)
+    ensures ends { EndsAsStage (assign_nodes (option_map srat_view (option_copied srat.entry)) off) stage_stop (view_of_result nodes_view result)
         memblock.old.journal.items memblock.new.journal.items }
-    ensures goes_on { GoesOn memblock.old memblock.new }
+    ensures goes_on { ContinuesMemblock memblock.old memblock.new }
 {
     let memory = memory_ranges(alloc, &memblock.tables().records(Which::Memory))?;
-    let found = judge(alloc, &memory, srat, off)?;
-    assign_by(alloc, memblock, found)
+    let found = judge_srat(alloc, &memory, srat, off)?;
+    assign_nodes_by(alloc, memblock, found)
 }
 
 /// Like [`assign`], after the table of domains has been judged.
-fn assign_by(alloc: Global, memblock: &mut Memblock, found: Judged) -> Result<Nodes, StageStop>
+fn assign_nodes_by(alloc: Global, memblock: &mut Memblock, found: SratNodes) -> Result<Nodes, StageStop>
     requires begun { HasBegun memblock.old.journal.items }
-    requires ranges { CanGetNodes (ranges_given (limit_of memblock.old.journal.items) (judgement found)) }
-    ensures ends { StageEnds (assigned_by (judgement found)) stage_stop (ok_as nodes_view result)
+    requires ranges { CanGetNodes (node_ranges (limit_of memblock.old.journal.items) (srat_nodes_view found)) }
+    ensures ends { EndsAsStage (assign_nodes_by (srat_nodes_view found)) stage_stop (view_of_result nodes_view result)
         memblock.old.journal.items memblock.new.journal.items }
     ensures goes_on { GoesFurther memblock.old memblock.new }
 {
     let limit = limit_of(memblock.journal().items());
-    let ranges = ranges_given(alloc, limit, &found)?;
+    let ranges = node_ranges(alloc, limit, &found)?;
     give_nodes(memblock, &ranges)?;
     let with_memory = nodes_with_memory(alloc, &memblock.tables().records(Which::Memory))?;
-    place_data(memblock, &with_memory)?;
-    let Judged {
+    place_each_node_data(memblock, &with_memory)?;
+    let SratNodes {
         why,
         domains,
         joined: _,
@@ -92,8 +92,8 @@ fn assign_by(alloc: Global, memblock: &mut Memblock, found: Judged) -> Result<No
 /// Returns the ranges that get a node, each with its node. If the table is used, these are the
 /// joined ranges and then those that are left over. Else they are the addresses below the limit,
 /// with node 0 (`dummy_numa_init`).
-fn ranges_given(alloc: Global, limit: u64, found: &Judged) -> Result<Vec<NodeRange>, Memory>
-    ensures { IfOk result (λ ranges. ranges.items ≡ ranges_given limit (judgement found.now)) }
+fn node_ranges(alloc: Global, limit: u64, found: &SratNodes) -> Result<Vec<NodeRange>, Memory>
+    ensures { IfOk result (λ ranges. ranges.items ≡ node_ranges limit (srat_nodes_view found.now)) }
 {
     let mut ranges = Vec::new(alloc);
     match found.why {
@@ -116,26 +116,26 @@ fn ranges_given(alloc: Global, limit: u64, found: &Judged) -> Result<Vec<NodeRan
 fn give_nodes(memblock: &mut Memblock, ranges: &[NodeRange]) -> Result<(), StageStop>
     requires begun { HasBegun memblock.old.journal.items }
     requires ranges { CanGetNodes ranges.now }
-    ensures ends { StageEnds (in_turn given tt ranges.now) stage_stop result
+    ensures ends { EndsAsStage (fold_steps set_block_node tt ranges.now) stage_stop result
         memblock.old.journal.items memblock.new.journal.items }
     ensures goes_on { GoesFurther memblock.old memblock.new }
 {
     for run in ranges {
-        set_node(memblock, run.range, run.value)?;
+        set_node_or_stop(memblock, run.range, run.value)?;
     }
     Ok(())
 }
 
 /// Allocates the data of each node.
-fn place_data(memblock: &mut Memblock, nodes: &[u32]) -> Result<(), StageStop>
+fn place_each_node_data(memblock: &mut Memblock, nodes: &[u32]) -> Result<(), StageStop>
     requires begun { HasBegun memblock.old.journal.items }
-    ensures ends { StageEnds (in_turn data_placed tt nodes.now) stage_stop result
+    ensures ends { EndsAsStage (fold_steps place_node_data tt nodes.now) stage_stop result
         memblock.old.journal.items memblock.new.journal.items }
     ensures goes_on { GoesFurther memblock.old memblock.new }
 {
     for node in nodes {
         let request = node_data_request(*node);
-        place(
+        place_or_stop(
             memblock,
             What::NodeData(*node),
             &request,

@@ -9,24 +9,24 @@ use Rattle.std.specs.BTreeMap.{is_at, insert_entry}
 use Rattle.bm_base.specs.declared.range.TheConstants.{FRAME_SIZE}
 use Rattle.bm_base.specs.declared.zone.Zone.{Zone}
 use Rattle.address_runs.specs.Runs.{IsRunsOf}
-use Rattle.buddy_handover.specs.Contents.{free}
+use Rattle.buddy_handover.specs.Contents.{buddy_frames}
 use Rattle.frame_blocks.specs.Frames.{Frames}
-use Rattle.frame_blocks.specs.Picked.{first_picked}
+use Rattle.frame_blocks.specs.Picked.{picked_first_frame}
 use Rattle.frame_blocks.specs.Buddies.{without_set}
 use Rattle.page_alloc.specs.declared.act.PageAct.{PageAct}
 use Rattle.page_alloc.specs.declared.act.PageAct.TheVariants as acts
 use Rattle.page_alloc.specs.declared.outcome.Held.{Held}
 use Rattle.page_alloc.specs.declared.outcome.PageOutcome.{PageOutcome}
 use Rattle.page_alloc.specs.declared.outcome.PageOutcome.TheVariants as outcomes
-use Rattle.page_alloc.specs.Book.{Book, held_in, state_of}
+use Rattle.page_alloc.specs.Book.{PagesView, held_in, page_state_of}
 use Rattle.page_alloc.specs.Kept.{AreHeldApart}
-use Rattle.page_alloc.specs.Pages.{State, with_held, served, unless_taken, step, HasOrder, TakesMemory}
+use Rattle.page_alloc.specs.Pages.{PageState, with_held, allocate_frames, allocate_unless_taken, page_step, HasValidOrder, NeedsMemory}
 use Rattle.page_alloc.proofs.KeptLaws.{step_kept}
 use Rattle.free_areas.proofs.OrderLaws.{number_equal}
 
 -- two states are the same if they agree on each frame and each ID
 pub state_is : (f g : Frames) (h k : ℕ → Option Held) → ((x : ℕ) → f x ≡ g x) → ((i : ℕ) → h i ≡ k i)
-    → (let s : State = record { frames = f; held = h } in s) ≡ (let t : State = record { frames = g; held = k } in t)
+    → (let s : PageState = record { frames = f; held = h } in s) ≡ (let t : PageState = record { frames = g; held = k } in t)
 state_is f g h k one two = λ i. record { frames = λ x. one x i; held = λ q. two q i }
 
 -- the key of the map is the ID
@@ -77,50 +77,50 @@ tests_alike : (id q : ℕ) → is_at (nat_cmp q) id ≡ is_at (nat_cmp id) q
 tests_alike id q = grind (arith, nat_tests)
 
 -- the state after a request that is served
-pub took : (b new : Book) (id order node : ℕ) (zone : Zone) (first : ℕ) → held_in b.ids id ≡ None
-    → first_picked (free b.buddy) node zone order ≡ Some first → IsRunsOf (without_set order first (free b.buddy)) new.buddy.runs
+pub took : (b new : PagesView) (id order node : ℕ) (zone : Zone) (first : ℕ) → held_in b.ids id ≡ None
+    → picked_first_frame (buddy_frames b.buddy) node zone order ≡ Some first → IsRunsOf (without_set order first (buddy_frames b.buddy)) new.buddy.runs
     → new.ids ≡ insert_entry nat_cmp b.ids id (record { first = first; order = order; node = node })
-    → (let p : PageOutcome × State = (outcomes.At (FRAME_SIZE * first), state_of new) in p)
-    ≡ step (state_of b) (acts.Pages id order node zone)
+    → (let p : PageOutcome × PageState = (outcomes.At (FRAME_SIZE * first), page_state_of new) in p)
+    ≡ page_step (page_state_of b) (acts.Pages id order node zone)
 took b new id order node zone first none picked runs ids =
     let what : Held = record { first = first; order = order; node = node } in
-    let same : state_of new ≡ (let t : State = record {
-      frames = without_set order first (free b.buddy);
+    let same : page_state_of new ≡ (let t : PageState = record {
+      frames = without_set order first (buddy_frames b.buddy);
       held = with_held id (Some what) (held_in b.ids);
     } in t) =
-    state_is (free new.buddy) (without_set order first (free b.buddy)) (held_in new.ids)
+    state_is (buddy_frames new.buddy) (without_set order first (buddy_frames b.buddy)) (held_in new.ids)
     (with_held id (Some what) (held_in b.ids)) runs.each
     (λ q. changed id q (Some what) (held_in b.ids) (held_in new.ids q)
     (ap (λ (es : List (ℕ × Held)). held_in es q) ids ∙ put_in id q what b.ids
     ∙ ap (λ t. cond t (Some what) (held_in b.ids q)) (tests_alike id q))) in
-    ap (λ (s : State). let p : PageOutcome × State = (outcomes.At (FRAME_SIZE * first), s) in p) same
-    ∙ sym (ap (unless_taken (state_of b) id order node zone) none ∙ ap (served (state_of b) id order node) picked)
+    ap (λ (s : PageState). let p : PageOutcome × PageState = (outcomes.At (FRAME_SIZE * first), s) in p) same
+    ∙ sym (ap (allocate_unless_taken (page_state_of b) id order node zone) none ∙ ap (allocate_frames (page_state_of b) id order node) picked)
 
 -- the state after a request that isn't served
-pub took_none : (b new : Book) (id order node : ℕ) (zone : Zone) → held_in b.ids id ≡ None
-    → first_picked (free b.buddy) node zone order ≡ None → new ≡ b
-    → (let p : PageOutcome × State = (outcomes.NoBlock, state_of new) in p) ≡ step (state_of b) (acts.Pages id order node zone)
+pub took_none : (b new : PagesView) (id order node : ℕ) (zone : Zone) → held_in b.ids id ≡ None
+    → picked_first_frame (buddy_frames b.buddy) node zone order ≡ None → new ≡ b
+    → (let p : PageOutcome × PageState = (outcomes.NoBlock, page_state_of new) in p) ≡ page_step (page_state_of b) (acts.Pages id order node zone)
 took_none b new id order node zone none picked is =
-    ap (λ (d : Book). let p : PageOutcome × State = (outcomes.NoBlock, state_of d) in p) is
-    ∙ sym (ap (unless_taken (state_of b) id order node zone) none ∙ ap (served (state_of b) id order node) picked)
+    ap (λ (d : PagesView). let p : PageOutcome × PageState = (outcomes.NoBlock, page_state_of d) in p) is
+    ∙ sym (ap (allocate_unless_taken (page_state_of b) id order node zone) none ∙ ap (allocate_frames (page_state_of b) id order node) picked)
 
 -- a request that is served needs memory
-takes_by : (s : State) (id order node : ℕ) (o : Option ℕ) → IsSome o → TakesMemory (served s id order node o).0
+takes_by : (s : PageState) (id order node : ℕ) (o : Option ℕ) → IsSome o → NeedsMemory (allocate_frames s id order node o).0
 takes_by s id order node None some = cc some
 takes_by s id order node (Some first) some = tt
 
-pub served_takes : (s : State) (id order node : ℕ) (zone : Zone) → s.held id ≡ None → IsSome (first_picked s.frames node zone order)
-    → TakesMemory (step s (acts.Pages id order node zone)).0
+pub served_takes : (s : PageState) (id order node : ℕ) (zone : Zone) → s.held id ≡ None → IsSome (picked_first_frame s.frames node zone order)
+    → NeedsMemory (page_step s (acts.Pages id order node zone)).0
 served_takes s id order node zone none some =
-    subst (λ (o : Option Held). TakesMemory (unless_taken s id order node zone o).0) (sym none)
-    (takes_by s id order node (first_picked s.frames node zone order) some)
+    subst (λ (o : Option Held). NeedsMemory (allocate_unless_taken s id order node zone o).0) (sym none)
+    (takes_by s id order node (picked_first_frame s.frames node zone order) some)
 
 pub nothing_is : (o : Option ℕ) → is_some o ≡ false → o ≡ None
 nothing_is None is = refl
 nothing_is (Some first) is = cc is
 
 -- each line keeps what is always true of the state
-pub kept_by : (b new : Book) (o : PageOutcome) (act : PageAct) → HasOrder act → AreHeldApart (state_of b)
-    → (let p : PageOutcome × State = (o, state_of new) in p) ≡ step (state_of b) act → AreHeldApart (state_of new)
+pub kept_by : (b new : PagesView) (o : PageOutcome) (act : PageAct) → HasValidOrder act → AreHeldApart (page_state_of b)
+    → (let p : PageOutcome × PageState = (o, page_state_of new) in p) ≡ page_step (page_state_of b) act → AreHeldApart (page_state_of new)
 kept_by b new o act small keeps is =
-    subst (λ (s : State). AreHeldApart s) (sym (ap (λ (p : PageOutcome × State). p.1) is)) (step_kept (state_of b) act small keeps)
+    subst (λ (s : PageState). AreHeldApart s) (sym (ap (λ (p : PageOutcome × PageState). p.1) is)) (step_kept (page_state_of b) act small keeps)

@@ -12,14 +12,14 @@ use Rattle.text_words.specs.declared.separators.Separators.TheVariants as separa
 use Rattle.frame_blocks.specs.declared.block.Block.{Block}
 use Rattle.frame_blocks.specs.declared.run.TheConstants.{MAX_FRAMES}
 use Rattle.frame_blocks.specs.Frames.{Frames, IsBlock}
-use Rattle.frame_blocks.specs.Picked.{IsPicked, first_picked}
+use Rattle.frame_blocks.specs.Picked.{IsPicked, picked_first_frame}
 use Rattle.frame_blocks.specs.Buddies.{without_set}
 use Rattle.frame_blocks.proofs.BuddyLaws.{one_at, without_is, in_set_or_not}
 use Rattle.frame_blocks.proofs.PickLaws.{picked_is, picked_none}
 use Rattle.script_reader.specs.declared.fault.Wrong.TheVariants as wrong
 use Rattle.script_reader.specs.Numbers.{Words}
-use Rattle.script_reader.specs.Lines.{asked}
-use Rattle.script_reader.specs.Grammar.{HasForm, SpellsNumbers, NeverFails, HasFault}
+use Rattle.script_reader.specs.Lines.{read_line}
+use Rattle.script_reader.specs.Grammar.{HasLineForm, SpellsNumbers, NeverFails, HasWordsFault}
 use Rattle.page_alloc.specs.declared.act.PageAct.TheVariants as acts
 use Rattle.page_alloc.specs.declared.act.PageLine.{PageLine}
 use Rattle.page_alloc.specs.declared.fault.PageFault.TheVariants as faults
@@ -27,10 +27,10 @@ use Rattle.page_alloc.specs.declared.outcome.Held.{Held}
 use Rattle.page_alloc.specs.declared.outcome.PageOutcome.{PageOutcome}
 use Rattle.page_alloc.specs.declared.outcome.PageOutcome.TheVariants as outcomes
 use Rattle.page_alloc.specs.Forms.{zone_named, pages_line, give_line}
-use Rattle.page_alloc.specs.Spelling.{pages as pages_form, give as give_form, zone_word, words_of, HasNumbers, page_grammar}
-use Rattle.page_alloc.specs.Kept.{HoldsFrame, IsInOne, IsInNone, AreHeldApart}
-use Rattle.page_alloc.specs.Pages.{State, begun, with_held, served, given_back, step, HasOrder, HaveOrders}
-use Rattle.page_alloc.specs.Reading.{page_lines, pages_of}
+use Rattle.page_alloc.specs.Spelling.{pages as pages_form, give as give_form, zone_word, page_words_of, HasPageScriptNumbers, page_grammar}
+use Rattle.page_alloc.specs.Kept.{HoldsFrame, IsInOneBlockOrHeld, IsInNoBlockNorHeld, AreHeldApart}
+use Rattle.page_alloc.specs.Pages.{PageState, first_page_state, with_held, allocate_frames, free_held_frames, page_step, HasValidOrder, HaveValidOrders}
+use Rattle.page_alloc.specs.Reading.{page_lines, page_lines_of}
 use Rattle.page_alloc.proofs.KeptLaws.{Goes, in_one, in_none, begun_goes, begun_kept, step_goes, step_kept}
 
 -- frame 5 alone is free, on node 7
@@ -72,7 +72,7 @@ block_is_picked = record {
       inr (ap (λ (b : Block). b.order) same, let first = ap (λ (b : Block). b.first) same in omega (arith, first));
 }
 
-picked_first : first_picked lone 7 zones.Dma 0 ≡ Some 5
+picked_first : picked_first_frame lone 7 zones.Dma 0 ≡ Some 5
 picked_first = ap (option_map (λ (b : Block). b.first)) (picked_is lone 7 zones.Dma 0 block lone_low block_is_picked)
 
 -- after it is allocated no frame is free
@@ -87,7 +87,7 @@ nothing_left x = elim (in_set_or_not 0 5 x) as (λ _. without_set 0 5 lone x ≡
   ]
 ]
 
-picked_none_left : first_picked (without_set 0 5 lone) 7 zones.Dma 0 ≡ None
+picked_none_left : picked_first_frame (without_set 0 5 lone) 7 zones.Dma 0 ≡ None
 picked_none_left =
     ap (option_map (λ (b : Block). b.first)) (picked_none (without_set 0 5 lone) 7 zones.Dma 0 (λ x high. nothing_left x)
     (λ b is serves. cc (sym (is.good b.first refl).0 ∙ nothing_left b.first)))
@@ -97,15 +97,15 @@ abbrev five : Held
 five = record { first = 5; order = 0; node = 7 }
 
 -- the state while ID 1 holds the frame
-abbrev taken : State
+abbrev taken : PageState
 taken = record { frames = without_set 0 5 lone; held = with_held 1 (Some five) (λ id. None) }
 
-abbrev at_five : PageOutcome × State
+abbrev at_five : PageOutcome × PageState
 at_five = (outcomes.At 20480, taken)
 
 -- the frame is free again on its node, and the ID holds nothing
-back_examples : ((given_back taken 1 (Some five)).0 ≡ outcomes.Done) × ((given_back taken 1 (Some five)).1.frames 5 ≡ Some 7)
-    × ((given_back taken 1 (Some five)).1.held 1 ≡ None) × ((given_back taken 2 None).0 ≡ outcomes.Unknown)
+back_examples : ((free_held_frames taken 1 (Some five)).0 ≡ outcomes.Done) × ((free_held_frames taken 1 (Some five)).1.frames 5 ≡ Some 7)
+    × ((free_held_frames taken 1 (Some five)).1.held 1 ≡ None) × ((free_held_frames taken 2 None).0 ≡ outcomes.Unknown)
 back_examples = (refl, refl, refl, refl)
 
 -- the frame is allocated; another ID gets no block; the ID already holds frames; the frame is
@@ -116,35 +116,35 @@ line n = record { number = n; act = acts.Pages n 0 7 zones.Dma }
 abbrev give : ℕ → PageLine
 give n = record { number = n; act = acts.Give 1 }
 
-step_examples : (step (begun lone) (acts.Pages 1 0 7 zones.Dma) ≡ at_five)
-    × (step taken (acts.Pages 2 0 7 zones.Dma) ≡ (let p : PageOutcome × State = (outcomes.NoBlock, taken) in p))
-    × (step taken (acts.Pages 1 0 7 zones.Dma) ≡ (let p : PageOutcome × State = (outcomes.Taken, taken) in p))
-step_examples = (ap (served (begun lone) 1 0 7) picked_first, ap (served taken 2 0 7) picked_none_left, refl)
+step_examples : (page_step (first_page_state lone) (acts.Pages 1 0 7 zones.Dma) ≡ at_five)
+    × (page_step taken (acts.Pages 2 0 7 zones.Dma) ≡ (let p : PageOutcome × PageState = (outcomes.NoBlock, taken) in p))
+    × (page_step taken (acts.Pages 1 0 7 zones.Dma) ≡ (let p : PageOutcome × PageState = (outcomes.Taken, taken) in p))
+step_examples = (ap (allocate_frames (first_page_state lone) 1 0 7) picked_first, ap (allocate_frames taken 2 0 7) picked_none_left, refl)
 
-order_examples : HasOrder (acts.Pages 1 10 7 zones.Dma) × (HasOrder (acts.Pages 1 11 7 zones.Dma) → ⊥) × HaveOrders (line 1 ∷ give 2 ∷ [])
+order_examples : HasValidOrder (acts.Pages 1 10 7 zones.Dma) × (HasValidOrder (acts.Pages 1 11 7 zones.Dma) → ⊥) × HaveValidOrders (line 1 ∷ give 2 ∷ [])
 order_examples = (omega arith, λ small. absurd (omega (arith, small)), (omega arith, (tt, tt)))
 
 -- frame 5 is in a block at first, and then held by ID 1; frame 4 is neither
 holds_examples : HoldsFrame taken 1 5 × (HoldsFrame taken 2 5 → ⊥)
 holds_examples = (record { what = five; is = refl; inside = refl }, λ holds. let is = holds.is in cc is)
 
-in_one_examples : IsInOne (begun lone) 5 × IsInOne taken 5
+in_one_examples : IsInOneBlockOrHeld (first_page_state lone) 5 × IsInOneBlockOrHeld taken 5
 in_one_examples = (
-  in_one lone (begun lone) 5 7 (begun_goes lone lone_low) refl,
+  in_one lone (first_page_state lone) 5 7 (begun_goes lone lone_low) refl,
   in_one lone taken 5 7
-      (subst (λ (p : PageOutcome × State). Goes lone p.1) step_examples.0
-      (step_goes lone (begun lone) (acts.Pages 1 0 7 zones.Dma) (omega arith) (begun_goes lone lone_low))) refl,
+      (subst (λ (p : PageOutcome × PageState). Goes lone p.1) step_examples.0
+      (step_goes lone (first_page_state lone) (acts.Pages 1 0 7 zones.Dma) (omega arith) (begun_goes lone lone_low))) refl,
 )
 
-in_none_examples : IsInNone (begun lone) 4
-in_none_examples = in_none lone (begun lone) 4 (begun_goes lone lone_low) refl
+in_none_examples : IsInNoBlockNorHeld (first_page_state lone) 4
+in_none_examples = in_none lone (first_page_state lone) 4 (begun_goes lone lone_low) refl
 
-kept_examples : AreHeldApart (begun lone) × AreHeldApart taken
+kept_examples : AreHeldApart (first_page_state lone) × AreHeldApart taken
     × (AreHeldApart (record { frames = lone; held = with_held 1 (Some five) (λ id. None) }) → ⊥)
 kept_examples = (
   begun_kept lone lone_low,
-  subst (λ (p : PageOutcome × State). AreHeldApart p.1) step_examples.0
-      (step_kept (begun lone) (acts.Pages 1 0 7 zones.Dma) (omega arith) (begun_kept lone lone_low)),
+  subst (λ (p : PageOutcome × PageState). AreHeldApart p.1) step_examples.0
+      (step_kept (first_page_state lone) (acts.Pages 1 0 7 zones.Dma) (omega arith) (begun_kept lone lone_low)),
   λ kept. let none : Some 7 ≡ None = (kept.well 1 five refl).taken 5 refl in cc none,
 )
 
@@ -176,30 +176,30 @@ give_examples : (give_line (in_words (codes "4294967295")) ≡ Ok (acts.Give 429
     × (give_line (in_words (codes "4294967296")) ≡ Err wrong.Number) × (give_line (in_words (codes "x 1")) ≡ Err wrong.Form)
 give_examples = (refl, refl, refl)
 
-line_examples : (asked page_lines false (codes "# give") ≡ Ok None) × (asked page_lines false (codes "\t\r") ≡ Ok None)
-    × (asked page_lines false (codes " give\t1\r") ≡ Ok (Some (acts.Give 1)))
+line_examples : (read_line page_lines false (codes "# give") ≡ Ok None) × (read_line page_lines false (codes "\t\r") ≡ Ok None)
+    × (read_line page_lines false (codes " give\t1\r") ≡ Ok (Some (acts.Give 1)))
 line_examples = (refl, refl, refl)
 
 -- whole scripts: the last line may lack its newline; the fault of the lowest line is reported,
 -- whatever lines follow
-two_lines : pages_of (codes "give 1\n\n#\ngive 2") ≡ Ok (give 1 ∷ record { number = 4; act = acts.Give 2 } ∷ [])
+two_lines : page_lines_of (codes "give 1\n\n#\ngive 2") ≡ Ok (give 1 ∷ record { number = 4; act = acts.Give 2 } ∷ [])
 two_lines = refl
 
-no_lines : (pages_of [] ≡ Ok []) × (pages_of (codes "\n") ≡ Ok [])
+no_lines : (page_lines_of [] ≡ Ok []) × (page_lines_of (codes "\n") ≡ Ok [])
 no_lines = (refl, refl)
 
-great_order : pages_of (codes "pages 1 11 0 DMA") ≡ Err (faults.BadNumber 1)
+great_order : page_lines_of (codes "pages 1 11 0 DMA") ≡ Err (faults.BadNumber 1)
 great_order = refl
 
-lowest_fault : (pages_of (codes "give 1\ngive x\ngive\n") ≡ Err (faults.BadNumber 2))
-    × (pages_of (codes "near 1\ngive x\n") ≡ Err (faults.BadLine 1))
+lowest_fault : (page_lines_of (codes "give 1\ngive x\ngive\n") ≡ Err (faults.BadNumber 2))
+    × (page_lines_of (codes "near 1\ngive x\n") ≡ Err (faults.BadLine 1))
 lowest_fault = (refl, refl)
 
 -- a form takes any word for a number, but a zone only by its name
-spelled_forms : HasForm page_grammar (codes "give" ∷ codes "x" ∷ [])
-    × HasForm page_grammar (codes "pages" ∷ codes "1" ∷ codes "0" ∷ codes "7" ∷ codes "DMA" ∷ [])
-    × (zone_word zones.Normal ≡ codes "Normal") × (HasNumbers (give_form (codes "x")) → ⊥)
-    × (words_of (give_form (codes "1")) ≡ codes "give" ∷ codes "1" ∷ [])
+spelled_forms : HasLineForm page_grammar (codes "give" ∷ codes "x" ∷ [])
+    × HasLineForm page_grammar (codes "pages" ∷ codes "1" ∷ codes "0" ∷ codes "7" ∷ codes "DMA" ∷ [])
+    × (zone_word zones.Normal ≡ codes "Normal") × (HasPageScriptNumbers (give_form (codes "x")) → ⊥)
+    × (page_words_of (give_form (codes "1")) ≡ codes "give" ∷ codes "1" ∷ [])
 spelled_forms = (
   (give_form (codes "x"), refl),
   (pages_form (codes "1") (codes "0") (codes "7") zones.Dma, refl),
@@ -211,5 +211,5 @@ spelled_forms = (
 spelled_act : SpellsNumbers page_grammar (codes "give" ∷ codes "1" ∷ []) (acts.Give 1)
 spelled_act = record { form = give_form (codes "1"); spelled = refl; numbers = (1, refl, lit≤ tt); asks = refl }
 
-bad_number : HasFault page_grammar NeverFails (codes "give" ∷ codes "x" ∷ []) wrong.Number
+bad_number : HasWordsFault page_grammar NeverFails (codes "give" ∷ codes "x" ∷ []) wrong.Number
 bad_number = (give_form (codes "x"), refl, λ is. cc (is.1))

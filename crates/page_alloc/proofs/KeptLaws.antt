@@ -8,7 +8,7 @@ use Rattle.address_runs.specs.Edits.{NothingFrom}
 use Rattle.frame_blocks.specs.declared.block.Block.{Block}
 use Rattle.frame_blocks.specs.declared.run.TheConstants.{MAX_FRAMES}
 use Rattle.frame_blocks.specs.Frames.{Frames, IsInSet, IsInBlock}
-use Rattle.frame_blocks.specs.Picked.{picked, first_picked}
+use Rattle.frame_blocks.specs.Picked.{picked_block, picked_first_frame}
 use Rattle.frame_blocks.specs.Buddies.{without_set, with_set}
 use Rattle.frame_blocks.proofs.SetLaws.{in_set, set_until, wider, multiple}
 use Rattle.frame_blocks.proofs.BlockLaws.{found_block}
@@ -17,24 +17,24 @@ use Rattle.frame_blocks.proofs.PickLaws.{picked_tells}
 use Rattle.page_alloc.specs.declared.act.PageAct.{PageAct}
 use Rattle.page_alloc.specs.declared.act.PageAct.TheVariants as acts
 use Rattle.page_alloc.specs.declared.outcome.Held.{Held}
-use Rattle.page_alloc.specs.Pages.{State, begun, with_held, served, unless_taken, given_back, step, HasOrder}
-use Rattle.page_alloc.specs.Kept.{HoldsFrame, IsInOne, IsInNone, IsWell, AreHeldApart}
+use Rattle.page_alloc.specs.Pages.{PageState, first_page_state, with_held, allocate_frames, allocate_unless_taken, free_held_frames, page_step, HasValidOrder}
+use Rattle.page_alloc.specs.Kept.{HoldsFrame, IsInOneBlockOrHeld, IsInNoBlockNorHeld, IsAlignedAndTaken, AreHeldApart}
 
 -- the free and held frames of the state were free in f, on the same nodes; and each free frame of
 -- f is free or held in the state
-pub record Shares (f : Frames) (s : State) : Type 0 where
+pub record Shares (f : Frames) (s : PageState) : Type 0 where
   pub free : (x n : ℕ) → s.frames x ≡ Some n → f x ≡ Some n
   pub held : (id : ℕ) (what : Held) → s.held id ≡ Some what → (x : ℕ) → IsInSet what.order what.first x → f x ≡ Some what.node
   pub all : (x n : ℕ) → f x ≡ Some n → (s.frames x ≡ Some n) ⊎ ((id : ℕ) × HoldsFrame s id x)
 
-pub record Goes (f : Frames) (s : State) : Type 0 where
+pub record Goes (f : Frames) (s : PageState) : Type 0 where
   pub kept : AreHeldApart s
   pub shares : Shares f s
 
 -- each free frame of f is in one block or held by one ID, and no other frame is
-pub in_one : (f : Frames) (s : State) (x n : ℕ) → Goes f s → f x ≡ Some n → IsInOne s x
+pub in_one : (f : Frames) (s : PageState) (x n : ℕ) → Goes f s → f x ≡ Some n → IsInOneBlockOrHeld s x
 in_one f s x n goes is = ⊎_elim
-    (λ (free : s.frames x ≡ Some n). elim (block_or_none s.frames x) as (λ _. IsInOne s x) [
+    (λ (free : s.frames x ≡ Some n). elim (block_or_none s.frames x) as (λ _. IsInOneBlockOrHeld s x) [
       | inl none ↦ absurd (cc (sym free ∙ none))
       | inr some ↦ inl (
         record {
@@ -60,14 +60,14 @@ in_one f s x n goes is = ⊎_elim
     ))
     (goes.shares.all x n is)
 
-pub in_none : (f : Frames) (s : State) (x : ℕ) → Goes f s → f x ≡ None → IsInNone s x
+pub in_none : (f : Frames) (s : PageState) (x : ℕ) → Goes f s → f x ≡ None → IsInNoBlockNorHeld s x
 in_none f s x goes none = (
   λ b block inside. cc (sym (goes.shares.free x b.node (block.good x inside).0) ∙ none),
   λ id holds. cc (sym (goes.shares.held id holds.what holds.is x holds.inside) ∙ none),
 )
 
 -- the first state
-pub begun_goes : (f : Frames) → NothingFrom MAX_FRAMES f → Goes f (begun f)
+pub begun_goes : (f : Frames) → NothingFrom MAX_FRAMES f → Goes f (first_page_state f)
 begun_goes f low = record {
   kept = record { low = low; well = λ id what is. cc; apart = λ i j g h is other x one two. cc };
   shares = record { free = λ x n is. is; held = λ id what is x inside. cc; all = λ x n is. inl is };
@@ -110,15 +110,15 @@ pub record IsFreeSet (f : Frames) (order first node : ℕ) : Type 0 where
   pub low : first + 2 ^ order ≤ MAX_FRAMES
   pub free : (x : ℕ) → IsInSet order first x → f x ≡ Some node
 
-pub picked_set : (f : Frames) (order first node : ℕ) (zone : Zone) → NothingFrom MAX_FRAMES f → first_picked f node zone order ≡ Some first
+pub picked_set : (f : Frames) (order first node : ℕ) (zone : Zone) → NothingFrom MAX_FRAMES f → picked_first_frame f node zone order ≡ Some first
     → IsFreeSet f order first node
-picked_set f order first node zone low is = elim (found_or_none (picked f node zone order)) as (λ _. IsFreeSet f order first node) [
+picked_set f order first node zone low is = elim (found_or_none (picked_block f node zone order)) as (λ _. IsFreeSet f order first node) [
   | inl none ↦
-      let nothing : first_picked f node zone order ≡ None = ap (option_map (λ (b : Block). b.first)) none in
+      let nothing : picked_first_frame f node zone order ≡ None = ap (option_map (λ (b : Block). b.first)) none in
       absurd (cc (sym nothing ∙ is))
   | inr some ↦
       let b : Block = some.0 in
-      let something : first_picked f node zone order ≡ Some b.first = ap (option_map (λ (c : Block). c.first)) some.1 in
+      let something : picked_first_frame f node zone order ≡ Some b.first = ap (option_map (λ (c : Block). c.first)) some.1 in
       let here : b.first ≡ first = let both : Some b.first ≡ Some first = sym something ∙ is in cc in
       let it = picked_tells f node zone order b low some.1 in
       let enough = it.serves.enough in
@@ -142,11 +142,11 @@ picked_set f order first node zone low is = elim (found_or_none (picked f node z
 ]
 
 -- a set of frames is allocated to an ID that holds nothing
-module _ (s : State) (id order first node : ℕ) where
+module _ (s : PageState) (id order first node : ℕ) where
   abbrev made : Held
   made = record { first = first; order = order; node = node }
 
-  abbrev taken : State
+  abbrev taken : PageState
   taken = record { frames = without_set order first s.frames; held = with_held id (Some made) s.held }
 
   in_made : (h : Held) (x : ℕ) → Some made ≡ Some h → IsInSet h.order h.first x → IsInSet order first x
@@ -167,11 +167,11 @@ module _ (s : State) (id order first node : ℕ) where
         well = λ i h is. ⊎_elim
             (λ (mine : (id ≡ i) × (Some made ≡ Some h)).
             let same : made ≡ h = let both = mine.1 in cc in
-            subst (λ (g : Held). IsWell taken g) same
-            (let it : IsWell taken made = record { small = small; aligned = set.aligned; low = set.low; taken = without.gone } in it))
+            subst (λ (g : Held). IsAlignedAndTaken taken g) same
+            (let it : IsAlignedAndTaken taken made = record { small = small; aligned = set.aligned; low = set.low; taken = without.gone } in it))
             (λ (other : ((id == i) ≡ false) × (s.held i ≡ Some h)).
             let was = keeps.well i h other.1 in
-            let it : IsWell taken h = record {
+            let it : IsAlignedAndTaken taken h = record {
               small = was.small;
               aligned = was.aligned;
               low = was.low;
@@ -236,8 +236,8 @@ module _ (s : State) (id order first node : ℕ) where
       }
 
 -- the frames that an ID holds are freed
-module _ (s : State) (id : ℕ) (what : Held) where
-  abbrev given : State
+module _ (s : PageState) (id : ℕ) (what : Held) where
+  abbrev given : PageState
   given = record { frames = with_set what.order what.first what.node s.frames; held = with_held id None s.held }
 
   back : (x : ℕ) → IsInSet what.order what.first x → given.frames x ≡ Some what.node
@@ -267,7 +267,7 @@ module _ (s : State) (id : ℕ) (what : Held) where
         well = λ i h is.
             let other = still i h is in
             let was = keeps.well i h other.1 in
-            let it : IsWell given h = record {
+            let it : IsAlignedAndTaken given h = record {
               small = was.small;
               aligned = was.aligned;
               low = was.low;
@@ -311,47 +311,47 @@ module _ (s : State) (id : ℕ) (what : Held) where
   }
 
 -- each line
-served_goes : (f : Frames) (s : State) (id order node : ℕ) (zone : Zone) (o : Option ℕ) → order ≤ 10 → Goes f s → s.held id ≡ None
-    → first_picked s.frames node zone order ≡ o → Goes f (served s id order node o).1
+served_goes : (f : Frames) (s : PageState) (id order node : ℕ) (zone : Zone) (o : Option ℕ) → order ≤ 10 → Goes f s → s.held id ≡ None
+    → picked_first_frame s.frames node zone order ≡ o → Goes f (allocate_frames s id order node o).1
 served_goes f s id order node zone None small goes none is = goes
 served_goes f s id order node zone (Some first) small goes none is =
     taken_goes s id order first node f small goes none (picked_set s.frames order first node zone goes.kept.low is)
 
-asked_goes : (f : Frames) (s : State) (id order node : ℕ) (zone : Zone) (o : Option Held) → order ≤ 10 → Goes f s → s.held id ≡ o
-    → Goes f (unless_taken s id order node zone o).1
+asked_goes : (f : Frames) (s : PageState) (id order node : ℕ) (zone : Zone) (o : Option Held) → order ≤ 10 → Goes f s → s.held id ≡ o
+    → Goes f (allocate_unless_taken s id order node zone o).1
 asked_goes f s id order node zone (Some what) small goes is = goes
 asked_goes f s id order node zone None small goes is =
-    served_goes f s id order node zone (first_picked s.frames node zone order) small goes is refl
+    served_goes f s id order node zone (picked_first_frame s.frames node zone order) small goes is refl
 
-back_goes : (f : Frames) (s : State) (id : ℕ) (o : Option Held) → Goes f s → s.held id ≡ o → Goes f (given_back s id o).1
+back_goes : (f : Frames) (s : PageState) (id : ℕ) (o : Option Held) → Goes f s → s.held id ≡ o → Goes f (free_held_frames s id o).1
 back_goes f s id None goes is = goes
 back_goes f s id (Some what) goes is = given_goes s id what f goes is
 
-pub step_goes : (f : Frames) (s : State) (act : PageAct) → HasOrder act → Goes f s → Goes f (step s act).1
+pub step_goes : (f : Frames) (s : PageState) (act : PageAct) → HasValidOrder act → Goes f s → Goes f (page_step s act).1
 step_goes f s (acts.Pages id order node zone) small goes = asked_goes f s id order node zone (s.held id) small goes refl
 step_goes f s (acts.Near id order node) small goes = goes
 step_goes f s (acts.Give id) small goes = back_goes f s id (s.held id) goes refl
 
 -- a state by itself
-served_kept : (s : State) (id order node : ℕ) (zone : Zone) (o : Option ℕ) → order ≤ 10 → AreHeldApart s
-    → first_picked s.frames node zone order ≡ o → AreHeldApart (served s id order node o).1
+served_kept : (s : PageState) (id order node : ℕ) (zone : Zone) (o : Option ℕ) → order ≤ 10 → AreHeldApart s
+    → picked_first_frame s.frames node zone order ≡ o → AreHeldApart (allocate_frames s id order node o).1
 served_kept s id order node zone None small keeps is = keeps
 served_kept s id order node zone (Some first) small keeps is =
     taken_kept s id order first node small keeps (picked_set s.frames order first node zone keeps.low is)
 
-asked_kept : (s : State) (id order node : ℕ) (zone : Zone) (o : Option Held) → order ≤ 10 → AreHeldApart s
-    → AreHeldApart (unless_taken s id order node zone o).1
+asked_kept : (s : PageState) (id order node : ℕ) (zone : Zone) (o : Option Held) → order ≤ 10 → AreHeldApart s
+    → AreHeldApart (allocate_unless_taken s id order node zone o).1
 asked_kept s id order node zone (Some what) small keeps = keeps
-asked_kept s id order node zone None small keeps = served_kept s id order node zone (first_picked s.frames node zone order) small keeps refl
+asked_kept s id order node zone None small keeps = served_kept s id order node zone (picked_first_frame s.frames node zone order) small keeps refl
 
-back_kept : (s : State) (id : ℕ) (o : Option Held) → AreHeldApart s → s.held id ≡ o → AreHeldApart (given_back s id o).1
+back_kept : (s : PageState) (id : ℕ) (o : Option Held) → AreHeldApart s → s.held id ≡ o → AreHeldApart (free_held_frames s id o).1
 back_kept s id None keeps is = keeps
 back_kept s id (Some what) keeps is = given_kept s id what keeps is
 
-pub step_kept : (s : State) (act : PageAct) → HasOrder act → AreHeldApart s → AreHeldApart (step s act).1
+pub step_kept : (s : PageState) (act : PageAct) → HasValidOrder act → AreHeldApart s → AreHeldApart (page_step s act).1
 step_kept s (acts.Pages id order node zone) small keeps = asked_kept s id order node zone (s.held id) small keeps
 step_kept s (acts.Near id order node) small keeps = keeps
 step_kept s (acts.Give id) small keeps = back_kept s id (s.held id) keeps refl
 
-pub begun_kept : (f : Frames) → NothingFrom MAX_FRAMES f → AreHeldApart (begun f)
+pub begun_kept : (f : Frames) → NothingFrom MAX_FRAMES f → AreHeldApart (first_page_state f)
 begun_kept f low = (begun_goes f low).kept

@@ -6,13 +6,13 @@ use Rattle.bm_base.specs.declared.zone.Zone.TheVariants as zones
 use Rattle.script_reader.specs.declared.fault.Wrong.TheVariants as wrong
 use Rattle.script_reader.specs.Numbers.{Words}
 use Rattle.script_reader.specs.Forms.{greatest_id, greatest_node}
-use Rattle.script_reader.specs.Lines.{asked_by}
-use Rattle.script_reader.specs.Grammar.{HasForm, NeverFails}
+use Rattle.script_reader.specs.Lines.{act_by_forms}
+use Rattle.script_reader.specs.Grammar.{HasLineForm, NeverFails}
 use Rattle.script_reader.proofs.GrammarLaws.{Reads}
 use Rattle.script_reader.proofs.StepLaws.{within_or, is_key, one_or}
 use Rattle.page_alloc.specs.declared.act.PageAct.{PageAct}
-use Rattle.page_alloc.specs.Forms.{greatest_order, zone_named, pages_line, near_line, give_line, by_name}
-use Rattle.page_alloc.specs.Spelling.{Form, pages, near, give, zone_word, words_of, HasNumbers, act_of, page_grammar}
+use Rattle.page_alloc.specs.Forms.{greatest_order, zone_named, pages_line, near_line, give_line, page_act_by_name}
+use Rattle.page_alloc.specs.Spelling.{PageForm, pages, near, give, zone_word, page_words_of, HasPageScriptNumbers, page_act_of, page_grammar}
 
 -- a zone, by its word
 zone_or : (word : List ℕ) → ((zone : Zone) × (word ≡ zone_word zone)) ⊎ (zone_named word ≡ Err wrong.Form)
@@ -33,8 +33,8 @@ zone_read zones.Dma = refl
 zone_read zones.Dma32 = refl
 zone_read zones.Normal = refl
 
--- words have a form, or have the fault `Form`
-pages_form : (words : Words) → HasForm page_grammar (codes "pages" ∷ words) ⊎ (pages_line words ≡ Err wrong.Form)
+-- words have a form, or have the fault `PageForm`
+pages_form : (words : Words) → HasLineForm page_grammar (codes "pages" ∷ words) ⊎ (pages_line words ≡ Err wrong.Form)
 pages_form [] = inr refl
 pages_form (i ∷ []) = inr refl
 pages_form (i ∷ o ∷ []) = inr refl
@@ -47,7 +47,7 @@ pages_form (i ∷ o ∷ n ∷ words) =
       | inr bad ↦ inr (rw bad refl)
     ]
 
-near_form : (words : Words) → HasForm page_grammar (codes "near" ∷ words) ⊎ (near_line words ≡ Err wrong.Form)
+near_form : (words : Words) → HasLineForm page_grammar (codes "near" ∷ words) ⊎ (near_line words ≡ Err wrong.Form)
 near_form [] = inr refl
 near_form (i ∷ []) = inr refl
 near_form (i ∷ o ∷ words) =
@@ -56,10 +56,10 @@ near_form (i ∷ o ∷ words) =
       | inr bad ↦ inr (rw bad refl)
     ]
 
-give_form : (words : Words) → HasForm page_grammar (codes "give" ∷ words) ⊎ (give_line words ≡ Err wrong.Form)
+give_form : (words : Words) → HasLineForm page_grammar (codes "give" ∷ words) ⊎ (give_line words ≡ Err wrong.Form)
 give_form words = elim (one_or words) [ inl one ↦ inl (give one.0, rw one.1 refl) | inr bad ↦ inr (rw bad refl) ]
 
-pub named : (name : List ℕ) (words : Words) → HasForm page_grammar (name ∷ words) ⊎ (by_name name words ≡ Err wrong.Form)
+pub named : (name : List ℕ) (words : Words) → HasLineForm page_grammar (name ∷ words) ⊎ (page_act_by_name name words ≡ Err wrong.Form)
 named name words =
     elim (is_key name (codes "pages")) [
       | inl is ↦ rw is (pages_form words)
@@ -73,9 +73,9 @@ named name words =
     ]
 
 -- a form spells its act, or has the fault `Number`
-pub form_or : (form : Form)
-    → (HasNumbers form × (asked_by by_name (words_of form) ≡ Ok (Some (act_of form))))
-    ⊎ ((¬ (HasNumbers form)) × (asked_by by_name (words_of form) ≡ Err wrong.Number))
+pub form_or : (form : PageForm)
+    → (HasPageScriptNumbers form × (act_by_forms page_act_by_name (page_words_of form) ≡ Ok (Some (page_act_of form))))
+    ⊎ ((¬ (HasPageScriptNumbers form)) × (act_by_forms page_act_by_name (page_words_of form) ≡ Err wrong.Number))
 form_or (pages i o n zone) =
     elim (within_or greatest_id i) [
       | inl id ↦ elim (within_or greatest_order o) [
@@ -104,7 +104,7 @@ form_or (give i) =
 -- what the laws of lines need of the forms of a page script
 abbrev pub page_reads : Reads PageAct
 page_reads = record {
-  forms = by_name;
+  forms = page_act_by_name;
   grammar = page_grammar;
   Passes = λ act. Unit {0};
   Fails = NeverFails;

@@ -7,7 +7,7 @@ use Rattle.bm_base.specs.declared.zone.Zone.TheVariants as zones
 use Rattle.bm_base.specs.ResultSteps.{◌>>=◌}
 use Rattle.script_reader.specs.declared.fault.Wrong.{Wrong}
 use Rattle.script_reader.specs.declared.fault.Wrong.TheVariants as wrong
-use Rattle.script_reader.specs.Numbers.{Words, first_word, one_word, bounded}
+use Rattle.script_reader.specs.Numbers.{Words, first_word, one_word, number_within}
 use Rattle.script_reader.specs.Forms.{greatest_id, greatest_node}
 use Rattle.page_alloc.specs.declared.act.PageAct.{PageAct}
 use Rattle.page_alloc.specs.declared.act.PageAct.TheVariants as acts
@@ -31,9 +31,9 @@ pages_line words = do
   node ← first_word order.1
   name ← one_word node.1
   zone ← zone_named name
-  of_id ← bounded greatest_id id.0
-  of_order ← bounded greatest_order order.0
-  of_node ← bounded greatest_node node.0
+  of_id ← number_within greatest_id id.0
+  of_order ← number_within greatest_order order.0
+  of_node ← number_within greatest_node node.0
   Ok (acts.Pages of_id of_order of_node zone)
 
 -- near ID ORDER NODE
@@ -42,21 +42,21 @@ near_line words = do
   id ← first_word words
   order ← first_word id.1
   node ← one_word order.1
-  of_id ← bounded greatest_id id.0
-  of_order ← bounded greatest_order order.0
-  of_node ← bounded greatest_node node
+  of_id ← number_within greatest_id id.0
+  of_order ← number_within greatest_order order.0
+  of_node ← number_within greatest_node node
   Ok (acts.Near of_id of_order of_node)
 
 -- give ID
 abbrev pub give_line : Words → Result PageAct Wrong
 give_line words = do
   said ← one_word words
-  id ← bounded greatest_id said
+  id ← number_within greatest_id said
   Ok (acts.Give id)
 
 -- the act of a line, by its first word
-abbrev pub by_name : List ℕ → Words → Result PageAct Wrong
-by_name name words =
+abbrev pub page_act_by_name : List ℕ → Words → Result PageAct Wrong
+page_act_by_name name words =
     if bytes_eq name (codes "pages") then pages_line words else
     (if bytes_eq name (codes "near") then near_line words else
     (if bytes_eq name (codes "give") then give_line words else Err wrong.Form))

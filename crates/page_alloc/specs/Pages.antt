@@ -4,7 +4,7 @@ use Rattle.std.specs.Prelude.{ℕ, ◌*◌, ◌≤◌, ◌==◌, if◌then◌els
 use Rattle.bm_base.specs.declared.range.TheConstants.{FRAME_SIZE}
 use Rattle.bm_base.specs.declared.zone.Zone.{Zone}
 use Rattle.frame_blocks.specs.Frames.{Frames}
-use Rattle.frame_blocks.specs.Picked.{first_picked}
+use Rattle.frame_blocks.specs.Picked.{picked_first_frame}
 use Rattle.frame_blocks.specs.Buddies.{without_set, with_set}
 use Rattle.page_alloc.specs.declared.act.PageAct.{PageAct}
 use Rattle.page_alloc.specs.declared.act.PageAct.TheVariants as acts
@@ -14,13 +14,13 @@ use Rattle.page_alloc.specs.declared.outcome.PageOutcome.{PageOutcome}
 use Rattle.page_alloc.specs.declared.outcome.PageOutcome.TheVariants as outcomes
 
 -- the node of each free frame, and what each ID holds
-pub record State : Type 0 where
+pub record PageState : Type 0 where
   pub frames : Frames
   pub held : ℕ → Option Held
 
 -- the first state: no ID holds anything
-abbrev pub begun : Frames → State
-begun f = record { frames = f; held = λ id. None }
+abbrev pub first_page_state : Frames → PageState
+first_page_state f = record { frames = f; held = λ id. None }
 
 -- one ID holds this, or nothing; the others hold what they held before
 abbrev pub with_held : ℕ → Option Held → (ℕ → Option Held) → ℕ → Option Held
@@ -28,9 +28,9 @@ with_held id what held i = if id == i then what else held i
 
 -- a request for 2^order frames, if `first` is the first frame of the block that is picked: the
 -- first 2^order frames of that block are allocated, and the ID holds them
-abbrev pub served : State → ℕ → ℕ → ℕ → Option ℕ → PageOutcome × State
-served s id order node None = (outcomes.NoBlock, s)
-served s id order node (Some first) = (
+abbrev pub allocate_frames : PageState → ℕ → ℕ → ℕ → Option ℕ → PageOutcome × PageState
+allocate_frames s id order node None = (outcomes.NoBlock, s)
+allocate_frames s id order node (Some first) = (
   outcomes.At (FRAME_SIZE * first),
   record {
     frames = without_set order first s.frames;
@@ -39,15 +39,15 @@ served s id order node (Some first) = (
 )
 
 -- a request is refused if the ID already holds frames
-abbrev pub unless_taken : State → ℕ → ℕ → ℕ → Zone → Option Held → PageOutcome × State
-unless_taken s id order node zone (Some what) = (outcomes.Taken, s)
-unless_taken s id order node zone None = served s id order node (first_picked s.frames node zone order)
+abbrev pub allocate_unless_taken : PageState → ℕ → ℕ → ℕ → Zone → Option Held → PageOutcome × PageState
+allocate_unless_taken s id order node zone (Some what) = (outcomes.Taken, s)
+allocate_unless_taken s id order node zone None = allocate_frames s id order node (picked_first_frame s.frames node zone order)
 
 -- the frames that an ID holds become free on their node, and the ID holds nothing. If it held
 -- nothing before, the outcome is `Unknown` and nothing changes
-abbrev pub given_back : State → ℕ → Option Held → PageOutcome × State
-given_back s id None = (outcomes.Unknown, s)
-given_back s id (Some what) = (
+abbrev pub free_held_frames : PageState → ℕ → Option Held → PageOutcome × PageState
+free_held_frames s id None = (outcomes.Unknown, s)
+free_held_frames s id (Some what) = (
   outcomes.Done,
   record {
     frames = with_set what.order what.first what.node s.frames;
@@ -57,31 +57,31 @@ given_back s id (Some what) = (
 
 -- the outcome of a `pages` or `give` line, and the state after it. A `near` line is carried out by
 -- the layer above; here it gets no block.
-abbrev pub step : State → PageAct → PageOutcome × State
-step s (acts.Pages id order node zone) = unless_taken s id order node zone (s.held id)
-step s (acts.Near id order node) = (outcomes.NoBlock, s)
-step s (acts.Give id) = given_back s id (s.held id)
+abbrev pub page_step : PageState → PageAct → PageOutcome × PageState
+page_step s (acts.Pages id order node zone) = allocate_unless_taken s id order node zone (s.held id)
+page_step s (acts.Near id order node) = (outcomes.NoBlock, s)
+page_step s (acts.Give id) = free_held_frames s id (s.held id)
 
 -- an order in the line is at most 10
-abbrev pub HasOrder : PageAct → Type 0
-HasOrder (acts.Pages id order node zone) = order ≤ 10
-HasOrder (acts.Near id order node) = order ≤ 10
-HasOrder (acts.Give id) = Unit {0}
+abbrev pub HasValidOrder : PageAct → Type 0
+HasValidOrder (acts.Pages id order node zone) = order ≤ 10
+HasValidOrder (acts.Near id order node) = order ≤ 10
+HasValidOrder (acts.Give id) = Unit {0}
 
-abbrev pub HaveOrders : List PageLine → Type 0
-HaveOrders [] = Unit {0}
-HaveOrders (l ∷ ls) = HasOrder l.act × HaveOrders ls
+abbrev pub HaveValidOrders : List PageLine → Type 0
+HaveValidOrders [] = Unit {0}
+HaveValidOrders (l ∷ ls) = HasValidOrder l.act × HaveValidOrders ls
 
 -- the line is a `pages` or `give` line
-abbrev pub NamesNoNode : PageAct → Type 0
-NamesNoNode (acts.Pages id order node zone) = Unit {0}
-NamesNoNode (acts.Near id order node) = ⊥
-NamesNoNode (acts.Give id) = Unit {0}
+abbrev pub IsPagesOrGive : PageAct → Type 0
+IsPagesOrGive (acts.Pages id order node zone) = Unit {0}
+IsPagesOrGive (acts.Near id order node) = ⊥
+IsPagesOrGive (acts.Give id) = Unit {0}
 
 -- only a line that allocates or frees frames needs memory; one that is refused doesn't
-abbrev pub TakesMemory : PageOutcome → Type 0
-TakesMemory (outcomes.At address) = Unit {0}
-TakesMemory outcomes.Done = Unit {0}
-TakesMemory outcomes.NoBlock = ⊥
-TakesMemory outcomes.Taken = ⊥
-TakesMemory outcomes.Unknown = ⊥
+abbrev pub NeedsMemory : PageOutcome → Type 0
+NeedsMemory (outcomes.At address) = Unit {0}
+NeedsMemory outcomes.Done = Unit {0}
+NeedsMemory outcomes.NoBlock = ⊥
+NeedsMemory outcomes.Taken = ⊥
+NeedsMemory outcomes.Unknown = ⊥

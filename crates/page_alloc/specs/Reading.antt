@@ -3,22 +3,22 @@ use Rattle.std.specs.Prelude.{ℕ, false, List, Result}
 use Rattle.bm_base.specs.ResultSteps.{with_error}
 use Rattle.script_reader.specs.declared.fault.Wrong.{Wrong}
 use Rattle.script_reader.specs.declared.fault.Wrong.TheVariants as wrong
-use Rattle.script_reader.specs.Lines.{Kind, lines_of}
+use Rattle.script_reader.specs.Lines.{ScriptKind, lines_of}
 use Rattle.page_alloc.specs.declared.act.PageAct.{PageAct}
 use Rattle.page_alloc.specs.declared.act.PageLine.{PageLine}
 use Rattle.page_alloc.specs.declared.fault.PageFault.{PageFault}
 use Rattle.page_alloc.specs.declared.fault.PageFault.TheVariants as faults
-use Rattle.page_alloc.specs.Forms.{by_name}
+use Rattle.page_alloc.specs.Forms.{page_act_by_name}
 
 -- the fault of a script for what is wrong with the line of this number: its form, or else a number
-abbrev pub fault_at : ℕ → Wrong → PageFault
-fault_at line wrong.Form = faults.BadLine line
-fault_at line other = faults.BadNumber line
+abbrev pub page_script_fault_at : ℕ → Wrong → PageFault
+page_script_fault_at line wrong.Form = faults.BadLine line
+page_script_fault_at line other = faults.BadNumber line
 
 -- the lines of a page script: each act may occur more than once
-abbrev pub page_lines : Kind PageAct PageLine
-page_lines = record { forms = λ seen. by_name; is_once = λ act. false; line = λ number act. record { number = number; act = act } }
+abbrev pub page_lines : ScriptKind PageAct PageLine
+page_lines = record { forms = λ seen. page_act_by_name; is_once = λ act. false; line = λ number act. record { number = number; act = act } }
 
 -- the lines of a page script, or the fault of the lowest line that has one
-abbrev pub pages_of : List ℕ → Result (List PageLine) PageFault
-pages_of bytes = with_error (λ at. fault_at at.0 at.1) (lines_of page_lines bytes)
+abbrev pub page_lines_of : List ℕ → Result (List PageLine) PageFault
+page_lines_of bytes = with_error (λ at. page_script_fault_at at.0 at.1) (lines_of page_lines bytes)

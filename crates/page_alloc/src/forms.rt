@@ -5,12 +5,12 @@ ghost use Rattle.std.specs.Prelude.{◌≡◌, IfOk, IfErr};
 ghost use Rattle.script_reader.specs.Numbers.{IsOfWords};
 ghost use Rattle.text_words.specs.Words.{words_in};
 ghost use Rattle.text_words.specs.declared.separators.Separators.TheVariants as separators;
-ghost use Rattle.page_alloc.specs.Forms.{zone_named as zone_of_name, pages_line as pages_of, near_line as near_of, give_line as give_of, by_name as named_line};
-ghost use Rattle.page_alloc.specs.Pages.{HasOrder};
+ghost use Rattle.page_alloc.specs.Forms.{zone_named as zone_of_name, pages_line as pages_of, near_line as near_of, give_line as give_of, page_act_by_name as named_line};
+ghost use Rattle.page_alloc.specs.Pages.{HasValidOrder};
 
 use crate::act::PageAct;
 use bm_base::Zone;
-use script_reader::{GREATEST_ID, GREATEST_NODE, Wrong, bounded, first_word, one_word};
+use script_reader::{GREATEST_ID, GREATEST_NODE, Wrong, number_within, first_word, one_word};
 
 /// The largest order of a block.
 const GREATEST_ORDER: u64 = 10;
@@ -21,9 +21,9 @@ const GREATEST_ORDER: u64 = 10;
 ///
 /// - `Form`: the words have no form.
 /// - `Number`: the words have a form, but a number is malformed or above its limit.
-pub fn by_name(name: &[u8], rest: &[u8]) -> Result<PageAct, Wrong>
+pub fn page_act_by_name(name: &[u8], rest: &[u8]) -> Result<PageAct, Wrong>
     ensures value { result ≡ named_line name.now (words_in separators.Script rest.now) }
-    ensures order { IfOk result HasOrder }
+    ensures order { IfOk result HasValidOrder }
     ensures of_words { IfErr result IsOfWords }
 {
     if name == b"pages".as_slice() {
@@ -62,16 +62,16 @@ fn zone_named(word: &[u8]) -> Result<Zone, Wrong>
 /// Reads `ID ORDER NODE ZONE`, the words of a `pages` line after the first.
 fn pages_line(text: &[u8]) -> Result<PageAct, Wrong>
     ensures value { result ≡ pages_of (words_in separators.Script text.now) }
-    ensures order { IfOk result HasOrder }
+    ensures order { IfOk result HasValidOrder }
     ensures of_words { IfErr result IsOfWords }
 {
     let (id, rest) = first_word(text)?;
     let (order, rest) = first_word(rest)?;
     let (node, rest) = first_word(rest)?;
     let zone = zone_named(one_word(rest)?)?;
-    let id = bounded(GREATEST_ID, id)? as u32;
-    let order = bounded(GREATEST_ORDER, order)? as u32;
-    let node = bounded(GREATEST_NODE, node)? as u32;
+    let id = number_within(GREATEST_ID, id)? as u32;
+    let order = number_within(GREATEST_ORDER, order)? as u32;
+    let node = number_within(GREATEST_NODE, node)? as u32;
     Ok(PageAct::Pages {
         id,
         order,
@@ -83,24 +83,24 @@ fn pages_line(text: &[u8]) -> Result<PageAct, Wrong>
 /// Reads `ID ORDER NODE`, the words of a `near` line after the first.
 fn near_line(text: &[u8]) -> Result<PageAct, Wrong>
     ensures value { result ≡ near_of (words_in separators.Script text.now) }
-    ensures order { IfOk result HasOrder }
+    ensures order { IfOk result HasValidOrder }
     ensures of_words { IfErr result IsOfWords }
 {
     let (id, rest) = first_word(text)?;
     let (order, rest) = first_word(rest)?;
     let node = one_word(rest)?;
-    let id = bounded(GREATEST_ID, id)? as u32;
-    let order = bounded(GREATEST_ORDER, order)? as u32;
-    let node = bounded(GREATEST_NODE, node)? as u32;
+    let id = number_within(GREATEST_ID, id)? as u32;
+    let order = number_within(GREATEST_ORDER, order)? as u32;
+    let node = number_within(GREATEST_NODE, node)? as u32;
     Ok(PageAct::Near { id, order, node })
 }
 
 /// Reads `ID`, the only word of a `give` line after the first.
 fn give_line(text: &[u8]) -> Result<PageAct, Wrong>
     ensures value { result ≡ give_of (words_in separators.Script text.now) }
-    ensures order { IfOk result HasOrder }
+    ensures order { IfOk result HasValidOrder }
     ensures of_words { IfErr result IsOfWords }
 {
-    let id = bounded(GREATEST_ID, one_word(text)?)? as u32;
+    let id = number_within(GREATEST_ID, one_word(text)?)? as u32;
     Ok(PageAct::Give { id })
 }

@@ -5,8 +5,8 @@ ghost use Rattle.text_words.specs.Spelling.{HasWords};
 ghost use Rattle.text_words.specs.declared.separators.Separators.TheVariants.{Script};
 ghost use Rattle.script_reader.specs.declared.fault.Wrong.{Wrong as AnyWrong};
 ghost use Rattle.script_reader.specs.Numbers.{Words};
-ghost use Rattle.script_reader.specs.Lines.{asked};
-ghost use Rattle.script_reader.specs.Grammar.{IsPassedOver, SpellsNumbers, NeverFails, HasFault};
+ghost use Rattle.script_reader.specs.Lines.{read_line};
+ghost use Rattle.script_reader.specs.Grammar.{HasNoCommand, SpellsNumbers, NeverFails, HasWordsFault};
 ghost use Rattle.page_alloc.specs.declared.act.PageAct.{PageAct as AnyAct};
 ghost use Rattle.page_alloc.specs.Reading.{page_lines};
 ghost use Rattle.page_alloc.specs.Spelling.{page_grammar};
@@ -17,12 +17,12 @@ ghost use Rattle.page_alloc.specs.Spelling.{page_grammar};
 pub fn page_lines_of_spelling()
     ensures act { (seen : Bool) (text : List ℕ) (words : Words) (act : AnyAct) →
         HasWords Script text words →
-        ((asked page_lines seen text ≡ Ok (Some act)) ↔ SpellsNumbers page_grammar words act) }
+        ((read_line page_lines seen text ≡ Ok (Some act)) ↔ SpellsNumbers page_grammar words act) }
     ensures nothing { (seen : Bool) (text : List ℕ) (words : Words) →
         HasWords Script text words →
-        ((asked page_lines seen text ≡ Ok None) ↔ IsPassedOver words) }
+        ((read_line page_lines seen text ≡ Ok None) ↔ HasNoCommand words) }
     ensures fault { (seen : Bool) (text : List ℕ) (words : Words) (wrong : AnyWrong) →
         HasWords Script text words →
-        ((asked page_lines seen text ≡ Err wrong)
-        ↔ HasFault page_grammar NeverFails words wrong) }
+        ((read_line page_lines seen text ≡ Err wrong)
+        ↔ HasWordsFault page_grammar NeverFails words wrong) }
 {}

@@ -1,10 +1,10 @@
 //! The buddy lists, and which ID holds which frames from them.
 
 ghost use Rattle.std.specs.Prelude.{◌≡◌, ◌⊎◌, ◌+◌, ◌*◌, ◌^◌, ◌<◌, ◌≤◌, IfOk, OnErr};
-ghost use Rattle.buddy_handover.specs.Contents.{free};
+ghost use Rattle.buddy_handover.specs.Contents.{buddy_frames};
 ghost use Rattle.page_alloc.specs.declared.act.PageAct.TheVariants as act;
-ghost use Rattle.page_alloc.specs.Book.{held_in, state_of};
-ghost use Rattle.page_alloc.specs.Pages.{begun, step, HasOrder, NamesNoNode, TakesMemory};
+ghost use Rattle.page_alloc.specs.Book.{held_in, page_state_of};
+ghost use Rattle.page_alloc.specs.Pages.{first_page_state, page_step, HasValidOrder, IsPagesOrGive, NeedsMemory};
 
 use crate::act::{PageAct, PageLine};
 use crate::outcome::{Held, PageOutcome};
@@ -24,22 +24,22 @@ pub struct Pages {
 }
 
 impl Model for Pages {
-    ghost use Rattle.page_alloc.specs.Book.{Book, state_of};
+    ghost use Rattle.page_alloc.specs.Book.{PagesView, page_state_of};
     ghost use Rattle.page_alloc.specs.Kept.{AreHeldApart};
 
-    ghost Value = { Book };
+    ghost Value = { PagesView };
 
     ghost view = { λ p. record { buddy = p.buddy; ids = p.ids.entries } };
 
-    ghost invariant = { λ p. AreHeldApart (state_of (record { buddy = p.buddy; ids = p.ids.entries })) };
+    ghost invariant = { λ p. AreHeldApart (page_state_of (record { buddy = p.buddy; ids = p.ids.entries })) };
 }
 
 impl Pages {
     /// Returns the state in which the frames of the lists are free, and no ID holds anything.
     pub fn new(alloc: Global, buddy: Buddy) -> Pages
-        ensures { state_of result ≡ begun (free buddy) }
+        ensures { page_state_of result ≡ first_page_state (buddy_frames buddy) }
     {
-        buddy.lies_low();
+        buddy.free_frames_are_below_limit();
         Pages {
             buddy,
             ids: BTreeMap::new(alloc),
@@ -55,7 +55,7 @@ impl Pages {
 
     /// Returns the frames that the ID holds, or `None` if it holds none.
     pub fn held(&self, id: u32) -> Option<Held>
-        ensures { result ≡ (state_of self.now).held id }
+        ensures { result ≡ (page_state_of self.now).held id }
     {
         self.ids.get(&id).copied()
     }
@@ -77,13 +77,13 @@ impl Pages {
         zone: Zone,
     ) -> Result<PageOutcome, Memory>
         requires { order ≤ 10 }
-        ensures ok { IfOk result (λ outcome. (outcome, state_of self.new) ≡ step (state_of self.old) (act.Pages id order node zone)) }
-        ensures memory { OnErr result (TakesMemory (step (state_of self.old) (act.Pages id order node zone)).0) }
+        ensures ok { IfOk result (λ outcome. (outcome, page_state_of self.new) ≡ page_step (page_state_of self.old) (act.Pages id order node zone)) }
+        ensures memory { OnErr result (NeedsMemory (page_step (page_state_of self.old) (act.Pages id order node zone)).0) }
         ensures refused { IfOk result (λ outcome. (outcome ≡ PageOutcome.Taken) ⊎ (outcome ≡ PageOutcome.NoBlock) → self.new ≡ self.old) }
         ensures err { OnErr result (self.new ≡ self.old) }
     {
         let Ok(entry) = self.ids.entry(id) else {
-            return if self.buddy.serves(node, zone, order) {
+            return if self.buddy.has_block(node, zone, order) {
                 Err(Memory)
             } else {
                 Ok(PageOutcome::NoBlock)
@@ -107,9 +107,9 @@ impl Pages {
     /// # Errors
     ///
     /// - `Memory`: the program ran out of memory. Nothing has changed, and the ID holds frames.
-    fn give(&mut self, id: u32) -> Result<PageOutcome, Memory>
-        ensures ok { IfOk result (λ outcome. (outcome, state_of self.new) ≡ step (state_of self.old) (act.Give id)) }
-        ensures memory { OnErr result (TakesMemory (step (state_of self.old) (act.Give id)).0) }
+    fn free_held_frames(&mut self, id: u32) -> Result<PageOutcome, Memory>
+        ensures ok { IfOk result (λ outcome. (outcome, page_state_of self.new) ≡ page_step (page_state_of self.old) (act.Give id)) }
+        ensures memory { OnErr result (NeedsMemory (page_step (page_state_of self.old) (act.Give id)).0) }
         ensures err { OnErr result (self.new ≡ self.old) }
     {
         let Some(held) = self.held(id) else {
@@ -128,10 +128,10 @@ impl Pages {
     /// - `Memory`: the program ran out of memory. Nothing has changed, and with enough memory the
     ///   outcome would be `At` or `Done`.
     pub fn run_line(&mut self, line: &PageLine) -> Result<PageOutcome, Memory>
-        requires order { HasOrder line.now.act }
-        requires plain { NamesNoNode line.now.act }
-        ensures ok { IfOk result (λ outcome. (outcome, state_of self.new) ≡ step (state_of self.old) line.now.act) }
-        ensures memory { OnErr result (TakesMemory (step (state_of self.old) line.now.act).0) }
+        requires order { HasValidOrder line.now.act }
+        requires plain { IsPagesOrGive line.now.act }
+        ensures ok { IfOk result (λ outcome. (outcome, page_state_of self.new) ≡ page_step (page_state_of self.old) line.now.act) }
+        ensures memory { OnErr result (NeedsMemory (page_step (page_state_of self.old) line.now.act).0) }
         ensures err { OnErr result (self.new ≡ self.old) }
     {
         match line.act {
@@ -142,7 +142,7 @@ impl Pages {
                 zone,
             } => self.take(id, order, node, zone),
             PageAct::Near { .. } => unreachable!(),
-            PageAct::Give { id } => self.give(id),
+            PageAct::Give { id } => self.free_held_frames(id),
         }
     }
 }

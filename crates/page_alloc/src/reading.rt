@@ -3,30 +3,30 @@
 ghost use Rattle.std.specs.Prelude.{◌≡◌, ◌<◌, ◌^◌, length, Err, IfOk, IsOkAnd};
 ghost use Rattle.bm_base.specs.Answers.{Answers};
 ghost use Rattle.script_reader.specs.Numbers.{IsOfWords};
-ghost use Rattle.page_alloc.specs.Pages.{HaveOrders};
-ghost use Rattle.page_alloc.specs.Reading.{fault_at as line_fault, pages_of};
+ghost use Rattle.page_alloc.specs.Pages.{HaveValidOrders};
+ghost use Rattle.page_alloc.specs.Reading.{page_script_fault_at as line_fault, page_lines_of};
 
 use crate::act::{PageAct, PageLine};
 use crate::fault::PageFault;
-use crate::forms::by_name;
-use script_reader::{ScriptLine, Unread, Wrong, read_lines};
+use crate::forms::page_act_by_name;
+use script_reader::{ScriptLine, LinesError, Wrong, read_lines};
 use std::alloc::Global;
 
 impl ScriptLine for PageLine {
     ghost use Rattle.script_reader.specs.Numbers.{IsOfWords};
-    ghost use Rattle.page_alloc.specs.Pages.{HasOrder};
+    ghost use Rattle.page_alloc.specs.Pages.{HasValidOrder};
     ghost use Rattle.page_alloc.specs.Reading.{page_lines};
 
     type Act = PageAct;
 
     ghost kind = { page_lines };
 
-    ghost IsWithinLimits = { λ line. HasOrder line.act };
+    ghost IsWithinLimits = { λ line. HasValidOrder line.act };
 
     ghost MayBeWrong = { IsOfWords };
 
     fn by_name(_seen: bool, name: &[u8], rest: &[u8]) -> Result<PageAct, Wrong> {
-        by_name(name, rest)
+        page_act_by_name(name, rest)
     }
 
     fn is_once(_act: &PageAct) -> bool {
@@ -51,21 +51,21 @@ impl ScriptLine for PageLine {
 /// - `Memory`: no line has a fault and some line has a command, but the program ran out of memory.
 pub fn read_pages(alloc: Global, bytes: &[u8]) -> Result<Vec<PageLine>, PageFault>
     requires { length bytes.now < 2 ^ 32 }
-    ensures answers { Answers PageFault.Memory (λ lines. lines.items) result (pages_of bytes.now) }
+    ensures answers { Answers PageFault.Memory (λ lines. lines.items) result (page_lines_of bytes.now) }
     ensures memory { result ≡ Err PageFault.Memory →
-        IsOkAnd (pages_of bytes.now) (λ lines. 0 < length lines) }
-    ensures orders { IfOk result (λ lines. HaveOrders lines.items) }
+        IsOkAnd (page_lines_of bytes.now) (λ lines. 0 < length lines) }
+    ensures orders { IfOk result (λ lines. HaveValidOrders lines.items) }
 {
     match read_lines::<PageLine>(alloc, bytes) {
         Ok(lines) => Ok(lines),
-        Err(Unread::Faulty(line, wrong)) => Err(fault_at(line, wrong)),
-        Err(Unread::Memory) => Err(PageFault::Memory),
+        Err(LinesError::Faulty(line, wrong)) => Err(page_script_fault_at(line, wrong)),
+        Err(LinesError::Memory) => Err(PageFault::Memory),
     }
 }
 
 /// Returns the fault of a script for what is wrong with the line of this number. Only `Form` and
 /// `Number` can be wrong.
-fn fault_at(line: u32, wrong: Wrong) -> PageFault
+fn page_script_fault_at(line: u32, wrong: Wrong) -> PageFault
     requires { IsOfWords wrong }
     ensures { result ≡ line_fault line wrong }
 {

@@ -15,14 +15,14 @@ fn three_mebibytes(alloc: Global) -> Result<Areas, Memory> {
         count: 0x300,
         node: 0,
     };
-    Areas::of(alloc, &[run])
+    Areas::index_free_runs(alloc, &[run])
 }
 
 // Returns, for each order of a request, the order and the first frame of the block that serves it.
 fn served(areas: &Areas) -> [Option<(u32, u64)>; 11] {
     let mut served = [None; 11];
     for order in 0..11 {
-        let block = areas.least(0, Zone::Dma, order as u32);
+        let block = areas.find_picked_block(0, Zone::Dma, order as u32);
         served[order] = block.map(|block| (block.order, block.first));
     }
     served
@@ -46,7 +46,7 @@ fn a_frame_leaves_and_comes_back(rt: HostRuntime) -> Result<(), Fail> {
         first: 0x200,
         ..first
     };
-    areas.split(&first, Some(second), 0, 0x100)?;
+    areas.split_block(&first, Some(second), 0, 0x100)?;
     let buddies = [
         Some((0, 0x101)),
         Some((1, 0x102)),
@@ -61,7 +61,7 @@ fn a_frame_leaves_and_comes_back(rt: HostRuntime) -> Result<(), Fail> {
         None,
     ];
     assert!(rt; served(&areas) == buddies);
-    areas.join(&first, 0, 0x100)?;
+    areas.merge_block(&first, 0, 0x100)?;
     assert!(rt; served(&areas) == whole);
     Ok(())
 }

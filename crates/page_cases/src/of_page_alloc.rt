@@ -6,7 +6,7 @@ ghost use Rattle.std.specs.Prelude.{◌<◌, ◌^◌, length};
 use bm_base::{Memory, Zone};
 use buddy_handover::Buddy;
 use page_alloc::{Held, PageAct, PageAnswer, PageFault, PageLine, PageOutcome, Pages, read_pages};
-use slit_zonelists::{Lists, run_lines};
+use slit_zonelists::{Lists, run_page_lines};
 use std::alloc::Global;
 use std::test::Fail;
 
@@ -24,7 +24,7 @@ fn run(alloc: Global, pages: &mut Pages, text: &[u8]) -> Result<Vec<PageAnswer>,
 {
     let lines = read_pages(alloc, text)?;
     let lists = Lists::new(alloc, None, &[], &[])?;
-    let answers = run_lines(alloc, pages, &lists, &lines)?;
+    let answers = run_page_lines(alloc, pages, &lists, &lines)?;
     Ok(answers)
 }
 

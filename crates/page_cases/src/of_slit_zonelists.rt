@@ -2,7 +2,7 @@
 //! lists of zones of the machine's nodes; and requests near a node.
 
 ghost use Rattle.std.specs.Prelude.{◌≡◌, IfOk, length};
-ghost use Rattle.slit_zonelists.specs.Matrix.{matrix, IsSquare};
+ghost use Rattle.slit_zonelists.specs.Matrix.{slit_view, IsSquare};
 
 use bm_base::{Memory, Zone};
 use buddy_handover::Buddy;
@@ -35,7 +35,7 @@ fn one_domain(first: u8, stated: u8, checksum: u8, low: u8, high: u8) -> [u8; 45
 /// Returns a table of three domains with these distances.
 fn three(alloc: Global, cells: &[u8]) -> Result<Slit, Memory>
     requires { length cells.now ≡ 9 }
-    ensures { IfOk result (λ slit. IsSquare (matrix slit)) }
+    ensures { IfOk result (λ slit. IsSquare (slit_view slit)) }
 {
     Ok(Slit {
         count: 3,
@@ -146,7 +146,7 @@ fn distances_of_domains(rt: HostRuntime) -> Result<(), Fail> {
     for (from, to, distance) in cases {
         assert!(rt; lists.distance(from, to) == distance, "{from} {to}");
     }
-    let nodes = lists.nodes()?;
+    let nodes = lists.nodes_with_zones()?;
     assert!(rt; nodes.as_slice() == [0, 1, 2].as_slice());
     Ok(())
 }

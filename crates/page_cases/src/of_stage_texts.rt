@@ -3,7 +3,7 @@
 
 ghost use Rattle.std.specs.Prelude.{◌≡◌, IfOk, length};
 ghost use Rattle.std.specs.Option.{ForSome};
-ghost use Rattle.slit_zonelists.specs.Matrix.{matrix, IsSquare};
+ghost use Rattle.slit_zonelists.specs.Matrix.{slit_view, IsSquare};
 
 use bm_base::{Memory, Zone};
 use page_alloc::{PageAnswer, PageOutcome};
@@ -36,7 +36,7 @@ fn each_outcome(rt: HostRuntime) -> Result<(), Fail> {
 /// Returns a table of two domains with these distances.
 fn two(alloc: Global, cells: &[u8]) -> Result<Slit, Memory>
     requires { length cells.now ≡ 4 }
-    ensures { IfOk result (λ slit. IsSquare (matrix slit)) }
+    ensures { IfOk result (λ slit. IsSquare (slit_view slit)) }
 {
     Ok(Slit {
         count: 2,
@@ -61,7 +61,7 @@ fn text_of(
     domains: &[u32],
     spans: &[Span],
 ) -> Result<Vec<u8>, Fail>
-    requires { ForSome slit (λ slit. IsSquare (matrix slit.now)) }
+    requires { ForSome slit (λ slit. IsSquare (slit_view slit.now)) }
 {
     let lists = Lists::new(alloc, slit, domains, spans)?;
     let mut text = Vec::new(alloc);

@@ -5,21 +5,21 @@ use Rattle.std.proofs.lemmas.Bool.Decides.{nat_tests}
 use Rattle.std.proofs.lemmas.List.{get_or-map, length-map}
 use Rattle.std.proofs.lemmas.List.Sums.{position_or_len_is}
 use Rattle.std.specs.List.{position, position_or_len}
-use Rattle.phys_store.specs.declared.extents.Held.{Held}
-use Rattle.phys_store.specs.Bytes.{Stored, past, inside}
-use Rattle.phys_store.specs.Extents.{stored, nth, Apart}
-use Rattle.phys_store.proofs.Lookup.{inside-below, inside-above}
+use Rattle.phys_store.specs.declared.extents.Extent.{Extent}
+use Rattle.phys_store.specs.Bytes.{ExtentView, end_of_extent, is_in_extent}
+use Rattle.phys_store.specs.Extents.{extent_view, nth_extent, AreApart}
+use Rattle.phys_store.proofs.Lookup.{is_in_extent-below, is_in_extent-above}
 use Rattle.phys_store.proofs.Joining.{before}
 
 -- only the first extent that ends at or above an address can have it
-others_out : (ps : List Stored) (a i k : ℕ) → Apart 0 ps → ((j : ℕ) → j < i → past (nth ps j) < a) →
-    (i < length ps → a ≤ past (nth ps i)) → (i < length ps → inside (nth ps i) a ≡ false) → k < length ps → inside (nth ps k) a ≡ false
+others_out : (ps : List ExtentView) (a i k : ℕ) → AreApart 0 ps → ((j : ℕ) → j < i → end_of_extent (nth_extent ps j) < a) →
+    (i < length ps → a ≤ end_of_extent (nth_extent ps i)) → (i < length ps → is_in_extent (nth_extent ps i) a ≡ false) → k < length ps → is_in_extent (nth_extent ps k) a ≡ false
 others_out ps a i k apart below reaches out count =
     elim (cases_lt k i) [
-      | inl less ↦ let ends = below k less in inside-above (nth ps k) a (omega (arith, ends))
+      | inl less ↦ let ends = below k less in is_in_extent-above (nth_extent ps k) a (omega (arith, ends))
       | inr most ↦ elim (cases_lt i k) [
         | inl more ↦ let far = before 0 ps i k apart more count in let reach = reaches (omega (arith, more, count)) in
-            inside-below (nth ps k) a (omega (arith, far, reach))
+            is_in_extent-below (nth_extent ps k) a (omega (arith, far, reach))
         | inr least ↦ let is : k ≡ i = omega (arith, most, least) in rw is (out (omega (arith, is, count)))
       ]
     ]
@@ -35,24 +35,24 @@ no_position p (x ∷ xs) each =
     rw (all, none) refl
 
 -- the extent with index `k`, as it is read
-same_test : (es : List Held) (a k : ℕ) (d : Held) → k < length es → inside (stored (get_or es k d)) a ≡ inside (nth (map stored es) k) a
-same_test es a k d count = ap (λ (q : Stored). inside q a) (sym (get_or-map stored es k d (record { base = 0; bytes = [] }) count))
+same_test : (es : List Extent) (a k : ℕ) (d : Extent) → k < length es → is_in_extent (extent_view (get_or es k d)) a ≡ is_in_extent (nth_extent (map extent_view es) k) a
+same_test es a k d count = ap (λ (q : ExtentView). is_in_extent q a) (sym (get_or-map extent_view es k d (record { base = 0; bytes = [] }) count))
 
-pub first_has : (es : List Held) (a i : ℕ) (e : Held) → ((j : ℕ) → j < i → past (nth (map stored es) j) < a) → i < length es →
-    e ≡ get_or es i e → inside (stored e) a ≡ true → Some i ≡ position (λ d. inside (stored d) a) es
+pub first_has : (es : List Extent) (a i : ℕ) (e : Extent) → ((j : ℕ) → j < i → end_of_extent (nth_extent (map extent_view es) j) < a) → i < length es →
+    e ≡ get_or es i e → is_in_extent (extent_view e) a ≡ true → Some i ≡ position (λ d. is_in_extent (extent_view d) a) es
 first_has es a i e below count is lies =
-    let at : position_or_len (λ d. inside (stored d) a) es ≡ i = position_or_len_is (λ d. inside (stored d) a) es i e (omega arith)
+    let at : position_or_len (λ d. is_in_extent (extent_view d) a) es ≡ i = position_or_len_is (λ d. is_in_extent (extent_view d) a) es i e (omega arith)
     (λ k less. let ends = below k less in
-    same_test es a k e (omega (arith, less, count)) ∙ inside-above (nth (map stored es) k) a (omega (arith, ends)))
-    (λ same. ap (λ (d : Held). inside (stored d) a) (sym is) ∙ lies) in
+    same_test es a k e (omega (arith, less, count)) ∙ is_in_extent-above (nth_extent (map extent_view es) k) a (omega (arith, ends)))
+    (λ same. ap (λ (d : Extent). is_in_extent (extent_view d) a) (sym is) ∙ lies) in
     let some : nat_lt i (length es) ≡ true = grind (arith, nat_tests) in
     sym (rw (at, some) refl)
 
-pub first_has_not : (es : List Held) (a i : ℕ) → Apart 0 (map stored es) → ((j : ℕ) → j < i → past (nth (map stored es) j) < a) →
-    (i < length es → a ≤ past (nth (map stored es) i)) → (i < length es → inside (nth (map stored es) i) a ≡ false) →
-    None ≡ position (λ d. inside (stored d) a) es
+pub first_has_not : (es : List Extent) (a i : ℕ) → AreApart 0 (map extent_view es) → ((j : ℕ) → j < i → end_of_extent (nth_extent (map extent_view es) j) < a) →
+    (i < length es → a ≤ end_of_extent (nth_extent (map extent_view es) i)) → (i < length es → is_in_extent (nth_extent (map extent_view es) i) a ≡ false) →
+    None ≡ position (λ d. is_in_extent (extent_view d) a) es
 first_has_not es a i apart below reaches out =
-    let long = length-map es stored in
-    sym (no_position (λ d. inside (stored d) a) es (λ k d count. same_test es a k d count
-    ∙ others_out (map stored es) a i k apart below (λ less. reaches (omega (arith, less, long))) (λ less. out (omega (arith, less, long)))
+    let long = length-map es extent_view in
+    sym (no_position (λ d. is_in_extent (extent_view d) a) es (λ k d count. same_test es a k d count
+    ∙ others_out (map extent_view es) a i k apart below (λ less. reaches (omega (arith, less, long))) (λ less. out (omega (arith, less, long)))
     (omega (arith, count, long))))

@@ -5,31 +5,31 @@ use Rattle.std.specs.Prelude.{◌≡◌, ℕ, zero, suc, ◌+◌, ◌-◌, ◌<�
 use Rattle.bm_base.specs.Range.{covers}
 
 -- consecutive bytes: the address of the first, and the bytes
-pub record Stored : Type 0 where
+pub record ExtentView : Type 0 where
   pub base : ℕ
   pub bytes : List ℕ
 
 -- the address after the last byte
-abbrev pub past : Stored → ℕ
-past p = p.base + length p.bytes
+abbrev pub end_of_extent : ExtentView → ℕ
+end_of_extent p = p.base + length p.bytes
 
 -- the address is in the extent
-abbrev pub inside : Stored → ℕ → Bool
-inside p x = covers (record { base = p.base; size = length p.bytes }) x
+abbrev pub is_in_extent : ExtentView → ℕ → Bool
+is_in_extent p x = covers (record { base = p.base; size = length p.bytes }) x
 
 -- the byte at an address: that of the first extent that has the address, and 0 if none has it
-abbrev pub byte_of : List Stored → ℕ → ℕ
+abbrev pub byte_of : List ExtentView → ℕ → ℕ
 byte_of [] x = 0
-byte_of (p ∷ ps) x = if inside p x then slice_index p.bytes (x - p.base) else byte_of ps x
+byte_of (p ∷ ps) x = if is_in_extent p x then slice_index p.bytes (x - p.base) else byte_of ps x
 
 -- the address is prepared: some extent has it
-abbrev pub is_ready : List Stored → ℕ → Bool
-is_ready [] x = false
-is_ready (p ∷ ps) x = inside p x || is_ready ps x
+abbrev pub is_prepared_at : List ExtentView → ℕ → Bool
+is_prepared_at [] x = false
+is_prepared_at (p ∷ ps) x = is_in_extent p x || is_prepared_at ps x
 
 -- each of the n addresses from `a` on is prepared
-abbrev pub AreReady : List Stored → ℕ → ℕ → Type 0
-AreReady ps a n = (x : ℕ) → a ≤ x → x < a + n → IsTrue (is_ready ps x)
+abbrev pub ArePrepared : List ExtentView → ℕ → ℕ → Type 0
+ArePrepared ps a n = (x : ℕ) → a ≤ x → x < a + n → IsTrue (is_prepared_at ps x)
 
 -- the n bytes from address `a` on; the function gives the byte at each address
 unfoldable pub bytes_at : (ℕ → ℕ) → ℕ → ℕ → List ℕ
@@ -38,7 +38,7 @@ bytes_at f a (suc n) = f a ∷ bytes_at f (a + 1) n
 
 -- the effect of a write: byte k of the n bytes from address `a` on is `g k`, every other byte is
 -- unchanged, and the same addresses are prepared
-pub record Wrote (old new : List Stored) (a n : ℕ) (g : ℕ → ℕ) : Type 0 where
+pub record WritesBytes (old new : List ExtentView) (a n : ℕ) (g : ℕ → ℕ) : Type 0 where
   pub within : (k : ℕ) → k < n → byte_of new (a + k) ≡ g k
   pub outside : (x : ℕ) → IsTrue (nat_lt x a || nat_le (a + n) x) → byte_of new x ≡ byte_of old x
-  pub ready : (x : ℕ) → is_ready new x ≡ is_ready old x
+  pub ready : (x : ℕ) → is_prepared_at new x ≡ is_prepared_at old x

@@ -1,39 +1,39 @@
 -- How the bytes are kept: as extents, each as long as possible, so that a range that is prepared
 -- in parts is in one of them.
 use Rattle.std.specs.Prelude.{ℕ, ◌+◌, ◌-◌, ◌^◌, ◌<◌, ◌≤◌, List, [], ◌∷◌, ◌++◌, take, drop, length, slice_index_or}
-use Rattle.phys_store.specs.declared.extents.Held.{Held}
-use Rattle.phys_store.specs.Bytes.{Stored, past, byte_of, bytes_at}
+use Rattle.phys_store.specs.declared.extents.Extent.{Extent}
+use Rattle.phys_store.specs.Bytes.{ExtentView, end_of_extent, byte_of, bytes_at}
 
 -- an extent, as contracts see it, without the spare room before its first byte
-abbrev pub stored : Held → Stored
-stored e = record { base = e.base; bytes = drop e.front e.bytes.items }
+abbrev pub extent_view : Extent → ExtentView
+extent_view e = record { base = e.base; bytes = drop e.front e.bytes.items }
 
 -- the extents ascend from address `e` on, none is empty, none touches the next, and none ends
 -- above 2^64 - 1
-abbrev pub Apart : ℕ → List Stored → Type 0
-Apart e [] = Unit {0}
-Apart e (p ∷ ps) = (e ≤ p.base) × (0 < length p.bytes) × (p.base + length p.bytes < 2 ^ 64) × Apart (past p + 1) ps
+abbrev pub AreApart : ℕ → List ExtentView → Type 0
+AreApart e [] = Unit {0}
+AreApart e (p ∷ ps) = (e ≤ p.base) × (0 < length p.bytes) × (p.base + length p.bytes < 2 ^ 64) × AreApart (end_of_extent p + 1) ps
 
 -- the extent with index `i`
-abbrev pub nth : List Stored → ℕ → Stored
-nth ps i = slice_index_or ps i (record { base = 0; bytes = [] })
+abbrev pub nth_extent : List ExtentView → ℕ → ExtentView
+nth_extent ps i = slice_index_or ps i (record { base = 0; bytes = [] })
 
 -- the extents with the indices from `first` to below `behind` are those that overlap or touch the
 -- addresses from `from` to below `to`, and they lie within these addresses
-pub record Joins (ps : List Stored) (first behind from to : ℕ) : Type 0 where
+pub record TouchRange (ps : List ExtentView) (first behind from to : ℕ) : Type 0 where
   pub order : first ≤ behind
   pub most : behind ≤ length ps
-  pub below : (i : ℕ) → i < first → past (nth ps i) < from
-  pub low : (i : ℕ) → first ≤ i → i < behind → from ≤ (nth ps i).base
-  pub high : (i : ℕ) → first ≤ i → i < behind → past (nth ps i) ≤ to
-  pub above : (i : ℕ) → behind ≤ i → i < length ps → to < (nth ps i).base
+  pub below : (i : ℕ) → i < first → end_of_extent (nth_extent ps i) < from
+  pub low : (i : ℕ) → first ≤ i → i < behind → from ≤ (nth_extent ps i).base
+  pub high : (i : ℕ) → first ≤ i → i < behind → end_of_extent (nth_extent ps i) ≤ to
+  pub above : (i : ℕ) → behind ≤ i → i < length ps → to < (nth_extent ps i).base
 
 -- an extent with the addresses from `from` to below `to` and the bytes of others; a byte that
 -- these don't have is 0
-abbrev pub covering : List Stored → ℕ → ℕ → Stored
-covering ps from to = record { base = from; bytes = bytes_at (byte_of ps) from (to - from) }
+abbrev pub merged_extent : List ExtentView → ℕ → ℕ → ExtentView
+merged_extent ps from to = record { base = from; bytes = bytes_at (byte_of ps) from (to - from) }
 
 -- the list with the extents from `first` to below `behind` replaced by one, which has the
 -- addresses from `from` to below `to`
-abbrev pub as_one : List Stored → ℕ → ℕ → ℕ → ℕ → List Stored
-as_one ps first behind from to = take first ps ++ covering (take (behind - first) (drop first ps)) from to ∷ drop behind ps
+abbrev pub merge_extents : List ExtentView → ℕ → ℕ → ℕ → ℕ → List ExtentView
+merge_extents ps first behind from to = take first ps ++ merged_extent (take (behind - first) (drop first ps)) from to ∷ drop behind ps

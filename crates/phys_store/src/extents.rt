@@ -2,8 +2,8 @@
 //! has the first address. Extents don't touch, so that extent has the whole of a prepared range,
 //! and no call continues in another extent.
 ghost use Rattle.std.specs.Prelude.{◌≡◌, MatchOption, Some, None, get_or, ℕ, ◌+◌, ◌-◌, ◌^◌, ◌<◌, ◌≤◌, ◌↔◌, Bool, true, ◌||◌, nat_le, min, max, map, length, slice_index, position, IsTrue};
-ghost use Rattle.phys_store.specs.Bytes.{past, inside, byte_of, AreReady, Wrote, bytes_at};
-ghost use Rattle.phys_store.specs.Extents.{stored, nth, Apart};
+ghost use Rattle.phys_store.specs.Bytes.{end_of_extent, is_in_extent, byte_of, ArePrepared, WritesBytes, bytes_at};
+ghost use Rattle.phys_store.specs.Extents.{extent_view, nth_extent, AreApart};
 
 use bm_base::Range;
 
@@ -11,7 +11,7 @@ use bm_base::Range;
 /// prepared. There may be spare room before the first byte, so that an extent that grows downward
 /// is seldom moved.
 #[derive(Debug, Drop)]
-pub struct Held {
+pub struct Extent {
     /// The address of the first byte.
     pub base: u64,
     /// The number of bytes of spare room at the start of `bytes`, before the first byte of the
@@ -21,40 +21,40 @@ pub struct Held {
 }
 
 /// Returns the number of bytes in the extent, without the spare room.
-pub fn size_of(extent: &Held) -> u64
-    ensures { result ≡ length (stored extent.now).bytes }
+pub fn size_of_extent(extent: &Extent) -> u64
+    ensures { result ≡ length (extent_view extent.now).bytes }
 {
     extent.bytes.len().saturating_sub(extent.front) as u64
 }
 
 /// Returns the address after the last byte of the extent.
-pub fn end_of(extent: &Held) -> u64
-    requires { past (stored extent.now) < 2 ^ 64 }
-    ensures { result ≡ past (stored extent.now) }
+pub fn end_of_extent(extent: &Extent) -> u64
+    requires { end_of_extent (extent_view extent.now) < 2 ^ 64 }
+    ensures { result ≡ end_of_extent (extent_view extent.now) }
 {
-    extent.base + size_of(extent)
+    extent.base + size_of_extent(extent)
 }
 
 /// Tests whether the extent has this address.
-fn has(extent: &Held, address: u64) -> bool
-    ensures { result ≡ inside (stored extent.now) address }
+fn is_in_extent(extent: &Extent, address: u64) -> bool
+    ensures { result ≡ is_in_extent (extent_view extent.now) address }
 {
-    extent.base <= address && address - extent.base < size_of(extent)
+    extent.base <= address && address - extent.base < size_of_extent(extent)
 }
 
 /// Returns the index of the first extent that ends at or above `address` (the end is the address
 /// after the last byte), or the number of extents if there is none. It is found by binary search.
-pub fn first_reaching(extents: &[Held], address: u64) -> usize
-    requires { Apart 0 (map stored extents.now) }
+pub fn first_reaching(extents: &[Extent], address: u64) -> usize
+    requires { AreApart 0 (map extent_view extents.now) }
     ensures most { result ≤ length extents.now }
-    ensures below { (i : ℕ) → i < result → past (nth (map stored extents.now) i) < address }
-    ensures reaches { result < length extents.now → address ≤ past (nth (map stored extents.now) result) }
+    ensures below { (i : ℕ) → i < result → end_of_extent (nth_extent (map extent_view extents.now) i) < address }
+    ensures reaches { result < length extents.now → address ≤ end_of_extent (nth_extent (map extent_view extents.now) result) }
 {
     let mut low = 0;
     let mut high = extents.len();
     while low < high {
         let middle = low + (high - low) / 2;
-        if end_of(&extents[middle]) < address {
+        if end_of_extent(&extents[middle]) < address {
             low = middle + 1;
         } else {
             high = middle;
@@ -67,33 +67,33 @@ pub fn first_reaching(extents: &[Held], address: u64) -> usize
 const FEW: usize = 16;
 
 /// Returns the index of the extent that has this address, or `None` if no extent has it.
-fn place_of(extents: &[Held], address: u64) -> Option<usize>
-    requires { Apart 0 (map stored extents.now) }
-    ensures { result ≡ position (λ e. inside (stored e) address) extents.now }
+fn index_of_extent(extents: &[Extent], address: u64) -> Option<usize>
+    requires { AreApart 0 (map extent_view extents.now) }
+    ensures { result ≡ position (λ e. is_in_extent (extent_view e) address) extents.now }
 {
     if extents.len() > FEW {
-        return place_by_halves(extents, address);
+        return index_by_binary_search(extents, address);
     }
-    place_among(extents, address)
+    index_by_linear_search(extents, address)
 }
 
-/// Like [`place_of`], by linear search.
-fn place_among(extents: &[Held], address: u64) -> Option<usize>
-    ensures { result ≡ position (λ e. inside (stored e) address) extents.now }
+/// Like [`index_of_extent`], by linear search.
+fn index_by_linear_search(extents: &[Extent], address: u64) -> Option<usize>
+    ensures { result ≡ position (λ e. is_in_extent (extent_view e) address) extents.now }
 {
-    extents.iter().position(|e| has(e, address))
+    extents.iter().position(|e| is_in_extent(e, address))
 }
 
-/// Like [`place_of`], by binary search. Only the first extent that ends at or above the address
+/// Like [`index_of_extent`], by binary search. Only the first extent that ends at or above the address
 /// can have it: if that one ends exactly there, the next begins above.
 // A function of its own, so that the linear search is small enough to be inlined.
 #[inline(never)]
-fn place_by_halves(extents: &[Held], address: u64) -> Option<usize>
-    requires { Apart 0 (map stored extents.now) }
-    ensures { result ≡ position (λ e. inside (stored e) address) extents.now }
+fn index_by_binary_search(extents: &[Extent], address: u64) -> Option<usize>
+    requires { AreApart 0 (map extent_view extents.now) }
+    ensures { result ≡ position (λ e. is_in_extent (extent_view e) address) extents.now }
 {
     let i = first_reaching(extents, address);
-    if i < extents.len() && has(&extents[i], address) {
+    if i < extents.len() && is_in_extent(&extents[i], address) {
         Some(i)
     } else {
         None
@@ -101,47 +101,47 @@ fn place_by_halves(extents: &[Held], address: u64) -> Option<usize>
 }
 
 /// Returns the extent that has this address, or `None` if no extent has it.
-fn extent_at(extents: &[Held], address: u64) -> Option<&Held>
-    requires { Apart 0 (map stored extents.now) }
-    ensures { MatchOption result (position (λ e. inside (stored e) address) extents.now ≡ None) (λ e. (i : ℕ) ×
-        (position (λ d. inside (stored d) address) extents.now ≡ Some i) × (e.now ≡ get_or extents.now i e.now)) }
+fn extent_at(extents: &[Extent], address: u64) -> Option<&Extent>
+    requires { AreApart 0 (map extent_view extents.now) }
+    ensures { MatchOption result (position (λ e. is_in_extent (extent_view e) address) extents.now ≡ None) (λ e. (i : ℕ) ×
+        (position (λ d. is_in_extent (extent_view d) address) extents.now ≡ Some i) × (e.now ≡ get_or extents.now i e.now)) }
 {
     if extents.len() > FEW {
-        return extent_by_halves(extents, address);
+        return extent_by_binary_search(extents, address);
     }
-    let i = place_among(extents, address)?;
+    let i = index_by_linear_search(extents, address)?;
     Some(&extents[i])
 }
 
 /// Like [`extent_at`], by binary search.
 #[inline(never)]
-fn extent_by_halves(extents: &[Held], address: u64) -> Option<&Held>
-    requires { Apart 0 (map stored extents.now) }
-    ensures { MatchOption result (position (λ e. inside (stored e) address) extents.now ≡ None) (λ e. (i : ℕ) ×
-        (position (λ d. inside (stored d) address) extents.now ≡ Some i) × (e.now ≡ get_or extents.now i e.now)) }
+fn extent_by_binary_search(extents: &[Extent], address: u64) -> Option<&Extent>
+    requires { AreApart 0 (map extent_view extents.now) }
+    ensures { MatchOption result (position (λ e. is_in_extent (extent_view e) address) extents.now ≡ None) (λ e. (i : ℕ) ×
+        (position (λ d. is_in_extent (extent_view d) address) extents.now ≡ Some i) × (e.now ≡ get_or extents.now i e.now)) }
 {
-    let i = place_by_halves(extents, address)?;
+    let i = index_by_binary_search(extents, address)?;
     Some(&extents[i])
 }
 
 /// Tests whether each address of the range is prepared.
-pub fn are_ready(extents: &[Held], range: Range) -> bool
-    requires { Apart 0 (map stored extents.now) }
-    ensures { IsTrue result ↔ AreReady (map stored extents.now) range.base range.size }
+pub fn are_prepared(extents: &[Extent], range: Range) -> bool
+    requires { AreApart 0 (map extent_view extents.now) }
+    ensures { IsTrue result ↔ ArePrepared (map extent_view extents.now) range.base range.size }
 {
     if range.size == 0 {
         return true;
     }
     match extent_at(extents, range.base) {
-        Some(extent) => range.end() - extent.base <= size_of(extent),
+        Some(extent) => range.end() - extent.base <= size_of_extent(extent),
         None => false,
     }
 }
 
 /// Returns the byte at this address, or 0 if the address isn't prepared.
-pub fn byte_at(extents: &[Held], address: u64) -> u8
-    requires { Apart 0 (map stored extents.now) }
-    ensures { result ≡ byte_of (map stored extents.now) address }
+pub fn byte_at(extents: &[Extent], address: u64) -> u8
+    requires { AreApart 0 (map extent_view extents.now) }
+    ensures { result ≡ byte_of (map extent_view extents.now) address }
 {
     match extent_at(extents, address) {
         Some(extent) => extent.bytes[extent.front + (address - extent.base) as usize],
@@ -150,10 +150,10 @@ pub fn byte_at(extents: &[Held], address: u64) -> u8
 }
 
 /// Returns the `count` bytes from address `at` on, without copying them. They must be prepared.
-pub fn slice(extents: &[Held], at: u64, count: u64) -> &[u8]
-    requires apart { Apart 0 (map stored extents.now) }
-    requires prepared { AreReady (map stored extents.now) at count }
-    ensures { result.now ≡ bytes_at (byte_of (map stored extents.now)) at count }
+pub fn slice(extents: &[Extent], at: u64, count: u64) -> &[u8]
+    requires apart { AreApart 0 (map extent_view extents.now) }
+    requires prepared { ArePrepared (map extent_view extents.now) at count }
+    ensures { result.now ≡ bytes_at (byte_of (map extent_view extents.now)) at count }
 {
     match extent_at(extents, at) {
         Some(extent) => {
@@ -165,13 +165,13 @@ pub fn slice(extents: &[Held], at: u64, count: u64) -> &[u8]
 }
 
 /// Writes the bytes from address `at` on. These addresses must be prepared.
-pub fn write(extents: &mut [Held], at: u64, bytes: &[u8])
-    requires apart { Apart 0 (map stored extents.old) }
-    requires prepared { AreReady (map stored extents.old) at (length bytes.now) }
-    ensures apart { Apart 0 (map stored extents.new) }
-    ensures wrote { Wrote (map stored extents.old) (map stored extents.new) at (length bytes.now) (slice_index bytes.now) }
+pub fn write(extents: &mut [Extent], at: u64, bytes: &[u8])
+    requires apart { AreApart 0 (map extent_view extents.old) }
+    requires prepared { ArePrepared (map extent_view extents.old) at (length bytes.now) }
+    ensures apart { AreApart 0 (map extent_view extents.new) }
+    ensures wrote { WritesBytes (map extent_view extents.old) (map extent_view extents.new) at (length bytes.now) (slice_index bytes.now) }
 {
-    if let Some(i) = place_of(extents, at) {
+    if let Some(i) = index_of_extent(extents, at) {
         let extent = &mut extents[i];
         let from = extent.front + (at - extent.base) as usize;
         extent.bytes[from..from + bytes.len()].copy_from_slice(bytes);
@@ -179,13 +179,13 @@ pub fn write(extents: &mut [Held], at: u64, bytes: &[u8])
 }
 
 /// Writes the byte to each address of the range, which must be prepared.
-pub fn fill(extents: &mut [Held], range: Range, byte: u8)
-    requires apart { Apart 0 (map stored extents.old) }
-    requires prepared { AreReady (map stored extents.old) range.base range.size }
-    ensures apart { Apart 0 (map stored extents.new) }
-    ensures wrote { Wrote (map stored extents.old) (map stored extents.new) range.base range.size (λ _. byte) }
+pub fn fill(extents: &mut [Extent], range: Range, byte: u8)
+    requires apart { AreApart 0 (map extent_view extents.old) }
+    requires prepared { ArePrepared (map extent_view extents.old) range.base range.size }
+    ensures apart { AreApart 0 (map extent_view extents.new) }
+    ensures wrote { WritesBytes (map extent_view extents.old) (map extent_view extents.new) range.base range.size (λ _. byte) }
 {
-    if let Some(i) = place_of(extents, range.base) {
+    if let Some(i) = index_of_extent(extents, range.base) {
         let extent = &mut extents[i];
         let from = extent.front + (range.base - extent.base) as usize;
         extent.bytes[from..from + range.size as usize].fill(byte);
@@ -194,13 +194,13 @@ pub fn fill(extents: &mut [Held], range: Range, byte: u8)
 
 /// Copies the `count` bytes at address `from` to address `to`. The two ranges may overlap. All
 /// addresses of both ranges, and those between them, must be prepared.
-pub fn shift(extents: &mut [Held], from: u64, to: u64, count: u64)
-    requires apart { Apart 0 (map stored extents.old) }
-    requires prepared { AreReady (map stored extents.old) (min from to) (max from to - min from to + count) }
-    ensures apart { Apart 0 (map stored extents.new) }
-    ensures wrote { Wrote (map stored extents.old) (map stored extents.new) to count (λ k. byte_of (map stored extents.old) (from + k)) }
+pub fn move_bytes(extents: &mut [Extent], from: u64, to: u64, count: u64)
+    requires apart { AreApart 0 (map extent_view extents.old) }
+    requires prepared { ArePrepared (map extent_view extents.old) (min from to) (max from to - min from to + count) }
+    ensures apart { AreApart 0 (map extent_view extents.new) }
+    ensures wrote { WritesBytes (map extent_view extents.old) (map extent_view extents.new) to count (λ k. byte_of (map extent_view extents.old) (from + k)) }
 {
-    if let Some(i) = place_of(extents, from.min(to)) {
+    if let Some(i) = index_of_extent(extents, from.min(to)) {
         let extent = &mut extents[i];
         let source = extent.front + (from - extent.base) as usize;
         let target = extent.front + (to - extent.base) as usize;
@@ -216,13 +216,13 @@ const CHUNK: usize = 256;
 /// Copies the `count` bytes at address `from` to address `to`. The two ranges must not overlap,
 /// and must be prepared.
 #[tactic(auto, using(crate::proofs::ByteLists::byte_counts))]
-pub fn copy(extents: &mut [Held], from: u64, to: u64, count: u64)
-    requires apart { Apart 0 (map stored extents.old) }
-    requires read { AreReady (map stored extents.old) from count }
-    requires written { AreReady (map stored extents.old) to count }
+pub fn copy_bytes(extents: &mut [Extent], from: u64, to: u64, count: u64)
+    requires apart { AreApart 0 (map extent_view extents.old) }
+    requires read { ArePrepared (map extent_view extents.old) from count }
+    requires written { ArePrepared (map extent_view extents.old) to count }
     requires disjoint { IsTrue (nat_le (from + count) to || nat_le (to + count) from) }
-    ensures apart { Apart 0 (map stored extents.new) }
-    ensures wrote { Wrote (map stored extents.old) (map stored extents.new) to count (λ k. byte_of (map stored extents.old) (from + k)) }
+    ensures apart { AreApart 0 (map extent_view extents.new) }
+    ensures wrote { WritesBytes (map extent_view extents.old) (map extent_view extents.new) to count (λ k. byte_of (map extent_view extents.old) (from + k)) }
 {
     let mut chunk = [0; CHUNK];
     let mut done = 0;
@@ -238,13 +238,13 @@ pub fn copy(extents: &mut [Held], from: u64, to: u64, count: u64)
 /// Reads the bytes from address `at` on into `into`. An address that isn't prepared reads as 0.
 /// `at + into.len()` must be below 2^64.
 #[tactic(auto, using(crate::proofs::ByteLists::byte_counts))]
-pub fn read(extents: &[Held], at: u64, into: &mut [u8])
-    requires apart { Apart 0 (map stored extents.now) }
+pub fn read(extents: &[Extent], at: u64, into: &mut [u8])
+    requires apart { AreApart 0 (map extent_view extents.now) }
     requires small { at + length into.old < 2 ^ 64 }
-    ensures { into.new ≡ bytes_at (byte_of (map stored extents.now)) at (length into.old) }
+    ensures { into.new ≡ bytes_at (byte_of (map extent_view extents.now)) at (length into.old) }
 {
     let count = into.len() as u64;
-    if are_ready(
+    if are_prepared(
         extents,
         Range {
             base: at,

@@ -7,16 +7,16 @@
 //! nothing else.
 ghost use Rattle.std.specs.Prelude.{◌≡◌, ℕ, ◌+◌, ◌-◌, ◌^◌, ◌<◌, ◌≤◌, ◌||◌, IsTrue, ◌++◌, ◌∷◌, [], take, drop, map, replicate, length, slice_range, OnOk, OnErr};
 ghost use Rattle.bm_base.specs.Range.{end_of, covers};
-ghost use Rattle.phys_store.specs.Bytes.{past, byte_of, is_ready, AreReady};
-ghost use Rattle.phys_store.specs.Extents.{stored, nth, Apart, Joins, covering, as_one};
+ghost use Rattle.phys_store.specs.Bytes.{end_of_extent, byte_of, is_prepared_at, ArePrepared};
+ghost use Rattle.phys_store.specs.Extents.{extent_view, nth_extent, AreApart, TouchRange, merged_extent, merge_extents};
 
-use crate::extents::{Held, are_ready, end_of, first_reaching, size_of};
+use crate::extents::{Extent, are_prepared, end_of_extent, first_reaching, size_of_extent};
 use bm_base::{Memory, Range};
 use std::mem;
 
 /// The extents that a range overlaps or touches, those with the indices from `first` to below
 /// `behind`. Together with the range they make up the addresses from `low` to below `high`.
-struct Reach {
+struct TouchedExtents {
     first: usize,
     behind: usize,
     low: u64,
@@ -25,13 +25,13 @@ struct Reach {
 
 /// Returns the extents that the range overlaps or touches, and the addresses that they and the
 /// range make up.
-fn hull(extents: &[Held], range: Range) -> Reach
-    requires { Apart 0 (map stored extents.now) }
-    ensures joins { Joins (map stored extents.now) result.first result.behind result.low result.high }
+fn touched_extents(extents: &[Extent], range: Range) -> TouchedExtents
+    requires { AreApart 0 (map extent_view extents.now) }
+    ensures joins { TouchRange (map extent_view extents.now) result.first result.behind result.low result.high }
     ensures low { result.low ≤ range.base }
     ensures high { end_of range ≤ result.high }
     ensures small { result.high < 2 ^ 64 }
-    ensures ready { (x : ℕ) → result.low ≤ x → x < result.high → IsTrue (covers range x || is_ready (map stored extents.now) x) }
+    ensures ready { (x : ℕ) → result.low ≤ x → x < result.high → IsTrue (covers range x || is_prepared_at (map extent_view extents.now) x) }
 {
     let first = first_reaching(extents, range.base);
     let mut behind = first;
@@ -40,10 +40,10 @@ fn hull(extents: &[Held], range: Range) -> Reach
     while behind < extents.len() && extents[behind].base <= high {
         let extent = &extents[behind];
         low = low.min(extent.base);
-        high = high.max(end_of(extent));
+        high = high.max(end_of_extent(extent));
         behind += 1;
     }
-    Reach {
+    TouchedExtents {
         first,
         behind,
         low,
@@ -56,14 +56,14 @@ fn hull(extents: &[Held], range: Range) -> Reach
 /// # Errors
 ///
 /// - `Memory`: the program ran out of memory; the list is unchanged.
-fn begin(extents: &mut Vec<Held>, first: usize, low: u64, high: u64) -> Result<(), Memory>
+fn insert_extent(extents: &mut Vec<Extent>, first: usize, low: u64, high: u64) -> Result<(), Memory>
     requires order { low ≤ high }
     requires most { first ≤ length extents.old.items }
-    ensures ok { OnOk result (map stored extents.new.items ≡ as_one (map stored extents.old.items) first first low high) }
+    ensures ok { OnOk result (map extent_view extents.new.items ≡ merge_extents (map extent_view extents.old.items) first first low high) }
     ensures err { OnErr result (extents.new.items ≡ extents.old.items) }
 {
     let bytes = vec![in *extents.allocator(); 0; (high - low) as usize]?;
-    let extent = Held {
+    let extent = Extent {
         base: low,
         front: 0,
         bytes,
@@ -74,7 +74,7 @@ fn begin(extents: &mut Vec<Held>, first: usize, low: u64, high: u64) -> Result<(
 
 /// Returns the index of the extent with the most bytes, among those with the indices from `first`
 /// to below `behind`. There must be at least one.
-fn largest(extents: &[Held], first: usize, behind: usize) -> usize
+fn largest(extents: &[Extent], first: usize, behind: usize) -> usize
     requires some { first < behind }
     requires most { behind ≤ length extents.now }
     ensures least { first ≤ result }
@@ -82,7 +82,7 @@ fn largest(extents: &[Held], first: usize, behind: usize) -> usize
 {
     let mut best = first;
     for i in first + 1..behind {
-        if size_of(&extents[best]) < size_of(&extents[i]) {
+        if size_of_extent(&extents[best]) < size_of_extent(&extents[i]) {
             best = i;
         }
     }
@@ -156,9 +156,9 @@ fn move_up(bytes: &mut Vec<u8>, from: usize, more: usize) -> Result<(), Memory>
 /// # Errors
 ///
 /// - `Memory`: the program ran out of memory; the extent is unchanged.
-fn make_room(extent: &mut Held, down: usize) -> Result<(), Memory>
-    requires { 0 < length (stored extent.old).bytes }
-    ensures same { stored extent.new ≡ stored extent.old }
+fn make_room(extent: &mut Extent, down: usize) -> Result<(), Memory>
+    requires { 0 < length (extent_view extent.old).bytes }
+    ensures same { extent_view extent.new ≡ extent_view extent.old }
     ensures room { OnOk result (down ≤ extent.new.front) }
 {
     if down <= extent.front {
@@ -176,16 +176,16 @@ fn make_room(extent: &mut Held, down: usize) -> Result<(), Memory>
 /// # Errors
 ///
 /// - `Memory`: the program ran out of memory; the bytes and addresses of the extent are unchanged.
-fn widen(extent: &mut Held, low: u64, high: u64) -> Result<(), Memory>
-    requires some { 0 < length (stored extent.old).bytes }
+fn widen(extent: &mut Extent, low: u64, high: u64) -> Result<(), Memory>
+    requires some { 0 < length (extent_view extent.old).bytes }
     requires low { low ≤ extent.old.base }
-    requires high { past (stored extent.old) ≤ high }
+    requires high { end_of_extent (extent_view extent.old) ≤ high }
     requires small { high < 2 ^ 64 }
-    ensures ok { OnOk result (stored extent.new ≡ covering (stored extent.old ∷ []) low high) }
-    ensures err { OnErr result (stored extent.new ≡ stored extent.old) }
+    ensures ok { OnOk result (extent_view extent.new ≡ merged_extent (extent_view extent.old ∷ []) low high) }
+    ensures err { OnErr result (extent_view extent.new ≡ extent_view extent.old) }
 {
     let down = (extent.base - low) as usize;
-    let up = (high - end_of(extent)) as usize;
+    let up = (high - end_of_extent(extent)) as usize;
     make_room(extent, down)?;
     append_zeros(&mut extent.bytes, up)?;
     let first = extent.front;
@@ -196,20 +196,20 @@ fn widen(extent: &mut Held, low: u64, high: u64) -> Result<(), Memory>
 }
 
 /// Returns the bytes of the extent, without the spare room.
-fn bytes_of(extent: &Held) -> &[u8]
-    ensures { result.now ≡ (stored extent.now).bytes }
+fn bytes_of(extent: &Extent) -> &[u8]
+    ensures { result.now ≡ (extent_view extent.now).bytes }
 {
     let front = extent.front.min(extent.bytes.len());
     &extent.bytes[front..]
 }
 
 /// Copies the bytes of the other extents into this one, which must contain all their addresses.
-fn absorb(extent: &mut Held, others: &[Held])
-    requires some { 0 < length (stored extent.old).bytes }
-    requires low { (i : ℕ) → i < length others.now → extent.old.base ≤ (nth (map stored others.now) i).base }
-    requires high { (i : ℕ) → i < length others.now → past (nth (map stored others.now) i) ≤ past (stored extent.old) }
-    ensures { stored extent.new ≡
-        covering (map stored others.now ++ stored extent.old ∷ []) extent.old.base (past (stored extent.old)) }
+fn absorb(extent: &mut Extent, others: &[Extent])
+    requires some { 0 < length (extent_view extent.old).bytes }
+    requires low { (i : ℕ) → i < length others.now → extent.old.base ≤ (nth_extent (map extent_view others.now) i).base }
+    requires high { (i : ℕ) → i < length others.now → end_of_extent (nth_extent (map extent_view others.now) i) ≤ end_of_extent (extent_view extent.old) }
+    ensures { extent_view extent.new ≡
+        merged_extent (map extent_view others.now ++ extent_view extent.old ∷ []) extent.old.base (end_of_extent (extent_view extent.old)) }
 {
     let mut i = others.len();
     while i > 0 {
@@ -222,7 +222,7 @@ fn absorb(extent: &mut Held, others: &[Held])
 }
 
 /// Replaces the extents with the indices from `first` to below `behind` by this one.
-fn replace(extents: &mut Vec<Held>, first: usize, behind: usize, extent: Held)
+fn replace(extents: &mut Vec<Extent>, first: usize, behind: usize, extent: Extent)
     requires some { first < behind }
     requires most { behind ≤ length extents.old.items }
     ensures { extents.new.items ≡ take first extents.old.items ++ extent ∷ drop behind extents.old.items }
@@ -241,23 +241,23 @@ fn replace(extents: &mut Vec<Held>, first: usize, behind: usize, extent: Held)
 ///
 /// - `Memory`: the program ran out of memory; the bytes and addresses of all extents are
 ///   unchanged.
-fn join(
-    extents: &mut Vec<Held>,
+fn merge_touched(
+    extents: &mut Vec<Extent>,
     first: usize,
     behind: usize,
     low: u64,
     high: u64,
 ) -> Result<(), Memory>
-    requires apart { Apart 0 (map stored extents.old.items) }
-    requires joins { Joins (map stored extents.old.items) first behind low high }
+    requires apart { AreApart 0 (map extent_view extents.old.items) }
+    requires joins { TouchRange (map extent_view extents.old.items) first behind low high }
     requires some { first < behind }
     requires small { high < 2 ^ 64 }
-    ensures ok { OnOk result (map stored extents.new.items ≡ as_one (map stored extents.old.items) first behind low high) }
-    ensures err { OnErr result (map stored extents.new.items ≡ map stored extents.old.items) }
+    ensures ok { OnOk result (map extent_view extents.new.items ≡ merge_extents (map extent_view extents.old.items) first behind low high) }
+    ensures err { OnErr result (map extent_view extents.new.items ≡ map extent_view extents.old.items) }
 {
     let kept = largest(extents, first, behind);
     widen(&mut extents[kept], low, high)?;
-    let nothing = Held {
+    let nothing = Extent {
         base: low,
         front: 0,
         bytes: Vec::new(*extents.allocator()),
@@ -274,25 +274,25 @@ fn join(
 ///
 /// - `Memory`: the program ran out of memory; the bytes and addresses of all extents are
 ///   unchanged.
-fn unite(extents: &mut Vec<Held>, reach: Reach) -> Result<(), Memory>
-    requires apart { Apart 0 (map stored extents.old.items) }
-    requires joins { Joins (map stored extents.old.items) reach.first reach.behind reach.low reach.high }
+fn merge_or_insert(extents: &mut Vec<Extent>, reach: TouchedExtents) -> Result<(), Memory>
+    requires apart { AreApart 0 (map extent_view extents.old.items) }
+    requires joins { TouchRange (map extent_view extents.old.items) reach.first reach.behind reach.low reach.high }
     requires order { reach.low ≤ reach.high }
     requires small { reach.high < 2 ^ 64 }
     ensures ok { OnOk result
-        (map stored extents.new.items ≡ as_one (map stored extents.old.items) reach.first reach.behind reach.low reach.high) }
-    ensures err { OnErr result (map stored extents.new.items ≡ map stored extents.old.items) }
+        (map extent_view extents.new.items ≡ merge_extents (map extent_view extents.old.items) reach.first reach.behind reach.low reach.high) }
+    ensures err { OnErr result (map extent_view extents.new.items ≡ map extent_view extents.old.items) }
 {
-    let Reach {
+    let TouchedExtents {
         first,
         behind,
         low,
         high,
     } = reach;
     if first == behind {
-        begin(extents, first, low, high)
+        insert_extent(extents, first, low, high)
     } else {
-        join(extents, first, behind, low, high)
+        merge_touched(extents, first, behind, low, high)
     }
 }
 
@@ -302,19 +302,19 @@ fn unite(extents: &mut Vec<Held>, reach: Reach) -> Result<(), Memory>
 ///
 /// - `Memory`: the program ran out of memory; no byte and no prepared address has changed. The
 ///   range wasn't prepared already.
-pub fn prepare(extents: &mut Vec<Held>, range: Range) -> Result<(), Memory>
-    requires { Apart 0 (map stored extents.old.items) }
-    ensures apart { Apart 0 (map stored extents.new.items) }
-    ensures bytes { (x : ℕ) → byte_of (map stored extents.new.items) x ≡ byte_of (map stored extents.old.items) x }
+pub fn prepare(extents: &mut Vec<Extent>, range: Range) -> Result<(), Memory>
+    requires { AreApart 0 (map extent_view extents.old.items) }
+    ensures apart { AreApart 0 (map extent_view extents.new.items) }
+    ensures bytes { (x : ℕ) → byte_of (map extent_view extents.new.items) x ≡ byte_of (map extent_view extents.old.items) x }
     ensures ready { OnOk result ((x : ℕ) →
-        is_ready (map stored extents.new.items) x ≡ (covers range x || is_ready (map stored extents.old.items) x)) }
-    ensures err { OnErr result (map stored extents.new.items ≡ map stored extents.old.items) }
-    ensures memory { OnErr result (AreReady (map stored extents.old.items) range.base range.size → ⊥) }
+        is_prepared_at (map extent_view extents.new.items) x ≡ (covers range x || is_prepared_at (map extent_view extents.old.items) x)) }
+    ensures err { OnErr result (map extent_view extents.new.items ≡ map extent_view extents.old.items) }
+    ensures memory { OnErr result (ArePrepared (map extent_view extents.old.items) range.base range.size → ⊥) }
 {
-    if are_ready(extents, range) {
+    if are_prepared(extents, range) {
         return Ok(());
     }
-    let reach = hull(extents, range);
-    unite(extents, reach)?;
+    let reach = touched_extents(extents, range);
+    merge_or_insert(extents, reach)?;
     Ok(())
 }

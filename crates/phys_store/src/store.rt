@@ -3,9 +3,9 @@
 //! don't touch.
 ghost use Rattle.std.specs.Prelude.{◌≡◌, ℕ, ◌+◌, ◌-◌, ◌^◌, ◌<◌, ◌≤◌, ◌↔◌, Bool, true, ◌||◌, nat_le, min, max, List, [], length, slice_index, IsTrue, OnOk, OnErr};
 ghost use Rattle.bm_base.specs.Range.{covers};
-ghost use Rattle.phys_store.specs.Bytes.{byte_of, is_ready, AreReady, Wrote, bytes_at};
+ghost use Rattle.phys_store.specs.Bytes.{byte_of, is_prepared_at, ArePrepared, WritesBytes, bytes_at};
 
-use crate::extents::Held;
+use crate::extents::Extent;
 use crate::{extents, prepare};
 use bm_base::{Memory, Range};
 use std::alloc::Global;
@@ -15,20 +15,20 @@ use std::marker::Model;
 /// allocating memory.
 #[derive(Debug, Drop)]
 pub struct Store {
-    extents: Vec<Held>,
+    extents: Vec<Extent>,
 }
 
 impl Model for Store {
     ghost use Rattle.std.specs.Prelude.{List, map};
-    ghost use Rattle.phys_store.specs.Bytes.{Stored};
+    ghost use Rattle.phys_store.specs.Bytes.{ExtentView};
 
-    ghost Value = { List Stored };
+    ghost Value = { List ExtentView };
 
-    ghost use Rattle.phys_store.specs.Extents.{stored, Apart};
+    ghost use Rattle.phys_store.specs.Extents.{extent_view, AreApart};
 
-    ghost view = { λ s. map stored s.extents.items };
+    ghost view = { λ s. map extent_view s.extents.items };
 
-    ghost invariant = { λ s. Apart 0 (map stored s.extents.items) };
+    ghost invariant = { λ s. AreApart 0 (map extent_view s.extents.items) };
 }
 
 impl Store {
@@ -50,9 +50,9 @@ impl Store {
     ///   prepared already.
     pub fn prepare(&mut self, range: Range) -> Result<(), Memory>
         ensures bytes { (x : ℕ) → byte_of self.new x ≡ byte_of self.old x }
-        ensures ready { OnOk result ((x : ℕ) → is_ready self.new x ≡ (covers range x || is_ready self.old x)) }
+        ensures ready { OnOk result ((x : ℕ) → is_prepared_at self.new x ≡ (covers range x || is_prepared_at self.old x)) }
         ensures err { OnErr result (self.new ≡ self.old) }
-        ensures memory { OnErr result (AreReady self.old range.base range.size → ⊥) }
+        ensures memory { OnErr result (ArePrepared self.old range.base range.size → ⊥) }
     {
         prepare::prepare(&mut self.extents, range)?;
         Ok(())
@@ -60,9 +60,9 @@ impl Store {
 
     /// Tests whether each address of the range is prepared.
     pub fn is_prepared(&self, range: Range) -> bool
-        ensures { IsTrue result ↔ AreReady self.now range.base range.size }
+        ensures { IsTrue result ↔ ArePrepared self.now range.base range.size }
     {
-        extents::are_ready(&self.extents, range)
+        extents::are_prepared(&self.extents, range)
     }
 
     /// Returns the byte at this address, or 0 if the address isn't prepared.
@@ -75,7 +75,7 @@ impl Store {
     /// Returns the `count` bytes from address `at` on, without copying them. They must be
     /// prepared.
     pub fn slice(&self, at: u64, count: u64) -> &[u8]
-        requires { AreReady self.now at count }
+        requires { ArePrepared self.now at count }
         ensures { result.now ≡ bytes_at (byte_of self.now) at count }
     {
         extents::slice(&self.extents, at, count)
@@ -83,16 +83,16 @@ impl Store {
 
     /// Writes the bytes from address `at` on. These addresses must be prepared.
     pub fn write(&mut self, at: u64, bytes: &[u8])
-        requires { AreReady self.old at (length bytes.now) }
-        ensures { Wrote self.old self.new at (length bytes.now) (slice_index bytes.now) }
+        requires { ArePrepared self.old at (length bytes.now) }
+        ensures { WritesBytes self.old self.new at (length bytes.now) (slice_index bytes.now) }
     {
         extents::write(&mut self.extents, at, bytes);
     }
 
     /// Writes the byte to each address of the range, which must be prepared.
     pub fn fill(&mut self, range: Range, byte: u8)
-        requires { AreReady self.old range.base range.size }
-        ensures { Wrote self.old self.new range.base range.size (λ _. byte) }
+        requires { ArePrepared self.old range.base range.size }
+        ensures { WritesBytes self.old self.new range.base range.size (λ _. byte) }
     {
         extents::fill(&mut self.extents, range, byte);
     }
@@ -100,21 +100,21 @@ impl Store {
     /// Copies the `count` bytes at address `from` to address `to`. The two ranges may overlap. All
     /// addresses of both ranges, and those between them, must be prepared.
     pub fn move_bytes(&mut self, from: u64, to: u64, count: u64)
-        requires { AreReady self.old (min from to) (max from to - min from to + count) }
-        ensures { Wrote self.old self.new to count (λ k. byte_of self.old (from + k)) }
+        requires { ArePrepared self.old (min from to) (max from to - min from to + count) }
+        ensures { WritesBytes self.old self.new to count (λ k. byte_of self.old (from + k)) }
     {
-        extents::shift(&mut self.extents, from, to, count);
+        extents::move_bytes(&mut self.extents, from, to, count);
     }
 
     /// Copies the `count` bytes at address `from` to address `to`. The two ranges must not
     /// overlap, and must be prepared.
-    pub fn copy(&mut self, from: u64, to: u64, count: u64)
-        requires read { AreReady self.old from count }
-        requires written { AreReady self.old to count }
+    pub fn copy_bytes(&mut self, from: u64, to: u64, count: u64)
+        requires read { ArePrepared self.old from count }
+        requires written { ArePrepared self.old to count }
         requires disjoint { IsTrue (nat_le (from + count) to || nat_le (to + count) from) }
-        ensures { Wrote self.old self.new to count (λ k. byte_of self.old (from + k)) }
+        ensures { WritesBytes self.old self.new to count (λ k. byte_of self.old (from + k)) }
     {
-        extents::copy(&mut self.extents, from, to, count);
+        extents::copy_bytes(&mut self.extents, from, to, count);
     }
 
     /// Reads the bytes from address `at` on into `into`. An address that isn't prepared reads as

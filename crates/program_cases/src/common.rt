@@ -3,7 +3,7 @@
 
 ghost use Rattle.std.specs.Prelude.{◌≡◌, ◌+◌, ◌^◌, ◌<◌, ◌≤◌, length, IfOk, string_bytes};
 ghost use Rattle.e820_model.specs.Claims.{EntriesFit, HaveTypes};
-ghost use Rattle.debugfs_reports.specs.Stand.{TablesStand};
+ghost use Rattle.debugfs_reports.specs.Stand.{HeadsHaveRecords};
 
 use bm_base::{Range, Width};
 use bm_io::MemFile;
@@ -133,9 +133,9 @@ fn put_options(inputs: &mut Inputs, options: Options)
 /// Boots with these entries, which come as an extension, and with this command line of the kernel.
 pub fn booted(alloc: Global, entries: &[Entry], line: &[u8]) -> Result<Result<Booted, Stop>, Fail>
     requires { EntriesFit entries.now }
-    ensures { IfOk result (λ answer. IfOk answer (λ booted. TablesStand booted)) }
+    ensures { IfOk result (λ answer. IfOk answer (λ booted. HeadsHaveRecords booted)) }
 {
-    let mut inputs = Inputs::begun(alloc, Width::Bits46, KERNEL);
+    let mut inputs = Inputs::without_files(alloc, Width::Bits46, KERNEL);
     put_entries(&mut inputs, Vec::from_slice(alloc, entries)?);
     put_options(&mut inputs, read_options(alloc, line)?);
     Ok(boot(alloc, inputs))

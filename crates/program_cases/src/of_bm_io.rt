@@ -96,7 +96,7 @@ fn output_in_memory(rt: HostRuntime) -> Result<(), Fail> {
         (b"6".as_slice(), Err(Put::Failed)),
     ];
     compare_puts(&rt, &mut sink, &rows);
-    assert!(rt; sink.written() == b"abc12.".as_slice());
+    assert!(rt; sink.written_bytes() == b"abc12.".as_slice());
     Ok(())
 }
 
@@ -129,7 +129,7 @@ fn streams_of_the_system(rt: HostRuntime) -> Result<(), Fail> {
 fn compare_chunks(rt: &impl Abort, sink: &mut MemSink, want: Result<(), Put>, written: &str) {
     let answer = put_all(sink, &["", "entry ", "12", "", " too far\n"]);
     assert!(rt; answer == want, "for {written}");
-    assert!(rt; sink.written() == written.as_bytes());
+    assert!(rt; sink.written_bytes() == written.as_bytes());
 }
 
 /// Returns an output in memory whose call of this number fails.

@@ -7,7 +7,7 @@ ghost use Rattle.bm_io.specs.MemFiles.{file_views, HaveOwnNames};
 use crate::common::{KERNEL, SMALLEST_SRAT, file};
 use bm_base::Width;
 use bm_io::{Fetch, Files, MemFile, MemFiles};
-use boot_inputs::{Fault, Input, Names, NoInputs, Reason, read_inputs};
+use boot_inputs::{Fault, Input, Names, NoInputs, InputsReason, read_inputs};
 use boot_model::Inputs;
 use boot_options::OptionFault;
 use e820_table::{ExtFault, ZeroFault};
@@ -97,14 +97,14 @@ fn expect(
     alloc: Global,
     held: &Held<'_>,
     failing: &[u64],
-    want: Option<Reason>,
+    want: Option<InputsReason>,
 ) -> Result<(), Fail> {
     let mut files = MemFiles::new(files_of(alloc, held)?, Vec::from_slice(alloc, failing)?);
     let answer = read_inputs(
         alloc,
         &mut files,
         &ALL,
-        Inputs::begun(alloc, Width::Bits46, KERNEL),
+        Inputs::without_files(alloc, Width::Bits46, KERNEL),
     );
     assert!(rt;
         answer.err() == want.map(NoInputs::Reason),
@@ -155,15 +155,15 @@ fn files_in_their_order(rt: HostRuntime) -> Result<(), Fail> {
     let mut zp = [0; 4096];
     zp[0x1e8] = 2;
     let held = Held { zp: &zp, ..HELD };
-    let rows: [(&[u64], Option<Reason>); 9] = [
-        (&[1, 2], Some(Reason::Unread(Input::ZeroPage))),
-        (&[2, 3], Some(Reason::Unread(Input::Extension))),
-        (&[3, 4], Some(Reason::Unread(Input::CommandLine))),
-        (&[4, 5], Some(Reason::Unread(Input::Srat))),
-        (&[5, 6], Some(Reason::Unread(Input::Script))),
-        (&[6, 7], Some(Reason::Unread(Input::Pages))),
-        (&[7, 8], Some(Reason::Unread(Input::Slit))),
-        (&[8, 9], Some(Reason::Unread(Input::Efi))),
+    let rows: [(&[u64], Option<InputsReason>); 9] = [
+        (&[1, 2], Some(InputsReason::Unread(Input::ZeroPage))),
+        (&[2, 3], Some(InputsReason::Unread(Input::Extension))),
+        (&[3, 4], Some(InputsReason::Unread(Input::CommandLine))),
+        (&[4, 5], Some(InputsReason::Unread(Input::Srat))),
+        (&[5, 6], Some(InputsReason::Unread(Input::Script))),
+        (&[6, 7], Some(InputsReason::Unread(Input::Pages))),
+        (&[7, 8], Some(InputsReason::Unread(Input::Slit))),
+        (&[8, 9], Some(InputsReason::Unread(Input::Efi))),
         (&[9], None),
     ];
     for (failing, want) in &rows {
@@ -238,7 +238,7 @@ fn refused_file_is_the_last(rt: HostRuntime) -> Result<(), Fail> {
         ),
     ];
     for (held, input, fault, behind) in &rows {
-        let want = Reason::Faulty(*input, *fault);
+        let want = InputsReason::Faulty(*input, *fault);
         expect(&rt, rt.alloc(), held, &[*behind], Some(want))?;
     }
     Ok(())
@@ -257,6 +257,6 @@ fn initrd_too_far(rt: HostRuntime) -> Result<(), Fail> {
     zp[0x21c] = 1;
     zp[0x21d] = 0x10;
     let held = Held { zp: &zp, ..HELD };
-    let want = Reason::Faulty(Input::ZeroPage, Fault::ZeroPage(ZeroFault::InitrdTooFar));
+    let want = InputsReason::Faulty(Input::ZeroPage, Fault::ZeroPage(ZeroFault::InitrdTooFar));
     expect(&rt, rt.alloc(), &held, &[2], Some(want))
 }

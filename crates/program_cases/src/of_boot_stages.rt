@@ -200,19 +200,19 @@ fn expect_journal(
 #[test]
 fn journals_of_a_virtual_machine(rt: HostRuntime) -> Result<(), Fail> {
     let alloc = rt.alloc();
-    let narrow = Inputs::begun(alloc, Width::Bits46, KERNEL);
+    let narrow = Inputs::without_files(alloc, Width::Bits46, KERNEL);
     expect_journal(&rt, alloc, narrow, &machine(), JOURNAL)?;
     // memory at 64 TiB is beyond addresses of 46 bits
-    let narrow = Inputs::begun(alloc, Width::Bits46, KERNEL);
+    let narrow = Inputs::without_files(alloc, Width::Bits46, KERNEL);
     expect_journal(&rt, alloc, narrow, &wide_machine(), JOURNAL)?;
-    let wide = Inputs::begun(alloc, Width::Bits52, KERNEL);
+    let wide = Inputs::without_files(alloc, Width::Bits52, KERNEL);
     expect_journal(&rt, alloc, wide, &wide_machine(), WIDE)
 }
 
 #[test]
 fn mirrors_and_search_from_below(rt: HostRuntime) -> Result<(), Fail> {
     let alloc = rt.alloc();
-    let mut inputs = Inputs::begun(alloc, Width::Bits46, KERNEL);
+    let mut inputs = Inputs::without_files(alloc, Width::Bits46, KERNEL);
     inputs.upward = true;
     expect_journal(&rt, alloc, inputs, &machine(), UPWARD)?;
     let mirror = Range {
@@ -220,7 +220,7 @@ fn mirrors_and_search_from_below(rt: HostRuntime) -> Result<(), Fail> {
         size: 0x100_0000,
     };
     let mirrors = vec![in alloc; mirror]?;
-    let mut inputs = Inputs::begun(alloc, Width::Bits46, KERNEL);
+    let mut inputs = Inputs::without_files(alloc, Width::Bits46, KERNEL);
     put_mirrors(&mut inputs, mirrors);
     expect_journal(&rt, alloc, inputs, &machine(), MIRRORED)
 }

@@ -44,8 +44,8 @@ impl Ended {
     /// the error output.
     fn is(&self, status: u8, text: &str, line: &str) -> bool {
         self.status == status
-            && self.out.written() == text.as_bytes()
-            && self.err.written() == line.as_bytes()
+            && self.out.written_bytes() == text.as_bytes()
+            && self.err.written_bytes() == line.as_bytes()
     }
 }
 
@@ -237,15 +237,15 @@ fn one_put_per_report(rt: HostRuntime) -> Result<(), Fail> {
     let run = |put: u64| run_on(rt.alloc(), &words, b"memmap=16G@4G", [&[], &[put], &[]]);
     let (first, second, third) = (run(1)?, run(2)?, run(3)?);
     assert!(rt; first.status == 4 && second.status == 4 && third.status == 0);
-    let whole = third.out.written();
+    let whole = third.out.written_bytes();
     assert!(rt; whole.starts_with(b"== blocks\n") && whole.ends_with(GREAT_MAP.as_bytes()));
     let blocks = whole.len().saturating_sub(GREAT_MAP.len());
     assert!(rt; blocks > 4000 * 47);
-    assert!(rt; first.out.written().len() == blocks / 2);
-    assert!(rt; whole.starts_with(first.out.written()));
+    assert!(rt; first.out.written_bytes().len() == blocks / 2);
+    assert!(rt; whole.starts_with(first.out.written_bytes()));
     let half = GREAT_MAP.len() / 2;
-    assert!(rt; second.out.written().len() == blocks.saturating_add(half));
-    assert!(rt; whole.starts_with(second.out.written()));
+    assert!(rt; second.out.written_bytes().len() == blocks.saturating_add(half));
+    assert!(rt; whole.starts_with(second.out.written_bytes()));
     Ok(())
 }
 

@@ -5,7 +5,7 @@
 use bm_base::Width;
 use boot_inputs::{Input, Names};
 use boot_model::Inputs;
-use program_words::{Wanted, WordError, read_words};
+use program_words::{BootmemArgs, ArgsError, read_args};
 use std::alloc::Global;
 use std::process::Abort;
 use std::test::Fail;
@@ -17,14 +17,14 @@ fn told(alloc: Global, words: &[&str]) -> Result<String, Fail> {
     for word in words {
         owned.push(String::from_str(alloc, word)?)?;
     }
-    match read_words(alloc, &owned) {
+    match read_args(alloc, &owned) {
         Ok(wanted) => told_of(alloc, &wanted),
-        Err(WordError::Usage) => Ok(String::from_str(alloc, "refused")?),
-        Err(WordError::Memory) => Ok(String::from_str(alloc, "out of memory")?),
+        Err(ArgsError::Usage) => Ok(String::from_str(alloc, "refused")?),
+        Err(ArgsError::Memory) => Ok(String::from_str(alloc, "out of memory")?),
     }
 }
 
-fn told_of(alloc: Global, wanted: &Wanted<'_>) -> Result<String, Fail> {
+fn told_of(alloc: Global, wanted: &BootmemArgs<'_>) -> Result<String, Fail> {
     let files = [
         Input::ZeroPage,
         Input::Extension,
@@ -38,7 +38,7 @@ fn told_of(alloc: Global, wanted: &Wanted<'_>) -> Result<String, Fail> {
         line.push_str(" ")?;
     }
     line.push_str(wanted.list)?;
-    let kernel = wanted.begun(alloc)?.kernel.base / 0x10_0000;
+    let kernel = wanted.command_line_inputs(alloc)?.kernel.base / 0x10_0000;
     let made = wanted.made.unwrap_or(0);
     Ok(format!(in alloc; "{line} {kernel} {made}")?)
 }
@@ -50,20 +50,20 @@ fn memory_told(alloc: Global, words: &[&str]) -> Result<String, Fail> {
     for word in words {
         owned.push(String::from_str(alloc, word)?)?;
     }
-    match read_words(alloc, &owned) {
+    match read_args(alloc, &owned) {
         Ok(wanted) => memory_of(alloc, &wanted),
-        Err(WordError::Usage) => Ok(String::from_str(alloc, "refused")?),
-        Err(WordError::Memory) => Ok(String::from_str(alloc, "out of memory")?),
+        Err(ArgsError::Usage) => Ok(String::from_str(alloc, "refused")?),
+        Err(ArgsError::Memory) => Ok(String::from_str(alloc, "out of memory")?),
     }
 }
 
-fn memory_of(alloc: Global, wanted: &Wanted<'_>) -> Result<String, Fail> {
+fn memory_of(alloc: Global, wanted: &BootmemArgs<'_>) -> Result<String, Fail> {
     let Inputs {
         width,
         upward,
         mirrors,
         ..
-    } = wanted.begun(alloc)?;
+    } = wanted.command_line_inputs(alloc)?;
     let width = match width {
         Width::Bits46 => "46",
         Width::Bits52 => "52",

@@ -11,16 +11,16 @@ use Rattle.program_end.specs.declared.failure.Failure.TheVariants as failures
 use Rattle.program_end.specs.declared.failure.NoResult.TheVariants as errors
 use Rattle.program_end.specs.declared.failure.Reason.{Reason}
 use Rattle.program_end.specs.declared.failure.Reason.TheVariants as reasons
-use Rattle.program_end.specs.Causes.{EndHasCause, FailureHasCause, RoseFor}
-use Rattle.program_end.specs.Ends.{EndFits, IsFaulty, IsStopped, IsTold, MayEndWith, Writes, WritingHasCause}
+use Rattle.program_end.specs.Causes.{EndHasCause, FailureHasCause, InputFaultsRose}
+use Rattle.program_end.specs.Ends.{FitsFailure, IsFaulty, IsStopped, PutsEndLine, MayEndWith, WritesOutcome, WritingHasCause}
 use Rattle.program_end.specs.Line.{PutsLine}
-use Rattle.program_end.specs.Program.{Held, Program}
-use Rattle.program_end.specs.Status.{End, status_of, status_of_end}
+use Rattle.program_end.specs.Program.{FileContents, Program}
+use Rattle.program_end.specs.Status.{End, failure_status, exit_status}
 
 -- for every end: `is` gives its status, `cause` its cause, and `output` what holds of the output
 -- whether or not the files' contents are known
 module _ {W I A F C S : Type 0} (program : Program W I A) (sink : SinkOf S) (before now : List ℕ → ℕ) (accepted : Option W) (old new : S)
-    (end : End (Reason I F C)) (status : ℕ) (is : status ≡ status_of_end end) (cause : EndHasCause program before now accepted end)
+    (end : End (Reason I F C)) (status : ℕ) (is : status ≡ exit_status end) (cause : EndHasCause program before now accepted end)
     (output : WritingHasCause sink old new end) where
   pub ends_refused : status ≡ 2 → IsNone accepted
   ends_refused two = grind (arith, program.statuses)
@@ -38,7 +38,7 @@ module _ {W I A F C S : Type 0} (program : Program W I A) (sink : SinkOf S) (bef
   ends_wanting seven = grind (arith, program.statuses)
 
   -- if the files' contents are known: `said` is the outcome
-  module _ (said : Result A (Reason I F C)) (writes : Writes program (sink.written old) (sink.written new) end said) where
+  module _ (said : Result A (Reason I F C)) (writes : WritesOutcome program (sink.written old) (sink.written new) end said) where
     pub ends_said : MayEndWith program said status
     ends_said = grind arith
 
@@ -62,21 +62,21 @@ module _ {W I A F C S : Type 0} (program : Program W I A) (sink : SinkOf S) (bef
     -- if no counter of faults rose, of the output or of a file, a result is written unless
     -- memory runs out
     pub ends_complete : (result : A) → said ≡ Ok result → ¬ Rose (sink.faults old) (sink.faults new)
-        → ((input : I) → ¬ RoseFor program before now accepted input) → (status ≡ program.status result) ⊎ (status ≡ 7)
+        → ((input : I) → ¬ InputFaultsRose program before now accepted input) → (status ≡ program.status result) ⊎ (status ≡ 7)
     ends_complete result is_said written read = grind (arith, program.statuses, read)
 
-  pub ends_unread : status ≡ 3 → (input : I) × RoseFor program before now accepted input
+  pub ends_unread : status ≡ 3 → (input : I) × InputFaultsRose program before now accepted input
   ends_unread three = grind (arith, program.statuses)
 
 -- a status other than 0 and 8 is that of a failure: its line was put, it has its cause, and it
 -- fits the outcome
 pub ends_told : {W I A F C E : Type 0} (program : Program W I A) (errors : SinkOf E) (line : Failure (Reason I F C) → List ℕ)
     (before now : List ℕ → ℕ) (accepted : Option W) (old new : Option (List ℕ)) (err_old err_new : E) (end : End (Reason I F C)) (status : ℕ)
-    → status ≡ status_of_end end → EndHasCause program before now accepted end → IsTold errors line err_old err_new end
-    → (holds : Option Held) (outcome : Held → Result A (Reason I F C)) → IfSome holds (λ held. Writes program old new end (outcome held))
+    → status ≡ exit_status end → EndHasCause program before now accepted end → PutsEndLine errors line err_old err_new end
+    → (holds : Option FileContents) (outcome : FileContents → Result A (Reason I F C)) → IfSome holds (λ held. WritesOutcome program old new end (outcome held))
     → status ≢ 0 → status ≢ 8
-    → (failure : Failure (Reason I F C)) × (status ≡ status_of failure) × PutsLine errors err_old err_new (line failure)
-    × FailureHasCause program before now accepted failure × IfSome holds (λ held. EndFits program failure (outcome held))
+    → (failure : Failure (Reason I F C)) × (status ≡ failure_status failure) × PutsLine errors err_old err_new (line failure)
+    × FailureHasCause program before now accepted failure × IfSome holds (λ held. FitsFailure program failure (outcome held))
 ends_told program errors line before now accepted old new err_old err_new (Ok result) status is cause told holds outcome writes zero eight =
     absurd (grind (arith, program.statuses))
 ends_told program errors line before now accepted old new err_old err_new (Err failure) status is cause told holds outcome writes zero
@@ -84,6 +84,6 @@ ends_told program errors line before now accepted old new err_old err_new (Err f
     (failure, is, told, cause, grind (arith, writes))
 
 pub ends_silent : {W I A F C E : Type 0} (program : Program W I A) (errors : SinkOf E) (line : Failure (Reason I F C) → List ℕ)
-    (err_old err_new : E) (end : End (Reason I F C)) (status : ℕ) → status ≡ status_of_end end → IsTold errors line err_old err_new end
+    (err_old err_new : E) (end : End (Reason I F C)) (status : ℕ) → status ≡ exit_status end → PutsEndLine errors line err_old err_new end
     → (status ≡ 0) ⊎ (status ≡ 8) → err_new ≡ err_old
 ends_silent program errors line err_old err_new end status is told some = grind arith

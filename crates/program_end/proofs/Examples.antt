@@ -10,11 +10,11 @@ use Rattle.program_end.specs.declared.failure.NoResult.TheVariants as errors
 use Rattle.program_end.specs.declared.failure.Reason.{Reason}
 use Rattle.program_end.specs.declared.failure.Reason.TheVariants as reasons
 use Rattle.program_end.specs.Causes.{EndHasCause, FailureHasCause, ReasonHasCause}
-use Rattle.program_end.specs.Ends.{IsTold, MayEndWith, Writes, WritingHasCause}
+use Rattle.program_end.specs.Ends.{PutsEndLine, MayEndWith, WritesOutcome, WritingHasCause}
 use Rattle.program_end.specs.Fetches.{Fetches, FitsError, ReachesFile}
 use Rattle.program_end.specs.Line.{failure_line}
 use Rattle.program_end.specs.Program.{Program}
-use Rattle.program_end.specs.Status.{status_of, status_of_end}
+use Rattle.program_end.specs.Status.{failure_status, exit_status}
 
 abbrev Why : Type 0
 Why = Reason ℕ ℕ ℕ
@@ -61,10 +61,10 @@ cause_examples = (refl, (λ some. cc some), tt, (λ some. cc some), λ some. cc 
 abbrev why : Why → Failure Why
 why reason = failures.NoResult (errors.Reason reason)
 
-status_examples : (status_of (why reasons.Usage) ≡ 2) × (status_of (why (reasons.Unread 1)) ≡ 3) × (status_of (why (reasons.Faulty 0 7)) ≡ 5)
-    × (status_of (why (reasons.Stopped 4)) ≡ 6) × (status_of {I = ℕ} {F = ℕ} {C = ℕ} (failures.Output put.Failed) ≡ 4)
-    × (status_of {I = ℕ} {F = ℕ} {C = ℕ} (failures.Output put.Memory) ≡ 7) × (status_of {I = ℕ} {F = ℕ} {C = ℕ} (failures.NoResult errors.Memory) ≡ 7)
-    × (status_of_end {I = ℕ} {F = ℕ} {C = ℕ} (Ok 8) ≡ 8)
+status_examples : (failure_status (why reasons.Usage) ≡ 2) × (failure_status (why (reasons.Unread 1)) ≡ 3) × (failure_status (why (reasons.Faulty 0 7)) ≡ 5)
+    × (failure_status (why (reasons.Stopped 4)) ≡ 6) × (failure_status {I = ℕ} {F = ℕ} {C = ℕ} (failures.Output put.Failed) ≡ 4)
+    × (failure_status {I = ℕ} {F = ℕ} {C = ℕ} (failures.Output put.Memory) ≡ 7) × (failure_status {I = ℕ} {F = ℕ} {C = ℕ} (failures.NoResult errors.Memory) ≡ 7)
+    × (exit_status {I = ℕ} {F = ℕ} {C = ℕ} (Ok 8) ≡ 8)
 status_examples = (refl, refl, refl, refl, refl, refl, refl, refl)
 
 -- the line of each failure
@@ -78,14 +78,14 @@ line_examples : (line (why reasons.Usage) ≡ codes "p: usage\n") × (line (why 
 line_examples = (refl, refl, refl, refl, refl, refl, refl)
 
 -- the text is written whole, in part, and not at all
-writes_examples : Writes program (Some []) (Some (codes "ab")) (Ok 0) text
-    × Writes program (Some []) (Some (codes "a")) (Err (failures.Output put.Failed)) text
-    × Writes program (Some []) (Some []) (Err (failures.NoResult errors.Memory)) text
-    × (Writes program (Some []) (Some (codes "a")) (Ok 0) text → ⊥)
+writes_examples : WritesOutcome program (Some []) (Some (codes "ab")) (Ok 0) text
+    × WritesOutcome program (Some []) (Some (codes "a")) (Err (failures.Output put.Failed)) text
+    × WritesOutcome program (Some []) (Some []) (Err (failures.NoResult errors.Memory)) text
+    × (WritesOutcome program (Some []) (Some (codes "a")) (Ok 0) text → ⊥)
 writes_examples = ((refl, refl), (1, omega arith, refl), tt, λ is. cc is.1)
 
 -- with a result the error output is as it was, and without one the output is
-unchanged_examples : (sink : SinkOf ℕ) → IsTold sink line 3 3 (Ok 0) × (IsTold sink line 3 4 (Ok 0) → ⊥)
+unchanged_examples : (sink : SinkOf ℕ) → PutsEndLine sink line 3 3 (Ok 0) × (PutsEndLine sink line 3 4 (Ok 0) → ⊥)
     × WritingHasCause sink 3 3 (Err (why reasons.Usage)) × (WritingHasCause sink 3 4 (Err (why reasons.Usage)) → ⊥)
 unchanged_examples sink = (refl, (λ same. omega (arith, same)), refl, λ same. omega (arith, same))
 

@@ -13,37 +13,37 @@ use Rattle.program_end.specs.declared.failure.Reason.{Reason}
 use Rattle.program_end.specs.declared.failure.Reason.TheVariants as reasons
 
 -- there is a name, and the counter of its faults rose
-abbrev pub RoseAt : (before now : List ℕ → ℕ) → Option (List ℕ) → Type 0
-RoseAt before now None = ⊥
-RoseAt before now (Some name) = Rose (before name) (now name)
+abbrev pub FaultsRose : (before now : List ℕ → ℕ) → Option (List ℕ) → Type 0
+FaultsRose before now None = ⊥
+FaultsRose before now (Some name) = Rose (before name) (now name)
 
 -- the error is one of reading files: a file couldn't be read, which has a name whose faults rose;
 -- or a file has a fault; or out of memory
-abbrev pub IsOfFile : {I F C : Type 0} → (before now : List ℕ → ℕ) → (I → Option (List ℕ)) → NoResult (Reason I F C) → Type 0
-IsOfFile before now named (errors.Reason reasons.Usage) = ⊥
-IsOfFile before now named (errors.Reason (reasons.Unread input)) = RoseAt before now (named input)
-IsOfFile before now named (errors.Reason (reasons.Faulty input fault)) = Unit {0}
-IsOfFile before now named (errors.Reason (reasons.Stopped cause)) = ⊥
-IsOfFile before now named errors.Memory = Unit {0}
+abbrev pub IsFileError : {I F C : Type 0} → (before now : List ℕ → ℕ) → (I → Option (List ℕ)) → NoResult (Reason I F C) → Type 0
+IsFileError before now named (errors.Reason reasons.Usage) = ⊥
+IsFileError before now named (errors.Reason (reasons.Unread input)) = FaultsRose before now (named input)
+IsFileError before now named (errors.Reason (reasons.Faulty input fault)) = Unit {0}
+IsFileError before now named (errors.Reason (reasons.Stopped cause)) = ⊥
+IsFileError before now named errors.Memory = Unit {0}
 
 -- the error is out of memory, or the file of this input couldn't be read or has a fault
-abbrev pub IsOf : {I F C : Type 0} → I → NoResult (Reason I F C) → Type 0
-IsOf input (errors.Reason reasons.Usage) = ⊥
-IsOf input (errors.Reason (reasons.Unread other)) = other ≡ input
-IsOf input (errors.Reason (reasons.Faulty other fault)) = other ≡ input
-IsOf input (errors.Reason (reasons.Stopped cause)) = ⊥
-IsOf input errors.Memory = Unit {0}
+abbrev pub IsErrorOfInput : {I F C : Type 0} → I → NoResult (Reason I F C) → Type 0
+IsErrorOfInput input (errors.Reason reasons.Usage) = ⊥
+IsErrorOfInput input (errors.Reason (reasons.Unread other)) = other ≡ input
+IsErrorOfInput input (errors.Reason (reasons.Faulty other fault)) = other ≡ input
+IsErrorOfInput input (errors.Reason (reasons.Stopped cause)) = ⊥
+IsErrorOfInput input errors.Memory = Unit {0}
 
 -- the command line is accepted and names a file for the input, and the faults of this name rose
-abbrev pub RoseFor : {W I A : Type 0} → Program W I A → (before now : List ℕ → ℕ) → Option W → I → Type 0
-RoseFor program before now None input = ⊥
-RoseFor program before now (Some wanted) input = RoseAt before now (program.named wanted input)
+abbrev pub InputFaultsRose : {W I A : Type 0} → Program W I A → (before now : List ℕ → ℕ) → Option W → I → Type 0
+InputFaultsRose program before now None input = ⊥
+InputFaultsRose program before now (Some wanted) input = FaultsRose before now (program.named wanted input)
 
 -- the reason has its cause: `Usage` comes only if the command line isn't accepted, `Unread` only
 -- if the faults of the input's file rose, the others only if the command line is accepted
 abbrev pub ReasonHasCause : {W I A F C : Type 0} → Program W I A → (before now : List ℕ → ℕ) → Option W → Reason I F C → Type 0
 ReasonHasCause program before now accepted reasons.Usage = IsNone accepted
-ReasonHasCause program before now accepted (reasons.Unread input) = RoseFor program before now accepted input
+ReasonHasCause program before now accepted (reasons.Unread input) = InputFaultsRose program before now accepted input
 ReasonHasCause program before now accepted (reasons.Faulty input fault) = IsSome accepted
 ReasonHasCause program before now accepted (reasons.Stopped cause) = IsSome accepted
 

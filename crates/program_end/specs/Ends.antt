@@ -18,11 +18,11 @@ use Rattle.program_end.specs.declared.failure.Reason.TheVariants as reasons
 -- how the end fits the outcome. With a status, the outcome is a result that has this status, and
 -- its text was appended. With no result, the error fits the outcome. If the output refused, the
 -- outcome is a result, and the first bytes of its text were appended (none, some or all).
-abbrev pub Writes : {W I A F C : Type 0} → Program W I A → (old new : Option (List ℕ)) → End (Reason I F C) → Result A (Reason I F C) → Type 0
-Writes program old new (Ok status) said =
+abbrev pub WritesOutcome : {W I A F C : Type 0} → Program W I A → (old new : Option (List ℕ)) → End (Reason I F C) → Result A (Reason I F C) → Type 0
+WritesOutcome program old new (Ok status) said =
     IsOkAnd said (λ result. (status ≡ program.status result) × Appends old new (program.text result))
-Writes program old new (Err (failures.NoResult error)) said = FitsError program.place error said
-Writes program old new (Err (failures.Output refusal)) said = IsOkAnd said (λ result. AppendsFront old new (program.text result))
+WritesOutcome program old new (Err (failures.NoResult error)) said = FitsError program.place error said
+WritesOutcome program old new (Err (failures.Output refusal)) said = IsOkAnd said (λ result. AppendsFront old new (program.text result))
 
 -- what holds whether or not the files' contents are known. Without a result the output is as it
 -- was. If the output refused the text, its counter `faults` rose; if it ran out of memory, its
@@ -34,15 +34,15 @@ WritingHasCause sink old new (Err (failures.Output put.Failed)) = Rose (sink.fau
 WritingHasCause sink old new (Err (failures.Output put.Memory)) = Rose (sink.wants old) (sink.wants new)
 
 -- with a result the error output is as it was; with a failure its line was put (`PutsLine`)
-abbrev pub IsTold : {E R : Type 0} → SinkOf E → (Failure R → List ℕ) → (old new : E) → End R → Type 0
-IsTold errors line old new (Ok status) = new ≡ old
-IsTold errors line old new (Err failure) = PutsLine errors old new (line failure)
+abbrev pub PutsEndLine : {E R : Type 0} → SinkOf E → (Failure R → List ℕ) → (old new : E) → End R → Type 0
+PutsEndLine errors line old new (Ok status) = new ≡ old
+PutsEndLine errors line old new (Err failure) = PutsLine errors old new (line failure)
 
 -- how a failure fits the outcome: an error fits it, and if the output failed the outcome is a
 -- result
-abbrev pub EndFits : {W I A F C : Type 0} → Program W I A → Failure (Reason I F C) → Result A (Reason I F C) → Type 0
-EndFits program (failures.NoResult error) said = FitsError program.place error said
-EndFits program (failures.Output refusal) said = IsOkAnd said (λ result. Unit {0})
+abbrev pub FitsFailure : {W I A F C : Type 0} → Program W I A → Failure (Reason I F C) → Result A (Reason I F C) → Type 0
+FitsFailure program (failures.NoResult error) said = FitsError program.place error said
+FitsFailure program (failures.Output refusal) said = IsOkAnd said (λ result. Unit {0})
 
 -- the outcome is the fault of some file
 abbrev pub IsFaulty : {I F C A : Type 0} → Result A (Reason I F C) → Type 0

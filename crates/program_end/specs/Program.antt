@@ -2,8 +2,8 @@
 use Rattle.std.specs.Prelude.{◌≡◌, ℕ, List, Option, ◌⊎◌}
 
 -- the bytes that the file of each name contains, `None` if there is no such file
-abbrev pub Held : Type 0
-Held = List ℕ → Option (List ℕ)
+abbrev pub FileContents : Type 0
+FileContents = List ℕ → Option (List ℕ)
 
 -- what a program has of its own; `W` is what an accepted command line asks for, `I` an input file,
 -- `A` a result

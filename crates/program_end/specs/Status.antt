@@ -17,25 +17,25 @@ reason_status (reasons.Faulty input fault) = 5
 reason_status (reasons.Stopped cause) = 6
 
 -- the status without a result; 7 if out of memory
-abbrev pub status_without : {I F C : Type 0} → NoResult (Reason I F C) → ℕ
-status_without (errors.Reason reason) = reason_status reason
-status_without errors.Memory = 7
+abbrev pub error_status : {I F C : Type 0} → NoResult (Reason I F C) → ℕ
+error_status (errors.Reason reason) = reason_status reason
+error_status errors.Memory = 7
 
 -- the status if the output refused the text or ran out of memory
-abbrev pub put_status : Put → ℕ
-put_status put.Failed = 4
-put_status put.Memory = 7
+abbrev pub refusal_status : Put → ℕ
+refusal_status put.Failed = 4
+refusal_status put.Memory = 7
 
 -- the status of a failure
-abbrev pub status_of : {I F C : Type 0} → Failure (Reason I F C) → ℕ
-status_of (failures.NoResult error) = status_without error
-status_of (failures.Output refusal) = put_status refusal
+abbrev pub failure_status : {I F C : Type 0} → Failure (Reason I F C) → ℕ
+failure_status (failures.NoResult error) = error_status error
+failure_status (failures.Output refusal) = refusal_status refusal
 
 -- how a program ends: with the status of a result, or with a failure
 abbrev pub End : Type 0 → Type 0
 End R = Result ℕ (Failure R)
 
 -- the exit status of an end
-abbrev pub status_of_end : {I F C : Type 0} → End (Reason I F C) → ℕ
-status_of_end (Ok status) = status
-status_of_end (Err failure) = status_of failure
+abbrev pub exit_status : {I F C : Type 0} → End (Reason I F C) → ℕ
+exit_status (Ok status) = status
+exit_status (Err failure) = failure_status failure

@@ -1,7 +1,7 @@
 //! The ways in which a program fails, and their exit statuses.
 
 ghost use Rattle.std.specs.Prelude.{◌≡◌};
-ghost use Rattle.program_end.specs.Status.{reason_status, status_of, status_of_end, status_without};
+ghost use Rattle.program_end.specs.Status.{reason_status, failure_status, exit_status, error_status};
 
 use bm_base::Memory;
 use bm_io::Put;
@@ -55,7 +55,7 @@ impl<I: Copy, F: Copy, C: Copy> Reason<I, F, C> {
 impl<I: Copy, F: Copy, C: Copy> NoResult<Reason<I, F, C>> {
     /// Returns the exit status: 2, 3, 5 or 6 for a reason, and 7 for out of memory.
     pub fn status(self) -> u8
-        ensures { result ≡ status_without self }
+        ensures { result ≡ error_status self }
     {
         match self {
             NoResult::Reason(reason) => reason.status(),
@@ -66,7 +66,7 @@ impl<I: Copy, F: Copy, C: Copy> NoResult<Reason<I, F, C>> {
 
 impl<I: Copy, F: Copy, C: Copy> Failure<Reason<I, F, C>> {
     fn status(self) -> u8
-        ensures { result ≡ status_of self }
+        ensures { result ≡ failure_status self }
     {
         match self {
             Failure::NoResult(error) => error.status(),
@@ -79,7 +79,7 @@ impl<I: Copy, F: Copy, C: Copy> Failure<Reason<I, F, C>> {
 /// Returns the exit status of a program's end: the status of the result, or that of the failure (2
 /// to 7).
 pub fn exit_status<I: Copy, F: Copy, C: Copy>(end: Result<u8, Failure<Reason<I, F, C>>>) -> u8
-    ensures { result ≡ status_of_end end }
+    ensures { result ≡ exit_status end }
 {
     match end {
         Ok(status) => status,

@@ -8,7 +8,7 @@
 //!
 //! - [`Reason`], [`NoResult`] and [`Failure`] are the ways to fail.
 //! - [`exit_status`] is the exit status of each end: 2 to 7 for failures, 0 or 8 for a result.
-//! - [`Lines`] has the texts that differ between the programs. [`tell_end`] puts the one line of a
+//! - [`Lines`] has the texts that differ between the programs. [`put_end_line`] puts the one line of a
 //!   failure to the error output.
 //!
 //! The layer above states what its calls do by two relations. `Fetches` (`specs/Fetches.antt`)
@@ -23,4 +23,4 @@ mod failure;
 mod telling;
 
 pub use failure::{Failure, NoResult, Reason, exit_status};
-pub use telling::{Lines, put_line, tell_end};
+pub use telling::{Lines, put_line, put_end_line};

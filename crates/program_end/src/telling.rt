@@ -3,7 +3,7 @@
 //! changes.
 
 ghost use Rattle.std.specs.Prelude.{◌≡◌, ℕ, List, flat_map};
-ghost use Rattle.program_end.specs.Ends.{IsTold};
+ghost use Rattle.program_end.specs.Ends.{PutsEndLine};
 ghost use Rattle.program_end.specs.Line.{PutsLine, failure_line, reason_line, refusal_line, unread_line};
 
 use crate::failure::{Failure, NoResult, Reason};
@@ -32,29 +32,29 @@ pub trait Lines<I, F, C> {
         ensures { result.now ≡ file_name self.now input };
 
     /// Puts the line of this fault of the input's file.
-    fn tell_fault<E: Sink>(err: &mut E, input: I, fault: F)
+    fn put_fault_line<E: Sink>(err: &mut E, input: I, fault: F)
         ensures { PutsLine E.Sink err.old err.new (fault_line input fault) };
 
     /// Puts the line of this cause.
-    fn tell_cause<E: Sink>(err: &mut E, cause: C)
+    fn put_cause_line<E: Sink>(err: &mut E, cause: C)
         ensures { PutsLine E.Sink err.old err.new (cause_line cause) };
 }
 
 /// Puts the line of a program's failure. If the program ended with a result, nothing is put.
-pub fn tell_end<E: Sink, I: Copy, F: Copy, C: Copy, L: Lines<I, F, C>>(
+pub fn put_end_line<E: Sink, I: Copy, F: Copy, C: Copy, L: Lines<I, F, C>>(
     err: &mut E,
     lines: &L,
     end: Result<u8, Failure<Reason<I, F, C>>>,
 )
-    ensures { IsTold E.Sink (failure_line L.program_name (L.file_name lines.now) L.fault_line L.cause_line) err.old err.new end }
+    ensures { PutsEndLine E.Sink (failure_line L.program_name (L.file_name lines.now) L.fault_line L.cause_line) err.old err.new end }
 {
     if let Err(failure) = end {
-        tell(err, lines, failure);
+        put_failure_line(err, lines, failure);
     }
 }
 
 /// Puts the line of this failure.
-fn tell<E: Sink, I: Copy, F: Copy, C: Copy, L: Lines<I, F, C>>(
+fn put_failure_line<E: Sink, I: Copy, F: Copy, C: Copy, L: Lines<I, F, C>>(
     err: &mut E,
     lines: &L,
     failure: Failure<Reason<I, F, C>>,
@@ -62,13 +62,13 @@ fn tell<E: Sink, I: Copy, F: Copy, C: Copy, L: Lines<I, F, C>>(
     ensures { PutsLine E.Sink err.old err.new (failure_line L.program_name (L.file_name lines.now) L.fault_line L.cause_line failure) }
 {
     match failure {
-        Failure::NoResult(NoResult::Reason(reason)) => tell_reason(err, lines, reason),
+        Failure::NoResult(NoResult::Reason(reason)) => put_reason_line(err, lines, reason),
         Failure::NoResult(NoResult::Memory) => put_line(err, &[L::program(), ": out of memory\n"]),
-        Failure::Output(refusal) => tell_refusal(err, L::program(), refusal),
+        Failure::Output(refusal) => put_refusal_line(err, L::program(), refusal),
     }
 }
 
-fn tell_reason<E: Sink, I: Copy, F: Copy, C: Copy, L: Lines<I, F, C>>(
+fn put_reason_line<E: Sink, I: Copy, F: Copy, C: Copy, L: Lines<I, F, C>>(
     err: &mut E,
     lines: &L,
     reason: Reason<I, F, C>,
@@ -77,21 +77,21 @@ fn tell_reason<E: Sink, I: Copy, F: Copy, C: Copy, L: Lines<I, F, C>>(
 {
     match reason {
         Reason::Usage => put_line(err, &[L::program(), ": usage\n"]),
-        Reason::Unread(input) => tell_unread(err, L::program(), lines.file(input)),
-        Reason::Faulty(input, fault) => L::tell_fault(err, input, fault),
-        Reason::Stopped(cause) => L::tell_cause(err, cause),
+        Reason::Unread(input) => put_unread_line(err, L::program(), lines.file(input)),
+        Reason::Faulty(input, fault) => L::put_fault_line(err, input, fault),
+        Reason::Stopped(cause) => L::put_cause_line(err, cause),
     }
 }
 
 /// Puts the line of a file that couldn't be read. `file` is its name.
-fn tell_unread<'a, E: Sink>(err: &mut E, program: &'a str, file: &'a str)
+fn put_unread_line<'a, E: Sink>(err: &mut E, program: &'a str, file: &'a str)
     ensures { PutsLine E.Sink err.old err.new (unread_line program.now file.now) }
 {
     put_line(err, &[program, ": cannot read ", file, "\n"])
 }
 
 /// Puts the line of an output that refused the text or ran out of memory.
-fn tell_refusal<'a, E: Sink>(err: &mut E, program: &'a str, refusal: Put)
+fn put_refusal_line<'a, E: Sink>(err: &mut E, program: &'a str, refusal: Put)
     ensures { PutsLine E.Sink err.old err.new (refusal_line program.now refusal) }
 {
     match refusal {

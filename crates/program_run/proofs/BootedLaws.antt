@@ -5,33 +5,33 @@ use Rattle.bm_base.specs.ResultSteps.{with_error}
 use Rattle.boot_model.specs.declared.stop.Cause.{Cause}
 use Rattle.boot_model.specs.declared.stop.Stop.{Stop}
 use Rattle.boot_model.specs.declared.stop.Stop.TheVariants as stops
-use Rattle.boot_model.specs.Boot.{Given, Told, told_boot}
+use Rattle.boot_model.specs.Boot.{InputsView, BootedView, whole_boot}
 use Rattle.boot_model.specs.Stop.{stop_of}
 use Rattle.boot_model.specs.View.{booted_view}
 use Rattle.boot_model.specs.declared.booted.Booted.{Booted}
-use Rattle.boot_stages.specs.Boots.{TableStands}
+use Rattle.boot_stages.specs.Boots.{IsStoredTable}
 use Rattle.debugfs_reports.specs.declared.report.Report.{Report}
-use Rattle.debugfs_reports.specs.ReportList.{shown_list, text_of}
-use Rattle.debugfs_reports.specs.Stand.{TablesStand, records_at_heads}
+use Rattle.debugfs_reports.specs.ReportList.{render_list, report_list_text}
+use Rattle.debugfs_reports.specs.Stand.{HeadsHaveRecords, records_at_heads}
 use Rattle.debugfs_reports.proofs.StandLaws.{HaveTables, tables_shown, tables_stand}
 use Rattle.memblock_model.specs.declared.owner.Which.TheVariants as which
 use Rattle.program_end.specs.Fetches.{FitsError}
-use Rattle.boot_inputs.specs.Input.{place}
-use Rattle.program_run.specs.Outcome.{reported}
+use Rattle.boot_inputs.specs.Input.{input_place}
+use Rattle.program_run.specs.Outcome.{reports_on_boot}
 use Rattle.program_run.specs.Stops.{no_report}
 
 -- a stop of the boot, other than for lack of memory, is the cause in the outcome
-pub boot_stopped : (stop : Stop) (given : Given) (reports : List Report)
-    → (stop ≢ stops.Memory → with_error stop_of (told_boot given) ≡ Err stop) → FitsError place (no_report stop) (reported reports given)
+pub boot_stopped : (stop : Stop) (given : InputsView) (reports : List Report)
+    → (stop ≢ stops.Memory → with_error stop_of (whole_boot given) ≡ Err stop) → FitsError input_place (no_report stop) (reports_on_boot reports given)
 boot_stopped stop given reports stops_so = grind arith
 
-pub told_is : (answer : Result Told Cause) (told : Told) → with_error stop_of answer ≡ Ok told → answer ≡ Ok told
+pub told_is : (answer : Result BootedView Cause) (told : BootedView) → with_error stop_of answer ≡ Ok told → answer ≡ Ok told
 told_is answer told is = grind arith
 
 -- the tables in memory have the records that the boot's items give, so reports that read either
 -- are equal
-have_tables : (b : Booted) (memory : TableStands which.Memory b.journal.items b.store b.heads.memory)
-    (reserved : TableStands which.Reserved b.journal.items b.store b.heads.reserved) → HaveTables b memory.table reserved.table
+have_tables : (b : Booted) (memory : IsStoredTable which.Memory b.journal.items b.store b.heads.memory)
+    (reserved : IsStoredTable which.Reserved b.journal.items b.store b.heads.reserved) → HaveTables b memory.table reserved.table
 have_tables b memory reserved = record {
   memory_stands = memory.stands;
   memory_told = memory.told;
@@ -39,13 +39,13 @@ have_tables b memory reserved = record {
   reserved_told = reserved.told;
 }
 
-pub items_stand : (b : Booted) → TableStands which.Memory b.journal.items b.store b.heads.memory
-    → TableStands which.Reserved b.journal.items b.store b.heads.reserved → TablesStand b
+pub items_stand : (b : Booted) → IsStoredTable which.Memory b.journal.items b.store b.heads.memory
+    → IsStoredTable which.Reserved b.journal.items b.store b.heads.reserved → HeadsHaveRecords b
 items_stand b memory reserved = tables_stand b memory.table reserved.table (have_tables b memory reserved)
 
-pub items_shown : (b : Booted) (list : List Report) → TableStands which.Memory b.journal.items b.store b.heads.memory
-    → TableStands which.Reserved b.journal.items b.store b.heads.reserved
-    → shown_list list (booted_view b) (records_at_heads b) ≡ text_of list (booted_view b)
+pub items_shown : (b : Booted) (list : List Report) → IsStoredTable which.Memory b.journal.items b.store b.heads.memory
+    → IsStoredTable which.Reserved b.journal.items b.store b.heads.reserved
+    → render_list list (booted_view b) (records_at_heads b) ≡ report_list_text list (booted_view b)
 items_shown b list memory reserved =
     rw (memory.records, reserved.records) at
     (tables_shown b memory.table reserved.table (booted_view b) list (have_tables b memory reserved))

@@ -19,20 +19,20 @@ use Rattle.bm_base.proofs.EachLaws.{each_in-same}
 use Rattle.e820_table.specs.Entries.{entry_at}
 use Rattle.e820_table.specs.Initrd.{initrd_of, is_initrd_far}
 use Rattle.memblock_model.specs.declared.item.Item.{Item}
-use Rattle.growth_model.specs.Carried.{carried_out}
+use Rattle.growth_model.specs.Carried.{carry_out_items}
 use Rattle.early_stages.specs.Wanted.{first_items}
 use Rattle.early_stages.proofs.FewLaws.{NeedNone, few_from_nothing}
 use Rattle.bm_base.specs.ResultSteps.{◌>>=◌}
-use Rattle.boot_model.specs.Boot.{Given, BootSoFar, begin_with, begun, boot, claims, early_of, has_memory, map_judged, no_options, reach}
+use Rattle.boot_model.specs.Boot.{InputsView, BootSoFar, begin_with_map, inputs_without_files, boot, claims, early_inputs, memory_stage, judge_map, no_options, reach}
 use Rattle.boot_model.proofs.BootLaws.{goes_on}
 use Rattle.boot_model.proofs.CarriedLaws.{memory_made_by}
 use Rattle.program_words.specs.Kernel.{default_kernel}
-use Rattle.program_words.specs.Spelling.{AreSpellings, Spelling, apart, spelled_values, named}
-use Rattle.program_words.specs.Words.{Wanted, accepted, name_in}
+use Rattle.program_words.specs.Spelling.{AreSpellings, Spelling, two_word_option, spelled_values, named}
+use Rattle.program_words.specs.Words.{BootmemArgsView, read_args, file_name_in}
 use Rattle.program_words.proofs.MatchedLaws.{accepted_as_given}
-use Rattle.program_end.specs.Program.{Held}
+use Rattle.program_end.specs.Program.{FileContents}
 use Rattle.debugfs_reports.specs.declared.report.Report.TheVariants as reports
-use Rattle.program_run.specs.Outcome.{outcome}
+use Rattle.program_run.specs.Outcome.{bootmem_outcome}
 
 -- RAM from 1 MiB up to 128 MiB
 abbrev ram : Entry
@@ -48,11 +48,11 @@ page =
     ++ (0 ∷ 0 ∷ 0xFE ∷ 7 ∷ 0 ∷ 0 ∷ 0 ∷ 0 ∷ 0 ∷ 0 ∷ 2 ∷ 0 ∷ 0 ∷ 0 ∷ 0 ∷ 0 ∷ 2 ∷ 0 ∷ 0 ∷ 0 ∷ [])
     ++ replicate (4096 - 0x2D0 - 40) 0
 
-abbrev held : Held
+abbrev held : FileContents
 held name = if bytes_eq name (codes "zp") then Some page else None
 
-abbrev given : Given
-given = record (begun Bits46 (record { base = 0x1000000; size = 0x2000000 })) { entries = ram ∷ reserved ∷ [] }
+abbrev given : InputsView
+given = record (inputs_without_files Bits46 (record { base = 0x1000000; size = 0x2000000 })) { entries = ram ∷ reserved ∷ [] }
 
 -- the type of each address; if both entries cover it, the greater type
 kind_at : ℕ → ℕ
@@ -127,35 +127,35 @@ frames_are =
 
 -- the items that the early boot writes, so few that no table grows
 abbrev wanted : List Item
-wanted = first_items (early_of given) runs
+wanted = first_items (early_inputs given) runs
 
 few_wanted : NeedNone 0 0 wanted
 few_wanted = (omega arith, omega arith, (omega arith, omega arith, (omega arith, omega arith, (omega arith, omega arith, tt))))
 
-wanted_is_made : carried_out wanted [] ≡ Ok wanted
+wanted_is_made : carry_out_items wanted [] ≡ Ok wanted
 wanted_is_made = few_from_nothing wanted few_wanted
 
 -- the boot gets as far as memory
-memory_is_made : (map_judged given >>= has_memory given) ≡ Ok (record (begin_with runs no_options) { items = wanted })
-memory_is_made = rw (map_is, frames_are) (memory_made_by given (begin_with runs no_options) wanted wanted_is_made)
+memory_is_made : (judge_map given >>= memory_stage given) ≡ Ok (record (begin_with_map runs no_options) { items = wanted })
+memory_is_made = rw (map_is, frames_are) (memory_made_by given (begin_with_map runs no_options) wanted wanted_is_made)
 
 -- the words of the command line
 abbrev spellings : List Spelling
-spellings = apart (codes "report") (codes "map") ∷ named (codes "zp") ∷ []
+spellings = two_word_option (codes "report") (codes "map") ∷ named (codes "zp") ∷ []
 
 are_spellings : AreSpellings spellings
 are_spellings = ((refl, refl), refl, (refl, refl, tt))
 
-abbrev asked : Wanted
-asked = record { named = name_in (spelled_values spellings); begun = begun Bits46 default_kernel; reports = reports.Map ∷ []; made = None }
+abbrev asked : BootmemArgsView
+asked = record { named = file_name_in (spelled_values spellings); begun = inputs_without_files Bits46 default_kernel; reports = reports.Map ∷ []; made = None }
 
-words_ask : accepted (codes "--report" ∷ codes "map" ∷ codes "zp" ∷ []) ≡ Some asked
+words_ask : read_args (codes "--report" ∷ codes "map" ∷ codes "zp" ∷ []) ≡ Some asked
 words_ask = accepted_as_given spellings are_spellings
 
 -- if the later stages find their places, this text is written
-first_run : (made : BootSoFar) → boot given ≡ Ok made → outcome (accepted (codes "--report" ∷ codes "map" ∷ codes "zp" ∷ [])) held
+first_run : (made : BootSoFar) → boot given ≡ Ok made → bootmem_outcome (read_args (codes "--report" ∷ codes "map" ∷ codes "zp" ∷ [])) held
     ≡ Ok (codes "0x0000000000100000..0x0000000007fdffff 1 usable\n0x0000000007fe0000..0x0000000007ffffff 2 reserved\n")
 unfolding entry_at digits initrd_of is_initrd_far
 first_run made ends =
     let map : made.map ≡ runs = (goes_on given made ends).map ∙ map_is in
-    ap (λ words. outcome words held) words_ask ∙ rw (ends, map) refl
+    ap (λ words. bootmem_outcome words held) words_ask ∙ rw (ends, map) refl

@@ -14,16 +14,16 @@ use Rattle.bm_io.specs.declared.writing.Put.TheVariants as put
 use Rattle.program_end.specs.declared.failure.Failure.TheVariants as failures
 use Rattle.program_end.specs.declared.failure.NoResult.TheVariants as errors
 use Rattle.program_end.specs.declared.failure.Reason.TheVariants as reasons
-use Rattle.program_words.specs.declared.error.WordError.TheVariants as words
-use Rattle.program_run.specs.Stops.{no_report, no_words}
-use Rattle.program_run.specs.Line.{diagnostic_line, fault_line, thing_line, place_line, cause_line, input_line, failure_line}
+use Rattle.program_words.specs.declared.error.ArgsError.TheVariants as words
+use Rattle.program_run.specs.Stops.{no_report, reason_by_args_error}
+use Rattle.program_run.specs.Line.{diagnostic_line, named_input_fault_line, no_numbered_place_line, no_place_line, stop_cause_line, input_fault_line, bootmem_failure_line}
 use Rattle.program_run.proofs.OutcomeExamples.{wanting}
 
 -- out of memory is no reason, whichever layer it comes from
 no_report_examples : (no_report (stops.TooMuchRam 4294967297) ≡ errors.Reason (reasons.Stopped (causes.TooMuchRam 4294967297)))
     × (no_report stops.Memory ≡ errors.Memory)
-    × (no_words words.Usage ≡ errors.Reason reasons.Usage)
-    × (no_words words.Memory ≡ errors.Memory)
+    × (reason_by_args_error words.Usage ≡ errors.Reason reasons.Usage)
+    × (reason_by_args_error words.Memory ≡ errors.Memory)
 no_report_examples = (refl, refl, refl, refl)
 
 -- the line of each form of diagnostic
@@ -39,27 +39,27 @@ unfolding digits
 told_lines = (refl, refl, refl, refl, refl, refl)
 
 -- the line of each failure
-fault_lines : (fault_line (codes "zeropage") (faults.ZeroPage (zero.EntryTooFar 3))
+fault_lines : (named_input_fault_line (codes "zeropage") (faults.ZeroPage (zero.EntryTooFar 3))
     ≡ codes "bootmem: zeropage: entry 3 too far\n")
-    × (fault_line (codes "e820ext") (faults.Extension extension.ExtHeader) ≡ codes "bootmem: e820ext: header\n")
-    × (input_line inputs.CommandLine faults.TooLong ≡ codes "bootmem: cmdline: too long\n")
-    × (input_line inputs.ZeroPage (faults.ZeroPage zero.TooFew) ≡ codes "bootmem: zeropage: too few entries\n")
+    × (named_input_fault_line (codes "e820ext") (faults.Extension extension.ExtHeader) ≡ codes "bootmem: e820ext: header\n")
+    × (input_fault_line inputs.CommandLine faults.TooLong ≡ codes "bootmem: cmdline: too long\n")
+    × (input_fault_line inputs.ZeroPage (faults.ZeroPage zero.TooFew) ≡ codes "bootmem: zeropage: too few entries\n")
 unfolding digits
 fault_lines = (refl, refl, refl, refl)
 
-stop_lines : (cause_line (causes.MapFull 3201) ≡ codes "bootmem: stopped: 3201 map runs\n")
-    × (cause_line causes.NoRam ≡ codes "bootmem: stopped: no usable frame\n")
-    × (cause_line (causes.NoTablePlace which.Reserved 128) ≡ codes "bootmem: stopped: no place for table reserved room 128\n")
-    × (cause_line (causes.NoPlace (what.NodeData 3)) ≡ codes "bootmem: stopped: no place for node-data 3\n")
-    × (cause_line (causes.NoPlace what.Roots) ≡ codes "bootmem: stopped: no place for roots\n")
-    × (place_line (what.Map 40) ≡ codes "bootmem: stopped: no place for map 40\n")
-    × (thing_line (codes "root") 0 ≡ codes "bootmem: stopped: no place for root 0\n")
+stop_lines : (stop_cause_line (causes.MapFull 3201) ≡ codes "bootmem: stopped: 3201 map runs\n")
+    × (stop_cause_line causes.NoRam ≡ codes "bootmem: stopped: no usable frame\n")
+    × (stop_cause_line (causes.NoTablePlace which.Reserved 128) ≡ codes "bootmem: stopped: no place for table reserved room 128\n")
+    × (stop_cause_line (causes.NoPlace (what.NodeData 3)) ≡ codes "bootmem: stopped: no place for node-data 3\n")
+    × (stop_cause_line (causes.NoPlace what.Roots) ≡ codes "bootmem: stopped: no place for roots\n")
+    × (no_place_line (what.Map 40) ≡ codes "bootmem: stopped: no place for map 40\n")
+    × (no_numbered_place_line (codes "root") 0 ≡ codes "bootmem: stopped: no place for root 0\n")
 unfolding digits
 stop_lines = (refl, refl, refl, refl, refl, refl, refl)
 
-other_lines : (failure_line (Some (wanting (codes "zp"))) (failures.NoResult (errors.Reason (reasons.Unread inputs.Extension)))
+other_lines : (bootmem_failure_line (Some (wanting (codes "zp"))) (failures.NoResult (errors.Reason (reasons.Unread inputs.Extension)))
     ≡ codes "bootmem: cannot read ext\n")
-    × (failure_line None (failures.NoResult (errors.Reason reasons.Usage)) ≡ codes "bootmem: usage\n")
-    × (failure_line None (failures.Output put.Failed) ≡ codes "bootmem: cannot write\n")
-    × (failure_line None (failures.Output put.Memory) ≡ codes "bootmem: out of memory\n")
+    × (bootmem_failure_line None (failures.NoResult (errors.Reason reasons.Usage)) ≡ codes "bootmem: usage\n")
+    × (bootmem_failure_line None (failures.Output put.Failed) ≡ codes "bootmem: cannot write\n")
+    × (bootmem_failure_line None (failures.Output put.Memory) ≡ codes "bootmem: out of memory\n")
 other_lines = (refl, refl, refl, refl)

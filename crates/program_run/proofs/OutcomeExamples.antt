@@ -7,45 +7,45 @@ use Rattle.boot_inputs.specs.declared.fault.Fault.TheVariants as faults
 use Rattle.boot_inputs.specs.declared.input.Input.{Input}
 use Rattle.boot_inputs.specs.declared.input.Input.TheVariants as inputs
 use Rattle.program_end.specs.declared.failure.Reason.TheVariants as reasons
-use Rattle.program_end.specs.Program.{Held}
-use Rattle.e820_table.specs.Made.{entries_behind, high_ram, low_ram}
+use Rattle.program_end.specs.Program.{FileContents}
+use Rattle.e820_table.specs.Made.{made_entries_from, high_ram, low_ram}
 use Rattle.boot_model.specs.declared.stop.Cause.TheVariants as causes
 use Rattle.bm_base.specs.declared.width.Width.TheVariants.{Bits46}
-use Rattle.boot_model.specs.Boot.{Given, begun, boot}
+use Rattle.boot_model.specs.Boot.{InputsView, inputs_without_files, boot}
 use Rattle.debugfs_reports.specs.declared.report.Report.TheVariants as reports
-use Rattle.program_run.specs.Outcome.{given_by, outcome, reported, with_made}
-use Rattle.program_words.specs.Words.{Wanted}
+use Rattle.program_run.specs.Outcome.{read_boot_inputs, bootmem_outcome, reports_on_boot, with_made_table}
+use Rattle.program_words.specs.Words.{BootmemArgsView}
 
 abbrev pub naming : List ℕ → Input → Option (List ℕ)
 naming zero_page inputs.ZeroPage = Some zero_page
 naming zero_page inputs.Extension = Some (codes "ext")
 naming zero_page other = None
 
-abbrev pub wanting : List ℕ → Wanted
+abbrev pub wanting : List ℕ → BootmemArgsView
 wanting zero_page = record {
   named = naming zero_page;
-  begun = begun Bits46 (record { base = 0x1000000; size = 0x2000000 });
+  begun = inputs_without_files Bits46 (record { base = 0x1000000; size = 0x2000000 });
   reports = reports.Map ∷ [];
   made = None;
 }
 
 -- the one file `short` contains a zero page that is too short
-abbrev held : Held
+abbrev held : FileContents
 held name = if bytes_eq name (codes "short") then Some (replicate 4095 0) else None
 
 -- a refused command line, whatever the files contain; then a zero page that is missing, and one
 -- with a fault
-refused_words : (h : Held) → outcome None h ≡ Err reasons.Usage
+refused_words : (h : FileContents) → bootmem_outcome None h ≡ Err reasons.Usage
 refused_words h = refl
 
-refused_pages : (outcome (Some (wanting (codes "no"))) held ≡ Err (reasons.Unread inputs.ZeroPage))
-    × (outcome (Some (wanting (codes "short"))) held
+refused_pages : (bootmem_outcome (Some (wanting (codes "no"))) held ≡ Err (reasons.Unread inputs.ZeroPage))
+    × (bootmem_outcome (Some (wanting (codes "short"))) held
     ≡ Err (reasons.Faulty inputs.ZeroPage (faults.ZeroPage zero.WrongLength)))
 refused_pages = (refl, refl)
 
 -- inputs whose entries a made table replaces
-abbrev of_files : Given
-of_files = record (begun Bits46 (record { base = 0x1000000; size = 0x2000000 })) {
+abbrev of_files : InputsView
+of_files = record (inputs_without_files Bits46 (record { base = 0x1000000; size = 0x2000000 })) {
   entries = low_ram ∷ low_ram ∷ low_ram ∷ [];
   initrd = Some (record { base = 0x7D00000; size = 0x1000 });
   extension = low_ram ∷ [];
@@ -53,17 +53,17 @@ of_files = record (begun Bits46 (record { base = 0x1000000; size = 0x2000000 }))
 
 -- a made table of two entries leaves none for the extension; without a made table the files'
 -- entries stay
-made_examples : (h : Held)
-    → (with_made (Some 2) of_files ≡ record of_files { entries = low_ram ∷ high_ram ∷ []; initrd = None; extension = [] })
-    × (with_made None of_files ≡ of_files)
-    × (given_by h (record {
+made_examples : (h : FileContents)
+    → (with_made_table (Some 2) of_files ≡ record of_files { entries = low_ram ∷ high_ram ∷ []; initrd = None; extension = [] })
+    × (with_made_table None of_files ≡ of_files)
+    × (read_boot_inputs h (record {
       named = λ input. None;
-      begun = begun Bits46 (record { base = 0x1000000; size = 0x2000000 });
+      begun = inputs_without_files Bits46 (record { base = 0x1000000; size = 0x2000000 });
       reports = [];
       made = Some 2;
     }) ≡ Ok (record of_files { entries = low_ram ∷ high_ram ∷ []; initrd = None; extension = [] }))
-unfolding entries_behind
+unfolding made_entries_from
 made_examples h = (refl, refl, refl)
 
-stop_is_reported : (given : Given) → boot given ≡ Err causes.NoRam → reported (reports.Map ∷ []) given ≡ Err (reasons.Stopped causes.NoRam)
+stop_is_reported : (given : InputsView) → boot given ≡ Err causes.NoRam → reports_on_boot (reports.Map ∷ []) given ≡ Err (reasons.Stopped causes.NoRam)
 stop_is_reported given stops = rw stops refl

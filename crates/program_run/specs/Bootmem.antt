@@ -2,13 +2,13 @@
 use Rattle.std.specs.Prelude.{ℕ, List}
 use Rattle.std.proofs.Common.{refl, inl}
 use Rattle.boot_inputs.specs.declared.input.Input.{Input}
-use Rattle.boot_inputs.specs.Input.{place}
+use Rattle.boot_inputs.specs.Input.{input_place}
 use Rattle.program_end.specs.Program.{Program}
-use Rattle.program_words.specs.Words.{Wanted}
+use Rattle.program_words.specs.Words.{BootmemArgsView}
 
-abbrev pub bootmem : Program Wanted Input (List ℕ)
+abbrev pub bootmem : Program BootmemArgsView Input (List ℕ)
 bootmem = record {
-  place = place;
+  place = input_place;
   named = λ wanted. wanted.named;
   text = λ text. text;
   status = λ text. 0;

@@ -6,18 +6,18 @@ use Rattle.boot_model.specs.declared.stop.Stop.{Stop}
 use Rattle.boot_model.specs.Stop.{cause_of}
 use Rattle.program_end.specs.declared.failure.NoResult.TheVariants as errors
 use Rattle.program_end.specs.declared.failure.Reason.TheVariants as reasons
-use Rattle.program_words.specs.declared.error.WordError.{WordError}
-use Rattle.program_words.specs.declared.error.WordError.TheVariants as words
+use Rattle.program_words.specs.declared.error.ArgsError.{ArgsError}
+use Rattle.program_words.specs.declared.error.ArgsError.TheVariants as words
 
 -- a stop without a cause is out of memory
-abbrev pub no_report_by : Option Cause → NoInputs
-no_report_by None = errors.Memory
-no_report_by (Some cause) = errors.Reason (reasons.Stopped cause)
+abbrev pub reason_by_cause : Option Cause → NoInputs
+reason_by_cause None = errors.Memory
+reason_by_cause (Some cause) = errors.Reason (reasons.Stopped cause)
 
 abbrev pub no_report : Stop → NoInputs
-no_report stop = no_report_by (cause_of stop)
+no_report stop = reason_by_cause (cause_of stop)
 
 -- why a command line that couldn't be read gives no report
-abbrev pub no_words : WordError → NoInputs
-no_words words.Usage = errors.Reason reasons.Usage
-no_words words.Memory = errors.Memory
+abbrev pub reason_by_args_error : ArgsError → NoInputs
+reason_by_args_error words.Usage = errors.Reason reasons.Usage
+reason_by_args_error words.Memory = errors.Memory

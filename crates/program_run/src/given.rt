@@ -3,19 +3,19 @@
 
 ghost use Rattle.std.specs.Prelude.{◌≡◌, ◌<◌, IfErr, IfOk, IfSome, IsErr, IsSomeAnd, Some};
 ghost use Rattle.boot_model.specs.View.{inputs_view};
-ghost use Rattle.program_end.specs.Causes.{IsOfFile};
+ghost use Rattle.program_end.specs.Causes.{IsFileError};
 ghost use Rattle.program_end.specs.Fetches.{Fetches};
-ghost use Rattle.boot_inputs.specs.Input.{place};
-ghost use Rattle.program_words.specs.Entries.{AreEntries};
-ghost use Rattle.program_words.specs.View.{wanted_view};
-ghost use Rattle.program_run.specs.Outcome.{given_by, with_made};
+ghost use Rattle.boot_inputs.specs.Input.{input_place};
+ghost use Rattle.program_words.specs.Entries.{IsEntryCount};
+ghost use Rattle.program_words.specs.View.{bootmem_args_view};
+ghost use Rattle.program_run.specs.Outcome.{read_boot_inputs, with_made_table};
 
 use bm_base::Memory;
 use bm_io::Files;
 use boot_inputs::{NoInputs, read_inputs};
 use boot_model::Inputs;
 use e820_table::made;
-use program_words::Wanted;
+use program_words::BootmemArgs;
 use std::alloc::Global;
 
 /// Reads the files that the command line names, in their order. If the command line asks for a
@@ -26,20 +26,20 @@ use std::alloc::Global;
 /// - `Reason::Unread` if a file can't be read, and `Reason::Faulty` if one has a fault. The first
 ///   such file ends the call.
 /// - `Memory` if this program is out of memory.
-pub fn read_given<F: Files>(
+pub fn read_boot_inputs<F: Files>(
     alloc: Global,
-    wanted: &Wanted<'_>,
+    wanted: &BootmemArgs<'_>,
     files: &mut F,
 ) -> Result<Inputs, NoInputs>
     ensures fetches { IfSome (F.holds files.old) (λ held.
-        Fetches place inputs_view result (given_by held (wanted_view wanted.now))) }
-    ensures cause { IfErr result (IsOfFile (F.faults files.old) (F.faults files.new) (wanted_view wanted.now).named) }
+        Fetches input_place inputs_view result (read_boot_inputs held (bootmem_args_view wanted.now))) }
+    ensures cause { IfErr result (IsFileError (F.faults files.old) (F.faults files.new) (bootmem_args_view wanted.now).named) }
 {
-    let Ok(begun) = wanted.begun(alloc) else {
+    let Ok(begun) = wanted.command_line_inputs(alloc) else {
         return Err(NoInputs::Memory);
     };
-    let inputs = read_inputs::<F, Wanted<'_>>(alloc, files, wanted, begun)?;
-    match with_made(alloc, inputs, wanted.made) {
+    let inputs = read_inputs::<F, BootmemArgs<'_>>(alloc, files, wanted, begun)?;
+    match with_made_table(alloc, inputs, wanted.made) {
         Ok(inputs) => Ok(inputs),
         Err(_) => Err(NoInputs::Memory),
     }
@@ -48,22 +48,22 @@ pub fn read_given<F: Files>(
 /// Returns `inputs`; if `entries` is a number (2 to 3000), a made table with so many entries
 /// replaces those of the zero page and of the extension. Runs out of memory only for more than 128
 /// entries.
-fn with_made(alloc: Global, inputs: Inputs, entries: Option<u32>) -> Result<Inputs, Memory>
-    requires few { IfSome entries AreEntries }
-    ensures made { IfOk result (λ given. inputs_view given ≡ with_made entries (inputs_view inputs)) }
+fn with_made_table(alloc: Global, inputs: Inputs, entries: Option<u32>) -> Result<Inputs, Memory>
+    requires few { IfSome entries IsEntryCount }
+    ensures made { IfOk result (λ given. inputs_view given ≡ with_made_table entries (inputs_view inputs)) }
     ensures many { IsErr result → IsSomeAnd entries (λ n. 128 < n) }
 {
     match entries {
-        Some(count) => with_entries(alloc, inputs, count),
+        Some(count) => with_made_entries(alloc, inputs, count),
         None => Ok(inputs),
     }
 }
 
 /// Replaces the entries of the zero page and of the extension by a made table of `count` entries
 /// (2 to 3000). The inputs then have no initrd. Runs out of memory only for more than 128 entries.
-fn with_entries(alloc: Global, inputs: Inputs, count: u32) -> Result<Inputs, Memory>
-    requires few { AreEntries count }
-    ensures made { IfOk result (λ given. inputs_view given ≡ with_made (Some count) (inputs_view inputs)) }
+fn with_made_entries(alloc: Global, inputs: Inputs, count: u32) -> Result<Inputs, Memory>
+    requires few { IsEntryCount count }
+    ensures made { IfOk result (λ given. inputs_view given ≡ with_made_table (Some count) (inputs_view inputs)) }
     ensures many { IsErr result → 128 < count }
 {
     let made = made(alloc, count)?;

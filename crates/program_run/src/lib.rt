@@ -13,7 +13,7 @@
 //! line a failure puts, is defined for any program over files (`program_end`); this one is
 //! `bootmem` (`specs/Bootmem.antt`).
 //!
-//! `bootmem_cli` runs it on the files and streams of the operating system. [`read_given`] and
+//! `bootmem_cli` runs it on the files and streams of the operating system. [`read_boot_inputs`] and
 //! [`no_report`] serve a caller that boots without writing reports (`bootmem_c`).
 //!
 //! In contracts, a name means the definition in `specs/`.
@@ -24,7 +24,7 @@ mod given;
 mod program;
 mod tell;
 
-pub use boot_inputs::Reason;
+pub use boot_inputs::InputsReason;
 pub use failure::{Failure, NoReport, no_report};
-pub use given::read_given;
+pub use given::read_boot_inputs;
 pub use program::run;

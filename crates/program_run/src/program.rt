@@ -6,38 +6,38 @@ ghost use Rattle.std.specs.Io.KnownBytes.{Appends};
 ghost use Rattle.bm_io.specs.Counts.{Rose};
 ghost use Rattle.bm_io.specs.Known.{AppendsFront};
 ghost use Rattle.boot_inputs.specs.declared.input.Input.{Input as AnyInput};
-ghost use Rattle.boot_inputs.specs.Input.{place};
-ghost use Rattle.boot_inputs.specs.Reason.{Reason as AnyReason};
+ghost use Rattle.boot_inputs.specs.Input.{input_place};
+ghost use Rattle.boot_inputs.specs.Reason.{InputsReason as AnyReason};
 ghost use Rattle.boot_model.specs.View.{inputs_view};
 ghost use Rattle.debugfs_reports.specs.ReportList.{reports_in};
 ghost use Rattle.program_end.specs.declared.failure.Failure.{Failure as AnyFailure};
-ghost use Rattle.program_end.specs.Causes.{EndHasCause, ErrorHasCause, FailureHasCause, RoseFor};
-ghost use Rattle.program_end.specs.Ends.{EndFits, IsFaulty, IsStopped, IsTold, MayEndWith, Writes, WritingHasCause};
+ghost use Rattle.program_end.specs.Causes.{EndHasCause, ErrorHasCause, FailureHasCause, InputFaultsRose};
+ghost use Rattle.program_end.specs.Ends.{FitsFailure, IsFaulty, IsStopped, PutsEndLine, MayEndWith, WritesOutcome, WritingHasCause};
 ghost use Rattle.program_end.specs.Fetches.{Fetches};
 ghost use Rattle.program_end.specs.Line.{PutsLine};
-ghost use Rattle.program_end.specs.Status.{status_of};
-ghost use Rattle.program_words.specs.View.{wanted_view};
-ghost use Rattle.program_words.specs.Words.{Wanted as Asked, accepted, texts};
+ghost use Rattle.program_end.specs.Status.{failure_status};
+ghost use Rattle.program_words.specs.View.{bootmem_args_view};
+ghost use Rattle.program_words.specs.Words.{BootmemArgs as Asked, read_args, bytes_of_words};
 ghost use Rattle.program_run.specs.Bootmem.{bootmem};
-ghost use Rattle.program_run.specs.Headline.{IsReported};
-ghost use Rattle.program_run.specs.Line.{failure_line};
-ghost use Rattle.program_run.specs.Outcome.{outcome, reported};
-ghost use Rattle.program_run.specs.Stops.{no_words};
+ghost use Rattle.program_run.specs.Headline.{AppendsReports};
+ghost use Rattle.program_run.specs.Line.{bootmem_failure_line};
+ghost use Rattle.program_run.specs.Outcome.{bootmem_outcome, reports_on_boot};
+ghost use Rattle.program_run.specs.Stops.{reason_by_args_error};
 
 use crate::failure::{Failure, NoReport, no_report};
-use crate::given::read_given;
+use crate::given::read_boot_inputs;
 use crate::tell::BootmemLines;
 use bm_io::{Files, Sink, put_all};
-use boot_inputs::Reason;
+use boot_inputs::InputsReason;
 use boot_model::Inputs;
 use boot_stages::boot;
 use debugfs_reports::{render_all, reports_in};
-use program_end::{exit_status, tell_end};
-use program_words::{Wanted, WordError, read_words};
+use program_end::{exit_status, put_end_line};
+use program_words::{BootmemArgs, ArgsError, read_args};
 use std::alloc::Global;
 
 /// Reads the files that the command line names, boots with them, and writes the reports to `out`.
-/// `words` are the words after the program's name; [`program_words::read_words`] says which are
+/// `words` are the words after the program's name; [`program_words::read_args`] says which are
 /// accepted. Returns the exit status:
 ///
 /// - 0: the reports were written whole.
@@ -53,7 +53,7 @@ use std::alloc::Global;
 /// `out` may have the first part of the text.
 ///
 /// `holds` gives what each file contains, if the type of `files` knows it, as that of files in
-/// memory does. For the files of the operating system it is `None`. The clauses on `outcome` then
+/// memory does. For the files of the operating system it is `None`. The clauses on `bootmem_outcome` then
 /// say nothing, but it is the same generic code that runs.
 pub fn run<F: Files, S: Sink, E: Sink>(
     alloc: Global,
@@ -64,16 +64,16 @@ pub fn run<F: Files, S: Sink, E: Sink>(
 ) -> u8
     // When each status comes, even if the files' contents are unknown. A refused command line
     // gives 2, or 7 if out of memory.
-    ensures usage { result ≡ 2 → IsNone (accepted (texts words.now)) }
-    ensures refused { IsNone (accepted (texts words.now)) → (result ≡ 2) ⊎ (result ≡ 7) }
+    ensures usage { result ≡ 2 → IsNone (read_args (bytes_of_words words.now)) }
+    ensures refused { IsNone (read_args (bytes_of_words words.now)) → (result ≡ 2) ⊎ (result ≡ 7) }
     ensures unread { result ≡ 3 → (input : AnyInput)
-        × RoseFor bootmem (F.faults files.old) (F.faults files.new) (accepted (texts words.now)) input }
+        × InputFaultsRose bootmem (F.faults files.old) (F.faults files.new) (read_args (bytes_of_words words.now)) input }
     ensures unwritten { result ≡ 4 → Rose (S.faults out.old) (S.faults out.new) }
 
     // What stays as it was, even if the files' contents are unknown: the files and `out` if the
     // command line is refused, and `out` if there is no text.
-    ensures unfetched { IsNone (accepted (texts words.now)) → files.new ≡ files.old }
-    ensures unput { IsNone (accepted (texts words.now)) → out.new ≡ out.old }
+    ensures unfetched { IsNone (read_args (bytes_of_words words.now)) → files.new ≡ files.old }
+    ensures unput { IsNone (read_args (bytes_of_words words.now)) → out.new ≡ out.old }
     ensures early { (result ≡ 2) ⊎ (result ≡ 3) ⊎ (result ≡ 5) ⊎ (result ≡ 6) → out.new ≡ out.old }
     ensures wanting { result ≡ 7 → (out.new ≡ out.old) ⊎ Rose (S.wants out.old) (S.wants out.new) }
 
@@ -81,43 +81,43 @@ pub fn run<F: Files, S: Sink, E: Sink>(
     // In this boot each usable frame is touched by a claim with a recorded owner, or is in exactly
     // one block; no other frame is in a block.
     ensures headline { result ≡ 0 → IfSome (F.holds files.old) (λ held.
-        IsReported (accepted (texts words.now)) held (S.written out.old) (S.written out.new)) }
+        AppendsReports (read_args (bytes_of_words words.now)) held (S.written out.old) (S.written out.new)) }
 
     // If the files' contents are known, the status and the output are those of the outcome.
     ensures answers { IfSome (F.holds files.old) (λ held.
-        MayEndWith bootmem (outcome (accepted (texts words.now)) held) result) }
+        MayEndWith bootmem (bootmem_outcome (read_args (bytes_of_words words.now)) held) result) }
     ensures written { result ≡ 0 → IfSome (F.holds files.old) (λ held.
-        IsOkAnd (outcome (accepted (texts words.now)) held)
+        IsOkAnd (bootmem_outcome (read_args (bytes_of_words words.now)) held)
         (λ text. Appends (S.written out.old) (S.written out.new) text)) }
     ensures part { result ≡ 4 → IfSome (F.holds files.old) (λ held.
-        IsOkAnd (outcome (accepted (texts words.now)) held)
+        IsOkAnd (bootmem_outcome (read_args (bytes_of_words words.now)) held)
         (λ text. AppendsFront (S.written out.old) (S.written out.new) text)) }
     ensures wanted { result ≡ 7 → IfSome (F.holds files.old) (λ held.
         (S.written out.new ≡ S.written out.old)
-        ⊎ IsOkAnd (outcome (accepted (texts words.now)) held)
+        ⊎ IsOkAnd (bootmem_outcome (read_args (bytes_of_words words.now)) held)
         (λ text. AppendsFront (S.written out.old) (S.written out.new) text)) }
     ensures faulty { result ≡ 5 → IfSome (F.holds files.old) (λ held.
-        IsFaulty (outcome (accepted (texts words.now)) held)) }
+        IsFaulty (bootmem_outcome (read_args (bytes_of_words words.now)) held)) }
     ensures stopped { result ≡ 6 → IfSome (F.holds files.old) (λ held.
-        IsStopped (outcome (accepted (texts words.now)) held)) }
+        IsStopped (bootmem_outcome (read_args (bytes_of_words words.now)) held)) }
 
     // If no counter of faults rose, of `out` or of a file, a text of the outcome is written
     // unless the program is out of memory.
     ensures complete { IfSome (F.holds files.old) (λ held. (text : List ℕ)
-        → outcome (accepted (texts words.now)) held ≡ Ok text
+        → bootmem_outcome (read_args (bytes_of_words words.now)) held ≡ Ok text
         → ¬ Rose (S.faults out.old) (S.faults out.new)
         → ((input : AnyInput)
-        → ¬ RoseFor bootmem (F.faults files.old) (F.faults files.new) (accepted (texts words.now)) input)
+        → ¬ InputFaultsRose bootmem (F.faults files.old) (F.faults files.new) (read_args (bytes_of_words words.now)) input)
         → (result ≡ 0) ⊎ (result ≡ 7)) }
 
     // What `err` has: nothing with status 0, else the line of a failure with this status. The
     // failure has its cause and fits the outcome.
     ensures silent { result ≡ 0 → err.new ≡ err.old }
-    ensures line { result ≢ 0 → (failure : AnyFailure AnyReason) × (result ≡ status_of failure)
-        × PutsLine E.Sink err.old err.new (failure_line (accepted (texts words.now)) failure)
-        × FailureHasCause bootmem (F.faults files.old) (F.faults files.new) (accepted (texts words.now)) failure
+    ensures line { result ≢ 0 → (failure : AnyFailure AnyReason) × (result ≡ failure_status failure)
+        × PutsLine E.Sink err.old err.new (bootmem_failure_line (read_args (bytes_of_words words.now)) failure)
+        × FailureHasCause bootmem (F.faults files.old) (F.faults files.new) (read_args (bytes_of_words words.now)) failure
         × IfSome (F.holds files.old) (λ held.
-        EndFits bootmem failure (outcome (accepted (texts words.now)) held)) }
+        FitsFailure bootmem failure (bootmem_outcome (read_args (bytes_of_words words.now)) held)) }
 {
     let end = run_to_end(alloc, words, files, out, err);
     exit_status(end)
@@ -132,18 +132,18 @@ fn run_to_end<F: Files, S: Sink, E: Sink>(
     out: &mut S,
     err: &mut E,
 ) -> Result<u8, Failure>
-    ensures writes { IfSome (F.holds files.old) (λ held. Writes bootmem (S.written out.old) (S.written out.new) result
-        (outcome (accepted (texts words.now)) held)) }
-    ensures cause { EndHasCause bootmem (F.faults files.old) (F.faults files.new) (accepted (texts words.now)) result }
-    ensures unfetched { IsNone (accepted (texts words.now)) → files.new ≡ files.old }
-    ensures unput { IsNone (accepted (texts words.now)) → out.new ≡ out.old }
+    ensures writes { IfSome (F.holds files.old) (λ held. WritesOutcome bootmem (S.written out.old) (S.written out.new) result
+        (bootmem_outcome (read_args (bytes_of_words words.now)) held)) }
+    ensures cause { EndHasCause bootmem (F.faults files.old) (F.faults files.new) (read_args (bytes_of_words words.now)) result }
+    ensures unfetched { IsNone (read_args (bytes_of_words words.now)) → files.new ≡ files.old }
+    ensures unput { IsNone (read_args (bytes_of_words words.now)) → out.new ≡ out.old }
     ensures output { WritingHasCause S.Sink out.old out.new result }
-    ensures told { IsTold E.Sink (failure_line (accepted (texts words.now))) err.old err.new result }
+    ensures told { PutsEndLine E.Sink (bootmem_failure_line (read_args (bytes_of_words words.now))) err.old err.new result }
 {
-    match read_words(alloc, words) {
+    match read_args(alloc, words) {
         Ok(wanted) => {
             let end = write_reports(alloc, &wanted, files, out);
-            tell_end(
+            put_end_line(
                 err,
                 &BootmemLines {
                     wanted: Some(&wanted),
@@ -153,33 +153,33 @@ fn run_to_end<F: Files, S: Sink, E: Sink>(
             end
         }
         Err(error) => {
-            let end = Err(Failure::NoResult(no_words(error)));
-            tell_end(err, &BootmemLines { wanted: None }, end);
+            let end = Err(Failure::NoResult(reason_by_args_error(error)));
+            put_end_line(err, &BootmemLines { wanted: None }, end);
             end
         }
     }
 }
 
 /// Returns why a command line that couldn't be read gives no report.
-fn no_words(error: WordError) -> NoReport
-    ensures { result ≡ no_words error }
+fn reason_by_args_error(error: ArgsError) -> NoReport
+    ensures { result ≡ reason_by_args_error error }
 {
     match error {
-        WordError::Usage => NoReport::Reason(Reason::Usage),
-        WordError::Memory => NoReport::Memory,
+        ArgsError::Usage => NoReport::Reason(InputsReason::Usage),
+        ArgsError::Memory => NoReport::Memory,
     }
 }
 
 /// Writes the requested reports, once all of their texts are made. Returns status 0.
 fn write_reports<F: Files, S: Sink>(
     alloc: Global,
-    wanted: &Wanted<'_>,
+    wanted: &BootmemArgs<'_>,
     files: &mut F,
     out: &mut S,
 ) -> Result<u8, Failure>
-    ensures writes { IfSome (F.holds files.old) (λ held. Writes bootmem (S.written out.old) (S.written out.new) result
-        (outcome (Some (wanted_view wanted.now)) held)) }
-    ensures cause { EndHasCause bootmem (F.faults files.old) (F.faults files.new) (Some (wanted_view wanted.now)) result }
+    ensures writes { IfSome (F.holds files.old) (λ held. WritesOutcome bootmem (S.written out.old) (S.written out.new) result
+        (bootmem_outcome (Some (bootmem_args_view wanted.now)) held)) }
+    ensures cause { EndHasCause bootmem (F.faults files.old) (F.faults files.new) (Some (bootmem_args_view wanted.now)) result }
     ensures output { WritingHasCause S.Sink out.old out.new result }
 {
     let texts = make_texts(alloc, wanted, files)?;
@@ -190,24 +190,24 @@ fn write_reports<F: Files, S: Sink>(
 /// Returns the texts of the requested reports, in the order of the list.
 fn make_texts<F: Files>(
     alloc: Global,
-    wanted: &Wanted<'_>,
+    wanted: &BootmemArgs<'_>,
     files: &mut F,
 ) -> Result<Vec<Vec<u8>>, NoReport>
     ensures fetches { IfSome (F.holds files.old) (λ held.
-        Fetches place (λ texts. flat_map (λ text. text.items) texts.items) result
-        (outcome (Some (wanted_view wanted.now)) held)) }
+        Fetches input_place (λ bytes_of_words. flat_map (λ text. text.items) bytes_of_words.items) result
+        (bootmem_outcome (Some (bootmem_args_view wanted.now)) held)) }
     ensures cause { IfErr result
-        (ErrorHasCause bootmem (F.faults files.old) (F.faults files.new) (Some (wanted_view wanted.now))) }
+        (ErrorHasCause bootmem (F.faults files.old) (F.faults files.new) (Some (bootmem_args_view wanted.now))) }
 {
-    let inputs = read_given(alloc, wanted, files)?;
-    boot_texts(alloc, inputs, wanted.list)
+    let inputs = read_boot_inputs(alloc, wanted, files)?;
+    reports_on_boot(alloc, inputs, wanted.list)
 }
 
 /// Boots with these inputs and returns the texts of the listed reports. `list` has the names of
 /// reports, separated by commas.
-fn boot_texts(alloc: Global, inputs: Inputs, list: &str) -> Result<Vec<Vec<u8>>, NoReport>
-    ensures fetches { Fetches place (λ texts. flat_map (λ text. text.items) texts.items) result
-        (reported (reports_in list.now) (inputs_view inputs)) }
+fn reports_on_boot(alloc: Global, inputs: Inputs, list: &str) -> Result<Vec<Vec<u8>>, NoReport>
+    ensures fetches { Fetches input_place (λ bytes_of_words. flat_map (λ text. text.items) bytes_of_words.items) result
+        (reports_on_boot (reports_in list.now) (inputs_view inputs)) }
     ensures cause { (before now : List ℕ → ℕ) (asked : Asked) → IfErr result (ErrorHasCause bootmem before now (Some asked)) }
 {
     let booted = match boot(alloc, inputs) {

@@ -3,8 +3,8 @@
 ghost use Rattle.std.specs.Prelude.{◌≡◌};
 ghost use Rattle.std.specs.Option.{option_map};
 ghost use Rattle.program_end.specs.Line.{PutsLine};
-ghost use Rattle.program_run.specs.Line.{cause_line, fault_line, input_line, name_text, place_line, program_name, table_line, table_name, thing_line};
-ghost use Rattle.program_words.specs.View.{wanted_view};
+ghost use Rattle.program_run.specs.Line.{stop_cause_line, named_input_fault_line, input_fault_line, input_file_text, no_place_line, bootmem_name, no_table_place_line, table_name, no_numbered_place_line};
+ghost use Rattle.program_words.specs.View.{bootmem_args_view};
 
 use bm_io::Sink;
 use boot_inputs::{Diagnostic, Fault, Input, Names};
@@ -13,23 +13,23 @@ use itoa::Buffer;
 use memblock_grow::What;
 use memblock_model::Which;
 use program_end::{Lines, put_line};
-use program_words::Wanted;
+use program_words::BootmemArgs;
 
 /// The lines of `bootmem`'s failures. `wanted` is the accepted command line, which names the
 /// files; `None` if the command line isn't accepted.
 #[derive(Clone, Copy)]
 pub struct BootmemLines<'a, 'w> {
-    pub wanted: Option<&'a Wanted<'w>>,
+    pub wanted: Option<&'a BootmemArgs<'w>>,
 }
 
 impl<'a, 'w> Lines<Input, Fault, Cause> for BootmemLines<'a, 'w> {
-    ghost program_name = { program_name };
+    ghost program_name = { bootmem_name };
 
-    ghost file_name = { λ lines input. name_text (option_map (λ wanted. wanted_view wanted.now) lines.wanted) input };
+    ghost file_name = { λ lines input. input_file_text (option_map (λ wanted. bootmem_args_view wanted.now) lines.wanted) input };
 
-    ghost fault_line = { input_line };
+    ghost fault_line = { input_fault_line };
 
-    ghost cause_line = { cause_line };
+    ghost cause_line = { stop_cause_line };
 
     fn program() -> &'static str {
         "bootmem"
@@ -42,19 +42,19 @@ impl<'a, 'w> Lines<Input, Fault, Cause> for BootmemLines<'a, 'w> {
         }
     }
 
-    fn tell_fault<E: Sink>(err: &mut E, input: Input, fault: Fault) {
-        tell_fault(err, input.word(), fault)
+    fn put_fault_line<E: Sink>(err: &mut E, input: Input, fault: Fault) {
+        put_input_fault_line(err, input.input_word(), fault)
     }
 
-    fn tell_cause<E: Sink>(err: &mut E, cause: Cause) {
-        tell_cause(err, cause)
+    fn put_cause_line<E: Sink>(err: &mut E, cause: Cause) {
+        put_stop_cause_line(err, cause)
     }
 }
 
 /// Puts the line of a fault of the input `name`. The last branch is never taken, since out of
 /// memory is no fault of a file's bytes (`bytes_want_no_memory`).
-fn tell_fault<E: Sink>(err: &mut E, name: &'static str, fault: Fault)
-    ensures { PutsLine E.Sink err.old err.new (fault_line name.now fault) }
+fn put_input_fault_line<E: Sink>(err: &mut E, name: &'static str, fault: Fault)
+    ensures { PutsLine E.Sink err.old err.new (named_input_fault_line name.now fault) }
 {
     let mut buffer = Buffer::new();
     match fault.diagnostic() {
@@ -82,8 +82,8 @@ fn tell_fault<E: Sink>(err: &mut E, name: &'static str, fault: Fault)
     }
 }
 
-fn tell_cause<E: Sink>(err: &mut E, cause: Cause)
-    ensures { PutsLine E.Sink err.old err.new (cause_line cause) }
+fn put_stop_cause_line<E: Sink>(err: &mut E, cause: Cause)
+    ensures { PutsLine E.Sink err.old err.new (stop_cause_line cause) }
 {
     match cause {
         Cause::NoRam => put_line(err, &["bootmem: stopped: no usable frame\n"]),
@@ -97,28 +97,28 @@ fn tell_cause<E: Sink>(err: &mut E, cause: Cause)
             let runs = buffer.format(runs);
             put_line(err, &["bootmem: stopped: ", runs, " map runs\n"])
         }
-        Cause::NoPlace { what } => tell_place(err, what),
-        Cause::NoTablePlace { which, room } => tell_table(err, table_name(which), room),
+        Cause::NoPlace { what } => put_no_place_line(err, what),
+        Cause::NoTablePlace { which, room } => put_no_table_place_line(err, table_name(which), room),
     }
 }
 
 /// Puts the line of a boot that stopped because `what` found no place.
-fn tell_place<E: Sink>(err: &mut E, what: What)
-    ensures { PutsLine E.Sink err.old err.new (place_line what) }
+fn put_no_place_line<E: Sink>(err: &mut E, what: What)
+    ensures { PutsLine E.Sink err.old err.new (no_place_line what) }
 {
     match what {
-        What::NodeData(node) => tell_thing(err, "node-data", node),
+        What::NodeData(node) => put_no_numbered_place_line(err, "node-data", node),
         What::Roots => put_line(err, &["bootmem: stopped: no place for roots\n"]),
-        What::Root(root) => tell_thing(err, "root", root),
-        What::Usage(section) => tell_thing(err, "usage", section),
-        What::Map(section) => tell_thing(err, "map", section),
+        What::Root(root) => put_no_numbered_place_line(err, "root", root),
+        What::Usage(section) => put_no_numbered_place_line(err, "usage", section),
+        What::Map(section) => put_no_numbered_place_line(err, "map", section),
     }
 }
 
 /// Puts the line of a boot that stopped because a numbered thing found no place. `number` is that
 /// of its node, root or section.
-fn tell_thing<'a, E: Sink>(err: &mut E, name: &'a str, number: u32)
-    ensures { PutsLine E.Sink err.old err.new (thing_line name.now number) }
+fn put_no_numbered_place_line<'a, E: Sink>(err: &mut E, name: &'a str, number: u32)
+    ensures { PutsLine E.Sink err.old err.new (no_numbered_place_line name.now number) }
 {
     let mut buffer = Buffer::new();
     let number = buffer.format(number);
@@ -139,8 +139,8 @@ fn table_name(which: Which) -> &'static str
 }
 
 /// Puts the line of a boot that stopped because a table found no place for `room` records.
-fn tell_table<'a, E: Sink>(err: &mut E, name: &'a str, room: u64)
-    ensures { PutsLine E.Sink err.old err.new (table_line name.now room) }
+fn put_no_table_place_line<'a, E: Sink>(err: &mut E, name: &'a str, room: u64)
+    ensures { PutsLine E.Sink err.old err.new (no_table_place_line name.now room) }
 {
     let mut buffer = Buffer::new();
     let room = buffer.format(room);

@@ -13,9 +13,9 @@ use Rattle.clap.specs.declared.builder.action.ArgAction.{ArgAction}
 use Rattle.clap.specs.declared.error.kind.ErrorKind.{ErrorKind}
 use Rattle.clap.specs.declared.parser.matches.ValueSource.TheVariants.{DefaultValue}
 use Rattle.clap.proofs.WalkLemmas.{both}
-use Rattle.program_words.specs.Grammar.{Listed, is_switch, options, program}
-use Rattle.program_words.specs.Spelling.{unspelled}
-use Rattle.program_words.specs.Words.{Values, value_in}
+use Rattle.program_words.specs.Grammar.{OptionRow, is_flag_action, options, bootmem_command}
+use Rattle.program_words.specs.Spelling.{default_value}
+use Rattle.program_words.specs.Words.{ArgValues, arg_value_in}
 use Rattle.program_words.proofs.KnownLaws.{behind_first, first_or, name_rule, option_of, rules}
 use Rattle.program_words.proofs.SpellingLaws.{no_row_changed}
 
@@ -31,17 +31,17 @@ some_value : (values : List (List ℕ)) → has_some values ≡ true → (other 
     → slice_get values 0 ≡ option_or (slice_get values 0) other
 some_value values none other = grind arith
 
-abbrev own_default : Rule → Values
+abbrev own_default : Rule → ArgValues
 own_default rule argument = if bytes_eq rule.id argument then slice_get rule.defaults 0 else None
 
 -- the default of the argument, in the first of the rules that gives one
-abbrev default_by : List Rule → Values
+abbrev default_by : List Rule → ArgValues
 default_by [] argument = None
 default_by (rule ∷ some) argument = option_or (own_default rule argument) (default_by some argument)
 
 -- an added row gives the value of an argument that the rows before don't have
 found_more : (rows : List Row) (row : Row) (argument value : List ℕ) → are_full rows ≡ true → slice_get row.values 0 ≡ Some value
-    → value_in (rows ++ row ∷ []) argument ≡ option_or (value_in rows argument) (if bytes_eq row.id argument then Some value else None)
+    → arg_value_in (rows ++ row ∷ []) argument ≡ option_or (arg_value_in rows argument) (if bytes_eq row.id argument then Some value else None)
 found_more [] row argument value full is = grind arith
 found_more (first ∷ rows) row argument value full is =
     let parts = both (has_some first.values) _ full in
@@ -49,7 +49,7 @@ found_more (first ∷ rows) row argument value full is =
 
 -- a row that is there keeps its value
 stands_in : (rows : List Row) (argument : List ℕ) → are_full rows ≡ true → has_row argument rows ≡ true → (other : Option (List ℕ))
-    → value_in rows argument ≡ option_or (value_in rows argument) other
+    → arg_value_in rows argument ≡ option_or (arg_value_in rows argument) other
 stands_in [] argument full some other = cc
 stands_in (first ∷ rows) argument full some other =
     let parts = both (has_some first.values) _ full in
@@ -74,14 +74,14 @@ default_row rule values = record {
 -- what the default of one rule adds to the rows
 record Adds (rule : Rule) (rows now : List Row) : Type 0 where
   full : are_full now ≡ true
-  values : (argument : List ℕ) → value_in now argument ≡ option_or (value_in rows argument) (own_default rule argument)
+  values : (argument : List ℕ) → arg_value_in now argument ≡ option_or (arg_value_in rows argument) (own_default rule argument)
 
 adds : (rule : Rule) (rows : List Row) → are_full rows ≡ true → Adds rule rows (with_default rows rule)
 adds rule rows full = by_row (has_row rule.id rows) refl
   where
     by_default : (defaults : List (List ℕ)) → has_row rule.id rows ≡ false → rule.defaults ≡ defaults
         → Adds rule rows (default_rows rule.id (reading_by rule) defaults rows)
-    by_default [] none is = record { full = full; values = λ argument. rw is (grind (arith, or_none (value_in rows argument))) }
+    by_default [] none is = record { full = full; values = λ argument. rw is (grind (arith, or_none (arg_value_in rows argument))) }
     by_default (v ∷ vs) none is =
         let added : with_values rule.id (reading_by rule) DefaultValue (v ∷ vs) rows ≡ rows ++ default_row rule (v ∷ vs) ∷ [] =
         no_row_changed rule.id (more_values DefaultValue (v ∷ vs)) (default_row rule (v ∷ vs) ∷ []) rows none in
@@ -96,7 +96,7 @@ adds rule rows full = by_row (has_row rule.id rows) refl
       full = full;
       values = λ argument. elim (cases_Bool (bytes_eq rule.id argument)) [
         | inl same ↦ stands_in rows argument full (rw (← (bytes_eq-Decides rule.id argument).0 same) there) _
-        | inr other ↦ rw other (or_none (value_in rows argument))
+        | inr other ↦ rw other (or_none (arg_value_in rows argument))
       ];
     }
     by_row false there = by_default rule.defaults there refl
@@ -104,33 +104,33 @@ adds rule rows full = by_row (has_row rule.id rows) refl
 or_grouped : (a b c : Option (List ℕ)) → option_or (option_or a b) c ≡ option_or a (option_or b c)
 or_grouped a b c = grind arith
 
-pub defaulted : (some : List Rule) (rows : List Row) (argument : List ℕ) → are_full rows ≡ true
-    → value_in (fold with_default rows some) argument ≡ option_or (value_in rows argument) (default_by some argument)
-defaulted [] rows argument full = or_none (value_in rows argument)
-defaulted (rule ∷ some) rows argument full =
+pub value_with_defaults : (some : List Rule) (rows : List Row) (argument : List ℕ) → are_full rows ≡ true
+    → arg_value_in (fold with_default rows some) argument ≡ option_or (arg_value_in rows argument) (default_by some argument)
+value_with_defaults [] rows argument full = or_none (arg_value_in rows argument)
+value_with_defaults (rule ∷ some) rows argument full =
     let one = adds rule rows full in
-    defaulted some (with_default rows rule) argument one.full
+    value_with_defaults some (with_default rows rule) argument one.full
     ∙ ap (λ value. option_or value (default_by some argument)) (one.values argument)
-    ∙ or_grouped (value_in rows argument) (own_default rule argument) (default_by some argument)
+    ∙ or_grouped (arg_value_in rows argument) (own_default rule argument) (default_by some argument)
 
 abbrev nothing : Option (List ℕ)
 nothing = None
 
 -- the rules are those of the options, then that of the name; only flags have a default
 rules_are : rules ≡ map option_of options ++ name_rule ∷ []
-unfolding program
+unfolding bootmem_command
 rules_are = refl
 
 abbrev off : ArgAction → Option (List ℕ)
-off action = if is_switch action then Some (codes "false") else None
+off action = if is_flag_action action then Some (codes "false") else None
 
-all_off : map (λ (option : Listed). slice_get (option_of option).defaults 0) options ≡ map (λ (option : Listed). off option.1) options
+all_off : map (λ (option : OptionRow). slice_get (option_of option).defaults 0) options ≡ map (λ (option : OptionRow). off option.1) options
 all_off = refl
 
-unspelled_by : (some : List Listed) (argument : List ℕ)
-    → map (λ (option : Listed). slice_get (option_of option).defaults 0) some ≡ map (λ (option : Listed). off option.1) some
+unspelled_by : (some : List OptionRow) (argument : List ℕ)
+    → map (λ (option : OptionRow). slice_get (option_of option).defaults 0) some ≡ map (λ (option : OptionRow). off option.1) some
     → default_by (map option_of some ++ name_rule ∷ []) argument
-    ≡ (if list_any (λ option. is_switch option.1 && bytes_eq option.0 argument) some then Some (codes "false") else None)
+    ≡ (if list_any (λ option. is_flag_action option.1 && bytes_eq option.0 argument) some then Some (codes "false") else None)
 unspelled_by [] argument are = grind arith
 unspelled_by (first ∷ some) argument are =
     let one : slice_get (option_of first).defaults 0 ≡ off first.1 = ap (first_or None) are in
@@ -140,7 +140,7 @@ abbrev pass : Rule → List ErrorKind
 pass rule = given_default_fault rule rule.defaults
 
 all_pass : map pass rules ≡ map (λ rule. []) rules
-unfolding program
+unfolding bootmem_command
 all_pass = refl
 
 either_none : {X : Type 0} (test : Bool) (faults : List X) → faults ≡ [] → (if test then [] else faults) ≡ []
@@ -154,7 +154,7 @@ defaults_pass (rule ∷ some) rows none =
     (defaults_pass some (with_default rows rule) (ap behind_first none))
 
 -- an argument without a row has the value of one that no spelling has
-pub as_unspelled : (argument : List ℕ) → default_by rules argument ≡ unspelled argument
+pub as_unspelled : (argument : List ℕ) → default_by rules argument ≡ default_value argument
 as_unspelled argument = rw rules_are (unspelled_by options argument all_off)
 
 pub no_default_fault : (rows : List Row) → defaults_fault rows rules ≡ []

@@ -10,7 +10,7 @@ use Rattle.clap.specs.Faults.{settle_fault, turn_fault, walk_fault}
 use Rattle.clap.specs.Walk.{Held, Row, Walk, at_row, has_row, idle, is_pending, more_values, option, reading_by, settled, settled_rows, used, walked, with_values, without}
 use Rattle.clap.specs.declared.builder.action.ArgAction.TheVariants.{Set, SetTrue}
 use Rattle.clap.specs.declared.parser.matches.ValueSource.TheVariants.{CommandLine}
-use Rattle.program_words.specs.Spelling.{AreSpellings, IsSpelling, Spelling, apart, argument_in, dashed, flag, joined, named, spelled_for, spelled, text_in, words_of}
+use Rattle.program_words.specs.Spelling.{AreSpellings, IsSpelling, Spelling, two_word_option, spelling_argument, option_word, flag, one_word_option, named, first_spelled_value, words_of_spellings, spelling_value, spelling_words}
 use Rattle.program_words.proofs.KnownLaws.{Known, Plain, flag_known, joined_word, known, name_by_id, name_by_index, name_rule, once, option_of, plain, rules, shape, zero_page}
 
 -- ---- one word
@@ -51,7 +51,7 @@ and_false : (b : Bool) → (b && false) ≡ false
 and_false b = grind arith
 
 module _ (position : ℕ) (h : Held) where
-  option_walks : (name : List ℕ) → Known (name, Set) → walked rules [] (resting position h) (dashed name) ≡ waiting_for position name h
+  option_walks : (name : List ℕ) → Known (name, Set) → walked rules [] (resting position h) (option_word name) ≡ waiting_for position name h
   unfolding walked
   option_walks name k = rw (k.not_end, k.long_word, k.by_long) refl
 
@@ -66,13 +66,13 @@ module _ (position : ℕ) (h : Held) where
   joined_walks name value k = rw (k.joined_not_end value, k.joined_long value, k.by_long) refl
 
   flag_walks : (name : List ℕ) → Known (name, SetTrue)
-      → walked rules [] (resting position h) (dashed name) ≡ resting position (with_flag name h)
+      → walked rules [] (resting position h) (option_word name) ≡ resting position (with_flag name h)
   unfolding walked
   flag_walks name k = rw (k.not_end, k.long_word, k.by_long) refl
 
   -- no turn has a fault
   option_turn : (name : List ℕ) → Known (name, Set) → settle_fault rules false h ≡ []
-      → turn_fault shape [] (resting position h) (dashed name) ≡ []
+      → turn_fault shape [] (resting position h) (option_word name) ≡ []
   option_turn name k settles = rw (k.not_end, k.long_word, k.by_long, once, settles) refl
 
   value_turn : (name value : List ℕ) → Plain value → turn_fault shape [] (waiting_for position name h) value ≡ []
@@ -84,7 +84,7 @@ module _ (position : ℕ) (h : Held) where
   joined_turn name value k settles none = rw (k.joined_not_end value, k.joined_long value, k.by_long, once, settles, none) refl
 
   flag_turn : (name : List ℕ) → Known (name, SetTrue) → settle_fault rules false h ≡ []
-      → has_row name (settled_rows rules h.pending h.rows) ≡ false → turn_fault shape [] (resting position h) (dashed name) ≡ []
+      → has_row name (settled_rows rules h.pending h.rows) ≡ false → turn_fault shape [] (resting position h) (option_word name) ≡ []
   flag_turn name k settles none = rw (k.not_end, k.long_word, k.by_long, once, settles, none) refl
 
 name_walks : (name : List ℕ) (h : Held) → Plain name → walked rules [] (resting 1 h) name ≡ resting 2 (with_value zero_page name h)
@@ -99,8 +99,8 @@ name_turn name h p settles =
 
 abbrev pub row_of : Spelling → Row
 row_of s = record {
-  id = argument_in s;
-  values = text_in s ∷ [];
+  id = spelling_argument s;
+  values = spelling_value s ∷ [];
   count = None;
   source = Some CommandLine;
   reading = reading_by name_rule;
@@ -108,7 +108,7 @@ row_of s = record {
 
 -- no spelling has this argument
 abbrev pub IsNew : List ℕ → List Spelling → Type 0
-IsNew argument ss = spelled_for ss argument ≡ None
+IsNew argument ss = first_spelled_value ss argument ≡ None
 
 -- what is pending can be settled, and then each spelling so far has its row; while there is no
 -- name, the walk is at the first position of names
@@ -126,7 +126,7 @@ new_before : (argument : List ℕ) (ss : List Spelling) (s : Spelling) → IsNew
 new_before argument [] s none = refl
 new_before argument (first ∷ ss) s none = grind (arith, new_before argument ss s)
 
-new_end : (argument : List ℕ) (ss : List Spelling) (s : Spelling) → bytes_eq (argument_in s) argument ≡ false → IsNew argument ss
+new_end : (argument : List ℕ) (ss : List Spelling) (s : Spelling) → bytes_eq (spelling_argument s) argument ≡ false → IsNew argument ss
     → IsNew argument (ss ++ s ∷ [])
 new_end argument [] s other none = rw other refl
 new_end argument (first ∷ ss) s other none = grind (arith, new_end argument ss s other)
@@ -141,14 +141,14 @@ pub no_row_changed : (id : List ℕ) (change : Row → List Row) (missing rows :
 no_row_changed id change missing [] none = refl
 no_row_changed id change missing (first ∷ rows) none = grind (arith, no_row_changed id change missing rows)
 
-rows_more : (earlier : List Spelling) (s : Spelling) → IsNew (argument_in s) earlier
-    → with_values (argument_in s) (reading_by name_rule) CommandLine (text_in s ∷ []) (without (argument_in s) (map row_of earlier))
+rows_more : (earlier : List Spelling) (s : Spelling) → IsNew (spelling_argument s) earlier
+    → with_values (spelling_argument s) (reading_by name_rule) CommandLine (spelling_value s ∷ []) (without (spelling_argument s) (map row_of earlier))
     ≡ map row_of (earlier ++ s ∷ [])
 rows_more earlier s new =
     let rows = map row_of earlier in
-    let none = no_row (argument_in s) earlier new in
-    let left : without (argument_in s) rows ≡ rows = no_row_changed (argument_in s) (λ _. []) [] rows none ∙ append-nil rows in
-    rw left (no_row_changed (argument_in s) (more_values CommandLine (text_in s ∷ [])) (row_of s ∷ []) rows none
+    let none = no_row (spelling_argument s) earlier new in
+    let left : without (spelling_argument s) rows ≡ rows = no_row_changed (spelling_argument s) (λ _. []) [] rows none ∙ append-nil rows in
+    rw left (no_row_changed (spelling_argument s) (more_values CommandLine (spelling_value s ∷ [])) (row_of s ∷ []) rows none
     ∙ sym (map-append row_of earlier (s ∷ [])))
 
 -- ---- one spelling
@@ -158,14 +158,14 @@ pub record Goes (earlier : List Spelling) (s : Spelling) (position : ℕ) (h : H
   pub place : ℕ
   pub stands : Stands (earlier ++ s ∷ []) place now
   pub walk : (rest : List (List ℕ))
-      → fold (walked rules []) (resting position h) (words_of s ++ rest) ≡ fold (walked rules []) (resting place now) rest
+      → fold (walked rules []) (resting position h) (spelling_words s ++ rest) ≡ fold (walked rules []) (resting place now) rest
   pub fault : (rest : List (List ℕ))
-      → walk_fault shape [] (resting position h) (words_of s ++ rest) ≡ walk_fault shape [] (resting place now) rest
+      → walk_fault shape [] (resting position h) (spelling_words s ++ rest) ≡ walk_fault shape [] (resting place now) rest
 
-goes : (earlier : List Spelling) (s : Spelling) (position : ℕ) (h : Held) → IsSpelling s → IsNew (argument_in s) earlier
+goes : (earlier : List Spelling) (s : Spelling) (position : ℕ) (h : Held) → IsSpelling s → IsNew (spelling_argument s) earlier
     → Stands earlier position h → Goes earlier s position h
 unfolding walk_fault
-goes earlier (apart name value) position h is new stands =
+goes earlier (two_word_option name value) position h is new stands =
     let k = known name is.0 in
     let p = plain value is.1 in
     let none = no_row name earlier new in
@@ -175,14 +175,14 @@ goes earlier (apart name value) position h is new stands =
       now = with_value name value h;
       place = position;
       stands = record {
-        rows = rw (k.by_id, stands.rows) (rows_more earlier (apart name value) new);
+        rows = rw (k.by_id, stands.rows) (rows_more earlier (two_word_option name value) new);
         settles = rw (k.by_id, stands.rows, none) refl;
-        first = λ fresh. stands.first (new_before zero_page earlier (apart name value) fresh);
+        first = λ fresh. stands.first (new_before zero_page earlier (two_word_option name value) fresh);
       };
       walk = λ rest. ap (λ w. fold (walked rules []) w rest) (ap (λ w. walked rules [] w value) to_value ∙ to_rest);
       fault = λ rest. rw (option_turn position h name k stands.settles, to_value, value_turn position h name value p, to_rest) refl;
     }
-goes earlier (joined name value) position h is new stands =
+goes earlier (one_word_option name value) position h is new stands =
     let k = known name is in
     let none = no_row name earlier new in
     let to_rest = joined_walks position h name value k in
@@ -190,9 +190,9 @@ goes earlier (joined name value) position h is new stands =
       now = with_joined name value h;
       place = position;
       stands = record {
-        rows = rw stands.rows (rows_more earlier (joined name value) new);
+        rows = rw stands.rows (rows_more earlier (one_word_option name value) new);
         settles = refl;
-        first = λ fresh. stands.first (new_before zero_page earlier (joined name value) fresh);
+        first = λ fresh. stands.first (new_before zero_page earlier (one_word_option name value) fresh);
       };
       walk = λ rest. ap (λ w. fold (walked rules []) w rest) to_rest;
       fault = λ rest. rw (joined_turn position h name value k stands.settles (rw stands.rows none), to_rest) refl;
@@ -239,16 +239,16 @@ same_bytes : (bytes : List ℕ) → bytes_eq bytes bytes ≡ true
 same_bytes bytes = (bytes_eq-Decides bytes bytes).1 refl
 
 first_new : (earlier : List Spelling) (s : Spelling) (ss : List Spelling) → Past earlier (s ∷ ss)
-    → IsNew (argument_in s) earlier
-first_new earlier s ss past = elim (past (argument_in s)) [
+    → IsNew (spelling_argument s) earlier
+first_new earlier s ss past = elim (past (spelling_argument s)) [
   | inl new ↦ new
-  | inr never ↦ let same : Some (text_in s) ≡ None = rw (same_bytes (argument_in s)) at never in cc
+  | inr never ↦ let same : Some (spelling_value s) ≡ None = rw (same_bytes (spelling_argument s)) at never in cc
 ]
 
-past_more : (earlier : List Spelling) (s : Spelling) (ss : List Spelling) → IsNew (argument_in s) ss → Past earlier (s ∷ ss)
+past_more : (earlier : List Spelling) (s : Spelling) (ss : List Spelling) → IsNew (spelling_argument s) ss → Past earlier (s ∷ ss)
     → Past (earlier ++ s ∷ []) ss
-past_more earlier s ss new past argument = elim (cases_Bool (bytes_eq (argument_in s) argument)) [
-  | inl same ↦ inr (rw (← (bytes_eq-Decides (argument_in s) argument).0 same) new)
+past_more earlier s ss new past argument = elim (cases_Bool (bytes_eq (spelling_argument s) argument)) [
+  | inl same ↦ inr (rw (← (bytes_eq-Decides (spelling_argument s) argument).0 same) new)
   | inr other ↦ elim (past argument) [
     | inl none ↦ inl (new_end argument earlier s other none)
     | inr none ↦ inr (rw other at none)
@@ -259,8 +259,8 @@ pub record Walks (earlier ss : List Spelling) (position : ℕ) (h : Held) : Type
   pub now : Held
   pub place : ℕ
   pub stands : Stands (earlier ++ ss) place now
-  pub walk : fold (walked rules []) (resting position h) (spelled ss) ≡ resting place now
-  pub fault : walk_fault shape [] (resting position h) (spelled ss) ≡ []
+  pub walk : fold (walked rules []) (resting position h) (words_of_spellings ss) ≡ resting place now
+  pub fault : walk_fault shape [] (resting position h) (words_of_spellings ss) ≡ []
 
 pub walks : (earlier ss : List Spelling) (position : ℕ) (h : Held) → Stands earlier position h → Past earlier ss → AreSpellings ss
     → Walks earlier ss position h
@@ -279,6 +279,6 @@ walks earlier (s ∷ ss) position h stands past are =
       now = more.now;
       place = more.place;
       stands = rw (← append_assoc earlier (s ∷ []) ss) more.stands;
-      walk = step.walk (spelled ss) ∙ more.walk;
-      fault = step.fault (spelled ss) ∙ more.fault;
+      walk = step.walk (words_of_spellings ss) ∙ more.walk;
+      fault = step.fault (words_of_spellings ss) ∙ more.fault;
     }

@@ -7,23 +7,23 @@ use Rattle.std.specs.Str.Parse.{digits_value}
 
 -- at least 2, as in a zero page, and at most 3000, a bound of this project that leaves room in the
 -- kernel's table
-abbrev pub AreEntries : ℕ → Type 0
-AreEntries count = (2 ≤ count) × (count ≤ 3000)
+abbrev pub IsEntryCount : ℕ → Type 0
+IsEntryCount count = (2 ≤ count) × (count ≤ 3000)
 
--- `AreEntries` as a test
-abbrev pub are_entries : ℕ → Bool
-are_entries count = nat_le 2 count && nat_le count 3000
+-- `IsEntryCount` as a test
+abbrev pub is_entry_count : ℕ → Bool
+is_entry_count count = nat_le 2 count && nat_le count 3000
 
 -- all bytes are decimal digits; the empty text passes
 abbrev pub are_digits : List ℕ → Bool
 are_digits text = list_all is_ascii_digit text
 
 -- the number that the decimal digits give, if it is within these bounds
-abbrev pub entries_in : List ℕ → Option ℕ
-entries_in text =
-    if are_digits text && are_entries (digits_value 10 text) then Some (digits_value 10 text) else None
+abbrev pub entry_count_in : List ℕ → Option ℕ
+entry_count_in text =
+    if are_digits text && is_entry_count (digits_value 10 text) then Some (digits_value 10 text) else None
 
 -- the number of entries: `Some None` without a value, `None` if the value is refused
-abbrev pub entries_of : Option (List ℕ) → Option (Option ℕ)
-entries_of None = Some None
-entries_of (Some text) = option_map (λ count. Some count) (entries_in text)
+abbrev pub made_entry_count : Option (List ℕ) → Option (Option ℕ)
+made_entry_count None = Some None
+made_entry_count (Some text) = option_map (λ count. Some count) (entry_count_in text)

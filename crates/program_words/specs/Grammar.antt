@@ -7,15 +7,15 @@ use Rattle.clap.specs.declared.builder.action.ArgAction.TheVariants.{Set, SetTru
 
 -- an option: its name and its action. With `Set` it has a value, `--NAME VALUE` or `--NAME=VALUE`;
 -- with `SetTrue` it is a flag, `--NAME`.
-abbrev pub Listed : Type 0
-Listed = List ℕ × ArgAction
+abbrev pub OptionRow : Type 0
+OptionRow = List ℕ × ArgAction
 
 -- the option as an argument of `clap`
-abbrev pub option_rule : Listed → Rule
+abbrev pub option_rule : OptionRow → Rule
 option_rule option = record (new_rule option.0) { long = Some option.0; action = Some option.1 }
 
 -- the command with one more option
-abbrev pub with_option : App → Listed → App
+abbrev pub with_option : App → OptionRow → App
 with_option command option = with_rule command (option_rule option)
 
 -- a positional argument of `clap`: a word that belongs to no option
@@ -27,7 +27,7 @@ abbrev pub with_positional : App → List ℕ → App
 with_positional command name = with_rule command (positional_rule name)
 
 -- the options, in the order in which the command has them
-abbrev pub options : List Listed
+abbrev pub options : List OptionRow
 options =
     (codes "la57", SetTrue)
     ∷ (codes "mirror", Set)
@@ -50,9 +50,9 @@ has_value Set = true
 has_value _ = false
 
 -- the option is a flag
-abbrev pub is_switch : ArgAction → Bool
-is_switch SetTrue = true
-is_switch _ = false
+abbrev pub is_flag_action : ArgAction → Bool
+is_flag_action SetTrue = true
+is_flag_action _ = false
 
 -- a command without arguments, without `--help` and `--version`, whose words don't begin with the
 -- program's name
@@ -62,9 +62,9 @@ bare_app = record (new_app (codes "bootmem")) {
 }
 
 -- the program: its options and the name of the zero page, none of them mandatory
-unfoldable pub program : App
-program = with_positional (fold with_option bare_app options) (codes "ZEROPAGE")
+unfoldable pub bootmem_command : App
+bootmem_command = with_positional (fold with_option bare_app options) (codes "ZEROPAGE")
 
 -- the command takes the words
 abbrev pub is_faultless : List (List ℕ) → Bool
-is_faultless words = length (fault_of program words) == 0
+is_faultless words = length (fault_of bootmem_command words) == 0

@@ -6,31 +6,31 @@ use Rattle.bm_base.specs.Frames.{frames_within}
 use Rattle.bm_base.specs.OptionSteps.{◌>>=◌}
 use Rattle.text_words.specs.declared.separators.Separators.TheVariants.{Byte}
 use Rattle.text_words.specs.Parts.{parts_in}
-use Rattle.program_words.specs.Range.{range_in}
+use Rattle.program_words.specs.Range.{base_size_range}
 
 -- there is a range, and the address lies in it
-abbrev pub lies_in : Option RangeView → ℕ → Type 0
-lies_in None x = ⊥
-lies_in (Some range) x = (range.base ≤ x) × (x < end_of range)
+abbrev pub LiesInRange : Option RangeView → ℕ → Type 0
+LiesInRange None x = ⊥
+LiesInRange (Some range) x = (range.base ≤ x) × (x < end_of range)
 
 -- the pieces of the list, between its colons; the empty list has one empty piece
-abbrev pub pieces_in : List ℕ → List (List ℕ)
-pieces_in list = parts_in (Byte 58) list
+abbrev pub mirror_pieces_in : List ℕ → List (List ℕ)
+mirror_pieces_in list = parts_in (Byte 58) list
 
 -- the list has 1 to 64 pieces, and each is a range
-abbrev pub are_pieces : List ℕ → Bool
-are_pieces list = nat_le (length (pieces_in list)) 64 && list_all (λ piece. is_some (range_in piece)) (pieces_in list)
+abbrev pub are_mirror_pieces : List ℕ → Bool
+are_mirror_pieces list = nat_le (length (mirror_pieces_in list)) 64 && list_all (λ piece. is_some (base_size_range piece)) (mirror_pieces_in list)
 
 -- the whole frames of the piece's range, `None` if the piece isn't a range or its range has no
 -- whole frame
-abbrev pub frames_by : List ℕ → Option RangeView
-frames_by piece = range_in piece >>= frames_within
+abbrev pub piece_frames : List ℕ → Option RangeView
+piece_frames piece = base_size_range piece >>= frames_within
 
 -- the whole frames of each piece that has some, in the order of the list
-abbrev pub mirrors_in : List ℕ → List RangeView
-mirrors_in list = filter_map frames_by (pieces_in list)
+abbrev pub mirrors_in_list : List ℕ → List RangeView
+mirrors_in_list list = filter_map piece_frames (mirror_pieces_in list)
 
 -- the mirrored ranges: none without a value, `None` if the list is refused
-abbrev pub mirrors_of : Option (List ℕ) → Option (List RangeView)
-mirrors_of None = Some []
-mirrors_of (Some list) = if are_pieces list then Some (mirrors_in list) else None
+abbrev pub mirrors_of_value : Option (List ℕ) → Option (List RangeView)
+mirrors_of_value None = Some []
+mirrors_of_value (Some list) = if are_mirror_pieces list then Some (mirrors_in_list list) else None

@@ -6,13 +6,13 @@ use Rattle.text_words.specs.Parts.{split_once}
 use Rattle.boot_options.specs.MapOptions.{whole_size}
 
 -- the range, if its base plus its size is at most 2^64 - 1
-abbrev pub if_in_space : RangeView → Option RangeView
-if_in_space range = if nat_lt (end_of range) (2 ^ 64) then Some range else None
+abbrev pub range_if_in_space : RangeView → Option RangeView
+range_if_in_space range = if nat_lt (end_of range) (2 ^ 64) then Some range else None
 
 -- the range that `BASE,SIZE` gives: two sizes with one comma between and nothing else
-abbrev pub range_in : List ℕ → Option RangeView
-range_in text = do
+abbrev pub base_size_range : List ℕ → Option RangeView
+base_size_range text = do
   halves ← split_once 44 text
   base ← whole_size halves.0
   size ← whole_size halves.1
-  if_in_space (record { base = base; size = size })
+  range_if_in_space (record { base = base; size = size })

@@ -3,7 +3,7 @@
 
 ghost use Rattle.std.specs.Prelude.{◌≡◌, IfSome, IsTrue};
 ghost use Rattle.std.specs.Option.{option_copied};
-ghost use Rattle.program_words.specs.Entries.{AreEntries, are_digits, entries_in, entries_of};
+ghost use Rattle.program_words.specs.Entries.{IsEntryCount, are_digits, entry_count_in, made_entry_count};
 
 /// The least number of entries of a made table.
 const FEWEST_ENTRIES: u32 = 2;
@@ -13,20 +13,20 @@ const MOST_ENTRIES: u32 = 3000;
 
 /// Returns the number of entries if the option has a value. Returns `Some(None)` without a value,
 /// and `None` exactly if the value is refused.
-pub fn entries_of(value: Option<&str>) -> Option<Option<u32>>
-    ensures value { result ≡ entries_of (option_copied value.entry) }
-    ensures facts { IfSome result (λ made. IfSome made AreEntries) }
+pub fn made_entry_count(value: Option<&str>) -> Option<Option<u32>>
+    ensures value { result ≡ made_entry_count (option_copied value.entry) }
+    ensures facts { IfSome result (λ made. IfSome made IsEntryCount) }
 {
     match value {
-        Some(text) => Some(Some(read_entries(text)?)),
+        Some(text) => Some(Some(entry_count_in(text)?)),
         None => Some(None),
     }
 }
 
 /// Returns the number that the decimal digits give, if it is from 2 to 3000.
-fn read_entries(text: &str) -> Option<u32>
-    ensures value { result ≡ entries_in text.now }
-    ensures facts { IfSome result AreEntries }
+fn entry_count_in(text: &str) -> Option<u32>
+    ensures value { result ≡ entry_count_in text.now }
+    ensures facts { IfSome result IsEntryCount }
 {
     if !are_digits(text) {
         return None;

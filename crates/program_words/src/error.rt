@@ -8,20 +8,20 @@ use std::alloc::AllocError;
 
 /// Why reading the command line failed.
 #[derive(Clone, Copy, Debug, PartialEq, Eq)]
-pub enum WordError {
+pub enum ArgsError {
     /// The command line isn't accepted.
     Usage,
     /// This program is out of memory.
     Memory,
 }
 
-impl From<Memory> for WordError {
+impl From<Memory> for ArgsError {
     ghost use Rattle.std.specs.Prelude.{◌≡◌};
-    ghost use Rattle.program_words.specs.declared.error.WordError.TheVariants as errors;
+    ghost use Rattle.program_words.specs.declared.error.ArgsError.TheVariants as errors;
 
     ghost from_gives = { λ _ error. error ≡ errors.Memory };
 
-    fn from(_error: Memory) -> WordError {
-        WordError::Memory
+    fn from(_error: Memory) -> ArgsError {
+        ArgsError::Memory
     }
 }

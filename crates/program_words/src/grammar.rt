@@ -6,11 +6,11 @@ ghost use Rattle.std.specs.Prelude.{◌≡◌, ◌≢◌, IfOk, OnOk, IsErrOf, [
 ghost use Rattle.std.specs.Option.{option_copied};
 ghost use Rattle.clap.specs.Words.{app_of, fault_of, first_of, found_of, matches_of, rows_of};
 ghost use Rattle.clap.specs.declared.error.kind.ErrorKind.TheVariants as error_kinds;
-ghost use Rattle.program_words.specs.Grammar.{bare_app, program, with_option, with_positional};
-ghost use Rattle.program_words.specs.Words.{is_on, texts, value_in};
-ghost use Rattle.program_words.specs.declared.error.WordError.TheVariants as errors;
+ghost use Rattle.program_words.specs.Grammar.{bare_app, bootmem_command, with_option, with_positional};
+ghost use Rattle.program_words.specs.Words.{is_on, bytes_of_words, arg_value_in};
+ghost use Rattle.program_words.specs.declared.error.ArgsError.TheVariants as errors;
 
-use crate::error::WordError;
+use crate::error::ArgsError;
 use bm_base::Memory;
 use clap::error::ErrorKind;
 use clap::{Arg, ArgAction, ArgMatches, Command};
@@ -38,15 +38,15 @@ const OPTIONS: [(&str, ArgAction); 13] = [
 ///
 /// # Errors
 ///
-/// - [`WordError::Usage`] if the command refuses the words.
-/// - [`WordError::Memory`] if this program is out of memory.
-pub fn match_words<'w>(alloc: Global, words: &'w [String]) -> Result<ArgMatches<'w>, WordError>
+/// - [`ArgsError::Usage`] if the command refuses the words.
+/// - [`ArgsError::Memory`] if this program is out of memory.
+pub fn match_words<'w>(alloc: Global, words: &'w [String]) -> Result<ArgMatches<'w>, ArgsError>
     ensures matches { IfOk result (λ matches.
-        rows_of (found_of matches) ≡ matches_of program (texts words.entry.now)) }
-    ensures faultless { OnOk result (fault_of program (texts words.entry.now) ≡ []) }
-    ensures refused { IsErrOf result WordError.Usage → fault_of program (texts words.entry.now) ≢ [] }
+        rows_of (found_of matches) ≡ matches_of bootmem_command (bytes_of_words words.entry.now)) }
+    ensures faultless { OnOk result (fault_of bootmem_command (bytes_of_words words.entry.now) ≡ []) }
+    ensures refused { IsErrOf result ArgsError.Usage → fault_of bootmem_command (bytes_of_words words.entry.now) ≢ [] }
 {
-    let command = program(alloc)?;
+    let command = bootmem_command(alloc)?;
     match command.try_get_matches_from(words) {
         Ok(matches) => Ok(matches),
         Err(error) => Err(error_of(error.kind())),
@@ -54,17 +54,17 @@ pub fn match_words<'w>(alloc: Global, words: &'w [String]) -> Result<ArgMatches<
 }
 
 /// Returns the error for an error of `clap`: out of memory, or refused words for any other kind.
-fn error_of(kind: ErrorKind) -> WordError
+fn error_of(kind: ErrorKind) -> ArgsError
     ensures { result ≡ errors.Usage → kind ≢ error_kinds.OutOfMemory }
 {
     match kind {
-        ErrorKind::OutOfMemory => WordError::Memory,
-        _ => WordError::Usage,
+        ErrorKind::OutOfMemory => ArgsError::Memory,
+        _ => ArgsError::Usage,
     }
 }
 
 /// Returns the value that was found for an argument, if there is one.
-pub fn value_of<'w>(matches: &ArgMatches<'w>, name: &str) -> Option<&'w str>
+pub fn arg_value_in<'w>(matches: &ArgMatches<'w>, name: &str) -> Option<&'w str>
     ensures { option_copied result ≡ first_of name.now (rows_of (found_of matches.now)) }
 {
     matches.get_str(name)
@@ -72,14 +72,14 @@ pub fn value_of<'w>(matches: &ArgMatches<'w>, name: &str) -> Option<&'w str>
 
 /// Returns whether the command line has the flag: `clap` finds `true` for it then, else `false`.
 pub fn is_on(matches: &ArgMatches<'_>, flag: &str) -> bool
-    ensures { result ≡ is_on (value_in (rows_of (found_of matches.now))) flag.now }
+    ensures { result ≡ is_on (arg_value_in (rows_of (found_of matches.now))) flag.now }
 {
-    value_of(matches, flag) == Some("true")
+    arg_value_in(matches, flag) == Some("true")
 }
 
 /// Returns the command: its options and the name of the zero page. Fails only if out of memory.
-fn program<'w>(alloc: Global) -> Result<Command<'w>, Memory>
-    ensures { IfOk result (λ command. app_of command ≡ program) }
+fn bootmem_command<'w>(alloc: Global) -> Result<Command<'w>, Memory>
+    ensures { IfOk result (λ command. app_of command ≡ bootmem_command) }
 {
     let command = with_options(alloc, bare_app(alloc), &OPTIONS)?;
     with_positional(alloc, command, "ZEROPAGE")

@@ -4,9 +4,9 @@
 ghost use Rattle.std.specs.Prelude.{◌≡◌, IfSome};
 ghost use Rattle.std.specs.Option.{option_copied};
 ghost use Rattle.boot_model.specs.Kernel.{IsKernel};
-ghost use Rattle.program_words.specs.Kernel.{kernel_in, kernel_of};
+ghost use Rattle.program_words.specs.Kernel.{kernel_range_in, kernel_range_of};
 
-use crate::range::read_range;
+use crate::range::base_size_range;
 use bm_base::{Range, Width};
 use boot_model::is_kernel;
 
@@ -19,22 +19,22 @@ const DEFAULT_KERNEL: Range = Range {
 
 /// Returns the range of the kernel's image: the default if there is no value. It ends at or below
 /// the limit of the width. Returns `None` exactly if the value is refused.
-pub fn kernel_of(value: Option<&str>, width: Width) -> Option<Range>
-    ensures value { result ≡ kernel_of width (option_copied value.entry) }
+pub fn kernel_range_of(value: Option<&str>, width: Width) -> Option<Range>
+    ensures value { result ≡ kernel_range_of width (option_copied value.entry) }
     ensures facts { IfSome result (IsKernel width) }
 {
     match value {
-        Some(text) => read_kernel(text.as_bytes(), width),
+        Some(text) => kernel_range_in(text.as_bytes(), width),
         None => Some(DEFAULT_KERNEL),
     }
 }
 
 /// Returns the range that `BASE,SIZE` gives, if a kernel's image may lie there.
-fn read_kernel(text: &[u8], width: Width) -> Option<Range>
-    ensures value { result ≡ kernel_in width text.now }
+fn kernel_range_in(text: &[u8], width: Width) -> Option<Range>
+    ensures value { result ≡ kernel_range_in width text.now }
     ensures facts { IfSome result (IsKernel width) }
 {
-    let kernel = read_range(text)?;
+    let kernel = base_size_range(text)?;
     if is_kernel(&kernel, width) {
         Some(kernel)
     } else {

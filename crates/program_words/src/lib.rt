@@ -6,16 +6,16 @@
 //! Which words the command takes, and what value it finds for each argument, is the port's own
 //! definition; this crate doesn't define it a second time (`specs/Grammar.antt`).
 //!
-//! [`read_words`] then checks the values: where the first entries come from, the kernel's range,
+//! [`read_args`] then checks the values: where the first entries come from, the kernel's range,
 //! the names of reports, the number of entries of a made table, and the ranges of mirrored memory.
-//! `accepted` (`specs/Words.antt`) defines its result: [`WordError::Usage`] exactly if the command
-//! line is refused. [`WordError::Memory`] may come for any command line, since `clap` allocates
+//! `accepted` (`specs/Words.antt`) defines its result: [`ArgsError::Usage`] exactly if the command
+//! line is refused. [`ArgsError::Memory`] may come for any command line, since `clap` allocates
 //! its matches.
 //!
-//! [`Wanted`] is what an accepted command line asks for. It also gives the name of each input's
+//! [`BootmemArgs`] is what an accepted command line asks for. It also gives the name of each input's
 //! file (`Names`), so `read_inputs` takes it directly.
 //!
-//! The layer above may rest on this about a `Wanted`:
+//! The layer above may rest on this about a `BootmemArgs`:
 //!
 //! - A kernel image may lie in the kernel's range.
 //! - Each name in the list of reports is that of a report.
@@ -37,7 +37,7 @@ mod range;
 mod reading;
 mod wanted;
 
-pub use error::WordError;
-pub use laws::{frames_of_ranges, words_of_spelling};
-pub use reading::read_words;
-pub use wanted::Wanted;
+pub use error::ArgsError;
+pub use laws::{ranges_give_whole_frames, spelled_args_are_read};
+pub use reading::read_args;
+pub use wanted::BootmemArgs;

@@ -8,10 +8,10 @@ ghost use Rattle.std.specs.Option.{option_copied};
 ghost use Rattle.bm_base.specs.Answers.{Answers};
 ghost use Rattle.program_words.specs.Answers.{or_refused};
 ghost use Rattle.boot_model.specs.Mirrors.{IsMirror};
-ghost use Rattle.program_words.specs.Mirrors.{are_pieces, frames_by, mirrors_in, mirrors_of};
+ghost use Rattle.program_words.specs.Mirrors.{are_mirror_pieces, piece_frames, mirrors_in_list, mirrors_of_value};
 
-use crate::error::WordError;
-use crate::range::read_range;
+use crate::error::ArgsError;
+use crate::range::base_size_range;
 use bm_base::{Memory, Range};
 use boot_model::mirrors_are_whole_frames;
 use std::alloc::Global;
@@ -25,32 +25,32 @@ const MOST_RANGES: usize = 64;
 ///
 /// # Errors
 ///
-/// - [`WordError::Usage`] exactly if the list is refused.
-/// - [`WordError::Memory`] if this program is out of memory; never for a refused list.
-pub fn mirrors_of(alloc: Global, value: Option<&str>) -> Result<Vec<Range>, WordError>
-    ensures value { Answers WordError.Memory (λ ranges. ranges.items) result
-        (or_refused (mirrors_of (option_copied value.entry))) }
+/// - [`ArgsError::Usage`] exactly if the list is refused.
+/// - [`ArgsError::Memory`] if this program is out of memory; never for a refused list.
+pub fn mirrors_of_value(alloc: Global, value: Option<&str>) -> Result<Vec<Range>, ArgsError>
+    ensures value { Answers ArgsError.Memory (λ ranges. ranges.items) result
+        (or_refused (mirrors_of_value (option_copied value.entry))) }
     ensures facts { IfOk result (λ ranges. All IsMirror ranges.items) }
-    ensures memory { IsErrOf result WordError.Memory → IsSome (mirrors_of (option_copied value.entry)) }
+    ensures memory { IsErrOf result ArgsError.Memory → IsSome (mirrors_of_value (option_copied value.entry)) }
 {
     let Some(list) = value else {
         return Ok(Vec::new(alloc));
     };
-    if !are_pieces(list.as_bytes()) {
-        return Err(WordError::Usage);
+    if !are_mirror_pieces(list.as_bytes()) {
+        return Err(ArgsError::Usage);
     }
-    Ok(read_mirrors(alloc, list.as_bytes())?)
+    Ok(mirrors_in_list(alloc, list.as_bytes())?)
 }
 
 /// Returns whether the list has 1 to 64 ranges, separated by colons.
-fn are_pieces(list: &[u8]) -> bool
-    ensures { result ≡ are_pieces list.now }
+fn are_mirror_pieces(list: &[u8]) -> bool
+    ensures { result ≡ are_mirror_pieces list.now }
 {
     let mut pieces = 0;
     let mut rest = Some(list);
     while let Some(text) = rest {
         let (piece, behind) = next_part(text, Separators::Byte(b':'));
-        if pieces == MOST_RANGES || read_range(piece).is_none() {
+        if pieces == MOST_RANGES || base_size_range(piece).is_none() {
             return false;
         }
         pieces += 1;
@@ -61,15 +61,15 @@ fn are_pieces(list: &[u8]) -> bool
 
 /// Returns the whole frames of each range of the list, leaving out ranges without one. Fails only
 /// if out of memory.
-fn read_mirrors(alloc: Global, list: &[u8]) -> Result<Vec<Range>, Memory>
-    ensures value { IfOk result (λ ranges. ranges.items ≡ mirrors_in list.now) }
+fn mirrors_in_list(alloc: Global, list: &[u8]) -> Result<Vec<Range>, Memory>
+    ensures value { IfOk result (λ ranges. ranges.items ≡ mirrors_in_list list.now) }
     ensures facts { IfOk result (λ ranges. All IsMirror ranges.items) }
 {
     let mut mirrors = Vec::new(alloc);
     let mut rest = Some(list);
     while let Some(text) = rest {
         let (piece, behind) = next_part(text, Separators::Byte(b':'));
-        if let Some(frames) = read_frames(piece) {
+        if let Some(frames) = piece_frames(piece) {
             mirrors.push(frames)?;
         }
         rest = behind;
@@ -79,10 +79,10 @@ fn read_mirrors(alloc: Global, list: &[u8]) -> Result<Vec<Range>, Memory>
 
 /// Returns the whole frames of the piece's range, `None` if the piece isn't a range or its range
 /// has no whole frame.
-fn read_frames(piece: &[u8]) -> Option<Range>
-    ensures value { result ≡ frames_by piece.now }
+fn piece_frames(piece: &[u8]) -> Option<Range>
+    ensures value { result ≡ piece_frames piece.now }
     ensures facts { IfSome result IsMirror }
 {
     mirrors_are_whole_frames();
-    read_range(piece)?.whole_frames()
+    base_size_range(piece)?.whole_frames()
 }

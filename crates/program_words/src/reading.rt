@@ -6,15 +6,15 @@ ghost use Rattle.std.specs.Option.{option_copied, option_map};
 ghost use Rattle.clap.specs.Words.{found_of, rows_of};
 ghost use Rattle.bm_base.specs.Answers.{Answers};
 ghost use Rattle.program_words.specs.Answers.{or_refused};
-ghost use Rattle.program_words.specs.View.{wanted_view};
-ghost use Rattle.program_words.specs.Words.{accepted, asked_by, has_source, list_in, texts, value_in, width_in};
+ghost use Rattle.program_words.specs.View.{bootmem_args_view};
+ghost use Rattle.program_words.specs.Words.{read_args, args_from_values, has_source, report_list_in, bytes_of_words, arg_value_in, width_in};
 
-use crate::entries::entries_of;
-use crate::error::WordError;
-use crate::grammar::{is_on, match_words, value_of};
-use crate::kernel::kernel_of;
-use crate::mirrors::mirrors_of;
-use crate::wanted::Wanted;
+use crate::entries::made_entry_count;
+use crate::error::ArgsError;
+use crate::grammar::{is_on, match_words, arg_value_in};
+use crate::kernel::kernel_range_of;
+use crate::mirrors::mirrors_of_value;
+use crate::wanted::BootmemArgs;
 use bm_base::Width;
 use clap::ArgMatches;
 use debugfs_reports::are_reports;
@@ -33,22 +33,22 @@ const DEFAULT_LIST: &str = "buddyinfo";
 ///
 /// # Errors
 ///
-/// - [`WordError::Usage`] exactly if the words aren't accepted, unless memory runs out first.
-/// - [`WordError::Memory`] if this program is out of memory, which may happen for any words.
-pub fn read_words<'w>(alloc: Global, words: &'w [String]) -> Result<Wanted<'w>, WordError>
-    ensures { Answers WordError.Memory wanted_view result (or_refused (accepted (texts words.entry.now))) }
+/// - [`ArgsError::Usage`] exactly if the words aren't accepted, unless memory runs out first.
+/// - [`ArgsError::Memory`] if this program is out of memory, which may happen for any words.
+pub fn read_args<'w>(alloc: Global, words: &'w [String]) -> Result<BootmemArgs<'w>, ArgsError>
+    ensures { Answers ArgsError.Memory bootmem_args_view result (or_refused (read_args (bytes_of_words words.entry.now))) }
 {
-    asked_by(alloc, match_words(alloc, words)?)
+    args_from_values(alloc, match_words(alloc, words)?)
 }
 
 /// Returns whether the first entries have one source: they are made, or come from a zero page, to
 /// which an extension may add.
 fn has_source(matches: &ArgMatches<'_>) -> bool
-    ensures { result ≡ has_source (value_in (rows_of (found_of matches.now))) }
+    ensures { result ≡ has_source (arg_value_in (rows_of (found_of matches.now))) }
 {
-    let zero_page = value_of(matches, "ZEROPAGE").is_some();
-    let extension = value_of(matches, "e820ext").is_some();
-    if value_of(matches, "make").is_some() {
+    let zero_page = arg_value_in(matches, "ZEROPAGE").is_some();
+    let extension = arg_value_in(matches, "e820ext").is_some();
+    if arg_value_in(matches, "make").is_some() {
         !zero_page && !extension
     } else {
         zero_page
@@ -58,7 +58,7 @@ fn has_source(matches: &ArgMatches<'_>) -> bool
 /// Returns the width of addresses: 52 bits with the flag `--la57` (page tables of five levels),
 /// else 46.
 fn width_in(matches: &ArgMatches<'_>) -> Width
-    ensures { result ≡ width_in (value_in (rows_of (found_of matches.now))) }
+    ensures { result ≡ width_in (arg_value_in (rows_of (found_of matches.now))) }
 {
     if is_on(matches, "la57") {
         Width::Bits52
@@ -71,24 +71,24 @@ fn width_in(matches: &ArgMatches<'_>) -> Width
 ///
 /// # Errors
 ///
-/// - [`WordError::Usage`] exactly if a value is refused, or the first entries don't have one
+/// - [`ArgsError::Usage`] exactly if a value is refused, or the first entries don't have one
 ///   source.
-/// - [`WordError::Memory`] if this program is out of memory; never if anything is refused.
-fn asked_by<'w>(alloc: Global, matches: ArgMatches<'w>) -> Result<Wanted<'w>, WordError>
-    ensures value { Answers WordError.Memory wanted_view result
-        (or_refused (asked_by (value_in (rows_of (found_of matches.entry))))) }
-    ensures memory { IsErrOf result WordError.Memory → IsSome (asked_by (value_in (rows_of (found_of matches.entry)))) }
+/// - [`ArgsError::Memory`] if this program is out of memory; never if anything is refused.
+fn args_from_values<'w>(alloc: Global, matches: ArgMatches<'w>) -> Result<BootmemArgs<'w>, ArgsError>
+    ensures value { Answers ArgsError.Memory bootmem_args_view result
+        (or_refused (args_from_values (arg_value_in (rows_of (found_of matches.entry))))) }
+    ensures memory { IsErrOf result ArgsError.Memory → IsSome (args_from_values (arg_value_in (rows_of (found_of matches.entry)))) }
 {
     if !has_source(&matches) {
-        return Err(WordError::Usage);
+        return Err(ArgsError::Usage);
     }
-    let made = entries_of(value_of(&matches, "make")).ok_or(WordError::Usage)?;
+    let made = made_entry_count(arg_value_in(&matches, "make")).ok_or(ArgsError::Usage)?;
     let width = width_in(&matches);
-    let kernel = kernel_of(value_of(&matches, "kernel"), width).ok_or(WordError::Usage)?;
-    let list = list_in(&matches).ok_or(WordError::Usage)?;
-    let mirrors = mirrors_of(alloc, value_of(&matches, "mirror"))?;
+    let kernel = kernel_range_of(arg_value_in(&matches, "kernel"), width).ok_or(ArgsError::Usage)?;
+    let list = report_list_in(&matches).ok_or(ArgsError::Usage)?;
+    let mirrors = mirrors_of_value(alloc, arg_value_in(&matches, "mirror"))?;
     let upward = is_on(&matches, "bottom-up");
-    Ok(Wanted {
+    Ok(BootmemArgs {
         matches,
         list,
         width,
@@ -100,10 +100,10 @@ fn asked_by<'w>(alloc: Global, matches: ArgMatches<'w>) -> Result<Wanted<'w>, Wo
 }
 
 /// Returns the list of requested reports, if each name in it is that of a report.
-fn list_in<'w>(matches: &ArgMatches<'w>) -> Option<&'w str>
-    ensures { option_copied result ≡ list_in (value_in (rows_of (found_of matches.now))) }
+fn report_list_in<'w>(matches: &ArgMatches<'w>) -> Option<&'w str>
+    ensures { option_copied result ≡ report_list_in (arg_value_in (rows_of (found_of matches.now))) }
 {
-    let list = value_of(matches, "report").unwrap_or(DEFAULT_LIST);
+    let list = arg_value_in(matches, "report").unwrap_or(DEFAULT_LIST);
     if are_reports(list.as_bytes()) {
         Some(list)
     } else {

@@ -7,10 +7,10 @@ ghost use Rattle.std.specs.List.{All};
 ghost use Rattle.std.proofs.Props.{props};
 ghost use Rattle.boot_model.specs.Kernel.{IsKernel};
 ghost use Rattle.boot_model.specs.Mirrors.{IsMirror};
-ghost use Rattle.program_words.specs.Entries.{AreEntries};
+ghost use Rattle.program_words.specs.Entries.{IsEntryCount};
 ghost use Rattle.program_words.specs.Words.{argument_of};
 
-use crate::grammar::value_of;
+use crate::grammar::arg_value_in;
 use bm_base::{Memory, Range, Width};
 use boot_inputs::{Input, Names};
 use boot_model::Inputs;
@@ -20,7 +20,7 @@ use std::alloc::Global;
 /// What an accepted command line asks for. The names of files and of reports stay in the words;
 /// the name of a file is looked up in the matches that `clap` found.
 #[derive(Debug, Drop)]
-pub struct Wanted<'w> {
+pub struct BootmemArgs<'w> {
     /// The values that were found for the arguments.
     pub(crate) matches: ArgMatches<'w>,
     /// The reports: names, separated by commas.
@@ -38,33 +38,33 @@ pub struct Wanted<'w> {
     pub made: Option<u32>,
     ghost kernel_fits: { IsKernel width kernel },
     ghost mirrors_fit: { All IsMirror mirrors.items },
-    ghost made_fits: { IfSome made AreEntries } by { Prim.hlevel props },
+    ghost made_fits: { IfSome made IsEntryCount } by { Prim.hlevel props },
 }
 
-impl Wanted<'_> {
+impl BootmemArgs<'_> {
     ghost use Rattle.std.specs.Prelude.{◌≡◌, IfOk};
     ghost use Rattle.boot_model.specs.View.{inputs_view};
-    ghost use Rattle.program_words.specs.View.{wanted_view};
+    ghost use Rattle.program_words.specs.View.{bootmem_args_view};
 
     /// Returns the inputs of the boot that the command line itself gives, to which each file adds.
     /// Fails only if out of memory.
-    pub fn begun(&self, alloc: Global) -> Result<Inputs, Memory>
-        ensures { IfOk result (λ inputs. inputs_view inputs ≡ (wanted_view self.now).begun) }
+    pub fn command_line_inputs(&self, alloc: Global) -> Result<Inputs, Memory>
+        ensures { IfOk result (λ inputs. inputs_view inputs ≡ (bootmem_args_view self.now).begun) }
     {
-        let mut inputs = Inputs::begun(alloc, self.width, self.kernel);
+        let mut inputs = Inputs::without_files(alloc, self.width, self.kernel);
         inputs.mirrors = Vec::from_slice(alloc, &self.mirrors)?;
         inputs.upward = self.upward;
         Ok(inputs)
     }
 }
 
-impl<'w> Names for Wanted<'w> {
-    ghost use Rattle.program_words.specs.View.{wanted_view};
+impl<'w> Names for BootmemArgs<'w> {
+    ghost use Rattle.program_words.specs.View.{bootmem_args_view};
 
-    ghost named = { λ wanted. (wanted_view wanted).named };
+    ghost named = { λ wanted. (bootmem_args_view wanted).named };
 
     fn of(&self, input: Input) -> Option<&str> {
-        value_of(&self.matches, argument_of(input))
+        arg_value_in(&self.matches, argument_of(input))
     }
 }
 

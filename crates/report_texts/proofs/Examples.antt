@@ -10,9 +10,9 @@ use Rattle.memblock_model.specs.declared.owner.Owner.{Owner}
 use Rattle.memblock_model.specs.declared.owner.Owner.TheVariants as owner
 use Rattle.memblock_model.specs.declared.owner.Which.TheVariants as which
 use Rattle.memblock_model.specs.Labels.{LabelView, plain_label, with_node}
-use Rattle.report_texts.specs.Lines.{index_text, lines_from, range_text}
+use Rattle.report_texts.specs.Lines.{index_text, indexed_lines, range_text}
 use Rattle.report_texts.specs.JournalText.{item_text, journal_text}
-use Rattle.report_texts.specs.MapText.{kind_name, map_text}
+use Rattle.report_texts.specs.MapText.{e820_type_name, map_text}
 use Rattle.report_texts.specs.OptionsText.{crash_lines, crash_range_line, crash_range_text, edit_text, options_text}
 use Rattle.report_texts.specs.OwnersText.{owner_text, owners_text}
 use Rattle.report_texts.specs.RecordsText.{records_text, region_line}
@@ -20,7 +20,7 @@ use Rattle.report_texts.specs.TablesText.{tables_text}
 
 -- elements are numbered one by one; a range of one byte, and an empty one; an index has at least
 -- four columns
-line_examples : (lines_from (λ n x. decimal n ++ x) 8 (codes "a" ∷ codes "b" ∷ codes "c" ∷ []) ≡ codes "8a9b10c")
+line_examples : (indexed_lines (λ n x. decimal n ++ x) 8 (codes "a" ∷ codes "b" ∷ codes "c" ∷ []) ≡ codes "8a9b10c")
     × (range_text (record { base = 0x1000; size = 1 }) ≡ codes "0x0000000000001000..0x0000000000001000")
     × (range_text (record { base = 0; size = 0 }) ≡ codes "0x0000000000000000..0x0000000000000000")
     × (index_text 7 ≡ codes "   7: ") × (index_text 9999 ≡ codes "9999: ") × (index_text 12345 ≡ codes "12345: ")
@@ -36,9 +36,9 @@ reserved_behind = record { base = 0x7FE0000; size = 0x20000; value = 2 }
 
 map_examples : (map_text (ram_at_1M ∷ reserved_behind ∷ [])
     ≡ codes "0x0000000000100000..0x0000000007fdffff 1 usable\n0x0000000007fe0000..0x0000000007ffffff 2 reserved\n")
-    × (kind_name 0xEFFFFFFF ≡ codes "soft reserved")
-    × (kind_name 6 ≡ codes "other")
-    × (kind_name 128 ≡ codes "usable kernel")
+    × (e820_type_name 0xEFFFFFFF ≡ codes "soft reserved")
+    × (e820_type_name 6 ≡ codes "other")
+    × (e820_type_name 128 ≡ codes "usable kernel")
 unfolding ram_at_1M reserved_behind digits
 map_examples = (refl, refl, refl, refl)
 

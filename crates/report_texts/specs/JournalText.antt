@@ -4,7 +4,7 @@ use Rattle.std.specs.Prelude.{ℕ, ◌+◌, Bool, if◌then◌else◌, List, ◌
 use Rattle.bm_base.specs.Text.{hex_text}
 use Rattle.memblock_model.specs.declared.item.Item.{Item}
 use Rattle.memblock_model.specs.declared.item.Item.TheVariants as item
-use Rattle.report_texts.specs.Lines.{lines_from, range_text}
+use Rattle.report_texts.specs.Lines.{indexed_lines, range_text}
 use Rattle.report_texts.specs.OwnersText.{owner_text, which_name}
 
 -- `on` or `off`
@@ -29,4 +29,4 @@ abbrev pub item_line : ℕ → Item → List ℕ
 item_line n i = decimal (n + 1) ++ codes ": " ++ item_text i ++ codes "\n"
 
 abbrev pub journal_text : List Item → List ℕ
-journal_text items = lines_from item_line 0 items
+journal_text items = indexed_lines item_line 0 items

@@ -4,9 +4,9 @@ use Rattle.bm_base.specs.Range.{RangeView, end_of}
 use Rattle.bm_base.specs.Text.{hex_text, padded_decimal}
 
 -- the line of each element with its index; the first has the index n
-abbrev pub lines_from : {X : Type 0} → (ℕ → X → List ℕ) → ℕ → List X → List ℕ
-lines_from line n [] = []
-lines_from line n (x ∷ xs) = line n x ++ lines_from line (n + 1) xs
+abbrev pub indexed_lines : {X : Type 0} → (ℕ → X → List ℕ) → ℕ → List X → List ℕ
+indexed_lines line n [] = []
+indexed_lines line n (x ∷ xs) = line n x ++ indexed_lines line (n + 1) xs
 
 -- a range: the addresses of its first and its last byte, each as `0x` and sixteen digits. If the
 -- range is empty, the second is one below the first, or 0 if the first is 0

@@ -3,11 +3,11 @@
 use Rattle.std.specs.Prelude.{ℕ, ◌==◌, if◌then◌else◌, List, ◌++◌, codes, decimal}
 use Rattle.address_runs.specs.Runs.{RunOf, extent_of}
 use Rattle.e820_model.specs.declared.entry.TheConstants.{E820_TYPE_RAM, E820_TYPE_RESERVED, E820_TYPE_ACPI, E820_TYPE_NVS, E820_TYPE_UNUSABLE, E820_TYPE_PMEM, E820_TYPE_PRAM, E820_TYPE_RESERVED_KERN, E820_TYPE_SOFT_RESERVED}
-use Rattle.report_texts.specs.Lines.{lines_from, range_text}
+use Rattle.report_texts.specs.Lines.{indexed_lines, range_text}
 
 -- the name of a type (`enum e820_type`)
-abbrev pub kind_name : ℕ → List ℕ
-kind_name k =
+abbrev pub e820_type_name : ℕ → List ℕ
+e820_type_name k =
     if k == E820_TYPE_RAM then codes "usable"
     else (if k == E820_TYPE_RESERVED then codes "reserved"
     else (if k == E820_TYPE_ACPI then codes "ACPI data"
@@ -22,8 +22,8 @@ kind_name k =
 -- the line of a run: its range, the number of its type and the type's name; the index isn't
 -- printed
 abbrev pub map_line : ℕ → RunOf ℕ → List ℕ
-map_line n r = range_text (extent_of r) ++ codes " " ++ decimal r.value ++ codes " " ++ kind_name r.value ++ codes "\n"
+map_line n r = range_text (extent_of r) ++ codes " " ++ decimal r.value ++ codes " " ++ e820_type_name r.value ++ codes "\n"
 
 -- the map: a line for each run
 abbrev pub map_text : List (RunOf ℕ) → List ℕ
-map_text runs = lines_from map_line 0 runs
+map_text runs = indexed_lines map_line 0 runs

@@ -6,9 +6,9 @@ use Rattle.bm_base.specs.Text.{hex_text}
 use Rattle.e820_model.specs.declared.entry.Edit.{Edit}
 use Rattle.e820_model.specs.declared.entry.Edit.TheVariants as edits
 use Rattle.boot_options.specs.declared.crash.CrashRange.{CrashRange}
-use Rattle.boot_options.specs.Crash.{CrashWords, PlainForm}
-use Rattle.boot_options.specs.Options.{Chosen}
-use Rattle.report_texts.specs.Lines.{lines_from, range_text}
+use Rattle.boot_options.specs.Crash.{CrashOptionView, CrashPlainView}
+use Rattle.boot_options.specs.Options.{OptionsView}
+use Rattle.report_texts.specs.Lines.{indexed_lines, range_text}
 
 -- the number of a type, and a space
 abbrev pub kind_text : ℕ → List ℕ
@@ -27,32 +27,32 @@ abbrev pub edit_line : ℕ → Edit → List ℕ
 edit_line n edit = edit_text edit ++ codes "\n"
 
 -- the end of a range of `crashkernel=`, or `-` if it has none
-abbrev pub end_text : Option ℕ → List ℕ
-end_text None = codes "-"
-end_text (Some end) = hex_text end
+abbrev pub crash_end_text : Option ℕ → List ℕ
+crash_end_text None = codes "-"
+crash_end_text (Some end) = hex_text end
 
 -- a range of the plain form: its start and its end in total memory, and the size that is set aside
 -- there
 unfoldable pub crash_range_text : CrashRange → List ℕ
-crash_range_text range = hex_text range.start ++ codes " " ++ end_text range.end ++ codes " " ++ hex_text range.size
+crash_range_text range = hex_text range.start ++ codes " " ++ crash_end_text range.end ++ codes " " ++ hex_text range.size
 
 -- the line of such a range, with the base of the area, which is 0 if the kernel chooses the place;
 -- the index isn't printed
 abbrev pub crash_range_line : ℕ → ℕ → CrashRange → List ℕ
 crash_range_line base n range = codes "crash range " ++ crash_range_text range ++ codes " base " ++ hex_text base ++ codes "\n"
 
-abbrev pub plain_lines : Option PlainForm → List ℕ
+abbrev pub plain_lines : Option CrashPlainView → List ℕ
 plain_lines None = []
-plain_lines (Some plain) = lines_from (crash_range_line plain.base) 0 plain.ranges
+plain_lines (Some plain) = indexed_lines (crash_range_line plain.base) 0 plain.ranges
 
 -- a line with this word and the size, if there is a size
-abbrev pub size_line : List ℕ → Option ℕ → List ℕ
-size_line word None = []
-size_line word (Some size) = word ++ hex_text size ++ codes "\n"
+abbrev pub crash_size_line : List ℕ → Option ℕ → List ℕ
+crash_size_line word None = []
+crash_size_line word (Some size) = word ++ hex_text size ++ codes "\n"
 
 -- the requested crash area, form by form
-abbrev pub crash_lines : CrashWords → List ℕ
-crash_lines crash = plain_lines crash.plain ++ size_line (codes "crash high ") crash.high ++ size_line (codes "crash low ") crash.low
+abbrev pub crash_lines : CrashOptionView → List ℕ
+crash_lines crash = plain_lines crash.plain ++ crash_size_line (codes "crash high ") crash.high ++ crash_size_line (codes "crash low ") crash.low
 
 -- a line if the SRAT isn't used
 abbrev pub numa_line : Bool → List ℕ
@@ -64,6 +64,6 @@ efi_line add_efi = if add_efi then codes "efi add\n" else []
 
 -- the options: the edits in the order of the command line, then the crash area, then `numa=off`,
 -- and then `add_efi_memmap`
-abbrev pub options_text : Chosen → List ℕ
+abbrev pub options_text : OptionsView → List ℕ
 options_text chosen =
-    lines_from edit_line 0 chosen.edits ++ crash_lines chosen.crash ++ numa_line chosen.numa_off ++ efi_line chosen.add_efi
+    indexed_lines edit_line 0 chosen.edits ++ crash_lines chosen.crash ++ numa_line chosen.numa_off ++ efi_line chosen.add_efi

@@ -6,7 +6,7 @@ use Rattle.memblock_model.specs.declared.owner.Owner.{Owner}
 use Rattle.memblock_model.specs.declared.owner.Owner.TheVariants as owner
 use Rattle.memblock_model.specs.declared.owner.Which.{Which}
 use Rattle.memblock_model.specs.declared.owner.Which.TheVariants as which
-use Rattle.report_texts.specs.Lines.{index_text, lines_from, range_text}
+use Rattle.report_texts.specs.Lines.{index_text, indexed_lines, range_text}
 
 abbrev pub which_name : Which → List ℕ
 which_name which.Memory = codes "memory"
@@ -34,4 +34,4 @@ abbrev pub owner_line : ℕ → RunOf Owner → List ℕ
 owner_line n r = index_text n ++ range_text (extent_of r) ++ codes " " ++ owner_text r.value ++ codes "\n"
 
 abbrev pub owners_text : List (RunOf Owner) → List ℕ
-owners_text runs = lines_from owner_line 0 runs
+owners_text runs = indexed_lines owner_line 0 runs

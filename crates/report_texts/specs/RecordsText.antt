@@ -5,7 +5,7 @@ use Rattle.bm_base.specs.Range.{RangeView}
 use Rattle.address_runs.specs.Runs.{RunOf, extent_of}
 use Rattle.memblock_model.specs.Labels.{LabelView}
 use Rattle.memblock_ranges.specs.declared.region.Region.{Region}
-use Rattle.report_texts.specs.Lines.{index_text, lines_from, range_text}
+use Rattle.report_texts.specs.Lines.{index_text, indexed_lines, range_text}
 
 -- the line of a range with its index
 abbrev pub extent_line : ℕ → RangeView → List ℕ
@@ -20,4 +20,4 @@ abbrev pub region_line : ℕ → Region → List ℕ
 region_line n r = extent_line n (record { base = r.base; size = r.size })
 
 abbrev pub records_text : List (RunOf LabelView) → List ℕ
-records_text records = lines_from record_line 0 records
+records_text records = indexed_lines record_line 0 records

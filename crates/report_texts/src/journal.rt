@@ -5,7 +5,7 @@ ghost use Rattle.std.specs.Prelude.{◌+◌, ◌^◌, ◌<◌};
 ghost use Rattle.bm_base.specs.PutsText.{PutsText};
 ghost use Rattle.report_texts.specs.JournalText.{item_line, item_text, journal_text};
 
-use crate::lines::put_lines;
+use crate::lines::put_indexed_lines;
 use crate::owners::{put_owner, which_name};
 use crate::ranges::{put_range, put_word_range};
 use bm_base::{Memory, Range, put_dec, put_hex, put_text};
@@ -19,7 +19,7 @@ use boot_journal::{Item, Journal, Owner, Which};
 pub fn put_journal(text: &mut Vec<u8>, journal: &Journal) -> Result<(), Memory>
     ensures { PutsText text.old text.new result (journal_text journal.now.items) }
 {
-    put_lines(text, journal.items(), put_item_line)
+    put_indexed_lines(text, journal.items(), put_item_line)
 }
 
 /// Appends the line of an item. Items are numbered from 1.

@@ -3,7 +3,7 @@
 //!
 //! Each report consists of three things: the definition of a line in `specs/`, which can be
 //! compared with the documentation of the formats; the function that writes this line; and one
-//! call of [`put_lines`]. That function takes the one for a line, and is proved once for all
+//! call of [`put_indexed_lines`]. That function takes the one for a line, and is proved once for all
 //! lists. Each `put_` function appends the text of one report:
 //!
 //! - [`put_map`]: the runs of the map
@@ -32,7 +32,7 @@ mod records;
 mod tables;
 
 pub use journal::{put_item, put_journal};
-pub use lines::put_lines;
+pub use lines::put_indexed_lines;
 pub use map::put_map;
 pub use options::put_options;
 pub use owners::{put_owners, which_name};

@@ -3,7 +3,7 @@
 
 ghost use Rattle.std.specs.Prelude.{◌≡◌, ℕ, ◌<◌, ◌++◌, List, OnOk, length};
 ghost use Rattle.bm_base.specs.PutsText.{PutsText};
-ghost use Rattle.report_texts.specs.Lines.{lines_from};
+ghost use Rattle.report_texts.specs.Lines.{indexed_lines};
 
 use bm_base::Memory;
 
@@ -14,7 +14,7 @@ use bm_base::Memory;
 /// # Errors
 ///
 /// - `Memory`: the program ran out of memory; the text is incomplete.
-pub fn put_lines<T, F: Fn(&mut Vec<u8>, u64, &T) -> Result<(), Memory>>(
+pub fn put_indexed_lines<T, F: Fn(&mut Vec<u8>, u64, &T) -> Result<(), Memory>>(
     text: &mut Vec<u8>,
     items: &[T],
     put: F,
@@ -23,11 +23,11 @@ pub fn put_lines<T, F: Fn(&mut Vec<u8>, u64, &T) -> Result<(), Memory>>(
     ensures lines { (line : ℕ → T → List ℕ)
         → ((t : _) (i : _) (x : _) (answer : _) (u : _) → F.post put t i x answer u
         → OnOk answer (u.now.items ≡ t.now.items ++ line i x.now))
-        → OnOk result (text.new.items ≡ text.old.items ++ lines_from line 0 items.now) }
+        → OnOk result (text.new.items ≡ text.old.items ++ indexed_lines line 0 items.now) }
     ensures puts { (line : ℕ → T → List ℕ)
         → ((t : _) (i : _) (x : _) (answer : _) (u : _) → F.post put t i x answer u
         → PutsText t.now u.now answer (line i x.now))
-        → PutsText text.old text.new result (lines_from line 0 items.now) }
+        → PutsText text.old text.new result (indexed_lines line 0 items.now) }
 {
     for (index, item) in items.iter().enumerate() {
         put(text, index as u64, item)?;

@@ -3,9 +3,9 @@
 
 ghost use Rattle.std.specs.Prelude.{◌≡◌};
 ghost use Rattle.bm_base.specs.PutsText.{PutsText};
-ghost use Rattle.report_texts.specs.MapText.{kind_name, map_line, map_text};
+ghost use Rattle.report_texts.specs.MapText.{e820_type_name, map_line, map_text};
 
-use crate::lines::put_lines;
+use crate::lines::put_indexed_lines;
 use crate::ranges::put_range;
 use bm_base::{Memory, put_dec, put_text};
 use e820_model::{
@@ -14,8 +14,8 @@ use e820_model::{
 };
 
 /// Returns the name of a type (`enum e820_type`).
-fn kind_name(kind: u32) -> &'static str
-    ensures { result.now ≡ kind_name kind }
+fn e820_type_name(kind: u32) -> &'static str
+    ensures { result.now ≡ e820_type_name kind }
 {
     match kind {
         E820_TYPE_RAM => "usable",
@@ -39,7 +39,7 @@ fn kind_name(kind: u32) -> &'static str
 pub fn put_map(text: &mut Vec<u8>, runs: &[Run]) -> Result<(), Memory>
     ensures { PutsText text.old text.new result (map_text runs.now) }
 {
-    put_lines(text, runs, put_map_line)
+    put_indexed_lines(text, runs, put_map_line)
 }
 
 /// Appends the line of a run.
@@ -50,6 +50,6 @@ fn put_map_line(text: &mut Vec<u8>, index: u64, run: &Run) -> Result<(), Memory>
     put_text(text, b" ")?;
     put_dec(text, u64::from(run.kind), 0)?;
     put_text(text, b" ")?;
-    put_text(text, kind_name(run.kind).as_bytes())?;
+    put_text(text, e820_type_name(run.kind).as_bytes())?;
     put_text(text, b"\n")
 }

@@ -5,11 +5,11 @@ ghost use Rattle.std.specs.Prelude.{◌++◌, codes};
 ghost use Rattle.std.specs.Option.{option_map};
 ghost use Rattle.bm_base.specs.PutsText.{PutsText};
 ghost use Rattle.bm_base.specs.Text.{hex_text};
-ghost use Rattle.boot_options.specs.Crash.{crash_view, plain_view};
-ghost use Rattle.boot_options.specs.Options.{chosen};
-ghost use Rattle.report_texts.specs.OptionsText.{crash_lines, crash_range_text, edit_line, edit_text, efi_line, end_text, kind_text, numa_line, options_text, plain_lines, size_line};
+ghost use Rattle.boot_options.specs.Crash.{crash_option_view, crash_plain_view};
+ghost use Rattle.boot_options.specs.Options.{options_view};
+ghost use Rattle.report_texts.specs.OptionsText.{crash_lines, crash_range_text, edit_line, edit_text, efi_line, crash_end_text, kind_text, numa_line, options_text, plain_lines, crash_size_line};
 
-use crate::lines::put_lines;
+use crate::lines::put_indexed_lines;
 use crate::ranges::{put_range, put_word_range};
 use bm_base::{Memory, put_dec, put_hex, put_text};
 use boot_options::{CrashOption, CrashPlain, CrashRange, Edit, Options};
@@ -22,9 +22,9 @@ use boot_options::{CrashOption, CrashPlain, CrashRange, Edit, Options};
 ///
 /// - `Memory`: the program ran out of memory; the text is incomplete.
 pub fn put_options(text: &mut Vec<u8>, options: &Options) -> Result<(), Memory>
-    ensures { PutsText text.old text.new result (options_text (chosen options.now)) }
+    ensures { PutsText text.old text.new result (options_text (options_view options.now)) }
 {
-    put_lines(text, &options.edits, put_edit_line)?;
+    put_indexed_lines(text, &options.edits, put_edit_line)?;
     put_crash_lines(text, &options.crash)?;
     put_numa_line(text, options.numa_off)?;
     put_efi_line(text, options.add_efi)
@@ -75,21 +75,21 @@ fn put_kind(text: &mut Vec<u8>, kind: u32) -> Result<(), Memory>
 /// Appends the lines of the requested crash area: one for each range of the plain form, and one
 /// for each other form that is given.
 fn put_crash_lines(text: &mut Vec<u8>, crash: &CrashOption) -> Result<(), Memory>
-    ensures { PutsText text.old text.new result (crash_lines (crash_view crash.now)) }
+    ensures { PutsText text.old text.new result (crash_lines (crash_option_view crash.now)) }
 {
     put_plain_lines(text, &crash.plain)?;
-    put_size_line(text, b"crash high ", crash.high)?;
-    put_size_line(text, b"crash low ", crash.low)
+    put_crash_size_line(text, b"crash high ", crash.high)?;
+    put_crash_size_line(text, b"crash low ", crash.low)
 }
 
 /// Appends a line for each range of the plain form, if it is given.
 fn put_plain_lines(text: &mut Vec<u8>, plain: &Option<CrashPlain>) -> Result<(), Memory>
-    ensures { PutsText text.old text.new result (plain_lines (option_map plain_view plain.now)) }
+    ensures { PutsText text.old text.new result (plain_lines (option_map crash_plain_view plain.now)) }
 {
     match plain {
         Some(plain) => {
             let base = plain.base;
-            put_lines(
+            put_indexed_lines(
                 text,
                 &plain.ranges,
                 |text: &mut Vec<u8>, _index: u64, range: &CrashRange| {
@@ -124,14 +124,14 @@ fn put_crash_bounds(text: &mut Vec<u8>, range: &CrashRange) -> Result<(), Memory
 {
     put_hex(text, range.start)?;
     put_text(text, b" ")?;
-    put_end(text, range.end)?;
+    put_crash_end(text, range.end)?;
     put_text(text, b" ")?;
     put_hex(text, range.size)
 }
 
 /// Appends the end of a range of total memory, or `-` if it has none.
-fn put_end(text: &mut Vec<u8>, end: Option<u64>) -> Result<(), Memory>
-    ensures { PutsText text.old text.new result (end_text end) }
+fn put_crash_end(text: &mut Vec<u8>, end: Option<u64>) -> Result<(), Memory>
+    ensures { PutsText text.old text.new result (crash_end_text end) }
 {
     match end {
         Some(end) => put_hex(text, end),
@@ -140,8 +140,8 @@ fn put_end(text: &mut Vec<u8>, end: Option<u64>) -> Result<(), Memory>
 }
 
 /// Appends a line with the word and the size, if there is a size.
-fn put_size_line(text: &mut Vec<u8>, word: &[u8], size: Option<u64>) -> Result<(), Memory>
-    ensures { PutsText text.old text.new result (size_line word.now size) }
+fn put_crash_size_line(text: &mut Vec<u8>, word: &[u8], size: Option<u64>) -> Result<(), Memory>
+    ensures { PutsText text.old text.new result (crash_size_line word.now size) }
 {
     let Some(size) = size else {
         return Ok(());

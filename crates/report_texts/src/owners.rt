@@ -5,7 +5,7 @@ ghost use Rattle.bm_base.specs.PutsText.{PutsText};
 ghost use Rattle.memblock_model.specs.Items.{owner_runs_of};
 ghost use Rattle.report_texts.specs.OwnersText.{owner_line, owner_text, owners_text, which_name};
 
-use crate::lines::put_lines;
+use crate::lines::put_indexed_lines;
 use crate::ranges::{put_index, put_range};
 use bm_base::{Memory, put_dec, put_text};
 use boot_journal::{Journal, Owner, OwnerRun, Which};
@@ -19,7 +19,7 @@ use boot_journal::{Journal, Owner, OwnerRun, Which};
 pub fn put_owners(text: &mut Vec<u8>, journal: &Journal) -> Result<(), Memory>
     ensures { PutsText text.old text.new result (owners_text (owner_runs_of journal.now.items)) }
 {
-    put_lines(text, journal.owners(), put_owner_line)
+    put_indexed_lines(text, journal.owners(), put_owner_line)
 }
 
 /// Appends the line of a run of bytes with one owner.
@@ -51,19 +51,19 @@ pub fn put_owner(text: &mut Vec<u8>, owner: Owner) -> Result<(), Memory>
             put_text(text, b"table-")?;
             put_text(text, which_name(which).as_bytes())
         }
-        Owner::NodeData(node) => put_numbered(text, b"node-data ", node),
+        Owner::NodeData(node) => put_numbered_owner(text, b"node-data ", node),
         Owner::Crash => put_text(text, b"crash"),
         Owner::CrashLow => put_text(text, b"crash-low"),
         Owner::Roots => put_text(text, b"roots"),
-        Owner::Root(root) => put_numbered(text, b"root ", root),
-        Owner::Usage(section) => put_numbered(text, b"usage ", section),
-        Owner::Map(section) => put_numbered(text, b"map ", section),
-        Owner::Script(id) => put_numbered(text, b"script ", id),
+        Owner::Root(root) => put_numbered_owner(text, b"root ", root),
+        Owner::Usage(section) => put_numbered_owner(text, b"usage ", section),
+        Owner::Map(section) => put_numbered_owner(text, b"map ", section),
+        Owner::Script(id) => put_numbered_owner(text, b"script ", id),
     }
 }
 
 /// Appends a word and a number.
-fn put_numbered(text: &mut Vec<u8>, word: &[u8], number: u32) -> Result<(), Memory>
+fn put_numbered_owner(text: &mut Vec<u8>, word: &[u8], number: u32) -> Result<(), Memory>
     ensures { PutsText text.old text.new result (word.now ++ decimal number) }
 {
     put_text(text, word)?;

@@ -14,7 +14,7 @@ ghost use Rattle.run_edits.specs.Ends.{HasRoomToEdit};
 
 use crate::change::Change;
 use crate::laws::range_end_fits;
-use crate::reading::{first_ending_from, look, peek, skip_ended};
+use crate::reading::{first_ending_from, value_and_end, peek, skip_ended};
 use crate::slots::{Rows, Slots};
 use address_runs::{Stretch, agree};
 use bm_base::Range;
@@ -168,13 +168,13 @@ pub fn rewrite<S: Stretch, T: Slots<S>, C: Change<S::Value>>(
     let mut from = range.base;
     let mut sweep = begin(table, from);
     while from < until {
-        let (here, next) = look(table, sweep.read, from);
+        let (here, next) = value_and_end(table, sweep.read, from);
         let to = next.min(until);
         sweep.read = skip_ended(table, sweep.read, to);
         sweep = advance(table, sweep, from, change.apply(here));
         from = to;
     }
-    let (here, end) = look(table, sweep.read, until);
+    let (here, end) = value_and_end(table, sweep.read, until);
     sweep.read = skip_ended(table, sweep.read, end);
     sweep = advance(table, sweep, until, here);
     let (write, read) = emit(

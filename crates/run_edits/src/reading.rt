@@ -68,7 +68,7 @@ pub fn skip_ended<S: Stretch, T: Rows<S>>(table: &T, read: u64, at: u64) -> u64
 
 /// Returns what the address `from` carries, and the first address above it that carries something
 /// else (2^64 - 1 if no record is left). The records are read from index `read` on.
-pub fn look<S: Stretch, T: Rows<S>>(table: &T, read: u64, from: u64) -> (Option<S::Value>, u64)
+pub fn value_and_end<S: Stretch, T: Rows<S>>(table: &T, read: u64, from: u64) -> (Option<S::Value>, u64)
     ensures value { (f : ℕ → Option S.Value) → IsRestFrom f from (drop read (T.list table.now)) →
         result.0 ≡ f from }
     ensures stays { (f : ℕ → Option S.Value) → IsRestFrom f from (drop read (T.list table.now)) →
@@ -110,7 +110,7 @@ pub fn value_at<S: Stretch, T: Rows<S>>(table: &T, x: u64) -> Option<S::Value>
     ensures { result ≡ value_at (T.list table.now) x }
 {
     let read = seek(table, x);
-    look(table, read, x).0
+    value_and_end(table, read, x).0
 }
 
 /// Returns whether each address of the range carries the value.
@@ -127,6 +127,6 @@ pub fn has_value_throughout<S: Stretch, T: Rows<S>>(
         return true;
     }
     let read = seek(table, range.base);
-    let (here, next) = look(table, read, range.base);
+    let (here, next) = value_and_end(table, read, range.base);
     agree::<S>(here, Some(value)) && range.end() <= next
 }

@@ -6,13 +6,13 @@ use Rattle.text_words.specs.declared.separators.Separators.TheVariants as separa
 use Rattle.script_reader.specs.declared.act.Act.TheVariants as acts
 use Rattle.script_reader.specs.declared.fault.Wrong.TheVariants as wrong
 use Rattle.script_reader.specs.declared.fault.ScriptFault.TheVariants as faults
-use Rattle.script_reader.specs.Numbers.{Words, whole, number, within, bounded, optional_number, power, some, range_at}
-use Rattle.script_reader.specs.Forms.{greatest, greatest_id, greatest_node, greatest_byte, greatest_len, alloc_line, reserve_line, free_line, trim_line, fill_line, peek_line, by_name, HasBounds}
-use Rattle.script_reader.specs.Grammar.{IsPassedOver, no_words as no_word, comment, IsWithin, front_value, value, HasForm, SpellsNumbers, HasFault}
-use Rattle.script_reader.specs.Spelling.{no_node, near_node, exact_node, alloc, trim, peek, sections, HasNumbers, act_of, IsAligned, HasSize, IsInSpace, script_grammar, SpellsAct, Fails}
-use Rattle.script_reader.specs.ScriptSpelling.{HasSectionsLine, LineAsksFor, LineHasFault, LinesAskFor, IsFirstFault}
+use Rattle.script_reader.specs.Numbers.{Words, number_if_whole, number_in_word, number_if_within, number_within, optional_number, check_power_of_two, check_not_zero, range_or_fault}
+use Rattle.script_reader.specs.Forms.{greatest_u64, greatest_id, greatest_node, greatest_byte, greatest_len, alloc_line, reserve_line, free_line, trim_line, fill_line, peek_line, act_by_name, HasBounds}
+use Rattle.script_reader.specs.Grammar.{HasNoCommand, no_words as no_word, comment, IsWithin, front_value, value_of_word, HasLineForm, SpellsNumbers, HasWordsFault}
+use Rattle.script_reader.specs.Spelling.{no_node, near_node, exact_node, alloc, trim, peek, sections, HasLineNumbers, act_of_form, IsAligned, HasSize, IsInSpace, script_grammar, SpellsAct, Fails}
+use Rattle.script_reader.specs.ScriptSpelling.{HasSectionsLine, LineHasAct, LineHasFault, LinesHaveActs, IsFirstLineFault}
 use Rattle.script_reader.proofs.StepLaws.{words_spelled}
-use Rattle.script_reader.specs.Lines.{asked_by, asked}
+use Rattle.script_reader.specs.Lines.{act_by_forms, read_line}
 use Rattle.script_reader.specs.Script.{script_lines, script_of}
 
 -- the words of a line, or of the rest of one
@@ -20,20 +20,20 @@ abbrev in_words : List ℕ → Words
 in_words text = words_in separators.Script text
 
 -- a size must take its whole word
-whole_words : (number (codes "64K") ≡ Ok 65536) × (number (codes "64KB") ≡ Err wrong.Number) × (number (codes "x") ≡ Err wrong.Number)
-    × (whole (codes "12") (Ok (12, 2)) ≡ Ok 12) × (whole (codes "12x") (Ok (12, 2)) ≡ Err wrong.Number)
+whole_words : (number_in_word (codes "64K") ≡ Ok 65536) × (number_in_word (codes "64KB") ≡ Err wrong.Number) × (number_in_word (codes "x") ≡ Err wrong.Number)
+    × (number_if_whole (codes "12") (Ok (12, 2)) ≡ Ok 12) × (number_if_whole (codes "12x") (Ok (12, 2)) ≡ Err wrong.Number)
 whole_words = (refl, refl, refl, refl, refl)
 
-bounded_numbers : (within 9 9 ≡ Ok 9) × (within 9 10 ≡ Err wrong.Number) × (bounded greatest_byte (codes "0xff") ≡ Ok 255)
-    × (bounded greatest_byte (codes "256") ≡ Err wrong.Number) × (optional_number greatest_node None ≡ Ok None)
+bounded_numbers : (number_if_within 9 9 ≡ Ok 9) × (number_if_within 9 10 ≡ Err wrong.Number) × (number_within greatest_byte (codes "0xff") ≡ Ok 255)
+    × (number_within greatest_byte (codes "256") ≡ Err wrong.Number) × (optional_number greatest_node None ≡ Ok None)
     × (optional_number greatest_node (Some (codes "1023")) ≡ Ok (Some 1023))
-    × (optional_number greatest_node (Some (codes "1024")) ≡ Err wrong.Number) × (greatest ≡ 2 ^ 64 - 1) × (greatest_id ≡ 2 ^ 32 - 1)
+    × (optional_number greatest_node (Some (codes "1024")) ≡ Err wrong.Number) × (greatest_u64 ≡ 2 ^ 64 - 1) × (greatest_id ≡ 2 ^ 32 - 1)
     × (greatest_len ≡ 64)
 bounded_numbers = (refl, refl, refl, refl, refl, refl, refl, refl, refl, refl)
 
-powers_sizes_and_ranges : (power 4096 ≡ Ok 4096) × (power 3 ≡ Err wrong.Align) × (power 0 ≡ Err wrong.Align) × (some 1 ≡ Ok 1)
-    × (some 0 ≡ Err wrong.ZeroSize) × (range_at 1 (2 ^ 64 - 2) ≡ Ok (record { base = 1; size = 2 ^ 64 - 2 }))
-    × (range_at 1 (2 ^ 64 - 1) ≡ Err wrong.TooFar)
+powers_sizes_and_ranges : (check_power_of_two 4096 ≡ Ok 4096) × (check_power_of_two 3 ≡ Err wrong.Align) × (check_power_of_two 0 ≡ Err wrong.Align) × (check_not_zero 1 ≡ Ok 1)
+    × (check_not_zero 0 ≡ Err wrong.ZeroSize) × (range_or_fault 1 (2 ^ 64 - 2) ≡ Ok (record { base = 1; size = 2 ^ 64 - 2 }))
+    × (range_or_fault 1 (2 ^ 64 - 1) ≡ Err wrong.TooFar)
 unfolding lib.Count.ones
 powers_sizes_and_ranges = (refl, refl, refl, refl, refl, refl, refl)
 
@@ -56,9 +56,9 @@ forms_of_lines : (reserve_line (in_words (codes "1 0x1000 1")) ≡ Ok (acts.Rese
     × (peek_line (in_words (codes "0 65")) ≡ Err wrong.Number) × (peek_line (in_words (codes "0xffffffffffffffc0 64")) ≡ Err wrong.TooFar)
 forms_of_lines = (refl, refl, refl, refl, refl, refl, refl, refl, refl, refl, refl, refl)
 
-asked_examples : (asked_by (by_name false) [] ≡ Ok None) × (asked_by (by_name false) (in_words (codes "# free")) ≡ Ok None)
-    × (asked script_lines false (codes "\t\r") ≡ Ok None) × (asked_by (by_name false) (in_words (codes "free 1")) ≡ Ok (Some (acts.Free 1)))
-    × (asked script_lines false (codes " free\t1\r") ≡ Ok (Some (acts.Free 1)))
+asked_examples : (act_by_forms (act_by_name false) [] ≡ Ok None) × (act_by_forms (act_by_name false) (in_words (codes "# free")) ≡ Ok None)
+    × (read_line script_lines false (codes "\t\r") ≡ Ok None) × (act_by_forms (act_by_name false) (in_words (codes "free 1")) ≡ Ok (Some (acts.Free 1)))
+    × (read_line script_lines false (codes " free\t1\r") ≡ Ok (Some (acts.Free 1)))
 asked_examples = (refl, refl, refl, refl, refl)
 
 -- the limits of an act
@@ -88,13 +88,13 @@ spelled_words =
     )
 
 -- a line without words, and a comment, have no command
-passed_over : IsPassedOver [] × IsPassedOver (codes "#free" ∷ codes "1" ∷ [])
+passed_over : HasNoCommand [] × HasNoCommand (codes "#free" ∷ codes "1" ∷ [])
 passed_over = (no_word, comment (codes "free") (codes "1" ∷ []))
 
 -- any word may stand for a number: here `max` is a lower limit, and then the key after it
 any_word_for_a_number :
-    HasForm script_grammar (codes "alloc" ∷ codes "1" ∷ codes "1" ∷ codes "1" ∷ codes "min" ∷ codes "max" ∷ codes "max" ∷ codes "1" ∷ [])
-    × HasForm script_grammar (codes "alloc" ∷ codes "1" ∷ codes "1" ∷ codes "1" ∷ codes "node" ∷ codes "exact" ∷ [])
+    HasLineForm script_grammar (codes "alloc" ∷ codes "1" ∷ codes "1" ∷ codes "1" ∷ codes "min" ∷ codes "max" ∷ codes "max" ∷ codes "1" ∷ [])
+    × HasLineForm script_grammar (codes "alloc" ∷ codes "1" ∷ codes "1" ∷ codes "1" ∷ codes "node" ∷ codes "exact" ∷ [])
 any_word_for_a_number = (
   (alloc (codes "1") (codes "1") (codes "1") (Some (codes "max")) (Some (codes "1")) no_node, refl),
   (alloc (codes "1") (codes "1") (codes "1") None None (near_node (codes "exact")), refl),
@@ -102,7 +102,7 @@ any_word_for_a_number = (
 
 -- a size within its limit, one above it, and a word that isn't a size; values of words
 sizes_within : IsWithin 255 (codes "0xff") × (IsWithin 255 (codes "256") → ⊥) × (IsWithin 255 (codes "x") → ⊥)
-    × (value (codes "64K") ≡ 65536) × (front_value (Ok (12, 2)) ≡ 12)
+    × (value_of_word (codes "64K") ≡ 65536) × (front_value (Ok (12, 2)) ≡ 12)
 sizes_within = (
   (255, refl, lit≤ tt),
   λ is. (let same : 256 ≡ is.0 = ap front_value is.1 in omega (arith, same, is.2)),
@@ -111,11 +111,11 @@ sizes_within = (
   refl,
 )
 
-has_numbers : HasNumbers (peek (codes "0x10") (codes "64")) × HasNumbers sections
+has_numbers : HasLineNumbers (peek (codes "0x10") (codes "64")) × HasLineNumbers sections
 has_numbers = (((16, refl, lit≤ tt), (64, refl, lit≤ tt)), tt)
 
-acts_of_forms : (act_of (peek (codes "0x10") (codes "64")) ≡ acts.Peek 16 64)
-    × (act_of (alloc (codes "1") (codes "8K") (codes "4") None None (exact_node (codes "3")))
+acts_of_forms : (act_of_form (peek (codes "0x10") (codes "64")) ≡ acts.Peek 16 64)
+    × (act_of_form (alloc (codes "1") (codes "8K") (codes "4") None None (exact_node (codes "3")))
     ≡ acts.Alloc 1 (record { size = 8192; align = 4; min = 0; max = None; node = Some 3; exact = true }))
 acts_of_forms = (refl, refl)
 
@@ -139,8 +139,8 @@ spells_sections = record {
   in_space = tt;
 }
 
-faults_of_words : HasFault script_grammar (Fails false) (codes "trim" ∷ codes "1" ∷ codes "0" ∷ []) wrong.ZeroSize
-    × HasFault script_grammar (Fails true) (codes "sections" ∷ []) wrong.SecondSections
+faults_of_words : HasWordsFault script_grammar (Fails false) (codes "trim" ∷ codes "1" ∷ codes "0" ∷ []) wrong.ZeroSize
+    × HasWordsFault script_grammar (Fails true) (codes "sections" ∷ []) wrong.SecondSections
 faults_of_words = (
   (
     acts.Trim 1 0,
@@ -154,7 +154,7 @@ faults_of_words = (
 none_earlier : HasSectionsLine [] → ⊥
 none_earlier has = omega (arith, has.1.1)
 
-lines_asked : LineAsksFor [] (codes "#") None × LinesAskFor [] (codes "sections" ∷ codes "#" ∷ []) (record { number = 1; act = acts.Sections } ∷ [])
+lines_asked : LineHasAct [] (codes "#") None × LinesHaveActs [] (codes "sections" ∷ codes "#" ∷ []) (record { number = 1; act = acts.Sections } ∷ [])
 lines_asked =
     let hash : IsWord separators.Script (codes "#") = record { some = lit< tt; closed = (refl, refl) } in
     let words : HasWords separators.Script (codes "#") (codes "#" ∷ []) = word_alone (codes "#") hash in (
@@ -177,7 +177,7 @@ line_at_fault = record {
   fault = faults_of_words.0;
 }
 
-first_fault : IsFirstFault [] (codes "trim 1 0" ∷ codes "x" ∷ []) (faults.ZeroSize 1)
+first_fault : IsFirstLineFault [] (codes "trim 1 0" ∷ codes "x" ∷ []) (faults.ZeroSize 1)
 first_fault = record {
   before = [];
   text = codes "trim 1 0";

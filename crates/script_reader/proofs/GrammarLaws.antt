@@ -5,8 +5,8 @@ use Rattle.std.proofs.lemmas.Bool.Decides.{nat_tests}
 use Rattle.bm_base.specs.ResultSteps.{◌>>=◌}
 use Rattle.script_reader.specs.declared.fault.Wrong.{Wrong}
 use Rattle.script_reader.specs.declared.fault.Wrong.TheVariants as wrong
-use Rattle.script_reader.specs.Lines.{is_comment, asked_by}
-use Rattle.script_reader.specs.Grammar.{IsPassedOver, no_words, comment, Grammar, HasForm, SpellsNumbers, HasFault}
+use Rattle.script_reader.specs.Lines.{is_comment, act_by_forms}
+use Rattle.script_reader.specs.Grammar.{HasNoCommand, no_words, comment, Grammar, HasLineForm, SpellsNumbers, HasWordsFault}
 use Rattle.script_reader.specs.Numbers.{Words}
 
 -- a kind of script, with what the lemmas need of it. Words have a form, or have the fault `Form`.
@@ -17,11 +17,11 @@ pub record Reads (A : Type 0) : Type 1 where
   pub grammar : Grammar A
   pub Passes : A → Type 0
   pub Fails : A → Wrong → Type 0
-  pub named : (name : List ℕ) (words : Words) → HasForm grammar (name ∷ words) ⊎ (forms name words ≡ Err wrong.Form)
+  pub named : (name : List ℕ) (words : Words) → HasLineForm grammar (name ∷ words) ⊎ (forms name words ≡ Err wrong.Form)
   pub checked : A → Result A Wrong
   pub numbers : (form : grammar.Form)
-      → (grammar.HasNumbers form × (asked_by forms (grammar.words_of form) ≡ (checked (grammar.act_of form) >>= λ act. Ok (Some act))))
-      ⊎ ((¬ (grammar.HasNumbers form)) × (asked_by forms (grammar.words_of form) ≡ Err wrong.Number))
+      → (grammar.HasNumbers form × (act_by_forms forms (grammar.words_of form) ≡ (checked (grammar.act_of form) >>= λ act. Ok (Some act))))
+      ⊎ ((¬ (grammar.HasNumbers form)) × (act_by_forms forms (grammar.words_of form) ≡ Err wrong.Number))
   pub judged : (act : A) → (Passes act × (checked act ≡ Ok act)) ⊎ ((fault : Wrong) × Fails act fault × (checked act ≡ Err fault))
   pub passed : (act : A) → Passes act → checked act ≡ Ok act
   pub failed : (act : A) (fault : Wrong) → Fails act fault → checked act ≡ Err fault
@@ -37,19 +37,19 @@ comment_or (b ∷ bs) = by_test (b == 35) refl
     by_test true is = let same : b ≡ 35 = grind (arith, nat_tests, is) in inl (bs, ap (λ (a : ℕ). a ∷ bs) same)
     by_test false isnt = inr isnt
 
-not_comment : (name : List ℕ) (words : Words) → is_comment name ≡ false → ¬ (IsPassedOver (name ∷ words))
+not_comment : (name : List ℕ) (words : Words) → is_comment name ≡ false → ¬ (HasNoCommand (name ∷ words))
 not_comment name words isnt (comment word others) = cc
 
 -- every list of words has one of three meanings: no command, an act, or a fault
 data Verdict {A : Type 0} (reads : Reads A) (words : Words) : Type 0 where
-  passed_over : IsPassedOver words → asked_by reads.forms words ≡ Ok None → Verdict reads words
-  asks : (act : A) → SpellsNumbers reads.grammar words act → reads.Passes act → asked_by reads.forms words ≡ Ok (Some act)
+  passed_over : HasNoCommand words → act_by_forms reads.forms words ≡ Ok None → Verdict reads words
+  asks : (act : A) → SpellsNumbers reads.grammar words act → reads.Passes act → act_by_forms reads.forms words ≡ Ok (Some act)
       → Verdict reads words
-  at_fault : (fault : Wrong) → HasFault reads.grammar reads.Fails words fault → asked_by reads.forms words ≡ Err fault
+  at_fault : (fault : Wrong) → HasWordsFault reads.grammar reads.Fails words fault → act_by_forms reads.forms words ≡ Err fault
       → Verdict reads words
 
 act_fault : {A : Type 0} (reads : Reads A) (words : Words) (act : A) (fault : Wrong) → SpellsNumbers reads.grammar words act
-    → reads.Fails act fault → HasFault reads.grammar reads.Fails words fault
+    → reads.Fails act fault → HasWordsFault reads.grammar reads.Fails words fault
 act_fault reads words act wrong.Form spells fails = absurd (reads.not_form act fails)
 act_fault reads words act wrong.Number spells fails = absurd (reads.not_number act fails)
 act_fault reads words act other spells fails = (act, spells, fails)
@@ -68,12 +68,12 @@ form_judged reads form =
 
 -- words that aren't a comment have a form, or have the fault `Form`
 named_or : {A : Type 0} (reads : Reads A) (name : List ℕ) (words : Words) → is_comment name ≡ false
-    → HasForm reads.grammar (name ∷ words)
-    ⊎ ((¬ (HasForm reads.grammar (name ∷ words))) × (asked_by reads.forms (name ∷ words) ≡ Err wrong.Form))
+    → HasLineForm reads.grammar (name ∷ words)
+    ⊎ ((¬ (HasLineForm reads.grammar (name ∷ words))) × (act_by_forms reads.forms (name ∷ words) ≡ Err wrong.Form))
 named_or reads name words isnt =
     elim (reads.named name words) [
       | inl form ↦ inl form
-      | inr bad ↦ let asked_bad : asked_by reads.forms (name ∷ words) ≡ Err wrong.Form = rw (isnt, bad) refl in
+      | inr bad ↦ let asked_bad : act_by_forms reads.forms (name ∷ words) ≡ Err wrong.Form = rw (isnt, bad) refl in
           inr (
             λ form. elim (form_judged reads form.0) [
               | passed_over passed was ↦ cc (form.1, was, asked_bad)
@@ -97,7 +97,7 @@ line_judged reads (name ∷ words) =
     ]
 
 spelled_asked : {A : Type 0} (reads : Reads A) (words : Words) (act : A) → SpellsNumbers reads.grammar words act
-    → asked_by reads.forms words ≡ (reads.checked act >>= λ act. Ok (Some act))
+    → act_by_forms reads.forms words ≡ (reads.checked act >>= λ act. Ok (Some act))
 spelled_asked reads words act spells =
     elim (reads.numbers spells.form) [
       | inl good ↦ rw (spells.spelled, good.1, spells.asks) refl
@@ -106,7 +106,7 @@ spelled_asked reads words act spells =
 
 -- a line is read as an act exactly if its words spell it and it passes the checks
 pub act_read : {A : Type 0} (reads : Reads A) (words : Words) (act : A)
-    → (asked_by reads.forms words ≡ Ok (Some act)) ↔ (SpellsNumbers reads.grammar words act × reads.Passes act)
+    → (act_by_forms reads.forms words ≡ Ok (Some act)) ↔ (SpellsNumbers reads.grammar words act × reads.Passes act)
 act_read reads words act = (
   λ is. elim (line_judged reads words) [
     | passed_over passed was ↦ cc (is, was)
@@ -117,11 +117,11 @@ act_read reads words act = (
 )
 
 -- a line without words, and a comment, have no command
-passed_read : {A : Type 0} (forms : List ℕ → Words → Result A Wrong) (words : Words) → IsPassedOver words → asked_by forms words ≡ Ok None
+passed_read : {A : Type 0} (forms : List ℕ → Words → Result A Wrong) (words : Words) → HasNoCommand words → act_by_forms forms words ≡ Ok None
 passed_read forms words no_words = refl
 passed_read forms words (comment word others) = refl
 
-pub nothing_read : {A : Type 0} (reads : Reads A) (words : Words) → (asked_by reads.forms words ≡ Ok None) ↔ IsPassedOver words
+pub nothing_read : {A : Type 0} (reads : Reads A) (words : Words) → (act_by_forms reads.forms words ≡ Ok None) ↔ HasNoCommand words
 nothing_read reads words = (
   λ is. elim (line_judged reads words) [
     | passed_over passed was ↦ passed
@@ -132,12 +132,12 @@ nothing_read reads words = (
 )
 
 -- a line has the fault of the first condition that it doesn't meet
-number_failed : {A : Type 0} (reads : Reads A) (words : Words) → HasFault reads.grammar reads.Fails words wrong.Number
-    → asked_by reads.forms words ≡ Err wrong.Number
+number_failed : {A : Type 0} (reads : Reads A) (words : Words) → HasWordsFault reads.grammar reads.Fails words wrong.Number
+    → act_by_forms reads.forms words ≡ Err wrong.Number
 number_failed reads words has = elim (reads.numbers has.0) [ inl good ↦ absurd (has.2 good.0) | inr bad ↦ rw has.1 bad.1 ]
 
-has_failed : {A : Type 0} (reads : Reads A) (words : Words) (fault : Wrong) → HasFault reads.grammar reads.Fails words fault
-    → asked_by reads.forms words ≡ Err fault
+has_failed : {A : Type 0} (reads : Reads A) (words : Words) (fault : Wrong) → HasWordsFault reads.grammar reads.Fails words fault
+    → act_by_forms reads.forms words ≡ Err fault
 has_failed reads [] wrong.Form has = absurd (has.0 no_words)
 has_failed reads (name ∷ words) wrong.Form has =
     elim (comment_or name) [
@@ -148,7 +148,7 @@ has_failed reads words wrong.Number has = number_failed reads words has
 has_failed reads words other has = rw (spelled_asked reads words has.0 has.1, reads.failed has.0 other has.2) refl
 
 pub fault_read : {A : Type 0} (reads : Reads A) (words : Words) (fault : Wrong)
-    → (asked_by reads.forms words ≡ Err fault) ↔ HasFault reads.grammar reads.Fails words fault
+    → (act_by_forms reads.forms words ≡ Err fault) ↔ HasWordsFault reads.grammar reads.Fails words fault
 fault_read reads words fault = (
   λ is. elim (line_judged reads words) [
     | passed_over passed was ↦ cc (is, was)

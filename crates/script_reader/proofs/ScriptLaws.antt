@@ -6,7 +6,7 @@ use Rattle.std.proofs.lemmas.List.Elements.{All-append, All-nil, All-cons}
 use Rattle.text_words.proofs.WordsLaws.{left}
 use Rattle.bm_base.specs.declared.memory.Memory.{Memory}
 use Rattle.bm_base.specs.ResultSteps.{◌>>=◌}
-use Rattle.script_reader.specs.Lines.{Kind, line_at, seen_behind, asked, lines_from}
+use Rattle.script_reader.specs.Lines.{ScriptKind, script_line_at, has_once_command, read_line, script_lines_from}
 
 -- these lines, followed by the others or replaced by their fault
 abbrev pub behind : {L E : Type 0} → List L → Result (List L) E → Result (List L) E
@@ -25,12 +25,12 @@ with_others {L = L} front line (Ok lines) =
 with_others front line (Err fault) = refl
 
 -- the first line that is left becomes the last one that was read
-pub line_read : {A L : Type 0} (kind : Kind A L) (seen : Bool) (number : ℕ) (front : List L) (text : List ℕ) (texts : List (List ℕ))
-    (act : Option A) → asked kind seen text ≡ Ok act
-    → behind front (lines_from kind seen number (text ∷ texts))
-    ≡ behind (front ++ option_to_list (line_at kind number act)) (lines_from kind (seen_behind kind seen act) (number + 1) texts)
+pub line_read : {A L : Type 0} (kind : ScriptKind A L) (seen : Bool) (number : ℕ) (front : List L) (text : List ℕ) (texts : List (List ℕ))
+    (act : Option A) → read_line kind seen text ≡ Ok act
+    → behind front (script_lines_from kind seen number (text ∷ texts))
+    ≡ behind (front ++ option_to_list (script_line_at kind number act)) (script_lines_from kind (has_once_command kind seen act) (number + 1) texts)
 line_read kind seen number front text texts act is =
-    rw is (with_others front (line_at kind number act) (lines_from kind (seen_behind kind seen act) (number + 1) texts))
+    rw is (with_others front (script_line_at kind number act) (script_lines_from kind (has_once_command kind seen act) (number + 1) texts))
 
 -- after a line, less of the text is left
 pub left_behind : (rest : Option (Bor (List ℕ))) (n : ℕ) → IfSome rest (λ text. length text.now < n) → left rest ≤ n
@@ -54,14 +54,14 @@ kept_hold P (Ok kept) (Err memory) added line hold one = absurd line
 kept_hold P (Err memory) lines added line hold one = tt
 
 -- each line is within its limits
-line_within : {A L : Type 0} (kind : Kind A L) (P : L → Type 0) (number : ℕ) (act : Option A)
-    → IfSome act (λ act. (n : ℕ) → P (kind.line n act)) → All P (option_to_list (line_at kind number act))
+line_within : {A L : Type 0} (kind : ScriptKind A L) (P : L → Type 0) (number : ℕ) (act : Option A)
+    → IfSome act (λ act. (n : ℕ) → P (kind.line n act)) → All P (option_to_list (script_line_at kind number act))
 line_within kind P number None limits = All-nil P
 line_within kind P number (Some act) limits = All-cons P (kind.line number act) [] (limits number) (All-nil P)
 
-pub limits_on : {A L : Type 0} (kind : Kind A L) (P : L → Type 0) (number : ℕ) (act : Option A)
+pub limits_on : {A L : Type 0} (kind : ScriptKind A L) (P : L → Type 0) (number : ℕ) (act : Option A)
     → IfSome act (λ act. (n : ℕ) → P (kind.line n act)) → (ls : List L) → All P ls
-    → All P (ls ++ option_to_list (line_at kind number act))
+    → All P (ls ++ option_to_list (script_line_at kind number act))
 limits_on kind P number act limits ls all = All-append P ls _ all (line_within kind P number act limits)
 
 some_in_front : {L : Type 0} (front : List L) (line : Option L) → (0 < length front) ⊎ IsSome line

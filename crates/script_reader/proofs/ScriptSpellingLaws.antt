@@ -16,10 +16,10 @@ use Rattle.script_reader.specs.declared.act.Act.TheVariants as acts
 use Rattle.script_reader.specs.declared.act.Line.{Line}
 use Rattle.script_reader.specs.declared.fault.Wrong.{Wrong}
 use Rattle.script_reader.specs.declared.fault.ScriptFault.{ScriptFault}
-use Rattle.script_reader.specs.Lines.{line_at, seen_behind, asked, lines_from, lines_of}
-use Rattle.script_reader.specs.Script.{fault_at, script_lines, script_of}
-use Rattle.script_reader.specs.Spelling.{Form, sections, words_of, act_of}
-use Rattle.script_reader.specs.ScriptSpelling.{HasSectionsLine, LineAsksFor, LineHasFault, LinesAskFor, IsFirstFault}
+use Rattle.script_reader.specs.Lines.{script_line_at, has_once_command, read_line, script_lines_from, lines_of}
+use Rattle.script_reader.specs.Script.{script_fault_at, script_lines, script_of}
+use Rattle.script_reader.specs.Spelling.{LineForm, sections, words_of_form, act_of_form}
+use Rattle.script_reader.specs.ScriptSpelling.{HasSectionsLine, LineHasAct, LineHasFault, LinesHaveActs, IsFirstLineFault}
 use Rattle.script_reader.proofs.StepLaws.{words_spelled}
 use Rattle.script_reader.proofs.GrammarLaws.{nothing_read, fault_read}
 use Rattle.script_reader.proofs.SpellingLaws.{script_reads, act_read}
@@ -40,7 +40,7 @@ not_seen earlier false of = (λ is has. let other : false ≡ true = of.1 has in
 
 -- one line after the earlier ones
 line_asks : (earlier : List (List ℕ)) (seen : Bool) (text : List ℕ) (act : Option Act) → SeenIn earlier seen
-    → (asked script_lines seen text ≡ Ok act) ↔ LineAsksFor earlier text act
+    → (read_line script_lines seen text ≡ Ok act) ↔ LineHasAct earlier text act
 line_asks earlier seen text None of = (
   λ is. (words_in Script text, words_spelled text, (nothing_read (script_reads seen) (words_in Script text)).0 is),
   λ asks. rw (has_words Script text asks.0 asks.1) ((nothing_read (script_reads seen) asks.0).1 asks.2),
@@ -53,7 +53,7 @@ line_asks earlier seen text (Some act) of = (
 )
 
 line_at_fault : (earlier : List (List ℕ)) (seen : Bool) (text : List ℕ) (fault : Wrong) → SeenIn earlier seen
-    → (asked script_lines seen text ≡ Err fault) ↔ LineHasFault earlier text fault
+    → (read_line script_lines seen text ≡ Err fault) ↔ LineHasFault earlier text fault
 line_at_fault earlier seen text fault of = (
   λ is. record {
     words = words_in Script text;
@@ -67,11 +67,11 @@ line_at_fault earlier seen text fault of = (
 )
 
 -- a line is `sections` if its words are
-sections_words : (form : Form) → act_of form ≡ acts.Sections → words_of form ≡ codes "sections" ∷ []
+sections_words : (form : LineForm) → act_of_form form ≡ acts.Sections → words_of_form form ≡ codes "sections" ∷ []
 sections_words sections is = refl
 sections_words form is = cc
 
-sections_spelled : (seen : Bool) (text : List ℕ) → asked script_lines seen text ≡ Ok (Some acts.Sections)
+sections_spelled : (seen : Bool) (text : List ℕ) → read_line script_lines seen text ≡ Ok (Some acts.Sections)
     → HasWords Script text (codes "sections" ∷ [])
 sections_spelled seen text is =
     let spelled = (act_read seen (words_in Script text) acts.Sections).0 is in
@@ -79,13 +79,13 @@ sections_spelled seen text is =
     spelled.0.numbers.spelled ∙ sections_words spelled.0.numbers.form (sym spelled.0.numbers.asks) in
     (rw words at (words_spelled text))
 
-others_spelled : (text : List ℕ) (act : Option Act) → asked script_lines false text ≡ Ok act → seen_behind script_lines false act ≡ false
+others_spelled : (text : List ℕ) (act : Option Act) → read_line script_lines false text ≡ Ok act → has_once_command script_lines false act ≡ false
     → ¬ (HasWords Script text (codes "sections" ∷ []))
 others_spelled text act is isnt has =
-    let was : asked script_lines false text ≡ Ok (Some acts.Sections) = rw (has_words Script text (codes "sections" ∷ []) has) refl in
+    let was : read_line script_lines false text ≡ Ok (Some acts.Sections) = rw (has_words Script text (codes "sections" ∷ []) has) refl in
     let same : act ≡ Some acts.Sections = cc (is, was) in let other : true ≡ false = (rw same at isnt) in cc
 
-is_sections_or : (act : Option Act) → (act ≡ Some acts.Sections) ⊎ (seen_behind script_lines false act ≡ false)
+is_sections_or : (act : Option Act) → (act ≡ Some acts.Sections) ⊎ (has_once_command script_lines false act ≡ false)
 is_sections_or None = inr refl
 is_sections_or (Some acts.Sections) = inl refl
 is_sections_or (Some act) = inr refl
@@ -99,7 +99,7 @@ only_one x y has = at has.0 has.1 has.2
     at (suc k) below is = absurd (omega (arith, below))
 
 seen_on : (earlier : List (List ℕ)) (seen : Bool) (text : List ℕ) (act : Option Act) → SeenIn earlier seen
-    → asked script_lines seen text ≡ Ok act → SeenIn (earlier ++ (text ∷ [])) (seen_behind script_lines seen act)
+    → read_line script_lines seen text ≡ Ok act → SeenIn (earlier ++ (text ∷ [])) (has_once_command script_lines seen act)
 seen_on earlier true text act of is = (
   λ seen. let has = of.0 refl in (has.0, Contains-append_left earlier (text ∷ []) has.0 has.1, has.2),
   λ has. refl,
@@ -131,12 +131,12 @@ abbrev read_on : ℕ → Result (Option Act) Wrong → (Option Act → Result (L
 read_on number first others = do
   act ← with_error (λ wrong. (number, wrong)) first
   lines ← others act
-  Ok (cons_option (line_at script_lines number act) lines)
+  Ok (cons_option (script_line_at script_lines number act) lines)
 
 abbrev FirstOk : ℕ → Result (Option Act) Wrong → (Option Act → Result (List Line) (ℕ × Wrong)) → List Line → Type 0
 FirstOk number first others lines =
     (act : Option Act) × (left : List Line) × (first ≡ Ok act) × (others act ≡ Ok left)
-    × (lines ≡ cons_option (line_at script_lines number act) left)
+    × (lines ≡ cons_option (script_line_at script_lines number act) left)
 
 first_ok : (number : ℕ) (first : Result (Option Act) Wrong) (others : Option Act → Result (List Line) (ℕ × Wrong)) (lines : List Line)
     → read_on number first others ≡ Ok lines → FirstOk number first others lines
@@ -161,16 +161,16 @@ first_fault number (Ok act) others told is = behind (others act) refl
     behind (Err fault) was = let read = (rw was at is) in inr (act, refl, was ∙ read)
 
 lines_ask : (earlier : List (List ℕ)) (seen : Bool) (texts : List (List ℕ)) (lines : List Line) → SeenIn earlier seen
-    → (lines_from script_lines seen (length earlier + 1) texts ≡ Ok lines) ↔ LinesAskFor earlier texts lines
+    → (script_lines_from script_lines seen (length earlier + 1) texts ≡ Ok lines) ↔ LinesHaveActs earlier texts lines
 lines_ask earlier seen [] lines of = (λ is. cc (is), λ is. rw is refl)
 lines_ask earlier seen (text ∷ texts) lines of = (
-  λ is. let first = first_ok (length earlier + 1) (asked script_lines seen text)
-      (λ act. lines_from script_lines (seen_behind script_lines seen act) (length earlier + 1 + 1) texts) lines is in
-      let others = lines_ask (earlier ++ (text ∷ [])) (seen_behind script_lines seen first.0) texts first.1
+  λ is. let first = first_ok (length earlier + 1) (read_line script_lines seen text)
+      (λ act. script_lines_from script_lines (has_once_command script_lines seen act) (length earlier + 1 + 1) texts) lines is in
+      let others = lines_ask (earlier ++ (text ∷ [])) (has_once_command script_lines seen first.0) texts first.1
       (seen_on earlier seen text first.0 of first.2) in
       (first.0, first.1, (line_asks earlier seen text first.0 of).0 first.2, first.4, others.0 (rw (length_on earlier text) first.3)),
   λ asks. let was = (line_asks earlier seen text asks.0 of).1 asks.2 in
-      let others = lines_ask (earlier ++ (text ∷ [])) (seen_behind script_lines seen asks.0) texts asks.1
+      let others = lines_ask (earlier ++ (text ∷ [])) (has_once_command script_lines seen asks.0) texts asks.1
       (seen_on earlier seen text asks.0 of was) in
       let read = (rw (length_on earlier text) at (others.1 asks.4)) in
       rw (was, read) (ap (λ (ls : List Line). Ok ls) (sym asks.3)),
@@ -178,11 +178,11 @@ lines_ask earlier seen (text ∷ texts) lines of = (
 
 -- if reading them fails, one of them has the first fault
 one_at_fault : (earlier : List (List ℕ)) (seen : Bool) (texts : List (List ℕ)) (told : ℕ × Wrong) → SeenIn earlier seen
-    → lines_from script_lines seen (length earlier + 1) texts ≡ Err told → IsFirstFault earlier texts (fault_at told.0 told.1)
+    → script_lines_from script_lines seen (length earlier + 1) texts ≡ Err told → IsFirstLineFault earlier texts (script_fault_at told.0 told.1)
 one_at_fault earlier seen [] told of is = cc (is)
 one_at_fault earlier seen (text ∷ texts) told of is =
-    elim (first_fault (length earlier + 1) (asked script_lines seen text)
-    (λ act. lines_from script_lines (seen_behind script_lines seen act) (length earlier + 1 + 1) texts) told is) [
+    elim (first_fault (length earlier + 1) (read_line script_lines seen text)
+    (λ act. script_lines_from script_lines (has_once_command script_lines seen act) (length earlier + 1 + 1) texts) told is) [
       | inl first ↦ record {
         before = [];
         text = text;
@@ -194,7 +194,7 @@ one_at_fault earlier seen (text ∷ texts) told of is =
         at_fault = rw (append-nil earlier) ((line_at_fault earlier seen text first.0 of).0 first.1);
         named = rw (append-nil earlier, first.2) refl;
       }
-      | inr later ↦ let found = one_at_fault (earlier ++ (text ∷ [])) (seen_behind script_lines seen later.0) texts told
+      | inr later ↦ let found = one_at_fault (earlier ++ (text ∷ [])) (has_once_command script_lines seen later.0) texts told
           (seen_on earlier seen text later.0 of later.1) (rw (length_on earlier text) later.2) in
           let whole : (earlier ++ (text ∷ [])) ++ found.before ≡ earlier ++ (text ∷ found.before) =
           append_assoc earlier (text ∷ []) found.before in
@@ -203,7 +203,7 @@ one_at_fault earlier seen (text ∷ texts) told of is =
             text = found.text;
             after = found.after;
             lines = ap (λ (ts : List (List ℕ)). text ∷ ts) found.lines;
-            acts = cons_option (line_at script_lines (length earlier + 1) later.0) found.acts;
+            acts = cons_option (script_line_at script_lines (length earlier + 1) later.0) found.acts;
             faultless = (later.0, found.acts, (line_asks earlier seen text later.0 of).0 later.1, refl, found.faultless);
             wrong = found.wrong;
             at_fault = rw whole at found.at_fault;
@@ -212,15 +212,15 @@ one_at_fault earlier seen (text ∷ texts) told of is =
     ]
 
 fault_of_one : (earlier : List (List ℕ)) (seen : Bool) (before : List (List ℕ)) (text : List ℕ) (after : List (List ℕ))
-    (asks : List Line) (fault : Wrong) → SeenIn earlier seen → LinesAskFor earlier before asks → LineHasFault (earlier ++ before) text fault
-    → lines_from script_lines seen (length earlier + 1) (before ++ (text ∷ after)) ≡ Err (length (earlier ++ before) + 1, fault)
+    (asks : List Line) (fault : Wrong) → SeenIn earlier seen → LinesHaveActs earlier before asks → LineHasFault (earlier ++ before) text fault
+    → script_lines_from script_lines seen (length earlier + 1) (before ++ (text ∷ after)) ≡ Err (length (earlier ++ before) + 1, fault)
 fault_of_one earlier seen [] text after asks fault of good at =
     let same = append-nil earlier in
     rw ((line_at_fault earlier seen text fault of).1 (rw same at at), same) refl
 fault_of_one earlier seen (line ∷ before) text after asks fault of good at =
     let was = (line_asks earlier seen line good.0 of).1 good.2 in
     let whole : (earlier ++ (line ∷ [])) ++ before ≡ earlier ++ (line ∷ before) = append_assoc earlier (line ∷ []) before in
-    let others = fault_of_one (earlier ++ (line ∷ [])) (seen_behind script_lines seen good.0) before text after good.1 fault
+    let others = fault_of_one (earlier ++ (line ∷ [])) (has_once_command script_lines seen good.0) before text after good.1 fault
     (seen_on earlier seen line good.0 of was) good.4 (rw whole at) in
     let read = (rw (length_on earlier line, whole) at others) in
     rw (was, read) refl
@@ -236,18 +236,18 @@ none_seen = (λ is. cc (is), λ has. absurd (none has.1.0 has.1.1))
 pub script_read : (bytes : List ℕ) (lines : List Line) → script_of bytes ≡ Ok lines → lines_of script_lines bytes ≡ Ok lines
 script_read bytes lines = unturned (lines_of script_lines bytes)
   where
-    unturned : (r : Result (List Line) (ℕ × Wrong)) → with_error (λ at. fault_at at.0 at.1) r ≡ Ok lines → r ≡ Ok lines
+    unturned : (r : Result (List Line) (ℕ × Wrong)) → with_error (λ at. script_fault_at at.0 at.1) r ≡ Ok lines → r ≡ Ok lines
     unturned (Ok read) is = cc (is)
     unturned (Err told) is = cc (is)
 
 pub script_asks : (bytes : List ℕ) (lines : List Line)
-    → (script_of bytes ≡ Ok lines) ↔ LinesAskFor [] (parts_in (Byte 10) bytes) lines
+    → (script_of bytes ≡ Ok lines) ↔ LinesHaveActs [] (parts_in (Byte 10) bytes) lines
 script_asks bytes lines =
     let asks = lines_ask [] false (parts_in (Byte 10) bytes) lines none_seen in
     (λ is. asks.0 (script_read bytes lines is), λ ask. rw (asks.1 ask) refl)
 
 pub script_fault : (bytes : List ℕ) (fault : ScriptFault)
-    → (script_of bytes ≡ Err fault) ↔ IsFirstFault [] (parts_in (Byte 10) bytes) fault
+    → (script_of bytes ≡ Err fault) ↔ IsFirstLineFault [] (parts_in (Byte 10) bytes) fault
 script_fault bytes fault = (
   by_lines (lines_of script_lines bytes) refl,
   λ found. let read = fault_of_one [] false found.before found.text found.after found.acts found.wrong none_seen
@@ -255,9 +255,9 @@ script_fault bytes fault = (
       rw (found.lines, read, found.named) refl,
 )
   where
-    by_lines : (r : Result (List Line) (ℕ × Wrong)) → lines_of script_lines bytes ≡ r → with_error (λ at. fault_at at.0 at.1) r ≡ Err fault
-        → IsFirstFault [] (parts_in (Byte 10) bytes) fault
+    by_lines : (r : Result (List Line) (ℕ × Wrong)) → lines_of script_lines bytes ≡ r → with_error (λ at. script_fault_at at.0 at.1) r ≡ Err fault
+        → IsFirstLineFault [] (parts_in (Byte 10) bytes) fault
     by_lines (Ok lines) was is = cc (is)
     by_lines (Err told) was is =
-        let same : fault_at told.0 told.1 ≡ fault = cc (is) in
+        let same : script_fault_at told.0 told.1 ≡ fault = cc (is) in
         rw same at (one_at_fault [] false (parts_in (Byte 10) bytes) told none_seen was)

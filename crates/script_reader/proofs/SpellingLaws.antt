@@ -9,11 +9,11 @@ use Rattle.script_reader.specs.declared.act.Act.{Act}
 use Rattle.script_reader.specs.declared.act.Act.TheVariants as acts
 use Rattle.script_reader.specs.declared.fault.Wrong.{Wrong}
 use Rattle.script_reader.specs.declared.fault.Wrong.TheVariants as wrong
-use Rattle.script_reader.specs.Forms.{greatest, greatest_id, greatest_node, greatest_byte, greatest_len, optional_exact, alloc_words, alloc_line, sections_line, by_name}
-use Rattle.script_reader.specs.Lines.{asked_by}
-use Rattle.script_reader.specs.Numbers.{Words, optional, some, range_at, power}
-use Rattle.script_reader.specs.Grammar.{HasForm}
-use Rattle.script_reader.specs.Spelling.{NodeWords, no_node, near_node, exact_node, Form, alloc, reserve, free, trim, fill, peek, sections, keyed, node_words, words_of, node_number, is_exact, HasNumbers, act_of, IsAligned, HasSize, IsInSpace, script_grammar, SpellsAct, Fails}
+use Rattle.script_reader.specs.Forms.{greatest_u64, greatest_id, greatest_node, greatest_byte, greatest_len, optional_exact, alloc_words, alloc_line, sections_line, act_by_name}
+use Rattle.script_reader.specs.Lines.{act_by_forms}
+use Rattle.script_reader.specs.Numbers.{Words, word_after_key, check_not_zero, range_or_fault, check_power_of_two}
+use Rattle.script_reader.specs.Grammar.{HasLineForm}
+use Rattle.script_reader.specs.Spelling.{NodeWords, no_node, near_node, exact_node, LineForm, alloc, reserve, free, trim, fill, peek, sections, key_with_word, node_words, words_of_form, node_number, is_exact, HasLineNumbers, act_of_form, IsAligned, HasSize, IsInSpace, script_grammar, SpellsAct, Fails}
 use Rattle.script_reader.proofs.GrammarLaws.{Reads, act_read as act_read_by}
 use Rattle.script_reader.proofs.StepLaws.{passed, failed, within_or, number_or, optional_or, power_or, some_or, range_or, is_key, at_end, one_or, two_or, three_or, optional_spelled}
 
@@ -23,46 +23,46 @@ node_of (Some node) false = near_node node
 node_of (Some node) true = exact_node node
 
 node_spelled : (node : Option (List ℕ)) (words : Words)
-    → keyed (codes "node") node ++ words
+    → key_with_word (codes "node") node ++ words
     ≡ node_words (node_of node (optional_exact node words).0) ++ (optional_exact node words).1
 node_spelled None words = refl
 node_spelled (Some node) [] = refl
 node_spelled (Some node) (w ∷ ws) = by_test (bytes_eq w (codes "exact")) refl
   where
     by_test : (t : Bool) → bytes_eq w (codes "exact") ≡ t
-        → keyed (codes "node") (Some node) ++ (w ∷ ws)
+        → key_with_word (codes "node") (Some node) ++ (w ∷ ws)
         ≡ node_words (node_of (Some node) (optional_exact (Some node) (w ∷ ws)).0) ++ (optional_exact (Some node) (w ∷ ws)).1
     by_test true is = rw is (ap (λ (k : List ℕ). codes "node" ∷ node ∷ k ∷ ws) ((bytes_eq-Decides w (codes "exact")).0 is))
     by_test false isnt = rw isnt refl
 
-alloc_form : (words : Words) → HasForm script_grammar (codes "alloc" ∷ words) ⊎ (alloc_line words ≡ Err wrong.Form)
+alloc_form : (words : Words) → HasLineForm script_grammar (codes "alloc" ∷ words) ⊎ (alloc_line words ≡ Err wrong.Form)
 alloc_form [] = inr refl
 alloc_form (i ∷ []) = inr refl
 alloc_form (i ∷ s ∷ []) = inr refl
 alloc_form (i ∷ s ∷ a ∷ words) =
-    let min = optional (codes "min") words in
-    let max = optional (codes "max") min.1 in
-    let node = optional (codes "node") max.1 in
+    let min = word_after_key (codes "min") words in
+    let max = word_after_key (codes "max") min.1 in
+    let node = word_after_key (codes "node") max.1 in
     let exact = optional_exact node.0 node.1 in
     elim (at_end exact.1) [
       | inl ends ↦ inl (
         alloc i s a min.0 max.0 (node_of node.0 exact.0),
         ap (λ (ws : Words). codes "alloc" ∷ i ∷ s ∷ a ∷ ws)
             (optional_spelled (codes "min") words
-            ∙ ap (λ (ws : Words). keyed (codes "min") min.0 ++ ws)
+            ∙ ap (λ (ws : Words). key_with_word (codes "min") min.0 ++ ws)
             (optional_spelled (codes "max") min.1
-            ∙ ap (λ (ws : Words). keyed (codes "max") max.0 ++ ws)
+            ∙ ap (λ (ws : Words). key_with_word (codes "max") max.0 ++ ws)
             (optional_spelled (codes "node") max.1 ∙ (node_spelled node.0 node.1
             ∙ (ap (λ (ws : Words). node_words (node_of node.0 exact.0) ++ ws) ends ∙ append-nil (node_words (node_of node.0 exact.0))))))),
       )
       | inr more ↦ inr (rw more refl)
     ]
 
-sections_form : (seen : Bool) (words : Words) → HasForm script_grammar (codes "sections" ∷ words) ⊎ (sections_line seen words ≡ Err wrong.Form)
+sections_form : (seen : Bool) (words : Words) → HasLineForm script_grammar (codes "sections" ∷ words) ⊎ (sections_line seen words ≡ Err wrong.Form)
 sections_form seen [] = inl (sections, refl)
 sections_form seen (w ∷ ws) = inr refl
 
-pub named : (seen : Bool) (name : List ℕ) (words : Words) → HasForm script_grammar (name ∷ words) ⊎ (by_name seen name words ≡ Err wrong.Form)
+pub named : (seen : Bool) (name : List ℕ) (words : Words) → HasLineForm script_grammar (name ∷ words) ⊎ (act_by_name seen name words ≡ Err wrong.Form)
 named seen name words =
     elim (is_key name (codes "alloc")) [
       | inl is ↦ rw is (alloc_form words)
@@ -105,26 +105,26 @@ named seen name words =
 -- the checks on an act whose numbers are right
 abbrev checked : Bool → Act → Result Act Wrong
 checked seen (acts.Alloc id request) = do
-  align ← power request.align
-  size ← some request.size
+  align ← check_power_of_two request.align
+  size ← check_not_zero request.size
   Ok (acts.Alloc id (record request { size = size; align = align }))
 checked seen (acts.Reserve id range) = do
-  size ← some range.size
-  range ← range_at range.base size
+  size ← check_not_zero range.size
+  range ← range_or_fault range.base size
   Ok (acts.Reserve id range)
 checked seen (acts.Free id) = Ok (acts.Free id)
 checked seen (acts.Trim id keep) = do
-  large ← some keep
+  large ← check_not_zero keep
   Ok (acts.Trim id large)
 checked seen (acts.Fill id byte) = Ok (acts.Fill id byte)
 checked seen (acts.Peek at len) = do
-  large ← some len
-  range ← range_at at large
+  large ← check_not_zero len
+  range ← range_or_fault at large
   Ok (acts.Peek range.base range.size)
 checked seen acts.Sections = if seen then Err wrong.SecondSections else Ok acts.Sections
 
 alloc_said : (i s a : List ℕ) (min max : Option (List ℕ)) (node : NodeWords)
-    → alloc_words (i ∷ s ∷ a ∷ (keyed (codes "min") min ++ (keyed (codes "max") max ++ node_words node)))
+    → alloc_words (i ∷ s ∷ a ∷ (key_with_word (codes "min") min ++ (key_with_word (codes "max") max ++ node_words node)))
     ≡ Ok (record { id = i; size = s; align = a; min = min; max = max; node = node_number node; exact = is_exact node })
 alloc_said i s a None None no_node = refl
 alloc_said i s a None None node = refl
@@ -136,15 +136,15 @@ alloc_said i s a min max no_node = refl
 alloc_said i s a min max node = refl
 
 -- the numbers of a form are right, or one isn't and the line has that fault
-pub numbers_or : (seen : Bool) (form : Form)
-    → (HasNumbers form × (asked_by (by_name seen) (words_of form) ≡ (checked seen (act_of form) >>= λ act. Ok (Some act))))
-    ⊎ ((¬ (HasNumbers form)) × (asked_by (by_name seen) (words_of form) ≡ Err wrong.Number))
+pub numbers_or : (seen : Bool) (form : LineForm)
+    → (HasLineNumbers form × (act_by_forms (act_by_name seen) (words_of_form form) ≡ (checked seen (act_of_form form) >>= λ act. Ok (Some act))))
+    ⊎ ((¬ (HasLineNumbers form)) × (act_by_forms (act_by_name seen) (words_of_form form) ≡ Err wrong.Number))
 numbers_or seen (alloc i s a min max node) =
     elim (within_or greatest_id i) [
       | inl id ↦ elim (number_or s) [
         | inl size ↦ elim (number_or a) [
-          | inl align ↦ elim (optional_or greatest min) [
-            | inl lower ↦ elim (optional_or greatest max) [
+          | inl align ↦ elim (optional_or greatest_u64 min) [
+            | inl lower ↦ elim (optional_or greatest_u64 max) [
               | inl upper ↦ elim (optional_or greatest_node (node_number node)) [
                 | inl on ↦ inl ((id.0, size.0, align.0, lower.0, upper.0, on.0), rw (alloc_said i s a min max node, id.1, size.1, align.1, lower.1, upper.1, on.1) refl)
                 | inr bad ↦ inr (λ good. bad.0 good.5, rw (alloc_said i s a min max node, id.1, size.1, align.1, lower.1, upper.1, bad.1) refl)
@@ -212,9 +212,9 @@ pub act_or : (seen : Bool) (act : Act)
     → (Passes seen act × (checked seen act ≡ Ok act)) ⊎ ((fault : Wrong) × Fails seen act fault × (checked seen act ≡ Err fault))
 act_or seen (acts.Alloc id request) =
     elim (power_or request.align) [
-      | inl power ↦ elim (some_or request.size) [
-        | inl large ↦ inl (record { aligned = power.0; size = large.0; in_space = tt; once = λ is. cc is }, rw (power.1, large.1) refl)
-        | inr bad ↦ inr (wrong.ZeroSize, (power.0, bad.0), rw (power.1, bad.1) refl)
+      | inl check_power_of_two ↦ elim (some_or request.size) [
+        | inl large ↦ inl (record { aligned = check_power_of_two.0; size = large.0; in_space = tt; once = λ is. cc is }, rw (check_power_of_two.1, large.1) refl)
+        | inr bad ↦ inr (wrong.ZeroSize, (check_power_of_two.0, bad.0), rw (check_power_of_two.1, bad.1) refl)
       ]
       | inr bad ↦ inr (wrong.Align, bad.0, rw bad.1 refl)
     ]
@@ -279,7 +279,7 @@ checked_fails seen act wrong.TooFar fails = absurd (fails.2 tt)
 -- what the laws of lines need of the forms of an early script
 abbrev pub script_reads : Bool → Reads Act
 script_reads seen = record {
-  forms = by_name seen;
+  forms = act_by_name seen;
   grammar = script_grammar;
   Passes = Passes seen;
   Fails = Fails seen;
@@ -295,7 +295,7 @@ script_reads seen = record {
 
 -- a line is read as an act exactly if its words spell it, and it isn't a second `sections`
 pub act_read : (seen : Bool) (words : Words) (act : Act)
-    → (asked_by (by_name seen) words ≡ Ok (Some act)) ↔ (SpellsAct words act × (act ≡ acts.Sections → seen ≡ false))
+    → (act_by_forms (act_by_name seen) words ≡ Ok (Some act)) ↔ (SpellsAct words act × (act ≡ acts.Sections → seen ≡ false))
 act_read seen words act =
     let read = act_read_by (script_reads seen) words act in (
       λ is. let found = read.0 is in (

@@ -16,10 +16,10 @@ use Rattle.text_words.specs.declared.separators.Separators.TheVariants as separa
 use Rattle.text_words.proofs.SpellingLaws.{words_exactly}
 use Rattle.script_reader.specs.declared.fault.Wrong.{Wrong}
 use Rattle.script_reader.specs.declared.fault.Wrong.TheVariants as wrong
-use Rattle.script_reader.specs.Forms.{greatest}
-use Rattle.script_reader.specs.Numbers.{Words, no_words, one_word, two_words, three_words, optional, whole, within, number, bounded, optional_number, power, some, range_at}
-use Rattle.script_reader.specs.Grammar.{IsWithin, front_value, value}
-use Rattle.script_reader.specs.Spelling.{keyed}
+use Rattle.script_reader.specs.Forms.{greatest_u64}
+use Rattle.script_reader.specs.Numbers.{Words, expect_no_words, one_word, two_words, three_words, word_after_key, number_if_whole, number_if_within, number_in_word, number_within, optional_number, check_power_of_two, check_not_zero, range_or_fault}
+use Rattle.script_reader.specs.Grammar.{IsWithin, front_value, value_of_word}
+use Rattle.script_reader.specs.Spelling.{key_with_word}
 
 -- a script has no quotations, so each text is spelled with its words
 no_quotes : (text : List ℕ) → QuotesClose separators.Script false text
@@ -31,7 +31,7 @@ words_spelled text = (words_exactly separators.Script text (words_in separators.
 
 -- a step succeeds if its condition holds, and returns its fault if not
 abbrev pub Judges : {A : Type 0} → Type 0 → A → Wrong → Result A Wrong → Type 0
-Judges Good value fault r = (Good × (r ≡ Ok value)) ⊎ ((¬ Good) × (r ≡ Err fault))
+Judges Good value_of_word fault r = (Good × (r ≡ Ok value_of_word)) ⊎ ((¬ Good) × (r ≡ Err fault))
 
 pub passed : {A : Type 0} {Good : Type 0} {v : A} {fault : Wrong} {r : Result A Wrong} → Judges Good v fault r → Good → r ≡ Ok v
 passed judged good = elim judged [ inl is ↦ is.1 | inr bad ↦ absurd (bad.0 good) ]
@@ -43,12 +43,12 @@ failed judged bad = elim judged [ inl is ↦ absurd (bad is.0) | inr is ↦ is.1
 abbrev IsWhole : List ℕ → Result (ℕ × ℕ) NumFault → Type 0
 IsWhole word r = (n : ℕ) × (r ≡ Ok (n, length word))
 
-whole_or : (word : List ℕ) (r : Result (ℕ × ℕ) NumFault) → Judges (IsWhole word r) (front_value r) wrong.Number (whole word r)
+whole_or : (word : List ℕ) (r : Result (ℕ × ℕ) NumFault) → Judges (IsWhole word r) (front_value r) wrong.Number (number_if_whole word r)
 whole_or word (Err fault) = inr (λ is. cc (is.1), refl)
 whole_or word (Ok found) = by_test found.0 found.1 (found.1 == length word) refl
   where
     by_test : (n taken : ℕ) (t : Bool) → (taken == length word) ≡ t
-        → Judges (IsWhole word (Ok (n, taken))) n wrong.Number (whole word (Ok (n, taken)))
+        → Judges (IsWhole word (Ok (n, taken))) n wrong.Number (number_if_whole word (Ok (n, taken)))
     by_test n taken true all =
         let same : taken ≡ length word = grind (arith, nat_tests, all) in inl ((n, ap (λ (m : ℕ). Ok (n, m)) same), rw all refl)
     by_test n taken false part =
@@ -58,10 +58,10 @@ whole_or word (Ok found) = by_test found.0 found.1 (found.1 == length word) refl
           rw part refl,
         )
 
-within_bound : (most n : ℕ) → Judges (n ≤ most) n wrong.Number (within most n)
+within_bound : (most n : ℕ) → Judges (n ≤ most) n wrong.Number (number_if_within most n)
 within_bound most n = by_test (nat_le n most) refl
   where
-    by_test : (t : Bool) → nat_le n most ≡ t → Judges (n ≤ most) n wrong.Number (within most n)
+    by_test : (t : Bool) → nat_le n most ≡ t → Judges (n ≤ most) n wrong.Number (number_if_within most n)
     by_test true fits = inl (grind (arith, nat_tests, fits), rw fits refl)
     by_test false above = inr (λ fits. absurd (grind (arith, nat_tests, above, fits)), rw above refl)
 
@@ -69,7 +69,7 @@ front_value-whole : (word : List ℕ) (r : Result (ℕ × ℕ) NumFault) (n : �
 front_value-whole word r n is = rw is refl
 
 bounded_or : (most : ℕ) (word : List ℕ) (r : Result (ℕ × ℕ) NumFault)
-    → Judges ((n : ℕ) × (r ≡ Ok (n, length word)) × (n ≤ most)) (front_value r) wrong.Number (whole word r >>= within most)
+    → Judges ((n : ℕ) × (r ≡ Ok (n, length word)) × (n ≤ most)) (front_value r) wrong.Number (number_if_whole word r >>= number_if_within most)
 bounded_or most word r =
     elim (whole_or word r) [
       | inl is ↦ elim (within_bound most (front_value r)) [
@@ -85,14 +85,14 @@ bounded_or most word r =
       | inr isnt ↦ inr (λ good. isnt.0 (good.0, good.1), rw isnt.1 refl)
     ]
 
-pub within_or : (most : ℕ) (word : List ℕ) → Judges (IsWithin most word) (value word) wrong.Number (bounded most word)
+pub within_or : (most : ℕ) (word : List ℕ) → Judges (IsWithin most word) (value_of_word word) wrong.Number (number_within most word)
 within_or most word = bounded_or most word (size_of word)
 
 -- a size is below 2^64
-size_below : (word : List ℕ) (n : ℕ) → IsSize word n → n ≤ greatest
+size_below : (word : List ℕ) (n : ℕ) → IsSize word n → n ≤ greatest_u64
 size_below word n is = grind (arith, nat_tests)
 
-pub number_or : (word : List ℕ) → Judges (IsWithin greatest word) (value word) wrong.Number (number word)
+pub number_or : (word : List ℕ) → Judges (IsWithin greatest_u64 word) (value_of_word word) wrong.Number (number_in_word word)
 number_or word =
     elim (whole_or word (size_of word)) [
       | inl is ↦ inl ((is.0.0, is.0.1, size_below word is.0.0 is.0.1), is.1)
@@ -100,32 +100,32 @@ number_or word =
     ]
 
 pub optional_or : (most : ℕ) (word : Option (List ℕ))
-    → Judges (IfSome word (IsWithin most)) (option_map value word) wrong.Number (optional_number most word)
+    → Judges (IfSome word (IsWithin most)) (option_map value_of_word word) wrong.Number (optional_number most word)
 optional_or most None = inl (tt, refl)
 optional_or most (Some word) =
     elim (within_or most word) [ inl is ↦ inl (is.0, rw (is.1) refl) | inr isnt ↦ inr (isnt.0, rw (isnt.1) refl) ]
 
 -- an alignment, a size that isn't 0, and a range
-pub power_or : (n : ℕ) → Judges (IsTrue (is_power_of_two n)) n wrong.Align (power n)
+pub power_or : (n : ℕ) → Judges (IsTrue (is_power_of_two n)) n wrong.Align (check_power_of_two n)
 power_or n = by_test (is_power_of_two n) refl
   where
-    by_test : (t : Bool) → is_power_of_two n ≡ t → Judges (IsTrue (is_power_of_two n)) n wrong.Align (power n)
+    by_test : (t : Bool) → is_power_of_two n ≡ t → Judges (IsTrue (is_power_of_two n)) n wrong.Align (check_power_of_two n)
     by_test true is = inl (is, rw is refl)
     by_test false isnt = inr (λ is. cc, rw isnt refl)
 
-pub some_or : (n : ℕ) → Judges (0 < n) n wrong.ZeroSize (some n)
+pub some_or : (n : ℕ) → Judges (0 < n) n wrong.ZeroSize (check_not_zero n)
 some_or n = by_test (n == 0) refl
   where
-    by_test : (t : Bool) → (n == 0) ≡ t → Judges (0 < n) n wrong.ZeroSize (some n)
+    by_test : (t : Bool) → (n == 0) ≡ t → Judges (0 < n) n wrong.ZeroSize (check_not_zero n)
     by_test true none = inr (λ above. absurd (grind (arith, nat_tests, none, above)), rw none refl)
     by_test false isnt = inl (grind (arith, nat_tests, isnt), rw isnt refl)
 
 pub range_or : (base size : ℕ)
-    → Judges (base + size < 2 ^ 64) (record { base = base; size = size }) wrong.TooFar (range_at base size)
+    → Judges (base + size < 2 ^ 64) (record { base = base; size = size }) wrong.TooFar (range_or_fault base size)
 range_or base size = by_test (nat_lt (base + size) (2 ^ 64)) refl
   where
     by_test : (t : Bool) → nat_lt (base + size) (2 ^ 64) ≡ t
-        → Judges (base + size < 2 ^ 64) (record { base = base; size = size }) wrong.TooFar (range_at base size)
+        → Judges (base + size < 2 ^ 64) (record { base = base; size = size }) wrong.TooFar (range_or_fault base size)
     by_test true fits = inl (grind (arith, nat_tests, fits), rw fits refl)
     by_test false far = inr (λ fits. absurd (grind (arith, nat_tests, far, fits)), rw far refl)
 
@@ -137,7 +137,7 @@ is_key word key = by_test (bytes_eq word key) refl
     by_test true is = inl ((bytes_eq-Decides word key).0 is)
     by_test false isnt = inr isnt
 
-pub at_end : (words : Words) → (words ≡ []) ⊎ (no_words words ≡ Err wrong.Form)
+pub at_end : (words : Words) → (words ≡ []) ⊎ (expect_no_words words ≡ Err wrong.Form)
 at_end [] = inl refl
 at_end (w ∷ ws) = inr refl
 
@@ -154,12 +154,12 @@ pub three_or : (words : Words) → ((a b d : List ℕ) × (words ≡ a ∷ b ∷
 three_or [] = inr refl
 three_or (a ∷ words) = elim (two_or words) [ inl is ↦ inl (a, is.0, is.1, rw (is.2) refl) | inr isnt ↦ inr (rw isnt refl) ]
 
-pub optional_spelled : (key : List ℕ) (words : Words) → words ≡ keyed key (optional key words).0 ++ (optional key words).1
+pub optional_spelled : (key : List ℕ) (words : Words) → words ≡ key_with_word key (word_after_key key words).0 ++ (word_after_key key words).1
 optional_spelled key [] = refl
 optional_spelled key (w ∷ []) = refl
 optional_spelled key (w ∷ v ∷ ws) = by_test (bytes_eq w key) refl
   where
     by_test : (t : Bool) → bytes_eq w key ≡ t
-        → w ∷ v ∷ ws ≡ keyed key (optional key (w ∷ v ∷ ws)).0 ++ (optional key (w ∷ v ∷ ws)).1
+        → w ∷ v ∷ ws ≡ key_with_word key (word_after_key key (w ∷ v ∷ ws)).0 ++ (word_after_key key (w ∷ v ∷ ws)).1
     by_test true is = rw is (ap (λ (k : List ℕ). k ∷ v ∷ ws) ((bytes_eq-Decides w key).0 is))
     by_test false isnt = rw isnt refl

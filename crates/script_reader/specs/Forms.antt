@@ -9,7 +9,7 @@ use Rattle.script_reader.specs.declared.act.Act.{Act}
 use Rattle.script_reader.specs.declared.act.Act.TheVariants as acts
 use Rattle.script_reader.specs.declared.fault.Wrong.{Wrong}
 use Rattle.script_reader.specs.declared.fault.Wrong.TheVariants as wrong
-use Rattle.script_reader.specs.Numbers.{Words, no_words, first_word, one_word, two_words, three_words, optional, number, bounded, optional_number, power, some, range_at}
+use Rattle.script_reader.specs.Numbers.{Words, expect_no_words, first_word, one_word, two_words, three_words, word_after_key, number_in_word, number_within, optional_number, check_power_of_two, check_not_zero, range_or_fault}
 
 -- the largest ID, number of a node, value of a byte, and length of a `peek`
 abbrev pub greatest_id : ℕ
@@ -25,8 +25,8 @@ abbrev pub greatest_len : ℕ
 greatest_len = 64
 
 -- the largest u64
-abbrev pub greatest : ℕ
-greatest = 2 ^ 64 - 1
+abbrev pub greatest_u64 : ℕ
+greatest_u64 = 2 ^ 64 - 1
 
 -- the words of `alloc ID SIZE ALIGN [min A] [max A] [node N [exact]]` after the first
 pub record AllocWords : Type 0 where
@@ -49,81 +49,81 @@ alloc_words words = do
   id ← first_word words
   size ← first_word id.1
   align ← first_word size.1
-  let min = optional (codes "min") align.1
-  let max = optional (codes "max") min.1
-  let node = optional (codes "node") max.1
+  let min = word_after_key (codes "min") align.1
+  let max = word_after_key (codes "max") min.1
+  let node = word_after_key (codes "node") max.1
   let exact = optional_exact node.0 node.1
-  none ← no_words exact.1
+  none ← expect_no_words exact.1
   Ok (record { id = id.0; size = size.0; align = align.0; min = min.0; max = max.0; node = node.0; exact = exact.0 })
 
 -- alloc ID SIZE ALIGN [min A] [max A] [node N [exact]]
 abbrev pub alloc_line : Words → Result Act Wrong
 alloc_line words = do
   said ← alloc_words words
-  id ← bounded greatest_id said.id
-  size ← number said.size
-  align ← number said.align
-  min ← optional_number greatest said.min
-  max ← optional_number greatest said.max
+  id ← number_within greatest_id said.id
+  size ← number_in_word said.size
+  align ← number_in_word said.align
+  min ← optional_number greatest_u64 said.min
+  max ← optional_number greatest_u64 said.max
   node ← optional_number greatest_node said.node
-  aligned ← power align
-  large ← some size
+  aligned ← check_power_of_two align
+  large ← check_not_zero size
   Ok (acts.Alloc id (record { size = large; align = aligned; min = unwrap_or min 0; max = max; node = node; exact = said.exact }))
 
 -- reserve ID BASE SIZE
 abbrev pub reserve_line : Words → Result Act Wrong
 reserve_line words = do
   said ← three_words words
-  id ← bounded greatest_id said.0
-  base ← number said.1
-  size ← number said.2
-  large ← some size
-  range ← range_at base large
+  id ← number_within greatest_id said.0
+  base ← number_in_word said.1
+  size ← number_in_word said.2
+  large ← check_not_zero size
+  range ← range_or_fault base large
   Ok (acts.Reserve id range)
 
 -- free ID
 abbrev pub free_line : Words → Result Act Wrong
 free_line words = do
   said ← one_word words
-  id ← bounded greatest_id said
+  id ← number_within greatest_id said
   Ok (acts.Free id)
 
 -- trim ID KEEP
 abbrev pub trim_line : Words → Result Act Wrong
 trim_line words = do
   said ← two_words words
-  id ← bounded greatest_id said.0
-  keep ← number said.1
-  large ← some keep
+  id ← number_within greatest_id said.0
+  keep ← number_in_word said.1
+  large ← check_not_zero keep
   Ok (acts.Trim id large)
 
 -- fill ID BYTE
 abbrev pub fill_line : Words → Result Act Wrong
 fill_line words = do
   said ← two_words words
-  id ← bounded greatest_id said.0
-  byte ← bounded greatest_byte said.1
+  id ← number_within greatest_id said.0
+  byte ← number_within greatest_byte said.1
   Ok (acts.Fill id byte)
 
 -- peek ADDR LEN
 abbrev pub peek_line : Words → Result Act Wrong
 peek_line words = do
   said ← two_words words
-  at ← number said.0
-  len ← bounded greatest_len said.1
-  large ← some len
-  range ← range_at at large
+  at ← number_in_word said.0
+  len ← number_within greatest_len said.1
+  large ← check_not_zero len
+  range ← range_or_fault at large
   Ok (acts.Peek range.base range.size)
 
 -- sections; a fault if an earlier line is `sections`
 abbrev pub sections_line : Bool → Words → Result Act Wrong
 sections_line seen words = do
-  none ← no_words words
+  none ← expect_no_words words
   if seen then Err wrong.SecondSections else Ok acts.Sections
 
 -- the act of a line, by its first word; `seen` is true if an earlier line is `sections`
-abbrev pub by_name : Bool → List ℕ → Words → Result Act Wrong
-by_name seen name words =
+abbrev pub act_by_name : Bool → List ℕ → Words → Result Act Wrong
+act_by_name seen name words =
     if bytes_eq name (codes "alloc") then alloc_line words else
     (if bytes_eq name (codes "reserve") then reserve_line words else
     (if bytes_eq name (codes "free") then free_line words else

@@ -9,9 +9,9 @@ use Rattle.script_reader.specs.declared.fault.Wrong.TheVariants as wrong
 use Rattle.script_reader.specs.Numbers.{Words}
 
 -- a line without a command: it has no words, or is a comment
-pub data IsPassedOver : Words → Type 0 where
-  no_words : IsPassedOver []
-  comment : (word : List ℕ) (words : Words) → IsPassedOver ((codes "#" ++ word) ∷ words)
+pub data HasNoCommand : Words → Type 0 where
+  no_words : HasNoCommand []
+  comment : (word : List ℕ) (words : Words) → HasNoCommand ((codes "#" ++ word) ∷ words)
 
 -- the whole word is a size, at most the limit
 abbrev pub IsWithin : ℕ → List ℕ → Type 0
@@ -22,8 +22,8 @@ abbrev pub front_value : Result (ℕ × ℕ) NumFault → ℕ
 front_value (Ok found) = found.0
 front_value (Err fault) = 0
 
-abbrev pub value : List ℕ → ℕ
-value word = front_value (size_of word)
+abbrev pub value_of_word : List ℕ → ℕ
+value_of_word word = front_value (size_of word)
 
 -- the forms of a kind of script, with any word in the place of each number: the words of a form,
 -- the condition that each number is a size within its limit, and the act of such a form
@@ -34,8 +34,8 @@ pub record Grammar (A : Type 0) : Type 1 where
   pub act_of : Form → A
 
 -- the words have a form
-abbrev pub HasForm : {A : Type 0} → Grammar A → Words → Type 0
-HasForm grammar words = (form : grammar.Form) × (words ≡ grammar.words_of form)
+abbrev pub HasLineForm : {A : Type 0} → Grammar A → Words → Type 0
+HasLineForm grammar words = (form : grammar.Form) × (words ≡ grammar.words_of form)
 
 -- the words have a form, its numbers are sizes within their limits, and the act has these numbers
 pub record SpellsNumbers {A : Type 0} (grammar : Grammar A) (words : Words) (act : A) : Type 0 where
@@ -49,8 +49,8 @@ abbrev pub NeverFails : {A : Type 0} → A → Wrong → Type 0
 NeverFails act wrong = ⊥
 
 -- the first condition that these words don't meet; `Fails` says it of an act with right numbers
-abbrev pub HasFault : {A : Type 0} → Grammar A → (A → Wrong → Type 0) → Words → Wrong → Type 0
-HasFault grammar Fails words wrong.Form = (¬ (IsPassedOver words)) × (¬ (HasForm grammar words))
-HasFault grammar Fails words wrong.Number =
+abbrev pub HasWordsFault : {A : Type 0} → Grammar A → (A → Wrong → Type 0) → Words → Wrong → Type 0
+HasWordsFault grammar Fails words wrong.Form = (¬ (HasNoCommand words)) × (¬ (HasLineForm grammar words))
+HasWordsFault grammar Fails words wrong.Number =
     (form : grammar.Form) × (words ≡ grammar.words_of form) × (¬ (grammar.HasNumbers form))
-HasFault {A = A} grammar Fails words other = (act : A) × SpellsNumbers grammar words act × Fails act other
+HasWordsFault {A = A} grammar Fails words other = (act : A) × SpellsNumbers grammar words act × Fails act other

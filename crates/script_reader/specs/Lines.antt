@@ -7,8 +7,8 @@ use Rattle.text_words.specs.Parts.{parts_in}
 use Rattle.text_words.specs.Words.{words_in}
 use Rattle.text_words.specs.declared.separators.Separators.TheVariants as separators
 use Rattle.script_reader.specs.declared.fault.Wrong.{Wrong}
-use Rattle.script_reader.specs.declared.lines.Unread.{Unread}
-use Rattle.script_reader.specs.declared.lines.Unread.TheVariants as unread
+use Rattle.script_reader.specs.declared.lines.LinesError.{LinesError}
+use Rattle.script_reader.specs.declared.lines.LinesError.TheVariants as unread
 use Rattle.script_reader.specs.Numbers.{Words}
 
 -- a line is a comment if its first word begins with `#`
@@ -18,49 +18,49 @@ is_comment (b ∷ bs) = b == 35
 
 -- the act that the words of a line spell, by the forms of its first word; None without words, and
 -- for a comment
-abbrev pub asked_by : {A : Type 0} → (List ℕ → Words → Result A Wrong) → Words → Result (Option A) Wrong
-asked_by forms [] = Ok None
-asked_by forms (name ∷ words) = if is_comment name then Ok None else (do
+abbrev pub act_by_forms : {A : Type 0} → (List ℕ → Words → Result A Wrong) → Words → Result (Option A) Wrong
+act_by_forms forms [] = Ok None
+act_by_forms forms (name ∷ words) = if is_comment name then Ok None else (do
   act ← forms name words
   Ok (Some act))
 
 -- a kind of script: the act that the name of a command and the words after it spell, which acts may
 -- occur only once, and the line with this number and act. The flag of `forms` is true if an earlier
 -- line has the act that may occur only once.
-pub record Kind (A L : Type 0) : Type 0 where
+pub record ScriptKind (A L : Type 0) : Type 0 where
   pub forms : Bool → List ℕ → Words → Result A Wrong
   pub is_once : A → Bool
   pub line : ℕ → A → L
 
 -- this line or an earlier one has the act that may occur only once
-abbrev pub seen_behind : {A L : Type 0} → Kind A L → Bool → Option A → Bool
-seen_behind kind true act = true
-seen_behind kind false None = false
-seen_behind kind false (Some act) = kind.is_once act
+abbrev pub has_once_command : {A L : Type 0} → ScriptKind A L → Bool → Option A → Bool
+has_once_command kind true act = true
+has_once_command kind false None = false
+has_once_command kind false (Some act) = kind.is_once act
 
 -- the act of the line with this text, if it has a command
-abbrev pub asked : {A L : Type 0} → Kind A L → Bool → List ℕ → Result (Option A) Wrong
-asked kind seen text = asked_by (kind.forms seen) (words_in separators.Script text)
+abbrev pub read_line : {A L : Type 0} → ScriptKind A L → Bool → List ℕ → Result (Option A) Wrong
+read_line kind seen text = act_by_forms (kind.forms seen) (words_in separators.Script text)
 
 -- the line with this number, if it has a command
-abbrev pub line_at : {A L : Type 0} → Kind A L → ℕ → Option A → Option L
-line_at kind number act = option_map (kind.line number) act
+abbrev pub script_line_at : {A L : Type 0} → ScriptKind A L → ℕ → Option A → Option L
+script_line_at kind number act = option_map (kind.line number) act
 
 -- the lines with these texts; the first of them has this number. The fault is the number of the
 -- lowest line that has one, and what is wrong with it.
-abbrev pub lines_from : {A L : Type 0} → Kind A L → Bool → ℕ → List (List ℕ) → Result (List L) (ℕ × Wrong)
-lines_from kind seen number [] = Ok []
-lines_from kind seen number (text ∷ texts) = do
-  act ← with_error (λ wrong. (number, wrong)) (asked kind seen text)
-  lines ← lines_from kind (seen_behind kind seen act) (number + 1) texts
-  Ok (cons_option (line_at kind number act) lines)
+abbrev pub script_lines_from : {A L : Type 0} → ScriptKind A L → Bool → ℕ → List (List ℕ) → Result (List L) (ℕ × Wrong)
+script_lines_from kind seen number [] = Ok []
+script_lines_from kind seen number (text ∷ texts) = do
+  act ← with_error (λ wrong. (number, wrong)) (read_line kind seen text)
+  lines ← script_lines_from kind (has_once_command kind seen act) (number + 1) texts
+  Ok (cons_option (script_line_at kind number act) lines)
 
 -- the lines of a script end with newlines; if the script ends with one, the empty text after it is
 -- a line without words
-abbrev pub lines_of : {A L : Type 0} → Kind A L → List ℕ → Result (List L) (ℕ × Wrong)
-lines_of kind bytes = lines_from kind false 1 (parts_in (separators.Byte 10) bytes)
+abbrev pub lines_of : {A L : Type 0} → ScriptKind A L → List ℕ → Result (List L) (ℕ × Wrong)
+lines_of kind bytes = script_lines_from kind false 1 (parts_in (separators.Byte 10) bytes)
 
 -- this can be wrong with a line that isn't read
-abbrev pub CanBe : (Wrong → Type 0) → Unread → Type 0
+abbrev pub CanBe : (Wrong → Type 0) → LinesError → Type 0
 CanBe MayBeWrong (unread.Faulty line wrong) = MayBeWrong wrong
 CanBe MayBeWrong unread.Memory = Unit {0}

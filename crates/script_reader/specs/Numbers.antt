@@ -18,9 +18,9 @@ abbrev pub IsOfWords : Wrong → Type 0
 IsOfWords w = (w ≡ wrong.Form) ⊎ (w ≡ wrong.Number)
 
 -- no word; and the first word with those after it
-abbrev pub no_words : Words → Result (Unit {0}) Wrong
-no_words [] = Ok tt
-no_words (w ∷ ws) = Err wrong.Form
+abbrev pub expect_no_words : Words → Result (Unit {0}) Wrong
+expect_no_words [] = Ok tt
+expect_no_words (w ∷ ws) = Err wrong.Form
 
 abbrev pub first_word : Words → Result (List ℕ × Words) Wrong
 first_word [] = Err wrong.Form
@@ -30,7 +30,7 @@ first_word (w ∷ ws) = Ok (w, ws)
 abbrev pub one_word : Words → Result (List ℕ) Wrong
 one_word words = do
   first ← first_word words
-  none ← no_words first.1
+  none ← expect_no_words first.1
   Ok first.0
 
 abbrev pub two_words : Words → Result (List ℕ × List ℕ) Wrong
@@ -47,40 +47,40 @@ three_words words = do
 
 -- if the words start with `key WORD`: WORD, and the words after it; else None, and the words
 -- unchanged
-abbrev pub optional : List ℕ → Words → Option (List ℕ) × Words
-optional key [] = (None, [])
-optional key (w ∷ []) = (None, w ∷ [])
-optional key (w ∷ v ∷ ws) = if bytes_eq w key then (Some v, ws) else (None, w ∷ v ∷ ws)
+abbrev pub word_after_key : List ℕ → Words → Option (List ℕ) × Words
+word_after_key key [] = (None, [])
+word_after_key key (w ∷ []) = (None, w ∷ [])
+word_after_key key (w ∷ v ∷ ws) = if bytes_eq w key then (Some v, ws) else (None, w ∷ v ∷ ws)
 
 -- a number: a size that takes its whole word, up to a limit
-abbrev pub whole : List ℕ → Result (ℕ × ℕ) NumFault → Result ℕ Wrong
-whole word (Ok found) = if found.1 == length word then Ok found.0 else Err wrong.Number
-whole word (Err fault) = Err wrong.Number
+abbrev pub number_if_whole : List ℕ → Result (ℕ × ℕ) NumFault → Result ℕ Wrong
+number_if_whole word (Ok found) = if found.1 == length word then Ok found.0 else Err wrong.Number
+number_if_whole word (Err fault) = Err wrong.Number
 
-abbrev pub number : List ℕ → Result ℕ Wrong
-number word = whole word (size_of word)
+abbrev pub number_in_word : List ℕ → Result ℕ Wrong
+number_in_word word = number_if_whole word (size_of word)
 
-abbrev pub within : ℕ → ℕ → Result ℕ Wrong
-within most n = if nat_le n most then Ok n else Err wrong.Number
+abbrev pub number_if_within : ℕ → ℕ → Result ℕ Wrong
+number_if_within most n = if nat_le n most then Ok n else Err wrong.Number
 
-abbrev pub bounded : ℕ → List ℕ → Result ℕ Wrong
-bounded most word = do
-  n ← number word
-  within most n
+abbrev pub number_within : ℕ → List ℕ → Result ℕ Wrong
+number_within most word = do
+  n ← number_in_word word
+  number_if_within most n
 
 -- a number that may be missing
 abbrev pub optional_number : ℕ → Option (List ℕ) → Result (Option ℕ) Wrong
 optional_number most None = Ok None
 optional_number most (Some word) = do
-  n ← bounded most word
+  n ← number_within most word
   Ok (Some n)
 
 -- an alignment, a size that isn't 0, and a range of addresses
-abbrev pub power : ℕ → Result ℕ Wrong
-power n = if is_power_of_two n then Ok n else Err wrong.Align
+abbrev pub check_power_of_two : ℕ → Result ℕ Wrong
+check_power_of_two n = if is_power_of_two n then Ok n else Err wrong.Align
 
-abbrev pub some : ℕ → Result ℕ Wrong
-some n = if n == 0 then Err wrong.ZeroSize else Ok n
+abbrev pub check_not_zero : ℕ → Result ℕ Wrong
+check_not_zero n = if n == 0 then Err wrong.ZeroSize else Ok n
 
-abbrev pub range_at : ℕ → ℕ → Result RangeView Wrong
-range_at base size = if nat_lt (base + size) (2 ^ 64) then Ok (record { base = base; size = size }) else Err wrong.TooFar
+abbrev pub range_or_fault : ℕ → ℕ → Result RangeView Wrong
+range_or_fault base size = if nat_lt (base + size) (2 ^ 64) then Ok (record { base = base; size = size }) else Err wrong.TooFar

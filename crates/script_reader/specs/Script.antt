@@ -8,17 +8,17 @@ use Rattle.script_reader.specs.declared.fault.Wrong.{Wrong}
 use Rattle.script_reader.specs.declared.fault.Wrong.TheVariants as wrong
 use Rattle.script_reader.specs.declared.fault.ScriptFault.{ScriptFault}
 use Rattle.script_reader.specs.declared.fault.ScriptFault.TheVariants as faults
-use Rattle.script_reader.specs.Forms.{by_name}
-use Rattle.script_reader.specs.Lines.{Kind, lines_of}
+use Rattle.script_reader.specs.Forms.{act_by_name}
+use Rattle.script_reader.specs.Lines.{ScriptKind, lines_of}
 
 -- the fault of a script for what is wrong with the line of this number
-abbrev pub fault_at : ℕ → Wrong → ScriptFault
-fault_at line wrong.Form = faults.BadLine line
-fault_at line wrong.Number = faults.BadNumber line
-fault_at line wrong.Align = faults.BadAlign line
-fault_at line wrong.ZeroSize = faults.ZeroSize line
-fault_at line wrong.SecondSections = faults.SecondSections line
-fault_at line wrong.TooFar = faults.TooFar line
+abbrev pub script_fault_at : ℕ → Wrong → ScriptFault
+script_fault_at line wrong.Form = faults.BadLine line
+script_fault_at line wrong.Number = faults.BadNumber line
+script_fault_at line wrong.Align = faults.BadAlign line
+script_fault_at line wrong.ZeroSize = faults.ZeroSize line
+script_fault_at line wrong.SecondSections = faults.SecondSections line
+script_fault_at line wrong.TooFar = faults.TooFar line
 
 -- the act is `sections`
 abbrev pub is_sections : Act → Bool
@@ -31,9 +31,9 @@ is_sections (acts.Peek at len) = false
 is_sections acts.Sections = true
 
 -- the lines of an early script: `sections` may occur only once
-abbrev pub script_lines : Kind Act Line
-script_lines = record { forms = by_name; is_once = is_sections; line = λ number act. record { number = number; act = act } }
+abbrev pub script_lines : ScriptKind Act Line
+script_lines = record { forms = act_by_name; is_once = is_sections; line = λ number act. record { number = number; act = act } }
 
 -- the lines of a script, or the fault of the lowest line that has one
 abbrev pub script_of : List ℕ → Result (List Line) ScriptFault
-script_of bytes = with_error (λ at. fault_at at.0 at.1) (lines_of script_lines bytes)
+script_of bytes = with_error (λ at. script_fault_at at.0 at.1) (lines_of script_lines bytes)

@@ -10,9 +10,9 @@ use Rattle.script_reader.specs.declared.act.Line.{Line}
 use Rattle.script_reader.specs.declared.fault.Wrong.{Wrong}
 use Rattle.script_reader.specs.declared.fault.ScriptFault.{ScriptFault}
 use Rattle.script_reader.specs.Numbers.{Words}
-use Rattle.script_reader.specs.Lines.{line_at}
-use Rattle.script_reader.specs.Script.{fault_at, script_lines}
-use Rattle.script_reader.specs.Grammar.{IsPassedOver, HasFault}
+use Rattle.script_reader.specs.Lines.{script_line_at}
+use Rattle.script_reader.specs.Script.{script_fault_at, script_lines}
+use Rattle.script_reader.specs.Grammar.{HasNoCommand, HasWordsFault}
 use Rattle.script_reader.specs.Spelling.{script_grammar, SpellsAct, Fails}
 
 -- one of the lines is `sections`
@@ -20,9 +20,9 @@ abbrev pub HasSectionsLine : List (List ℕ) → Type 0
 HasSectionsLine texts = (text : List ℕ) × Contains texts text × HasWords Script text (codes "sections" ∷ [])
 
 -- after the earlier lines, this line has this act, or no command
-abbrev pub LineAsksFor : List (List ℕ) → List ℕ → Option Act → Type 0
-LineAsksFor earlier text None = (words : Words) × HasWords Script text words × IsPassedOver words
-LineAsksFor earlier text (Some act) =
+abbrev pub LineHasAct : List (List ℕ) → List ℕ → Option Act → Type 0
+LineHasAct earlier text None = (words : Words) × HasWords Script text words × HasNoCommand words
+LineHasAct earlier text (Some act) =
     (words : Words) × HasWords Script text words × SpellsAct words act × (act ≡ acts.Sections → ¬ (HasSectionsLine earlier))
 
 -- after the earlier lines, this line has this fault
@@ -31,24 +31,24 @@ pub record LineHasFault (earlier : List (List ℕ)) (text : List ℕ) (wrong : W
   pub spelled : HasWords Script text words
   pub seen : Bool
   pub sections : (seen ≡ true) ↔ HasSectionsLine earlier
-  pub fault : HasFault script_grammar (Fails seen) words wrong
+  pub fault : HasWordsFault script_grammar (Fails seen) words wrong
 
 -- after the earlier lines, none of these has a fault, and the list has their acts with the numbers
 -- of their lines, from 1 on
-abbrev pub LinesAskFor : List (List ℕ) → List (List ℕ) → List Line → Type 0
-LinesAskFor earlier [] lines = lines ≡ []
-LinesAskFor earlier (text ∷ texts) lines = (act : Option Act) × (others : List Line) × LineAsksFor earlier text act
-    × (lines ≡ cons_option (line_at script_lines (length earlier + 1) act) others) × LinesAskFor (earlier ++ (text ∷ [])) texts others
+abbrev pub LinesHaveActs : List (List ℕ) → List (List ℕ) → List Line → Type 0
+LinesHaveActs earlier [] lines = lines ≡ []
+LinesHaveActs earlier (text ∷ texts) lines = (act : Option Act) × (others : List Line) × LineHasAct earlier text act
+    × (lines ≡ cons_option (script_line_at script_lines (length earlier + 1) act) others) × LinesHaveActs (earlier ++ (text ∷ [])) texts others
 
 -- after the earlier lines, this is the fault of the first line that has one: no line before it has
 -- a fault
-pub record IsFirstFault (earlier texts : List (List ℕ)) (fault : ScriptFault) : Type 0 where
+pub record IsFirstLineFault (earlier texts : List (List ℕ)) (fault : ScriptFault) : Type 0 where
   pub before : List (List ℕ)
   pub text : List ℕ
   pub after : List (List ℕ)
   pub lines : texts ≡ before ++ (text ∷ after)
   pub acts : List Line
-  pub faultless : LinesAskFor earlier before acts
+  pub faultless : LinesHaveActs earlier before acts
   pub wrong : Wrong
   pub at_fault : LineHasFault (earlier ++ before) text wrong
-  pub named : fault ≡ fault_at (length (earlier ++ before) + 1) wrong
+  pub named : fault ≡ script_fault_at (length (earlier ++ before) + 1) wrong

@@ -8,8 +8,8 @@ use Rattle.script_reader.specs.declared.act.Act.TheVariants as acts
 use Rattle.script_reader.specs.declared.fault.Wrong.{Wrong}
 use Rattle.script_reader.specs.declared.fault.Wrong.TheVariants as wrong
 use Rattle.script_reader.specs.Numbers.{Words}
-use Rattle.script_reader.specs.Forms.{greatest, greatest_id, greatest_node, greatest_byte, greatest_len}
-use Rattle.script_reader.specs.Grammar.{IsWithin, value, Grammar, SpellsNumbers}
+use Rattle.script_reader.specs.Forms.{greatest_u64, greatest_id, greatest_node, greatest_byte, greatest_len}
+use Rattle.script_reader.specs.Grammar.{IsWithin, value_of_word, Grammar, SpellsNumbers}
 
 -- the words for a node, if any: `node N` or `node N exact`
 pub data NodeWords : Type 0 where
@@ -18,19 +18,19 @@ pub data NodeWords : Type 0 where
   exact_node : (node : List ℕ) → NodeWords
 
 -- a form, with any word in the place of each number
-pub data Form : Type 0 where
-  alloc : (id size align : List ℕ) (min max : Option (List ℕ)) (node : NodeWords) → Form
-  reserve : (id base size : List ℕ) → Form
-  free : (id : List ℕ) → Form
-  trim : (id keep : List ℕ) → Form
-  fill : (id byte : List ℕ) → Form
-  peek : (address len : List ℕ) → Form
-  sections : Form
+pub data LineForm : Type 0 where
+  alloc : (id size align : List ℕ) (min max : Option (List ℕ)) (node : NodeWords) → LineForm
+  reserve : (id base size : List ℕ) → LineForm
+  free : (id : List ℕ) → LineForm
+  trim : (id keep : List ℕ) → LineForm
+  fill : (id byte : List ℕ) → LineForm
+  peek : (address len : List ℕ) → LineForm
+  sections : LineForm
 
 -- a key and its number, which may be missing
-abbrev pub keyed : List ℕ → Option (List ℕ) → Words
-keyed key None = []
-keyed key (Some word) = key ∷ word ∷ []
+abbrev pub key_with_word : List ℕ → Option (List ℕ) → Words
+key_with_word key None = []
+key_with_word key (Some word) = key ∷ word ∷ []
 
 abbrev pub node_words : NodeWords → Words
 node_words no_node = []
@@ -38,15 +38,15 @@ node_words (near_node node) = codes "node" ∷ node ∷ []
 node_words (exact_node node) = codes "node" ∷ node ∷ codes "exact" ∷ []
 
 -- the words of each form; the first is `alloc ID SIZE ALIGN [min A] [max A] [node N [exact]]`
-abbrev pub words_of : Form → Words
-words_of (alloc id size align min max node) =
-    codes "alloc" ∷ id ∷ size ∷ align ∷ (keyed (codes "min") min ++ (keyed (codes "max") max ++ node_words node))
-words_of (reserve id base size) = codes "reserve" ∷ id ∷ base ∷ size ∷ []
-words_of (free id) = codes "free" ∷ id ∷ []
-words_of (trim id keep) = codes "trim" ∷ id ∷ keep ∷ []
-words_of (fill id byte) = codes "fill" ∷ id ∷ byte ∷ []
-words_of (peek address len) = codes "peek" ∷ address ∷ len ∷ []
-words_of sections = codes "sections" ∷ []
+abbrev pub words_of_form : LineForm → Words
+words_of_form (alloc id size align min max node) =
+    codes "alloc" ∷ id ∷ size ∷ align ∷ (key_with_word (codes "min") min ++ (key_with_word (codes "max") max ++ node_words node))
+words_of_form (reserve id base size) = codes "reserve" ∷ id ∷ base ∷ size ∷ []
+words_of_form (free id) = codes "free" ∷ id ∷ []
+words_of_form (trim id keep) = codes "trim" ∷ id ∷ keep ∷ []
+words_of_form (fill id byte) = codes "fill" ∷ id ∷ byte ∷ []
+words_of_form (peek address len) = codes "peek" ∷ address ∷ len ∷ []
+words_of_form sections = codes "sections" ∷ []
 
 -- the word for the node's number, and whether `exact` follows it
 abbrev pub node_number : NodeWords → Option (List ℕ)
@@ -60,33 +60,33 @@ is_exact (near_node node) = false
 is_exact (exact_node node) = true
 
 -- each number of the form is a size within its limit
-abbrev pub HasNumbers : Form → Type 0
-HasNumbers (alloc id size align min max node) = IsWithin greatest_id id × IsWithin greatest size × IsWithin greatest align
-    × IfSome min (IsWithin greatest) × IfSome max (IsWithin greatest) × IfSome (node_number node) (IsWithin greatest_node)
-HasNumbers (reserve id base size) = IsWithin greatest_id id × IsWithin greatest base × IsWithin greatest size
-HasNumbers (free id) = IsWithin greatest_id id
-HasNumbers (trim id keep) = IsWithin greatest_id id × IsWithin greatest keep
-HasNumbers (fill id byte) = IsWithin greatest_id id × IsWithin greatest_byte byte
-HasNumbers (peek address len) = IsWithin greatest address × IsWithin greatest_len len
-HasNumbers sections = Unit {0}
+abbrev pub HasLineNumbers : LineForm → Type 0
+HasLineNumbers (alloc id size align min max node) = IsWithin greatest_id id × IsWithin greatest_u64 size × IsWithin greatest_u64 align
+    × IfSome min (IsWithin greatest_u64) × IfSome max (IsWithin greatest_u64) × IfSome (node_number node) (IsWithin greatest_node)
+HasLineNumbers (reserve id base size) = IsWithin greatest_id id × IsWithin greatest_u64 base × IsWithin greatest_u64 size
+HasLineNumbers (free id) = IsWithin greatest_id id
+HasLineNumbers (trim id keep) = IsWithin greatest_id id × IsWithin greatest_u64 keep
+HasLineNumbers (fill id byte) = IsWithin greatest_id id × IsWithin greatest_byte byte
+HasLineNumbers (peek address len) = IsWithin greatest_u64 address × IsWithin greatest_len len
+HasLineNumbers sections = Unit {0}
 
 -- the act of a form whose numbers are sizes. Without `min` the lower limit is 0; without `max`
 -- there is no upper limit, and without `node` no node is preferred.
-abbrev pub act_of : Form → Act
-act_of (alloc id size align min max node) = acts.Alloc (value id) (record {
-  size = value size;
-  align = value align;
-  min = unwrap_or (option_map value min) 0;
-  max = option_map value max;
-  node = option_map value (node_number node);
+abbrev pub act_of_form : LineForm → Act
+act_of_form (alloc id size align min max node) = acts.Alloc (value_of_word id) (record {
+  size = value_of_word size;
+  align = value_of_word align;
+  min = unwrap_or (option_map value_of_word min) 0;
+  max = option_map value_of_word max;
+  node = option_map value_of_word (node_number node);
   exact = is_exact node;
 })
-act_of (reserve id base size) = acts.Reserve (value id) (record { base = value base; size = value size })
-act_of (free id) = acts.Free (value id)
-act_of (trim id keep) = acts.Trim (value id) (value keep)
-act_of (fill id byte) = acts.Fill (value id) (value byte)
-act_of (peek address len) = acts.Peek (value address) (value len)
-act_of sections = acts.Sections
+act_of_form (reserve id base size) = acts.Reserve (value_of_word id) (record { base = value_of_word base; size = value_of_word size })
+act_of_form (free id) = acts.Free (value_of_word id)
+act_of_form (trim id keep) = acts.Trim (value_of_word id) (value_of_word keep)
+act_of_form (fill id byte) = acts.Fill (value_of_word id) (value_of_word byte)
+act_of_form (peek address len) = acts.Peek (value_of_word address) (value_of_word len)
+act_of_form sections = acts.Sections
 
 -- the alignment is a power of two
 abbrev pub IsAligned : Act → Type 0
@@ -109,7 +109,7 @@ IsInSpace act = Unit {0}
 
 -- the lines of an early script, as a user writes them
 abbrev pub script_grammar : Grammar Act
-script_grammar = record { Form = Form; words_of = words_of; HasNumbers = HasNumbers; act_of = act_of }
+script_grammar = record { Form = LineForm; words_of = words_of_form; HasNumbers = HasLineNumbers; act_of = act_of_form }
 
 -- the words spell the act: they also meet the conditions on its alignment, size and range
 pub record SpellsAct (words : Words) (act : Act) : Type 0 where

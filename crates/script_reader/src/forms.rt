@@ -5,13 +5,13 @@ ghost use Rattle.std.specs.Prelude.{◌≡◌, ℕ, ◌<◌, ◌≤◌, ◌^◌,
 ghost use Rattle.std.specs.Option.{option_map};
 ghost use Rattle.text_words.specs.Words.{words_in};
 ghost use Rattle.text_words.specs.declared.separators.Separators.TheVariants as separators;
-ghost use Rattle.script_reader.specs.Forms.{AllocWords as SaidWords, alloc_words as words_of_alloc, optional_exact as exact_word, alloc_line as alloc_of, reserve_line as reserve_of, free_line as free_of, trim_line as trim_of, fill_line as fill_of, peek_line as peek_of, sections_line as sections_of, by_name as named_line, HasBounds};
+ghost use Rattle.script_reader.specs.Forms.{AllocWords as SaidWords, alloc_words as words_of_alloc, optional_exact as exact_word, alloc_line as alloc_of, reserve_line as reserve_of, free_line as free_of, trim_line as trim_of, fill_line as fill_of, peek_line as peek_of, sections_line as sections_of, act_by_name as named_line, HasBounds};
 
 use crate::act::Act;
 use crate::fault::Wrong;
 use crate::words::{
-    bounded, first_word, no_words, number, one_word, optional, optional_number, power, range_at,
-    some, three_words, two_words,
+    number_within, first_word, expect_no_words, number_in_word, one_word, word_after_key, optional_number, check_power_of_two, range_or_fault,
+    check_not_zero, three_words, two_words,
 };
 use memblock_model::Request;
 use std::marker::Model;
@@ -24,7 +24,7 @@ use text_words::{Separators, next_word};
 ///
 /// - `Form`: there is no command of this name, or the words don't have its form.
 /// - Any other fault of the words.
-pub fn by_name(seen: bool, name: &[u8], rest: &[u8]) -> Result<Act, Wrong>
+pub fn act_by_name(seen: bool, name: &[u8], rest: &[u8]) -> Result<Act, Wrong>
     ensures value { result ≡ named_line seen name.now (words_in separators.Script rest.now) }
     ensures bounds { IfOk result HasBounds }
 {
@@ -85,11 +85,11 @@ fn alloc_words(text: &[u8]) -> Result<AllocWords<'_>, Wrong>
     let (id, rest) = first_word(text)?;
     let (size, rest) = first_word(rest)?;
     let (align, rest) = first_word(rest)?;
-    let (min, rest) = optional(b"min", rest);
-    let (max, rest) = optional(b"max", rest);
-    let (node, rest) = optional(b"node", rest);
+    let (min, rest) = word_after_key(b"min", rest);
+    let (max, rest) = word_after_key(b"max", rest);
+    let (node, rest) = word_after_key(b"node", rest);
     let (exact, rest) = optional_exact(node, rest);
-    no_words(rest)?;
+    expect_no_words(rest)?;
     Ok(AllocWords {
         id,
         size,
@@ -121,14 +121,14 @@ fn alloc_line(text: &[u8]) -> Result<Act, Wrong>
     ensures bounds { IfOk result HasBounds }
 {
     let said = alloc_words(text)?;
-    let id = bounded(GREATEST_ID, said.id)? as u32;
-    let size = number(said.size)?;
-    let align = number(said.align)?;
+    let id = number_within(GREATEST_ID, said.id)? as u32;
+    let size = number_in_word(said.size)?;
+    let align = number_in_word(said.align)?;
     let min = optional_number(u64::MAX, said.min)?;
     let max = optional_number(u64::MAX, said.max)?;
     let node = optional_number(GREATEST_NODE, said.node)?;
-    let align = power(align)?;
-    let size = some(size)?;
+    let align = check_power_of_two(align)?;
+    let size = check_not_zero(size)?;
     let request = Request {
         size,
         align,
@@ -157,10 +157,10 @@ fn reserve_line(text: &[u8]) -> Result<Act, Wrong>
     ensures bounds { IfOk result HasBounds }
 {
     let (id, base, size) = three_words(text)?;
-    let id = bounded(GREATEST_ID, id)? as u32;
-    let base = number(base)?;
-    let size = some(number(size)?)?;
-    let range = range_at(base, size)?;
+    let id = number_within(GREATEST_ID, id)? as u32;
+    let base = number_in_word(base)?;
+    let size = check_not_zero(number_in_word(size)?)?;
+    let range = range_or_fault(base, size)?;
     Ok(Act::Reserve { id, range })
 }
 
@@ -168,7 +168,7 @@ fn free_line(text: &[u8]) -> Result<Act, Wrong>
     ensures value { result ≡ free_of (words_in separators.Script text.now) }
     ensures bounds { IfOk result HasBounds }
 {
-    let id = bounded(GREATEST_ID, one_word(text)?)? as u32;
+    let id = number_within(GREATEST_ID, one_word(text)?)? as u32;
     Ok(Act::Free { id })
 }
 
@@ -177,8 +177,8 @@ fn trim_line(text: &[u8]) -> Result<Act, Wrong>
     ensures bounds { IfOk result HasBounds }
 {
     let (id, keep) = two_words(text)?;
-    let id = bounded(GREATEST_ID, id)? as u32;
-    let keep = some(number(keep)?)?;
+    let id = number_within(GREATEST_ID, id)? as u32;
+    let keep = check_not_zero(number_in_word(keep)?)?;
     Ok(Act::Trim { id, keep })
 }
 
@@ -187,8 +187,8 @@ fn fill_line(text: &[u8]) -> Result<Act, Wrong>
     ensures bounds { IfOk result HasBounds }
 {
     let (id, byte) = two_words(text)?;
-    let id = bounded(GREATEST_ID, id)? as u32;
-    let byte = bounded(GREATEST_BYTE, byte)? as u8;
+    let id = number_within(GREATEST_ID, id)? as u32;
+    let byte = number_within(GREATEST_BYTE, byte)? as u8;
     Ok(Act::Fill { id, byte })
 }
 
@@ -197,9 +197,9 @@ fn peek_line(text: &[u8]) -> Result<Act, Wrong>
     ensures bounds { IfOk result HasBounds }
 {
     let (at, len) = two_words(text)?;
-    let at = number(at)?;
-    let len = some(bounded(GREATEST_LEN, len)?)?;
-    let range = range_at(at, len)?;
+    let at = number_in_word(at)?;
+    let len = check_not_zero(number_within(GREATEST_LEN, len)?)?;
+    let range = range_or_fault(at, len)?;
     Ok(Act::Peek {
         at: range.base,
         len: len as u32,
@@ -210,7 +210,7 @@ fn sections_line(seen: bool, text: &[u8]) -> Result<Act, Wrong>
     ensures value { result ≡ sections_of seen (words_in separators.Script text.now) }
     ensures bounds { IfOk result HasBounds }
 {
-    no_words(text)?;
+    expect_no_words(text)?;
     if seen {
         return Err(Wrong::SecondSections);
     }

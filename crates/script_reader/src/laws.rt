@@ -11,11 +11,11 @@ ghost use Rattle.script_reader.specs.declared.act.Line.{Line as AnyLine};
 ghost use Rattle.script_reader.specs.declared.fault.Wrong.{Wrong as AnyWrong};
 ghost use Rattle.script_reader.specs.declared.fault.ScriptFault.{ScriptFault as AnyFault};
 ghost use Rattle.script_reader.specs.Numbers.{Words};
-ghost use Rattle.script_reader.specs.Lines.{asked};
+ghost use Rattle.script_reader.specs.Lines.{read_line};
 ghost use Rattle.script_reader.specs.Script.{script_lines, script_of};
-ghost use Rattle.script_reader.specs.Grammar.{IsPassedOver, HasFault};
+ghost use Rattle.script_reader.specs.Grammar.{HasNoCommand, HasWordsFault};
 ghost use Rattle.script_reader.specs.Spelling.{script_grammar, SpellsAct, Fails};
-ghost use Rattle.script_reader.specs.ScriptSpelling.{LinesAskFor, IsFirstFault};
+ghost use Rattle.script_reader.specs.ScriptSpelling.{LinesHaveActs, IsFirstLineFault};
 
 /// Law: each text has exactly one list of words.
 pub fn each_line_has_its_words()
@@ -30,15 +30,15 @@ pub fn each_line_has_its_words()
 pub fn lines_of_spelling()
     ensures act { (seen : Bool) (text : List ℕ) (words : Words) (act : AnyAct) →
         HasWords Script text words →
-        ((asked script_lines seen text ≡ Ok (Some act))
+        ((read_line script_lines seen text ≡ Ok (Some act))
         ↔ (SpellsAct words act × (act ≡ acts.Sections → seen ≡ false))) }
     ensures nothing { (seen : Bool) (text : List ℕ) (words : Words) →
         HasWords Script text words →
-        ((asked script_lines seen text ≡ Ok None) ↔ IsPassedOver words) }
+        ((read_line script_lines seen text ≡ Ok None) ↔ HasNoCommand words) }
     ensures fault { (seen : Bool) (text : List ℕ) (words : Words) (wrong : AnyWrong) →
         HasWords Script text words →
-        ((asked script_lines seen text ≡ Err wrong)
-        ↔ HasFault script_grammar (Fails seen) words wrong) }
+        ((read_line script_lines seen text ≡ Err wrong)
+        ↔ HasWordsFault script_grammar (Fails seen) words wrong) }
 {}
 
 /// Law: a script is read as a list of lines exactly if these are the commands of its lines, with
@@ -46,7 +46,7 @@ pub fn lines_of_spelling()
 /// of the lowest line that has one.
 pub fn scripts_of_spelling()
     ensures lines { (bytes : List ℕ) (lines : List AnyLine) →
-        ((script_of bytes ≡ Ok lines) ↔ LinesAskFor [] (parts_in (Byte 10) bytes) lines) }
+        ((script_of bytes ≡ Ok lines) ↔ LinesHaveActs [] (parts_in (Byte 10) bytes) lines) }
     ensures fault { (bytes : List ℕ) (fault : AnyFault) →
-        ((script_of bytes ≡ Err fault) ↔ IsFirstFault [] (parts_in (Byte 10) bytes) fault) }
+        ((script_of bytes ≡ Err fault) ↔ IsFirstLineFault [] (parts_in (Byte 10) bytes) fault) }
 {}

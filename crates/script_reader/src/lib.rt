@@ -27,7 +27,7 @@
 //!
 //! A page script (`page_alloc`) has other commands in the same words. So one reader serves both:
 //! [`read_lines`] reads a script of any kind, and [`ScriptLine`] says what makes a kind. Both kinds
-//! read words and numbers by the same functions ([`one_word`], [`bounded`]).
+//! read words and numbers by the same functions ([`one_word`], [`number_within`]).
 //!
 //! The layer above, which runs the lines, may rest on three facts. Each act has the limits that
 //! running it requires (`HasBounds`). `sections` occurs at most once. The reader runs out of
@@ -46,7 +46,7 @@ pub use act::{Act, Line};
 pub use fault::{ScriptFault, Wrong};
 pub use forms::{GREATEST_ID, GREATEST_NODE};
 pub use laws::{each_line_has_its_words, lines_of_spelling, scripts_of_spelling};
-pub use lines::{ScriptLine, Unread, read_lines};
+pub use lines::{ScriptLine, LinesError, read_lines};
 pub use memblock_model::Request;
 pub use script::read_script;
-pub use words::{bounded, first_word, one_word};
+pub use words::{number_within, first_word, one_word};

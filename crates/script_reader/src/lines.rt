@@ -9,7 +9,7 @@ ghost use Rattle.bm_base.specs.Answers.{Answers};
 ghost use Rattle.bm_base.specs.ResultSteps.{with_error};
 ghost use Rattle.text_words.specs.Words.{words_in};
 ghost use Rattle.text_words.specs.declared.separators.Separators.TheVariants as separators;
-ghost use Rattle.script_reader.specs.Lines.{Kind, CanBe, asked, seen_behind as once_seen, line_at as line_of, lines_of};
+ghost use Rattle.script_reader.specs.Lines.{ScriptKind, CanBe, read_line, has_once_command as once_seen, script_line_at as line_of, lines_of};
 
 use crate::fault::Wrong;
 use crate::words::is_comment;
@@ -25,7 +25,7 @@ pub trait ScriptLine: Copy {
 
     // `kind` has the forms of the lines. `IsWithinLimits` is true of each line that is read, and
     // `MayBeWrong` of all that can be wrong with a line.
-    ghost kind: { Kind Self.Act Self };
+    ghost kind: { ScriptKind Self.Act Self };
 
     ghost IsWithinLimits: { Self → Type 0 };
 
@@ -54,21 +54,21 @@ pub trait ScriptLine: Copy {
 
 /// The reason why a script can't be read.
 #[derive(Clone, Copy, Debug, PartialEq, Eq)]
-pub enum Unread {
+pub enum LinesError {
     /// The number of the lowest line that has a fault, from 1 on, and what is wrong with it.
     Faulty(u32, Wrong),
     /// The program ran out of memory. This is returned only if no line has a fault.
     Memory,
 }
 
-impl From<Memory> for Unread {
+impl From<Memory> for LinesError {
     ghost use Rattle.std.specs.Prelude.{◌≡◌};
-    ghost use Rattle.script_reader.specs.declared.lines.Unread.TheVariants as unread;
+    ghost use Rattle.script_reader.specs.declared.lines.LinesError.TheVariants as unread;
 
     ghost from_gives = { λ _ fault. fault ≡ unread.Memory };
 
-    fn from(_memory: Memory) -> Unread {
-        Unread::Memory
+    fn from(_memory: Memory) -> LinesError {
+        LinesError::Memory
     }
 }
 
@@ -82,11 +82,11 @@ impl From<Memory> for Unread {
 ///
 /// - `Faulty`: the lowest line that has a fault, with the first fault of that line.
 /// - `Memory`: no line has a fault and some line has a command, but the program ran out of memory.
-pub fn read_lines<L: ScriptLine>(alloc: Global, bytes: &[u8]) -> Result<Vec<L>, Unread>
+pub fn read_lines<L: ScriptLine>(alloc: Global, bytes: &[u8]) -> Result<Vec<L>, LinesError>
     requires { length bytes.now < 2 ^ 32 }
-    ensures answers { Answers Unread.Memory (λ lines. lines.items) result
-        (with_error (λ at. Unread.Faulty at.0 at.1) (lines_of L.kind bytes.now)) }
-    ensures memory { result ≡ Err Unread.Memory →
+    ensures answers { Answers LinesError.Memory (λ lines. lines.items) result
+        (with_error (λ at. LinesError.Faulty at.0 at.1) (lines_of L.kind bytes.now)) }
+    ensures memory { result ≡ Err LinesError.Memory →
         IsOkAnd (lines_of L.kind bytes.now) (λ lines. 0 < length lines) }
     ensures limits { IfOk result (λ lines. All L.IsWithinLimits lines.items) }
     ensures wrong { IfErr result (CanBe L.MayBeWrong) }
@@ -99,10 +99,10 @@ pub fn read_lines<L: ScriptLine>(alloc: Global, bytes: &[u8]) -> Result<Vec<L>, 
         let (text, behind) = next_part(text, Separators::Byte(b'\n'));
         let act = match read_line::<L>(seen, text) {
             Ok(act) => act,
-            Err(wrong) => return Err(Unread::Faulty(number as u32, wrong)),
+            Err(wrong) => return Err(LinesError::Faulty(number as u32, wrong)),
         };
-        seen = seen_behind::<L>(seen, &act);
-        lines = keep(lines, line_at::<L>(number, act));
+        seen = has_once_command::<L>(seen, &act);
+        lines = append_line(lines, script_line_at::<L>(number, act));
         number += 1;
         rest = behind;
     }
@@ -115,7 +115,7 @@ pub fn read_lines<L: ScriptLine>(alloc: Global, bytes: &[u8]) -> Result<Vec<L>, 
 ///
 /// - The first fault of the line, in the order of [`Wrong`].
 fn read_line<L: ScriptLine>(seen: bool, text: &[u8]) -> Result<Option<L::Act>, Wrong>
-    ensures value { result ≡ asked L.kind seen text.now }
+    ensures value { result ≡ read_line L.kind seen text.now }
     ensures limits { IfOk result (λ act. IfSome act
         (λ act. (number : ℕ) → L.IsWithinLimits (L.kind.line number act))) }
     ensures wrong { IfErr result L.MayBeWrong }
@@ -132,7 +132,7 @@ fn read_line<L: ScriptLine>(seen: bool, text: &[u8]) -> Result<Option<L::Act>, W
 }
 
 /// Tests whether this line or an earlier one has the command that may occur only once.
-fn seen_behind<L: ScriptLine>(seen: bool, act: &Option<L::Act>) -> bool
+fn has_once_command<L: ScriptLine>(seen: bool, act: &Option<L::Act>) -> bool
     ensures { result ≡ once_seen L.kind seen act.now }
 {
     match act {
@@ -142,7 +142,7 @@ fn seen_behind<L: ScriptLine>(seen: bool, act: &Option<L::Act>) -> bool
 }
 
 /// Returns the line with this number, if it has a command.
-fn line_at<L: ScriptLine>(number: u64, act: Option<L::Act>) -> Option<L>
+fn script_line_at<L: ScriptLine>(number: u64, act: Option<L::Act>) -> Option<L>
     requires { IfSome act (λ _. number < 2 ^ 32) }
     ensures { result ≡ line_of L.kind number act }
 {
@@ -157,7 +157,7 @@ fn line_at<L: ScriptLine>(number: u64, act: Option<L::Act>) -> Option<L>
 /// # Errors
 ///
 /// - `Memory`: the program ran out of memory, either for this line or for an earlier one.
-fn keep<L: Copy>(lines: Result<Vec<L>, Memory>, line: Option<L>) -> Result<Vec<L>, Memory>
+fn append_line<L: Copy>(lines: Result<Vec<L>, Memory>, line: Option<L>) -> Result<Vec<L>, Memory>
     ensures line { IfOk result (λ kept. IsOkAnd lines
         (λ before. kept.items ≡ before.items ++ option_to_list line)) }
     ensures memory { IsErr result → IsErr lines ⊎ IsSome line }

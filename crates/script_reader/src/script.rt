@@ -3,12 +3,12 @@
 ghost use Rattle.std.specs.Prelude.{◌≡◌, ℕ, ◌<◌, ◌^◌, length, All, Err, IfOk, IsOkAnd};
 ghost use Rattle.bm_base.specs.Answers.{Answers};
 ghost use Rattle.script_reader.specs.Forms.{HasBounds};
-ghost use Rattle.script_reader.specs.Script.{fault_at as line_fault, script_of};
+ghost use Rattle.script_reader.specs.Script.{script_fault_at as line_fault, script_of};
 
 use crate::act::{Act, Line};
 use crate::fault::{ScriptFault, Wrong};
-use crate::forms::by_name;
-use crate::lines::{ScriptLine, Unread, read_lines};
+use crate::forms::act_by_name;
+use crate::lines::{ScriptLine, LinesError, read_lines};
 use std::alloc::Global;
 
 impl ScriptLine for Line {
@@ -24,7 +24,7 @@ impl ScriptLine for Line {
     ghost MayBeWrong = { λ _. Unit {0} };
 
     fn by_name(seen: bool, name: &[u8], rest: &[u8]) -> Result<Act, Wrong> {
-        by_name(seen, name, rest)
+        act_by_name(seen, name, rest)
     }
 
     fn is_once(act: &Act) -> bool {
@@ -57,13 +57,13 @@ pub fn read_script(alloc: Global, bytes: &[u8]) -> Result<Vec<Line>, ScriptFault
 {
     match read_lines::<Line>(alloc, bytes) {
         Ok(lines) => Ok(lines),
-        Err(Unread::Faulty(line, wrong)) => Err(fault_at(line, wrong)),
-        Err(Unread::Memory) => Err(ScriptFault::Memory),
+        Err(LinesError::Faulty(line, wrong)) => Err(script_fault_at(line, wrong)),
+        Err(LinesError::Memory) => Err(ScriptFault::Memory),
     }
 }
 
 /// Returns the fault of a script for what is wrong with the line of this number.
-fn fault_at(line: u32, wrong: Wrong) -> ScriptFault
+fn script_fault_at(line: u32, wrong: Wrong) -> ScriptFault
     ensures { result ≡ line_fault line wrong }
 {
     match wrong {

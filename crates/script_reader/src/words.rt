@@ -9,7 +9,7 @@ ghost use Rattle.std.specs.Int.{is_power_of_two};
 ghost use Rattle.std.specs.Option.{option_map};
 ghost use Rattle.text_words.specs.Words.{words_in};
 ghost use Rattle.text_words.specs.declared.separators.Separators.TheVariants as separators;
-ghost use Rattle.script_reader.specs.Numbers.{IsOfWords, no_words as has_no_words, first_word as front_word, one_word as single_word, two_words as pair_of_words, three_words as triple_of_words, optional as optional_word, number as number_of, bounded as bounded_number, optional_number as optional_number_of, power as power_of, some as some_of, range_at as range_of};
+ghost use Rattle.script_reader.specs.Numbers.{IsOfWords, expect_no_words as has_no_words, first_word as front_word, one_word as single_word, two_words as pair_of_words, three_words as triple_of_words, word_after_key as optional_word, number_in_word as number_of, number_within as bounded_number, optional_number as optional_number_of, check_power_of_two as power_of, check_not_zero as some_of, range_or_fault as range_of};
 ghost use Rattle.script_reader.specs.Lines.{is_comment as begins_comment};
 
 use crate::fault::Wrong;
@@ -28,7 +28,7 @@ pub fn is_comment(word: &[u8]) -> bool
 /// # Errors
 ///
 /// - `Form`: there is another word.
-pub fn no_words(text: &[u8]) -> Result<(), Wrong>
+pub fn expect_no_words(text: &[u8]) -> Result<(), Wrong>
     ensures value { result ≡ has_no_words (words_in separators.Script text.now) }
     ensures of_words { IfErr result IsOfWords }
 {
@@ -65,7 +65,7 @@ pub fn one_word(text: &[u8]) -> Result<&[u8], Wrong>
     ensures of_words { IfErr result IsOfWords }
 {
     let (word, rest) = first_word(text)?;
-    no_words(rest)?;
+    expect_no_words(rest)?;
     Ok(word)
 }
 
@@ -102,7 +102,7 @@ pub fn three_words(text: &[u8]) -> Result<(&[u8], &[u8], &[u8]), Wrong>
 
 /// If the text starts with `key WORD`, returns WORD and the rest of the text. Else returns `None`
 /// and the text unchanged.
-pub fn optional<'a>(key: &[u8], text: &'a [u8]) -> (Option<&'a [u8]>, &'a [u8])
+pub fn word_after_key<'a>(key: &[u8], text: &'a [u8]) -> (Option<&'a [u8]>, &'a [u8])
     ensures { optional_word key.now (words_in separators.Script text.now)
         ≡ (option_map (λ word. word.now) result.0, words_in separators.Script result.1.now) }
 {
@@ -123,7 +123,7 @@ pub fn optional<'a>(key: &[u8], text: &'a [u8]) -> (Option<&'a [u8]>, &'a [u8])
 /// # Errors
 ///
 /// - `Number`: the word isn't entirely a number.
-pub fn number(word: &[u8]) -> Result<u64, Wrong>
+pub fn number_in_word(word: &[u8]) -> Result<u64, Wrong>
     ensures value { result ≡ number_of word.now }
     ensures of_words { IfErr result IsOfWords }
 {
@@ -138,12 +138,12 @@ pub fn number(word: &[u8]) -> Result<u64, Wrong>
 /// # Errors
 ///
 /// - `Number`: the word isn't entirely a number, or the number is above `most`.
-pub fn bounded(most: u64, word: &[u8]) -> Result<u64, Wrong>
+pub fn number_within(most: u64, word: &[u8]) -> Result<u64, Wrong>
     ensures value { result ≡ bounded_number most word.now }
     ensures bound { IfOk result (λ n. n ≤ most) }
     ensures of_words { IfErr result IsOfWords }
 {
-    let value = number(word)?;
+    let value = number_in_word(word)?;
     if value > most {
         return Err(Wrong::Number);
     }
@@ -161,7 +161,7 @@ pub fn optional_number(most: u64, word: Option<&[u8]>) -> Result<Option<u64>, Wr
 {
     match word {
         None => Ok(None),
-        Some(word) => Ok(Some(bounded(most, word)?)),
+        Some(word) => Ok(Some(number_within(most, word)?)),
     }
 }
 
@@ -170,7 +170,7 @@ pub fn optional_number(most: u64, word: Option<&[u8]>) -> Result<Option<u64>, Wr
 /// # Errors
 ///
 /// - `Align`: it isn't a power of two.
-pub fn power(value: u64) -> Result<u64, Wrong>
+pub fn check_power_of_two(value: u64) -> Result<u64, Wrong>
     ensures value { result ≡ power_of value }
     ensures power { IfOk result (λ n. IsTrue (is_power_of_two n)) }
 {
@@ -185,7 +185,7 @@ pub fn power(value: u64) -> Result<u64, Wrong>
 /// # Errors
 ///
 /// - `ZeroSize`: it is 0.
-pub fn some(value: u64) -> Result<u64, Wrong>
+pub fn check_not_zero(value: u64) -> Result<u64, Wrong>
     ensures value { result ≡ some_of value }
     ensures some { IfOk result (λ n. 0 < n) }
 {
@@ -200,7 +200,7 @@ pub fn some(value: u64) -> Result<u64, Wrong>
 /// # Errors
 ///
 /// - `TooFar`: `base + size` exceeds 2^64 - 1.
-pub fn range_at(base: u64, size: u64) -> Result<Range, Wrong>
+pub fn range_or_fault(base: u64, size: u64) -> Result<Range, Wrong>
     ensures { result ≡ range_of base size }
 {
     Range::new(base, size).ok_or(Wrong::TooFar)

@@ -2,14 +2,14 @@
 use Rattle.std.proofs.Common.{◌≡◌, ℕ, true, false, Some, None, List, [], ◌∷◌, refl, arith}
 use Rattle.std.proofs.lemmas.List.Elements.{All-head, All-tail}
 use Rattle.memblock_grow.specs.declared.section.Section.{Section}
-use Rattle.section_maps.specs.Maps.{Group, groups_of, usage_request, map_request, spread}
+use Rattle.section_maps.specs.Maps.{SectionGroup, groups_of, usage_request, map_request, consecutive_places}
 use Rattle.section_maps.specs.Stretches.{AreMaximalStretches, HasOneNode}
 use Rattle.section_maps.proofs.StretchLaws.{maximal}
 
 abbrev section : ℕ → ℕ → Section
 section number node = record { number = number; node = node }
 
-abbrev group : Section → List Section → Group
+abbrev group : Section → List Section → SectionGroup
 group first others = record { first = first; others = others }
 
 -- consecutive sections of one node in the list are a group, even if numbers between them are
@@ -35,7 +35,7 @@ two_nodes one =
     omega (arith, node)
 
 -- 40 bytes of usage data and a map of 2 MiB each, one after another
-spread_over : spread 0x1000 0x4000000 (section 4 1 ∷ section 5 1 ∷ section 9 1 ∷ [])
+spread_over : consecutive_places 0x1000 0x4000000 (section 4 1 ∷ section 5 1 ∷ section 9 1 ∷ [])
     ≡ record { section = 4; node = 1; map = 0x4000000; usage = 0x1000 } ∷ record { section = 5; node = 1; map = 0x4200000; usage = 0x1028 }
     ∷ record { section = 9; node = 1; map = 0x4400000; usage = 0x1050 }
     ∷ []

@@ -7,10 +7,10 @@ use Rattle.memblock_grow.specs.declared.section.Section.{Section}
 use Rattle.memblock_grow.specs.declared.stop.StageStop.{StageStop}
 use Rattle.memblock_grow.specs.declared.stop.StageStop.TheVariants as stop
 use Rattle.stage_model.specs.Causes.{stage_stop}
-use Rattle.stage_model.specs.Doing.{StageEnds, listed, in_turn}
+use Rattle.stage_model.specs.Doing.{EndsAsStage, read_into_list, fold_steps}
 use Rattle.stage_model.proofs.DoingLaws.{ends-second, ends-first, ends-listed, ends-wanting, ends-returns}
 use Rattle.section_maps.specs.declared.placed.Placed.{Placed}
-use Rattle.section_maps.specs.Maps.{Group, leading, groups_of, group_placed, map_group, maps}
+use Rattle.section_maps.specs.Maps.{SectionGroup, prepend_section, groups_of, place_group, place_section_group, place_maps}
 
 -- whether the section is of the node
 abbrev pub is_of : ℕ → Section → Bool
@@ -21,7 +21,7 @@ abbrev pub own_part : Section → List Section → ℕ
 own_part d rest = prefix_len (is_of (get_or rest 0 d).node) rest
 
 -- the group of a first section, with those of its node after it
-abbrev pub group_at : Section → List Section → Group
+abbrev pub group_at : Section → List Section → SectionGroup
 group_at s ss = record { first = s; others = take (prefix_len (is_of s.node) ss) ss }
 
 other-eq : (a b : ℕ) → (a == b) ≡ false → (b == a) ≡ false
@@ -39,7 +39,7 @@ groups-next s [] = refl
 groups-next s (t ∷ ts) =
     let rest = groups-next t ts in
     let n : ℕ = prefix_len (is_of t.node) ts in
-    ap (leading s) rest ∙ elim (cases_Bool (t.node == s.node)) as (λ _. leading s (group_at t ts ∷ groups_of (drop n ts))
+    ap (prepend_section s) rest ∙ elim (cases_Bool (t.node == s.node)) as (λ _. prepend_section s (group_at t ts ∷ groups_of (drop n ts))
     ≡ group_at s (t ∷ ts) ∷ groups_of (drop (prefix_len (is_of s.node) (t ∷ ts)) (t ∷ ts))) [
       | inl same ↦
           let is : t.node ≡ s.node = eqb-true t.node s.node same in
@@ -47,64 +47,64 @@ groups-next s (t ∷ ts) =
           rw (eq-eqb s.node t.node (sym is), long) refl
       | inr other ↦
           let none : prefix_len (is_of s.node) (t ∷ ts) ≡ 0 = rw other refl in
-          rw (other-eq t.node s.node other, none) (ap (λ (gs : List Group). record { first = s; others = [] } ∷ gs) (sym rest))
+          rw (other-eq t.node s.node other, none) (ap (λ (gs : List SectionGroup). record { first = s; others = [] } ∷ gs) (sym rest))
     ]
 
 -- all groups end as those of the remaining sections
 pub record Goes (entry : List Item) (sections : List Section) (now : List Item) (placed : List Placed) (rest : List Section) : Type 0 where
   pub ends : (r : Result (List Placed) StageStop) (new : List Item)
-      → StageEnds (in_turn map_group placed (groups_of rest)) stage_stop r now new → StageEnds (maps sections) stage_stop r entry new
+      → EndsAsStage (fold_steps place_section_group placed (groups_of rest)) stage_stop r now new → EndsAsStage (place_maps sections) stage_stop r entry new
 
 pub goes-first : (entry : List Item) (sections : List Section) (placed : List Placed) → placed ≡ []
     → Goes entry sections entry placed sections
-unfolding maps
+unfolding place_maps
 goes-first entry sections placed none = record {
   ends = λ r new h.
-      let groups : List Group = groups_of sections in
+      let groups : List SectionGroup = groups_of sections in
       let no_placed : List Item → List Placed = λ items. [] in
-      ends-second [] r stage_stop entry entry new (listed no_placed) (λ before. in_turn map_group before groups)
+      ends-second [] r stage_stop entry entry new (read_into_list no_placed) (λ before. fold_steps place_section_group before groups)
       (ends-listed no_placed stage_stop entry)
       (rw none at h);
 }
 
 -- out of memory for the list
-pub maps-wanting : (entry : List Item) (sections : List Section)
-    → StageEnds {A = List Placed} (maps sections) stage_stop (Err stop.Memory) entry entry
-unfolding maps
-maps-wanting entry sections =
+pub place_maps-wanting : (entry : List Item) (sections : List Section)
+    → EndsAsStage {A = List Placed} (place_maps sections) stage_stop (Err stop.Memory) entry entry
+unfolding place_maps
+place_maps-wanting entry sections =
     let no_placed : List Item → List Placed = λ items. [] in
-    ends-first stop.Memory stage_stop entry entry (listed no_placed) (λ before. in_turn map_group before (groups_of sections))
+    ends-first stop.Memory stage_stop entry entry (read_into_list no_placed) (λ before. fold_steps place_section_group before (groups_of sections))
     (ends-wanting no_placed stage_stop entry)
 
 -- no section remains, or a group comes next
 module _ {entry : List Item} {sections : List Section} {now : List Item} {placed : List Placed} where
   pub goes-all : (rest : List Section) → length rest ≡ 0 → Goes entry sections now placed rest
-      → StageEnds (maps sections) stage_stop (Ok placed) entry now
+      → EndsAsStage (place_maps sections) stage_stop (Ok placed) entry now
   goes-all [] none goes = goes.ends (Ok placed) now (ends-returns placed stage_stop now)
   goes-all (s ∷ ss) none goes = absurd (omega arith)
 
   front : (s : Section) (ss : List Section) → Goes entry sections now placed (s ∷ ss) → (r : Result (List Placed) StageStop)
       (new : List Item)
-      → StageEnds (in_turn map_group placed (group_at s ss ∷ groups_of (drop (prefix_len (is_of s.node) ss) ss))) stage_stop r now new
-      → StageEnds (maps sections) stage_stop r entry new
+      → EndsAsStage (fold_steps place_section_group placed (group_at s ss ∷ groups_of (drop (prefix_len (is_of s.node) ss) ss))) stage_stop r now new
+      → EndsAsStage (place_maps sections) stage_stop r entry new
   front s ss goes r new h = goes.ends r new (rw (groups-next s ss) h)
 
   pub goes-next : (mid : List Item) (longer : List Placed) (rest : List Section) (d : Section) → 0 < length rest
-      → StageEnds (group_placed placed (get_or rest 0 d) (take (own_part d rest) rest)) stage_stop (Ok longer) now mid
+      → EndsAsStage (place_group placed (get_or rest 0 d) (take (own_part d rest) rest)) stage_stop (Ok longer) now mid
       → Goes entry sections now placed rest → Goes entry sections mid longer (drop (own_part d rest) rest)
   goes-next mid longer [] d some was goes = absurd (omega arith)
   goes-next mid longer (s ∷ ss) d some was goes = record {
     ends = λ r new h. front s ss goes r new
-        (ends-second longer r stage_stop now mid new (map_group placed (group_at s ss))
-        (λ next. in_turn map_group next (groups_of (drop (prefix_len (is_of s.node) ss) ss))) (rw (own-length s ss) at was)
+        (ends-second longer r stage_stop now mid new (place_section_group placed (group_at s ss))
+        (λ next. fold_steps place_section_group next (groups_of (drop (prefix_len (is_of s.node) ss) ss))) (rw (own-length s ss) at was)
         (rw (own-length s ss) at h));
   }
 
   pub goes-stops : (e : StageStop) (new : List Item) (rest : List Section) (d : Section) → 0 < length rest
-      → StageEnds {A = List Placed} (group_placed placed (get_or rest 0 d) (take (own_part d rest) rest)) stage_stop (Err e) now new
-      → Goes entry sections now placed rest → StageEnds {A = List Placed} (maps sections) stage_stop (Err e) entry new
+      → EndsAsStage {A = List Placed} (place_group placed (get_or rest 0 d) (take (own_part d rest) rest)) stage_stop (Err e) now new
+      → Goes entry sections now placed rest → EndsAsStage {A = List Placed} (place_maps sections) stage_stop (Err e) entry new
   goes-stops e new [] d some failed goes = absurd (omega arith)
   goes-stops e new (s ∷ ss) d some failed goes =
       front s ss goes (Err e) new
-      (ends-first e stage_stop now new (map_group placed (group_at s ss))
-      (λ next. in_turn map_group next (groups_of (drop (prefix_len (is_of s.node) ss) ss))) (rw (own-length s ss) at failed))
+      (ends-first e stage_stop now new (place_section_group placed (group_at s ss))
+      (λ next. fold_steps place_section_group next (groups_of (drop (prefix_len (is_of s.node) ss) ss))) (rw (own-length s ss) at failed))

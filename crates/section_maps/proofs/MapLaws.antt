@@ -10,12 +10,12 @@ use Rattle.memblock_grow.specs.declared.stop.What.TheVariants as what
 use Rattle.memblock_grow.specs.declared.stop.StageStop.{StageStop}
 use Rattle.memblock_grow.specs.declared.stop.StageStop.TheVariants as stop
 use Rattle.stage_model.specs.Causes.{StageCause, stage_stop}
-use Rattle.stage_model.specs.Doing.{Doing, StageEnds, returns}
-use Rattle.stage_model.specs.Requests.{placed, or_else}
+use Rattle.stage_model.specs.Doing.{StageStep, EndsAsStage, return_value}
+use Rattle.stage_model.specs.Requests.{place_or_stop, or_else}
 use Rattle.stage_model.proofs.DoingLaws.{ends-second, ends-first, ends-returns}
 use Rattle.stage_model.proofs.RequestLaws.{else-first, else-stops, else-second}
 use Rattle.section_maps.specs.declared.placed.Placed.{Placed}
-use Rattle.section_maps.specs.Maps.{usage_request, map_request, spread, map_each, map_all, group_placed}
+use Rattle.section_maps.specs.Maps.{usage_request, map_request, consecutive_places, place_each_map, place_map_buffer, place_group}
 
 abbrev pub no_section : Section
 no_section = record { number = 0; node = 0 }
@@ -25,34 +25,34 @@ abbrev pub placed_at : ℕ → ℕ → Section → Placed
 placed_at usage map s = record { section = s.number; node = s.node; map = map; usage = usage }
 
 -- one more section of a group
-spread-push : (usage map : ℕ) (ss : List Section) (s : Section)
-    → spread usage map (ss ++ s ∷ []) ≡ spread usage map ss ++ placed_at (usage + 40 * length ss) (map + 0x200000 * length ss) s ∷ []
-spread-push usage map [] s =
+consecutive_places-push : (usage map : ℕ) (ss : List Section) (s : Section)
+    → consecutive_places usage map (ss ++ s ∷ []) ≡ consecutive_places usage map ss ++ placed_at (usage + 40 * length ss) (map + 0x200000 * length ss) s ∷ []
+consecutive_places-push usage map [] s =
     let u : usage + 40 * 0 ≡ usage = omega arith in
     let m : map + 0x200000 * 0 ≡ map = omega arith in
     rw (u, m) refl
-spread-push usage map (t ∷ ts) s =
+consecutive_places-push usage map (t ∷ ts) s =
     let u : usage + 40 + 40 * length ts ≡ usage + 40 * length (t ∷ ts) = omega arith in
     let m : map + 0x200000 + 0x200000 * length ts ≡ map + 0x200000 * length (t ∷ ts) = omega arith in
-    rw (spread-push (usage + 40) (map + 0x200000) ts s, u, m) refl
+    rw (consecutive_places-push (usage + 40) (map + 0x200000) ts s, u, m) refl
 
-pub spread-next : (usage map i : ℕ) (ss : List Section) (d : Section) (before now : List Placed) → i < length ss
-    → now ≡ before ++ spread usage map (take i ss)
-    → now ++ placed_at (usage + 40 * i) (map + 0x200000 * i) (get_or ss i d) ∷ [] ≡ before ++ spread usage map (take (i + 1) ss)
-spread-next usage map i ss d before now few so_far =
+pub consecutive_places-next : (usage map i : ℕ) (ss : List Section) (d : Section) (before now : List Placed) → i < length ss
+    → now ≡ before ++ consecutive_places usage map (take i ss)
+    → now ++ placed_at (usage + 40 * i) (map + 0x200000 * i) (get_or ss i d) ∷ [] ≡ before ++ consecutive_places usage map (take (i + 1) ss)
+consecutive_places-next usage map i ss d before now few so_far =
     let long : length (take i ss) ≡ i = length-take-le i ss (omega arith) in
-    let more = rw long at (spread-push usage map (take i ss) (get_or ss i d)) in
+    let more = rw long at (consecutive_places-push usage map (take i ss) (get_or ss i d)) in
     rw (so_far, append_assoc, take_more ss i d few, more) refl
 
 -- the maps of sections, one by one
 pub record Goes (entry : List Item) (usage : ℕ) (first : List Placed) (sections : List Section) (now : List Item) (at : ℕ)
-    (placed : List Placed) (rest : List Section) : Type 0 where
-  pub ends : (r : Result (List Placed) StageStop) (new : List Item) → StageEnds (map_each at placed rest) stage_stop r now new
-      → StageEnds (map_each usage first sections) stage_stop r entry new
+    (place_or_stop : List Placed) (rest : List Section) : Type 0 where
+  pub ends : (r : Result (List Placed) StageStop) (new : List Item) → EndsAsStage (place_each_map at place_or_stop rest) stage_stop r now new
+      → EndsAsStage (place_each_map usage first sections) stage_stop r entry new
 
 -- the map of one section
-abbrev pub one_map : Section → Doing StageCause ℕ
-one_map s = placed (what.Map s.number) (map_request 1 s.node false) (owner.Map s.number)
+abbrev pub one_map : Section → StageStep StageCause ℕ
+one_map s = place_or_stop (what.Map s.number) (map_request 1 s.node false) (owner.Map s.number)
 
 module _ {entry : List Item} {usage : ℕ} {first : List Placed} {sections : List Section} {now : List Item} {at : ℕ}
     {before : List Placed} where
@@ -62,82 +62,82 @@ module _ {entry : List Item} {usage : ℕ} {first : List Placed} {sections : Lis
 
   pub goes-next : (i : ℕ) (d : Section) (mid : List Item) (map : ℕ) (longer : List Placed) → i < length sections
       → Goes entry usage first sections now at before (drop i sections)
-      → StageEnds (one_map (get_or sections i d)) stage_stop (Ok map) now mid
+      → EndsAsStage (one_map (get_or sections i d)) stage_stop (Ok map) now mid
       → longer ≡ before ++ placed_at at map (get_or sections i d) ∷ []
       → Goes entry usage first sections mid (at + 40) longer (drop (i + 1) sections)
   goes-next i d mid map longer few goes was is = record {
     ends = λ r new h. (left-at i d few goes).ends r new
         (ends-second map r stage_stop now mid new (one_map (get_or sections i d))
-        (λ map. map_each (at + 40) (before ++ placed_at at map (get_or sections i d) ∷ []) (drop (i + 1) sections)) was (rw is at h));
+        (λ map. place_each_map (at + 40) (before ++ placed_at at map (get_or sections i d) ∷ []) (drop (i + 1) sections)) was (rw is at h));
   }
 
   pub goes-stops : (e : StageStop) (i : ℕ) (d : Section) (new : List Item) → i < length sections
       → Goes entry usage first sections now at before (drop i sections)
-      → StageEnds {A = ℕ} (one_map (get_or sections i d)) stage_stop (Err e) now new
-      → StageEnds {A = List Placed} (map_each usage first sections) stage_stop (Err e) entry new
+      → EndsAsStage {A = ℕ} (one_map (get_or sections i d)) stage_stop (Err e) now new
+      → EndsAsStage {A = List Placed} (place_each_map usage first sections) stage_stop (Err e) entry new
   goes-stops e i d new few goes failed =
       (left-at i d few goes).ends (Err e) new
       (ends-first e stage_stop now new (one_map (get_or sections i d))
-      (λ map. map_each (at + 40) (before ++ placed_at at map (get_or sections i d) ∷ []) (drop (i + 1) sections)) failed)
+      (λ map. place_each_map (at + 40) (before ++ placed_at at map (get_or sections i d) ∷ []) (drop (i + 1) sections)) failed)
 
   pub goes-all : (i : ℕ) → length sections ≤ i → Goes entry usage first sections now at before (drop i sections)
-      → StageEnds (map_each usage first sections) stage_stop (Ok before) entry now
+      → EndsAsStage (place_each_map usage first sections) stage_stop (Ok before) entry now
   goes-all i all goes =
       let here = rw (drop_all i sections all) at goes in here.ends (Ok before) now (ends-returns before stage_stop now)
 
 -- the maps of a group in one buffer, or one by one
-abbrev pub maps_in : ℕ → List Placed → Section → List Section → Doing StageCause (List Placed)
-maps_in usage before first sections = or_else (map_all usage before first sections) (map_each usage before sections)
+abbrev pub maps_in : ℕ → List Placed → Section → List Section → StageStep StageCause (List Placed)
+maps_in usage before first sections = or_else (place_map_buffer usage before first sections) (place_each_map usage before sections)
 
 module _ (usage : ℕ) (before : List Placed) (first : Section) (sections : List Section) (q : Request) (old : List Item)
     (asked : q ≡ map_request (length sections) first.node true) where
-  abbrev one_buffer : Doing StageCause ℕ
-  one_buffer = placed (what.Map first.number) (map_request (length sections) first.node true) (owner.Map first.number)
+  abbrev one_buffer : StageStep StageCause ℕ
+  one_buffer = place_or_stop (what.Map first.number) (map_request (length sections) first.node true) (owner.Map first.number)
 
   buffer-fails : (e : StageStop) (new : List Item)
-      → StageEnds {A = ℕ} (placed (what.Map first.number) q (owner.Map first.number)) stage_stop (Err e) old new
-      → StageEnds {A = List Placed} (map_all usage before first sections) stage_stop (Err e) old new
+      → EndsAsStage {A = ℕ} (place_or_stop (what.Map first.number) q (owner.Map first.number)) stage_stop (Err e) old new
+      → EndsAsStage {A = List Placed} (place_map_buffer usage before first sections) stage_stop (Err e) old new
   buffer-fails e new h =
-      ends-first e stage_stop old new one_buffer (λ map. returns (before ++ spread usage map sections)) (rw asked at h)
+      ends-first e stage_stop old new one_buffer (λ map. return_value (before ++ consecutive_places usage map sections)) (rw asked at h)
 
-  pub buffer-placed : (map : ℕ) (now : List Placed) (new : List Item) → now ≡ before ++ spread usage map sections
-      → StageEnds (placed (what.Map first.number) q (owner.Map first.number)) stage_stop (Ok map) old new
-      → StageEnds (maps_in usage before first sections) stage_stop (Ok now) old new
+  pub buffer-placed : (map : ℕ) (now : List Placed) (new : List Item) → now ≡ before ++ consecutive_places usage map sections
+      → EndsAsStage (place_or_stop (what.Map first.number) q (owner.Map first.number)) stage_stop (Ok map) old new
+      → EndsAsStage (maps_in usage before first sections) stage_stop (Ok now) old new
   buffer-placed map now new is h =
-      else-first (map_all usage before first sections) (map_each usage before sections) old now new
-      (ends-second map (Ok now) stage_stop old new new one_buffer (λ map. returns (before ++ spread usage map sections)) (rw asked at h)
+      else-first (place_map_buffer usage before first sections) (place_each_map usage before sections) old now new
+      (ends-second map (Ok now) stage_stop old new new one_buffer (λ map. return_value (before ++ consecutive_places usage map sections)) (rw asked at h)
       (rw is refl, refl))
 
   pub buffer-stops : (e : StageStop) (new : List Item) → ((thing : What) → e ≢ stop.NoPlace thing)
-      → StageEnds {A = ℕ} (placed (what.Map first.number) q (owner.Map first.number)) stage_stop (Err e) old new
-      → StageEnds {A = List Placed} (maps_in usage before first sections) stage_stop (Err e) old new
+      → EndsAsStage {A = ℕ} (place_or_stop (what.Map first.number) q (owner.Map first.number)) stage_stop (Err e) old new
+      → EndsAsStage {A = List Placed} (maps_in usage before first sections) stage_stop (Err e) old new
   buffer-stops e new other h =
-      else-stops (map_all usage before first sections) (map_each usage before sections) old e new other (buffer-fails e new h)
+      else-stops (place_map_buffer usage before first sections) (place_each_map usage before sections) old e new other (buffer-fails e new h)
 
   pub buffer-each : (r : Result (List Placed) StageStop) (thing : What) (mid new : List Item)
-      → StageEnds {A = ℕ} (placed (what.Map first.number) q (owner.Map first.number)) stage_stop (Err (stop.NoPlace thing)) old mid
-      → StageEnds (map_each usage before sections) stage_stop r mid new
-      → StageEnds (maps_in usage before first sections) stage_stop r old new
+      → EndsAsStage {A = ℕ} (place_or_stop (what.Map first.number) q (owner.Map first.number)) stage_stop (Err (stop.NoPlace thing)) old mid
+      → EndsAsStage (place_each_map usage before sections) stage_stop r mid new
+      → EndsAsStage (maps_in usage before first sections) stage_stop r old new
   buffer-each r thing mid new h rest =
-      else-second (map_all usage before first sections) (map_each usage before sections) old r thing mid new
+      else-second (place_map_buffer usage before first sections) (place_each_map usage before sections) old r thing mid new
       (buffer-fails (stop.NoPlace thing) mid h) rest
 
 -- a group: its usage data, and then its maps
 module _ (before : List Placed) (first : Section) (sections : List Section) (q : Request) (old : List Item)
     (asked : q ≡ usage_request (length sections) first.node) where
   pub group-second : (r : Result (List Placed) StageStop) (usage : ℕ) (mid new : List Item)
-      → StageEnds (placed (what.Usage first.number) q (owner.Usage first.number)) stage_stop (Ok usage) old mid
-      → StageEnds (maps_in usage before first sections) stage_stop r mid new
-      → StageEnds (group_placed before first sections) stage_stop r old new
+      → EndsAsStage (place_or_stop (what.Usage first.number) q (owner.Usage first.number)) stage_stop (Ok usage) old mid
+      → EndsAsStage (maps_in usage before first sections) stage_stop r mid new
+      → EndsAsStage (place_group before first sections) stage_stop r old new
   group-second r usage mid new was h =
       ends-second usage r stage_stop old mid new
-      (placed (what.Usage first.number) (usage_request (length sections) first.node) (owner.Usage first.number))
+      (place_or_stop (what.Usage first.number) (usage_request (length sections) first.node) (owner.Usage first.number))
       (λ usage. maps_in usage before first sections) (rw asked at was) h
 
   pub group-first : (e : StageStop) (new : List Item)
-      → StageEnds {A = ℕ} (placed (what.Usage first.number) q (owner.Usage first.number)) stage_stop (Err e) old new
-      → StageEnds {A = List Placed} (group_placed before first sections) stage_stop (Err e) old new
+      → EndsAsStage {A = ℕ} (place_or_stop (what.Usage first.number) q (owner.Usage first.number)) stage_stop (Err e) old new
+      → EndsAsStage {A = List Placed} (place_group before first sections) stage_stop (Err e) old new
   group-first e new h =
       ends-first e stage_stop old new
-      (placed (what.Usage first.number) (usage_request (length sections) first.node) (owner.Usage first.number))
+      (place_or_stop (what.Usage first.number) (usage_request (length sections) first.node) (owner.Usage first.number))
       (λ usage. maps_in usage before first sections) (rw asked at h)

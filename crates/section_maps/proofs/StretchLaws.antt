@@ -5,46 +5,46 @@ use Rattle.std.specs.List.{AllAdjacentBelow}
 use Rattle.std.proofs.lemmas.Bool.{cases_Bool, eqb-true, eqb-false}
 use Rattle.std.proofs.lemmas.List.Elements.{All-cons, All-head, All-nil, All-tail}
 use Rattle.memblock_grow.specs.declared.section.Section.{Section}
-use Rattle.section_maps.specs.Maps.{Group, groups_of, leading, sections_in}
+use Rattle.section_maps.specs.Maps.{SectionGroup, groups_of, prepend_section, sections_in}
 use Rattle.section_maps.specs.Stretches.{AreMaximalStretches, HasOneNode}
 
-abbrev Differ : Group → Group → Type 0
+abbrev Differ : SectionGroup → SectionGroup → Type 0
 Differ g h = g.first.node ≢ h.first.node
 
-abbrev AllDiffer : List Group → Type 0
+abbrev AllDiffer : List SectionGroup → Type 0
 AllDiffer groups = AllAdjacentBelow Differ groups (length groups)
 
 -- one more group, of another node than the first
-differ-cons : (g h : Group) (hs : List Group) → Differ g h → AllDiffer (h ∷ hs) → AllDiffer (g ∷ (h ∷ hs))
+differ-cons : (g h : SectionGroup) (hs : List SectionGroup) → Differ g h → AllDiffer (h ∷ hs) → AllDiffer (g ∷ (h ∷ hs))
 differ-cons g h hs other rest zero d below = other
 differ-cons g h hs other rest (suc k) d below = let next : suc k + 1 ≡ suc (k + 1) = omega arith in rw next (rest k d (omega arith))
 
 -- another first group of the same node
-differ-first : (g h : Group) (hs : List Group) → g.first.node ≡ h.first.node → AllDiffer (h ∷ hs) → AllDiffer (g ∷ hs)
+differ-first : (g h : SectionGroup) (hs : List SectionGroup) → g.first.node ≡ h.first.node → AllDiffer (h ∷ hs) → AllDiffer (g ∷ hs)
 differ-first g h hs same all zero d below = λ is. all zero d below (sym same ∙ is)
 differ-first g h hs same all (suc k) d below =
     let next : suc k + 1 ≡ suc (k + 1) = omega arith in rw next (rw next at (all (suc k) d below))
 
 -- a group has at least its first section
-none-empty : (groups : List Group) → All (λ g. 0 < length (sections_in g)) groups
+none-empty : (groups : List SectionGroup) → All (λ g. 0 < length (sections_in g)) groups
 none-empty groups k d below = omega arith
 
 one-alone : (s : Section) → HasOneNode (record { first = s; others = [] })
 one-alone s = All-cons (λ t. t.node ≡ s.node) s [] refl (All-nil (λ t. t.node ≡ s.node))
 
 -- one more section before the others
-leads : (s : Section) (ss : List Section) (groups : List Group) → AreMaximalStretches ss groups
-    → AreMaximalStretches (s ∷ ss) (leading s groups)
+leads : (s : Section) (ss : List Section) (groups : List SectionGroup) → AreMaximalStretches ss groups
+    → AreMaximalStretches (s ∷ ss) (prepend_section s groups)
 leads s ss [] are = record {
   joined = ap (λ rest. s ∷ rest) are.joined;
-  some = none-empty (leading s []);
+  some = none-empty (prepend_section s []);
   one_node = All-cons HasOneNode (record { first = s; others = [] }) [] (one-alone s) (All-nil HasOneNode);
   apart = λ k d below. absurd (omega (arith, below));
 }
-leads s ss (g ∷ gs) are = elim (cases_Bool (s.node == g.first.node)) as (λ _. AreMaximalStretches (s ∷ ss) (leading s (g ∷ gs))) [
+leads s ss (g ∷ gs) are = elim (cases_Bool (s.node == g.first.node)) as (λ _. AreMaximalStretches (s ∷ ss) (prepend_section s (g ∷ gs))) [
   | inl same ↦
       let is : s.node ≡ g.first.node = eqb-true s.node g.first.node same in
-      let longer : Group = record { first = s; others = sections_in g } in
+      let longer : SectionGroup = record { first = s; others = sections_in g } in
       let own = All-cons (λ t. t.node ≡ s.node) s (sections_in g) refl (rw is (All-head HasOneNode g gs are.one_node)) in
       rw same (record {
         joined = ap (λ rest. s ∷ rest) are.joined;
@@ -53,7 +53,7 @@ leads s ss (g ∷ gs) are = elim (cases_Bool (s.node == g.first.node)) as (λ _.
         apart = differ-first longer g gs is are.apart;
       })
   | inr other ↦
-      let alone : Group = record { first = s; others = [] } in
+      let alone : SectionGroup = record { first = s; others = [] } in
       rw other (record {
         joined = ap (λ rest. s ∷ rest) are.joined;
         some = none-empty (alone ∷ (g ∷ gs));

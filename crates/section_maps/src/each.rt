@@ -6,32 +6,32 @@ ghost use Rattle.memblock_model.specs.declared.owner.Owner.TheVariants as owner;
 ghost use Rattle.growth_model.specs.Sound.{HasBegun};
 ghost use Rattle.memblock_grow.specs.declared.stop.What.TheVariants as what;
 ghost use Rattle.stage_model.specs.Causes.{stage_stop};
-ghost use Rattle.stage_model.specs.Doing.{StageEnds, ok_as};
-ghost use Rattle.stage_model.specs.Requests.{placed};
-ghost use Rattle.memblock_grow.specs.Going.{GoesOn};
-ghost use Rattle.section_maps.specs.Maps.{map_request, map_each};
+ghost use Rattle.stage_model.specs.Doing.{EndsAsStage, view_of_result};
+ghost use Rattle.stage_model.specs.Requests.{place_or_stop};
+ghost use Rattle.memblock_grow.specs.Going.{ContinuesMemblock};
+ghost use Rattle.section_maps.specs.Maps.{map_request, place_each_map};
 
-use crate::placed::{Placed, put_placed};
+use crate::placed::{Placed, push_placed};
 use crate::requests::{USAGE_SIZE, map_request};
 use boot_journal::Owner;
 use memblock_grow::{Memblock, no_items_no_change};
-use stage_model::{Section, StageStop, What, place};
+use stage_model::{Section, StageStop, What, place_or_stop};
 
 /// Allocates the map of one section, and returns its address.
 fn place_map(memblock: &mut Memblock, section: &Section) -> Result<u64, StageStop>
     requires { HasBegun memblock.old.journal.items }
-    ensures ends { StageEnds (placed (what.Map section.now.number) (map_request 1 section.now.node false) (owner.Map section.now.number)) stage_stop result
+    ensures ends { EndsAsStage (place_or_stop (what.Map section.now.number) (map_request 1 section.now.node false) (owner.Map section.now.number)) stage_stop result
         memblock.old.journal.items memblock.new.journal.items }
-    ensures goes_on { GoesOn memblock.old memblock.new }
+    ensures goes_on { ContinuesMemblock memblock.old memblock.new }
 {
     let number = section.number;
     let request = map_request(1, section.node, false);
-    place(memblock, What::Map(number), &request, Owner::Map(number))
+    place_or_stop(memblock, What::Map(number), &request, Owner::Map(number))
 }
 
 /// Allocates the map of each section. The usage data of the sections is consecutive from address
 /// `usage` on.
-pub fn place_each(
+pub fn place_each_map(
     memblock: &mut Memblock,
     placed: &mut Vec<Placed>,
     sections: &[Section],
@@ -40,17 +40,17 @@ pub fn place_each(
     requires begun { HasBegun memblock.old.journal.items }
     requires room { vec_len placed.old + length sections.now ≤ vec_capacity placed.old }
     requires usage { usage + 40 * length sections.now < 2 ^ 64 }
-    ensures ends { StageEnds (map_each usage placed.old.items sections.now) stage_stop (ok_as (λ _. placed.new.items) result)
+    ensures ends { EndsAsStage (place_each_map usage placed.old.items sections.now) stage_stop (view_of_result (λ _. placed.new.items) result)
         memblock.old.journal.items memblock.new.journal.items }
     ensures len { vec_len placed.new ≤ vec_len placed.old + length sections.now }
     ensures capacity { vec_capacity placed.old ≤ vec_capacity placed.new }
-    ensures goes_on { GoesOn memblock.old memblock.new }
+    ensures goes_on { ContinuesMemblock memblock.old memblock.new }
 {
     no_items_no_change(memblock);
     let mut at = usage;
     for section in sections {
         let map = place_map(memblock, section)?;
-        put_placed(placed, section, map, at);
+        push_placed(placed, section, map, at);
         at += USAGE_SIZE;
     }
     Ok(())

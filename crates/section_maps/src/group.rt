@@ -4,20 +4,20 @@ ghost use Rattle.std.specs.Prelude.{◌≡◌, ℕ, ◌+◌, ◌*◌, ◌^◌, �
 ghost use Rattle.std.specs.List.{prefix_len};
 ghost use Rattle.growth_model.specs.Sound.{HasBegun};
 ghost use Rattle.stage_model.specs.Causes.{stage_stop};
-ghost use Rattle.stage_model.specs.Doing.{StageEnds, ok_as};
+ghost use Rattle.stage_model.specs.Doing.{EndsAsStage, view_of_result};
 ghost use Rattle.stage_model.specs.Requests.{or_else};
-ghost use Rattle.memblock_grow.specs.Going.{GoesOn};
-ghost use Rattle.section_maps.specs.Maps.{map_all, map_each, group_placed};
+ghost use Rattle.memblock_grow.specs.Going.{ContinuesMemblock};
+ghost use Rattle.section_maps.specs.Maps.{place_map_buffer, place_each_map, place_group};
 
-use crate::each::place_each;
-use crate::placed::{Placed, put_spread};
+use crate::each::place_each_map;
+use crate::placed::{Placed, push_consecutive_places};
 use crate::requests::{map_request, usage_request};
 use boot_journal::Owner;
 use memblock_grow::Memblock;
-use stage_model::{Section, StageStop, What, place};
+use stage_model::{Section, StageStop, What, place_or_stop};
 
 /// Counts the sections from the first on that have this node.
-pub fn count_same(sections: &[Section], node: u32) -> usize
+pub fn count_same_node(sections: &[Section], node: u32) -> usize
     ensures { result ≡ prefix_len (λ s. s.node == node) sections.now }
 {
     sections.iter().take_while(|s| s.node == node).count()
@@ -26,7 +26,7 @@ pub fn count_same(sections: &[Section], node: u32) -> usize
 /// Allocates the maps of a group: in one buffer on the node itself or, if none is free, one by
 /// one. `first` is the group's first section. The usage data is consecutive from address `usage`
 /// on.
-fn map_group(
+fn place_group_maps(
     memblock: &mut Memblock,
     placed: &mut Vec<Placed>,
     first: &Section,
@@ -38,21 +38,21 @@ fn map_group(
     requires few { length sections.now ≤ 2 ^ 32 }
     requires room { vec_len placed.old + length sections.now ≤ vec_capacity placed.old }
     requires usage { usage + 40 * length sections.now < 2 ^ 64 }
-    ensures ends { StageEnds (or_else (map_all usage placed.old.items first.now sections.now)
-        (map_each usage placed.old.items sections.now)) stage_stop (ok_as (λ _. placed.new.items) result)
+    ensures ends { EndsAsStage (or_else (place_map_buffer usage placed.old.items first.now sections.now)
+        (place_each_map usage placed.old.items sections.now)) stage_stop (view_of_result (λ _. placed.new.items) result)
         memblock.old.journal.items memblock.new.journal.items }
     ensures len { vec_len placed.new ≤ vec_len placed.old + length sections.now }
     ensures capacity { vec_capacity placed.old ≤ vec_capacity placed.new }
-    ensures goes_on { GoesOn memblock.old memblock.new }
+    ensures goes_on { ContinuesMemblock memblock.old memblock.new }
 {
     let request = map_request(sections.len() as u64, first.node, true);
     let number = first.number;
-    match place(memblock, What::Map(number), &request, Owner::Map(number)) {
+    match place_or_stop(memblock, What::Map(number), &request, Owner::Map(number)) {
         Ok(map) => {
-            put_spread(placed, sections, usage, map);
+            push_consecutive_places(placed, sections, usage, map);
             Ok(())
         }
-        Err(StageStop::NoPlace { what: _ }) => place_each(memblock, placed, sections, usage),
+        Err(StageStop::NoPlace { what: _ }) => place_each_map(memblock, placed, sections, usage),
         Err(stop) => Err(stop),
     }
 }
@@ -68,19 +68,19 @@ pub fn place_group(
     requires some { 1 ≤ length sections.now }
     requires few { length sections.now ≤ 2 ^ 32 }
     requires room { vec_len placed.old + length sections.now ≤ vec_capacity placed.old }
-    ensures ends { StageEnds (group_placed placed.old.items first.now sections.now) stage_stop (ok_as (λ _. placed.new.items) result)
+    ensures ends { EndsAsStage (place_group placed.old.items first.now sections.now) stage_stop (view_of_result (λ _. placed.new.items) result)
         memblock.old.journal.items memblock.new.journal.items }
     ensures len { vec_len placed.new ≤ vec_len placed.old + length sections.now }
     ensures capacity { vec_capacity placed.old ≤ vec_capacity placed.new }
-    ensures goes_on { GoesOn memblock.old memblock.new }
+    ensures goes_on { ContinuesMemblock memblock.old memblock.new }
 {
     let number = first.number;
     let request = usage_request(sections.len() as u64, first.node);
-    let usage = place(
+    let usage = place_or_stop(
         memblock,
         What::Usage(number),
         &request,
         Owner::Usage(number),
     )?;
-    map_group(memblock, placed, first, sections, usage)
+    place_group_maps(memblock, placed, first, sections, usage)
 }

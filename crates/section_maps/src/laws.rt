@@ -5,17 +5,17 @@ ghost use Rattle.std.specs.Prelude.{◌≡◌, List};
 ghost use Rattle.memblock_model.specs.declared.item.Item.{Item as AnyItem};
 ghost use Rattle.memblock_model.specs.Items.{memory_of, limit_of};
 ghost use Rattle.memblock_grow.specs.declared.section.Section.{Section as AnySection};
-ghost use Rattle.stage_model.specs.Doing.{after};
-ghost use Rattle.section_maps.specs.Maps.{groups_of, maps};
+ghost use Rattle.stage_model.specs.Doing.{items_after_step};
+ghost use Rattle.section_maps.specs.Maps.{groups_of, place_maps};
 ghost use Rattle.section_maps.specs.Stretches.{AreMaximalStretches};
 
 /// Law: placing maps and usage data changes neither memory nor the limit, whether each finds a
 /// place or not.
-pub fn maps_leave_memory()
+pub fn place_maps_keeps_memory_and_limit()
     ensures memory { (sections : List AnySection) (items : List AnyItem) →
-        memory_of (after items (maps sections items)) ≡ memory_of items }
+        memory_of (items_after_step items (place_maps sections items)) ≡ memory_of items }
     ensures limit { (sections : List AnySection) (items : List AnyItem) →
-        limit_of (after items (maps sections items)) ≡ limit_of items }
+        limit_of (items_after_step items (place_maps sections items)) ≡ limit_of items }
 {}
 
 /// Law: the groups of a list of sections are its maximal stretches of sections of one node, in the

@@ -8,7 +8,7 @@
 //! each other in the list.
 //!
 //! The layers above may rest on the laws: placing maps doesn't change memory
-//! ([`maps_leave_memory`]), and groups are such stretches ([`groups_are_maximal_stretches`]). A
+//! ([`place_maps_keeps_memory_and_limit`]), and groups are such stretches ([`groups_are_maximal_stretches`]). A
 //! law is an empty function whose contract is a proven fact. In contracts, a name means the
 //! definition in `specs/`.
 #![tactic(auto)]
@@ -20,6 +20,6 @@ mod maps;
 mod placed;
 mod requests;
 
-pub use laws::{groups_are_maximal_stretches, maps_leave_memory};
+pub use laws::{groups_are_maximal_stretches, place_maps_keeps_memory_and_limit};
 pub use maps::place_maps;
 pub use placed::Placed;

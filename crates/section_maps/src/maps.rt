@@ -5,25 +5,25 @@
 ghost use Rattle.std.specs.Prelude.{◌≡◌, ◌^◌, ◌<◌, ◌≤◌, AllPairs, length};
 ghost use Rattle.growth_model.specs.Sound.{HasBegun};
 ghost use Rattle.stage_model.specs.Causes.{stage_stop};
-ghost use Rattle.stage_model.specs.Doing.{StageEnds, ok_as};
-ghost use Rattle.memblock_grow.specs.Going.{GoesOn};
-ghost use Rattle.section_maps.specs.Maps.{maps};
+ghost use Rattle.stage_model.specs.Doing.{EndsAsStage, view_of_result};
+ghost use Rattle.memblock_grow.specs.Going.{ContinuesMemblock};
+ghost use Rattle.section_maps.specs.Maps.{place_maps};
 
-use crate::group::{count_same, place_group};
-use crate::placed::{Placed, with_room};
+use crate::group::{count_same_node, place_group};
+use crate::placed::{Placed, empty_section_list};
 use memblock_grow::{Memblock, no_items_no_change};
 use stage_model::{Section, StageStop};
 use std::alloc::Global;
 
 /// Law: the number of a section is below 2^32.
-fn number_fits(section: &Section)
+fn section_number_fits(section: &Section)
     ensures { section.now.number < 2 ^ 32 }
 {
     let _number = section.number;
 }
 
 /// Counts the sections: at most 2^32, since their numbers are ascending.
-fn count_all(sections: &[Section]) -> usize
+fn count_sections(sections: &[Section]) -> usize
     requires ascend { AllPairs (λ s t. s.number < t.number) sections.now }
     ensures count { result ≡ length sections.now }
     ensures few { length sections.now ≤ 2 ^ 32 }
@@ -31,7 +31,7 @@ fn count_all(sections: &[Section]) -> usize
     let [.., last] = sections else {
         return 0;
     };
-    number_fits(last);
+    section_number_fits(last);
     sections.len()
 }
 
@@ -53,15 +53,15 @@ pub fn place_maps(
 ) -> Result<Vec<Placed>, StageStop>
     requires begun { HasBegun memblock.old.journal.items }
     requires ascend { AllPairs (λ s t. s.number < t.number) sections.now }
-    ensures ends { StageEnds (maps sections.now) stage_stop (ok_as (λ placed. placed.items) result)
+    ensures ends { EndsAsStage (place_maps sections.now) stage_stop (view_of_result (λ placed. placed.items) result)
         memblock.old.journal.items memblock.new.journal.items }
-    ensures goes_on { GoesOn memblock.old memblock.new }
+    ensures goes_on { ContinuesMemblock memblock.old memblock.new }
 {
     no_items_no_change(memblock);
-    let mut placed = with_room(alloc, count_all(sections))?;
+    let mut placed = empty_section_list(alloc, count_sections(sections))?;
     let mut rest = sections;
     while let [first, ..] = rest {
-        let (group, others) = rest.split_at(count_same(rest, first.node));
+        let (group, others) = rest.split_at(count_same_node(rest, first.node));
         place_group(memblock, &mut placed, first, group)?;
         rest = others;
     }

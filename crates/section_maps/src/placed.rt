@@ -2,7 +2,7 @@
 //! whether its map is in the buffer of a group or alone, so readers don't have to know of groups.
 
 ghost use Rattle.std.specs.Prelude.{◌≡◌, ◌+◌, ◌*◌, ◌^◌, ◌<◌, ◌≤◌, [], ◌∷◌, ◌++◌, length, IfOk, vec_len, vec_capacity};
-ghost use Rattle.section_maps.specs.Maps.{spread};
+ghost use Rattle.section_maps.specs.Maps.{consecutive_places};
 
 use crate::requests::{MAP_SIZE, USAGE_SIZE};
 use bm_base::Memory;
@@ -23,7 +23,7 @@ pub struct Placed {
 }
 
 /// Returns an empty list with room for `count` sections.
-pub fn with_room(alloc: Global, count: usize) -> Result<Vec<Placed>, Memory>
+pub fn empty_section_list(alloc: Global, count: usize) -> Result<Vec<Placed>, Memory>
     ensures empty { IfOk result (λ placed. placed.items ≡ []) }
     ensures room { IfOk result (λ placed. vec_len placed + count ≤ vec_capacity placed) }
 {
@@ -31,7 +31,7 @@ pub fn with_room(alloc: Global, count: usize) -> Result<Vec<Placed>, Memory>
 }
 
 /// Appends the section with its addresses. The list must have room for it.
-pub fn put_placed(placed: &mut Vec<Placed>, section: &Section, map: u64, usage: u64)
+pub fn push_placed(placed: &mut Vec<Placed>, section: &Section, map: u64, usage: u64)
     requires room { vec_len placed.old < vec_capacity placed.old }
     ensures placed { placed.new.items ≡ placed.old.items
         ++ record { section = section.now.number; node = section.now.node; map = map; usage = usage } ∷ [] }
@@ -52,17 +52,17 @@ pub fn put_placed(placed: &mut Vec<Placed>, section: &Section, map: u64, usage: 
 
 /// Appends the sections of a group, with usage data and maps that are consecutive from the two
 /// addresses on. The list must have room for them.
-pub fn put_spread(placed: &mut Vec<Placed>, sections: &[Section], usage: u64, map: u64)
+pub fn push_consecutive_places(placed: &mut Vec<Placed>, sections: &[Section], usage: u64, map: u64)
     requires room { vec_len placed.old + length sections.now ≤ vec_capacity placed.old }
     requires usage { usage + 40 * length sections.now < 2 ^ 64 }
     requires map { map + 0x200000 * length sections.now < 2 ^ 64 }
-    ensures placed { placed.new.items ≡ placed.old.items ++ spread usage map sections.now }
+    ensures placed { placed.new.items ≡ placed.old.items ++ consecutive_places usage map sections.now }
     ensures len { vec_len placed.new ≤ vec_len placed.old + length sections.now }
     ensures capacity { vec_capacity placed.old ≤ vec_capacity placed.new }
 {
     for (i, section) in sections.iter().enumerate() {
         let before = i as u64;
-        put_placed(
+        push_placed(
             placed,
             section,
             map + MAP_SIZE * before,

@@ -5,33 +5,33 @@ use Rattle.std.specs.List.{sum, starts_with}
 use Rattle.byteorder.specs.Endian.{little_number}
 use Rattle.slit_zonelists.specs.declared.table.SlitFault.{SlitFault}
 use Rattle.slit_zonelists.specs.declared.table.SlitFault.TheVariants as faults
-use Rattle.slit_zonelists.specs.Matrix.{Matrix}
+use Rattle.slit_zonelists.specs.Matrix.{SlitView}
 
 -- the number of localities (`locality_count`): the u64 at offset 36
-abbrev pub localities : List ℕ → ℕ
-localities bytes = little_number 8 (drop 36 bytes)
+abbrev pub locality_count : List ℕ → ℕ
+locality_count bytes = little_number 8 (drop 36 bytes)
 
 -- a matrix of `count` rows and columns has that many cells
-abbrev pub fills : ℕ → ℕ → Bool
-fills count cells = count * count == cells
+abbrev pub is_square_of : ℕ → ℕ → Bool
+is_square_of count cells = count * count == cells
 
 -- The first fault: fewer bytes than the header's 44; another signature; a stated length (the u32
 -- at offset 4) that isn't the number of bytes; bytes that don't sum to 0 modulo 256
 -- (`acpi_tb_verify_checksum`); or a number of cells after the header that isn't the square of the
 -- number of localities.
-abbrev pub slit_fault : List ℕ → Option SlitFault
-slit_fault bytes =
+abbrev pub first_slit_fault : List ℕ → Option SlitFault
+first_slit_fault bytes =
     if nat_lt (length bytes) 44 then Some faults.Short
     else (if not (starts_with nat_eq bytes (codes "SLIT")) then Some faults.Signature
     else (if not (little_number 4 (drop 4 bytes) == length bytes) then Some faults.Length
     else (if not (sum bytes % 256 == 0) then Some faults.Checksum
-    else (if not (fills (localities bytes) (length bytes - 44)) then Some faults.Localities else None))))
+    else (if not (is_square_of (locality_count bytes) (length bytes - 44)) then Some faults.Localities else None))))
 
 -- the fault if there is one, else the matrix
-abbrev pub unless_fault : Option SlitFault → Matrix → Result Matrix SlitFault
-unless_fault None m = Ok m
-unless_fault (Some fault) m = Err fault
+abbrev pub slit_unless_fault : Option SlitFault → SlitView → Result SlitView SlitFault
+slit_unless_fault None m = Ok m
+slit_unless_fault (Some fault) m = Err fault
 
 -- the matrix of the bytes, whose cells begin at offset 44, or their first fault
-abbrev pub slit_of : List ℕ → Result Matrix SlitFault
-slit_of bytes = unless_fault (slit_fault bytes) (record { count = localities bytes; cells = drop 44 bytes })
+abbrev pub slit_of : List ℕ → Result SlitView SlitFault
+slit_of bytes = slit_unless_fault (first_slit_fault bytes) (record { count = locality_count bytes; cells = drop 44 bytes })

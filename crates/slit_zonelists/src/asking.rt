@@ -2,10 +2,10 @@
 
 ghost use Rattle.std.specs.Prelude.{◌≡◌, ◌⊎◌, ◌≤◌, None, IsSome, IfOk, OnErr};
 ghost use Rattle.page_alloc.specs.declared.act.PageAct.TheVariants as act;
-ghost use Rattle.page_alloc.specs.Book.{state_of};
-ghost use Rattle.page_alloc.specs.Pages.{TakesMemory};
+ghost use Rattle.page_alloc.specs.Book.{page_state_of};
+ghost use Rattle.page_alloc.specs.Pages.{NeedsMemory};
 ghost use Rattle.slit_zonelists.specs.Lists.{zones_of};
-ghost use Rattle.slit_zonelists.specs.Near.{first_zone, near_by, step_with};
+ghost use Rattle.slit_zonelists.specs.Near.{first_zone, take_from_zone, page_step_by_distance};
 
 use crate::entry::ListZone;
 use crate::lists::Lists;
@@ -33,8 +33,8 @@ pub fn near(
     node: u32,
 ) -> Result<PageOutcome, Memory>
     requires { order ≤ 10 }
-    ensures ok { IfOk result (λ outcome. (outcome, state_of pages.new) ≡ step_with lists.now (state_of pages.old) (act.Near id order node)) }
-    ensures memory { OnErr result (TakesMemory (step_with lists.now (state_of pages.old) (act.Near id order node)).0) }
+    ensures ok { IfOk result (λ outcome. (outcome, page_state_of pages.new) ≡ page_step_by_distance lists.now (page_state_of pages.old) (act.Near id order node)) }
+    ensures memory { OnErr result (NeedsMemory (page_step_by_distance lists.now (page_state_of pages.old) (act.Near id order node)).0) }
     ensures refused { IfOk result (λ outcome. (outcome ≡ PageOutcome.Taken) ⊎ (outcome ≡ PageOutcome.NoBlock) → pages.new ≡ pages.old) }
     ensures err { OnErr result (pages.new ≡ pages.old) }
 {
@@ -42,9 +42,9 @@ pub fn near(
         return Ok(PageOutcome::Taken);
     }
     let Ok(zones) = lists.of(node) else {
-        return unlisted(pages, lists, order, node);
+        return outcome_without_list(pages, lists, order, node);
     };
-    take_first(pages, &zones, id, order)
+    take_from_first_zone(pages, &zones, id, order)
 }
 
 /// Returns the outcome of a request near the node if the program is out of memory for the node's
@@ -54,14 +54,14 @@ pub fn near(
 /// # Errors
 ///
 /// Out of memory, exactly if some zone in the list has such a block.
-pub fn unlisted(pages: &Pages, lists: &Lists, order: u32, node: u32) -> Result<PageOutcome, Memory>
+pub fn outcome_without_list(pages: &Pages, lists: &Lists, order: u32, node: u32) -> Result<PageOutcome, Memory>
     requires { order ≤ 10 }
     ensures none { IfOk result (λ outcome. (outcome ≡ PageOutcome.NoBlock)
-        × (first_zone (state_of pages.now) order (zones_of lists.now node) ≡ None)) }
-    ensures memory { OnErr result (IsSome (first_zone (state_of pages.now) order (zones_of lists.now node))) }
+        × (first_zone (page_state_of pages.now) order (zones_of lists.now node) ≡ None)) }
+    ensures memory { OnErr result (IsSome (first_zone (page_state_of pages.now) order (zones_of lists.now node))) }
 {
     for entry in lists.zones() {
-        if pages.buddy().serves(entry.node, entry.zone, order) {
+        if pages.buddy().has_block(entry.node, entry.zone, order) {
             lists.distance_is_a_byte(node, entry.node);
             return Err(Memory);
         }
@@ -76,17 +76,17 @@ pub fn unlisted(pages: &Pages, lists: &Lists, order: u32, node: u32) -> Result<P
 /// # Errors
 ///
 /// Out of memory, only if a zone has such a block. Nothing has changed then.
-pub fn take_first(
+pub fn take_from_first_zone(
     pages: &mut Pages,
     zones: &[ListZone],
     id: u32,
     order: u32,
 ) -> Result<PageOutcome, Memory>
     requires order { order ≤ 10 }
-    requires none { (state_of pages.old).held id ≡ None }
-    ensures ok { IfOk result (λ outcome. (outcome, state_of pages.new) ≡ near_by (state_of pages.old) id order
-        (first_zone (state_of pages.old) order zones.now)) }
-    ensures memory { OnErr result (IsSome (first_zone (state_of pages.old) order zones.now)) }
+    requires none { (page_state_of pages.old).held id ≡ None }
+    ensures ok { IfOk result (λ outcome. (outcome, page_state_of pages.new) ≡ take_from_zone (page_state_of pages.old) id order
+        (first_zone (page_state_of pages.old) order zones.now)) }
+    ensures memory { OnErr result (IsSome (first_zone (page_state_of pages.old) order zones.now)) }
     ensures refused { IfOk result (λ outcome. (outcome ≡ PageOutcome.Taken) ⊎ (outcome ≡ PageOutcome.NoBlock) → pages.new ≡ pages.old) }
     ensures err { OnErr result (pages.new ≡ pages.old) }
 {

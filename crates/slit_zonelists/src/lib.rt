@@ -9,7 +9,7 @@
 //! [`Lists`] has, for each node, the zones of all nodes in the order in which a request near that
 //! node looks at them (`build_zonelists`, `node_zonelist`). That order is by distance, then by the
 //! node's number, then Normal before DMA32 before DMA. [`near`] allocates from the first zone of a
-//! list that has a block, and [`run_lines`] carries out all lines of a page script.
+//! list that has a block, and [`run_page_lines`] carries out all lines of a page script.
 //!
 //! - `specs/Table.antt`: the bytes.
 //! - `specs/Uses.antt`: whether the matrix is used.
@@ -39,6 +39,6 @@ pub use laws::{
     near_takes_from_the_first_zone,
 };
 pub use lists::Lists;
-pub use run::run_lines;
+pub use run::run_page_lines;
 pub use table::{Slit, SlitFault, read_slit};
 pub use uses::SlitUse;

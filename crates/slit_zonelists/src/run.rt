@@ -4,12 +4,12 @@
 ghost use Rattle.std.specs.Prelude.{◌≡◌, ◌+◌, ◌<◌, ◌≤◌, [], ◌∷◌, ◌++◌, IfOk, OnOk, OnErr, IsSome, vec_len, vec_capacity};
 ghost use Rattle.std.specs.BTreeMap.{get};
 ghost use Rattle.std.specs.Ordering.{nat_cmp};
-ghost use Rattle.page_alloc.specs.Book.{state_of};
-ghost use Rattle.page_alloc.specs.Pages.{HasOrder, HaveOrders, TakesMemory};
-ghost use Rattle.slit_zonelists.specs.Near.{step_with, answers_with, after_with, RunsOut};
-ghost use Rattle.slit_zonelists.specs.Made.{AreMade};
+ghost use Rattle.page_alloc.specs.Book.{page_state_of};
+ghost use Rattle.page_alloc.specs.Pages.{HasValidOrder, HaveValidOrders, NeedsMemory};
+ghost use Rattle.slit_zonelists.specs.Near.{page_step_by_distance, page_answers_of, page_state_after, RunsOutInPageScript};
+ghost use Rattle.slit_zonelists.specs.Made.{AreListsOfNodes};
 
-use crate::asking::{take_first, unlisted};
+use crate::asking::{take_from_first_zone, outcome_without_list};
 use crate::entry::ListZone;
 use crate::lists::Lists;
 use bm_base::{Memory, push_within_capacity};
@@ -25,21 +25,21 @@ use std::collections::BTreeMap;
 ///
 /// - before the first line, if there is one; nothing has changed then
 /// - at a line that isn't refused, after the lines before it; that line changes nothing
-pub fn run_lines(
+pub fn run_page_lines(
     alloc: Global,
     pages: &mut Pages,
     lists: &Lists,
     lines: &[PageLine],
 ) -> Result<Vec<PageAnswer>, Memory>
-    requires { HaveOrders lines.now }
-    ensures answers { IfOk result (λ answers. answers.items ≡ answers_with lists.now (state_of pages.old) lines.now) }
-    ensures memory { OnErr result (RunsOut lists.now pages.old lines.now pages.new) }
-    ensures after { OnOk result (state_of pages.new ≡ after_with lists.now (state_of pages.old) lines.now) }
+    requires { HaveValidOrders lines.now }
+    ensures answers { IfOk result (λ answers. answers.items ≡ page_answers_of lists.now (page_state_of pages.old) lines.now) }
+    ensures memory { OnErr result (RunsOutInPageScript lists.now pages.old lines.now pages.new) }
+    ensures after { OnOk result (page_state_of pages.new ≡ page_state_after lists.now (page_state_of pages.old) lines.now) }
 {
     let mut answers = Vec::with_capacity(alloc, lines.len())?;
     let mut made = BTreeMap::new(alloc);
     for line in lines {
-        let outcome = run_line(pages, lists, &mut made, line)?;
+        let outcome = run_page_line(pages, lists, &mut made, line)?;
         let answer = PageAnswer {
             line: line.number,
             outcome,
@@ -54,17 +54,17 @@ pub fn run_lines(
 /// # Errors
 ///
 /// Out of memory, only at a line that isn't refused. No page has changed then.
-fn run_line(
+fn run_page_line(
     pages: &mut Pages,
     lists: &Lists,
     made: &mut BTreeMap<u32, Vec<ListZone>>,
     line: &PageLine,
 ) -> Result<PageOutcome, Memory>
-    requires order { HasOrder line.now.act }
-    requires made { AreMade lists.now made.old }
-    ensures ok { IfOk result (λ outcome. (outcome, state_of pages.new) ≡ step_with lists.now (state_of pages.old) line.now.act) }
-    ensures made { AreMade lists.now made.new }
-    ensures memory { OnErr result (TakesMemory (step_with lists.now (state_of pages.old) line.now.act).0) }
+    requires order { HasValidOrder line.now.act }
+    requires made { AreListsOfNodes lists.now made.old }
+    ensures ok { IfOk result (λ outcome. (outcome, page_state_of pages.new) ≡ page_step_by_distance lists.now (page_state_of pages.old) line.now.act) }
+    ensures made { AreListsOfNodes lists.now made.new }
+    ensures memory { OnErr result (NeedsMemory (page_step_by_distance lists.now (page_state_of pages.old) line.now.act).0) }
     ensures err { OnErr result (pages.new ≡ pages.old) }
 {
     let PageAct::Near { id, order, node } = line.act else {
@@ -73,11 +73,11 @@ fn run_line(
     if pages.held(id).is_some() {
         return Ok(PageOutcome::Taken);
     }
-    if make(lists, made, node).is_err() {
-        return unlisted(pages, lists, order, node);
+    if make_list(lists, made, node).is_err() {
+        return outcome_without_list(pages, lists, order, node);
     }
     match made.get(&node) {
-        Some(zones) => take_first(pages, zones, id, order),
+        Some(zones) => take_from_first_zone(pages, zones, id, order),
         None => unreachable!(),
     }
 }
@@ -87,9 +87,9 @@ fn run_line(
 /// # Errors
 ///
 /// Out of memory.
-fn make(lists: &Lists, made: &mut BTreeMap<u32, Vec<ListZone>>, node: u32) -> Result<(), Memory>
-    requires { AreMade lists.now made.old }
-    ensures made { AreMade lists.now made.new }
+fn make_list(lists: &Lists, made: &mut BTreeMap<u32, Vec<ListZone>>, node: u32) -> Result<(), Memory>
+    requires { AreListsOfNodes lists.now made.old }
+    ensures made { AreListsOfNodes lists.now made.new }
     ensures here { OnOk result (IsSome (get nat_cmp made.new node)) }
 {
     if made.contains_key(&node) {

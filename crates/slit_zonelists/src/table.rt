@@ -3,8 +3,8 @@
 ghost use Rattle.std.specs.Prelude.{◌≡◌, ◌-◌, ◌*◌, ◌%◌, ◌^◌, ◌<◌, ◌≤◌, None, drop, length, IfOk, IfErr, IfNone, IsErr};
 ghost use Rattle.std.specs.List.{sum};
 ghost use Rattle.bm_base.specs.Answers.{Answers};
-ghost use Rattle.slit_zonelists.specs.Matrix.{matrix, IsSquare};
-ghost use Rattle.slit_zonelists.specs.Table.{localities, fills, slit_fault, slit_of};
+ghost use Rattle.slit_zonelists.specs.Matrix.{slit_view, IsSquare};
+ghost use Rattle.slit_zonelists.specs.Table.{locality_count, is_square_of, first_slit_fault, slit_of};
 
 use bm_base::Memory;
 use byteorder::{ByteOrder, LittleEndian};
@@ -66,12 +66,12 @@ impl From<Memory> for SlitFault {
 /// The first fault of the bytes, or `Memory` if the program is out of memory. `Memory` comes only
 /// for bytes without a fault that have at least one locality.
 pub fn read_slit(alloc: Global, bytes: &[u8]) -> Result<Slit, SlitFault>
-    ensures answers { Answers SlitFault.Memory matrix result (slit_of bytes.now) }
-    ensures memory { IfErr result (λ fault. fault ≡ SlitFault.Memory → slit_fault bytes.now ≡ None) }
-    ensures some { IfErr result (λ fault. fault ≡ SlitFault.Memory → 0 < localities bytes.now) }
-    ensures square { IfOk result (λ slit. IsSquare (matrix slit)) }
+    ensures answers { Answers SlitFault.Memory slit_view result (slit_of bytes.now) }
+    ensures memory { IfErr result (λ fault. fault ≡ SlitFault.Memory → first_slit_fault bytes.now ≡ None) }
+    ensures some { IfErr result (λ fault. fault ≡ SlitFault.Memory → 0 < locality_count bytes.now) }
+    ensures square { IfOk result (λ slit. IsSquare (slit_view slit)) }
 {
-    if let Some(fault) = find_fault(bytes) {
+    if let Some(fault) = first_slit_fault(bytes) {
         return Err(fault);
     }
     Ok(read_cells(alloc, bytes)?)
@@ -85,12 +85,12 @@ pub fn read_slit(alloc: Global, bytes: &[u8]) -> Result<Slit, SlitFault>
 fn read_cells(alloc: Global, bytes: &[u8]) -> Result<Slit, Memory>
     requires header { 44 ≤ length bytes.now }
     requires few { length bytes.now < 2 ^ 32 }
-    requires square { localities bytes.now * localities bytes.now ≡ length bytes.now - 44 }
-    ensures cells { IfOk result (λ slit. matrix slit ≡ record { count = localities bytes.now; cells = drop 44 bytes.now }) }
-    ensures square { IfOk result (λ slit. IsSquare (matrix slit)) }
-    ensures some { IsErr result → 0 < localities bytes.now }
+    requires square { locality_count bytes.now * locality_count bytes.now ≡ length bytes.now - 44 }
+    ensures cells { IfOk result (λ slit. slit_view slit ≡ record { count = locality_count bytes.now; cells = drop 44 bytes.now }) }
+    ensures square { IfOk result (λ slit. IsSquare (slit_view slit)) }
+    ensures some { IsErr result → 0 < locality_count bytes.now }
 {
-    let count = read_localities(bytes);
+    let count = locality_count(bytes);
     let cells = copy_of(alloc, &bytes[HEADER_BYTES..])?;
     Ok(Slit {
         count: count as u32,
@@ -114,19 +114,19 @@ fn copy_of(alloc: Global, bytes: &[u8]) -> Result<Vec<u8>, Memory>
 }
 
 /// Returns the stated number of localities.
-fn read_localities(bytes: &[u8]) -> u64
+fn locality_count(bytes: &[u8]) -> u64
     requires { 44 ≤ length bytes.now }
-    ensures { result ≡ localities bytes.now }
+    ensures { result ≡ locality_count bytes.now }
 {
     LittleEndian::read_u64(&bytes[LOCALITIES_OFFSET..])
 }
 
 /// Returns the first fault of the bytes, or `None`. Takes no memory.
-fn find_fault(bytes: &[u8]) -> Option<SlitFault>
-    ensures value { result ≡ slit_fault bytes.now }
+fn first_slit_fault(bytes: &[u8]) -> Option<SlitFault>
+    ensures value { result ≡ first_slit_fault bytes.now }
     ensures header { IfNone result (44 ≤ length bytes.now) }
     ensures few { IfNone result (length bytes.now < 2 ^ 32) }
-    ensures square { IfNone result (localities bytes.now * localities bytes.now ≡ length bytes.now - 44) }
+    ensures square { IfNone result (locality_count bytes.now * locality_count bytes.now ≡ length bytes.now - 44) }
 {
     if bytes.len() < HEADER_BYTES {
         return Some(SlitFault::Short);
@@ -140,7 +140,7 @@ fn find_fault(bytes: &[u8]) -> Option<SlitFault>
     if checksum(bytes) != 0 {
         return Some(SlitFault::Checksum);
     }
-    if !is_square_of(read_localities(bytes), (bytes.len() - HEADER_BYTES) as u64) {
+    if !is_square_of(locality_count(bytes), (bytes.len() - HEADER_BYTES) as u64) {
         return Some(SlitFault::Localities);
     }
     None
@@ -148,7 +148,7 @@ fn find_fault(bytes: &[u8]) -> Option<SlitFault>
 
 /// Returns whether `cells` is the number of cells of `count` rows of `count` cells.
 fn is_square_of(count: u64, cells: u64) -> bool
-    ensures { result ≡ fills count cells }
+    ensures { result ≡ is_square_of count cells }
 {
     count.checked_mul(count) == Some(cells)
 }

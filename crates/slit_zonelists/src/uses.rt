@@ -2,8 +2,8 @@
 
 ghost use Rattle.std.specs.Prelude.{◌≡◌, ◌<◌};
 ghost use Rattle.std.specs.Option.{ForSome, option_map, option_copied};
-ghost use Rattle.slit_zonelists.specs.Matrix.{matrix, cell_of, IsSquare};
-ghost use Rattle.slit_zonelists.specs.Uses.{is_bad, bad_column as first_bad_column, bad_cell as first_bad_cell, slit_use};
+ghost use Rattle.slit_zonelists.specs.Matrix.{slit_view, slit_cell, IsSquare};
+ghost use Rattle.slit_zonelists.specs.Uses.{is_bad_cell, first_bad_column, first_bad_cell, slit_use};
 
 use crate::table::Slit;
 
@@ -27,9 +27,9 @@ pub enum SlitUse {
 }
 
 /// Returns whether the SLIT is used, if the nodes have these domains.
-pub fn use_of(slit: Option<&Slit>, domains: &[u32]) -> SlitUse
-    requires { ForSome slit (λ slit. IsSquare (matrix slit.now)) }
-    ensures { result ≡ slit_use (option_map matrix (option_copied slit.entry)) domains.now }
+pub fn decide_slit_use(slit: Option<&Slit>, domains: &[u32]) -> SlitUse
+    requires { ForSome slit (λ slit. IsSquare (slit_view slit.now)) }
+    ensures { result ≡ slit_use (option_map slit_view (option_copied slit.entry)) domains.now }
 {
     let Some(slit) = slit else {
         return SlitUse::Absent;
@@ -37,19 +37,19 @@ pub fn use_of(slit: Option<&Slit>, domains: &[u32]) -> SlitUse
     if domains.is_empty() {
         return SlitUse::NoSrat;
     }
-    match bad_cell(slit) {
+    match first_bad_cell(slit) {
         Some((row, column)) => SlitUse::NotValid { row, column },
         None => SlitUse::Used,
     }
 }
 
 /// Returns the first bad cell, by row and then by column.
-fn bad_cell(slit: &Slit) -> Option<(u32, u32)>
-    requires { IsSquare (matrix slit.now) }
-    ensures { result ≡ first_bad_cell (matrix slit.now) }
+fn first_bad_cell(slit: &Slit) -> Option<(u32, u32)>
+    requires { IsSquare (slit_view slit.now) }
+    ensures { result ≡ first_bad_cell (slit_view slit.now) }
 {
     for row in 0..slit.count {
-        if let Some(column) = bad_column(slit, row) {
+        if let Some(column) = first_bad_column(slit, row) {
             return Some((row, column));
         }
     }
@@ -57,13 +57,13 @@ fn bad_cell(slit: &Slit) -> Option<(u32, u32)>
 }
 
 /// Returns the first column in which the row has a bad cell.
-fn bad_column(slit: &Slit, row: u32) -> Option<u32>
-    requires square { IsSquare (matrix slit.now) }
+fn first_bad_column(slit: &Slit, row: u32) -> Option<u32>
+    requires square { IsSquare (slit_view slit.now) }
     requires row { row < slit.now.count }
-    ensures { result ≡ first_bad_column (matrix slit.now) row }
+    ensures { result ≡ first_bad_column (slit_view slit.now) row }
 {
     for column in 0..slit.count {
-        if is_bad_at(slit, row, column) {
+        if is_bad_cell(slit, row, column) {
             return Some(column);
         }
     }
@@ -71,13 +71,13 @@ fn bad_column(slit: &Slit, row: u32) -> Option<u32>
 }
 
 /// Returns whether the cell is bad.
-fn is_bad_at(slit: &Slit, row: u32, column: u32) -> bool
-    requires square { IsSquare (matrix slit.now) }
+fn is_bad_cell(slit: &Slit, row: u32, column: u32) -> bool
+    requires square { IsSquare (slit_view slit.now) }
     requires row { row < slit.now.count }
     requires column { column < slit.now.count }
-    ensures { result ≡ is_bad (matrix slit.now) row column }
+    ensures { result ≡ is_bad_cell (slit_view slit.now) row column }
 {
-    let cell = cell(slit, row, column);
+    let cell = slit_cell(slit, row, column);
     if row == column {
         cell != LOCAL_DISTANCE
     } else {
@@ -86,11 +86,11 @@ fn is_bad_at(slit: &Slit, row: u32, column: u32) -> bool
 }
 
 /// Returns the distance from the domain of the row to that of the column.
-pub fn cell(slit: &Slit, row: u32, column: u32) -> u8
-    requires square { IsSquare (matrix slit.now) }
+pub fn slit_cell(slit: &Slit, row: u32, column: u32) -> u8
+    requires square { IsSquare (slit_view slit.now) }
     requires row { row < slit.now.count }
     requires column { column < slit.now.count }
-    ensures { result ≡ cell_of (matrix slit.now) row column }
+    ensures { result ≡ slit_cell (slit_view slit.now) row column }
 {
     slit.cells[row as usize * slit.count as usize + column as usize]
 }

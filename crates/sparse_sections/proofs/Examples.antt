@@ -4,8 +4,8 @@ use Rattle.std.proofs.Common.{◌≡◌, ℕ, Some, None, List, [], ◌∷◌, �
 use Rattle.address_runs.specs.Runs.{RunOf, value_at, AreRuns}
 use Rattle.memblock_model.specs.Labels.{LabelView, Labels, plain_label, with_node}
 use Rattle.memblock_grow.specs.declared.section.Section.{Section}
-use Rattle.sparse_sections.specs.Present.{first_label, present, sections_from, IsWholeNoded, IsLowest}
-use Rattle.sparse_sections.specs.Roots.{root_of, firsts_behind}
+use Rattle.sparse_sections.specs.Present.{first_label, present, sections_from, IsWholeWithNode, HasNodeOfLowestByte}
+use Rattle.sparse_sections.specs.Roots.{root_of, first_of_each_root}
 use Rattle.sparse_sections.proofs.PresentLaws.{IsLeft, left-all, left-next, sections-record, present-none, present-end}
 use Rattle.address_runs.proofs.RunsLaws.{none_below}
 
@@ -68,7 +68,7 @@ one_section =
     ∙ ap (λ (ss : List Section). ss ++ sections_from 0 1 1) (present-none f)
 
 -- the last frame below 2^52, and the one after it
-last_frame : IsWholeNoded (record_at 0xFFFFFFFFFF000 0x1000 0) × (IsWholeNoded (record_at 0x10000000000000 0x1000 0) → ⊥)
+last_frame : IsWholeWithNode (record_at 0xFFFFFFFFFF000 0x1000 0) × (IsWholeWithNode (record_at 0x10000000000000 0x1000 0) → ⊥)
 last_frame = (record { node = 0; has = refl; base = refl; end = refl; reach = lit≤ tt }, λ known. omega (arith, known.reach))
 
 -- a root has 256 sections, and is placed with the first of them
@@ -76,12 +76,12 @@ root_numbers : (root_of (section 255 0) ≡ 0) × (root_of (section 256 0) ≡ 1
     × (root_of (section 33554431 0) ≡ 131071)
 root_numbers = (refl, refl, refl, refl)
 
-roots_once : (firsts_behind None (section 0 0 ∷ section 3 1 ∷ section 255 1 ∷ section 256 2 ∷ section 300 0 ∷ [])
+roots_once : (first_of_each_root None (section 0 0 ∷ section 3 1 ∷ section 255 1 ∷ section 256 2 ∷ section 300 0 ∷ [])
     ≡ section 0 0 ∷ section 256 2 ∷ [])
-    × (firsts_behind (Some 1) (section 256 2 ∷ section 512 0 ∷ []) ≡ section 512 0 ∷ [])
+    × (first_of_each_root (Some 1) (section 256 2 ∷ section 512 0 ∷ []) ≡ section 512 0 ∷ [])
 roots_once = (refl, refl)
 
-lowest_byte : IsLowest (value_at across) (section 0 3)
+lowest_byte : HasNodeOfLowestByte (value_at across) (section 0 3)
 lowest_byte = record {
   byte = 0x7FFF000;
   label = of_node 3;

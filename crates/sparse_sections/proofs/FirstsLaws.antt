@@ -4,27 +4,27 @@ use Rattle.std.proofs.lemmas.Bool.{cases_Bool}
 use Rattle.std.proofs.lemmas.Bool.Decides.{nat_tests}
 use Rattle.std.specs.Prelude.{find}
 use Rattle.memblock_grow.specs.declared.section.Section.{Section}
-use Rattle.sparse_sections.specs.Present.{AreSections}
-use Rattle.sparse_sections.specs.Roots.{root_of, is_root, firsts_behind}
+use Rattle.sparse_sections.specs.Present.{AreSectionsInOrder}
+use Rattle.sparse_sections.specs.Roots.{root_of, is_last_root, first_of_each_root}
 
 -- the first section of a root that isn't the last placed one is the first of all sections of that
 -- root
-first_behind : (last : Option ℕ) (ss : List Section) (root : ℕ) → is_root last root ≡ false
-    → find (λ s. root_of s == root) (firsts_behind last ss) ≡ find (λ s. root_of s == root) ss
+first_behind : (last : Option ℕ) (ss : List Section) (root : ℕ) → is_last_root last root ≡ false
+    → find (λ s. root_of s == root) (first_of_each_root last ss) ≡ find (λ s. root_of s == root) ss
 first_behind last [] root other = refl
-first_behind last (s ∷ ss) root other = elim (cases_Bool (is_root last (root_of s))) [
+first_behind last (s ∷ ss) root other = elim (cases_Bool (is_last_root last (root_of s))) [
   | inl placed ↦ rw (placed, not_last last (root_of s) root placed other) (first_behind last ss root other)
   | inr next ↦ rw next (elim (cases_Bool (root_of s == root)) [
     | inl here ↦ rw here refl
     | inr not_here ↦ rw not_here (first_behind (Some (root_of s)) ss root not_here)
   ])
 ] where
-  not_last : (o : Option ℕ) (a b : ℕ) → is_root o a ≡ true → is_root o b ≡ false → (a == b) ≡ false
+  not_last : (o : Option ℕ) (a b : ℕ) → is_last_root o a ≡ true → is_last_root o b ≡ false → (a == b) ≡ false
   not_last None a b is isnt = cc
   not_last (Some l) a b is isnt = grind (arith, nat_tests, is, isnt)
 
 pub first_of_root : (ss : List Section) (root : ℕ)
-    → find (λ s. root_of s == root) (firsts_behind None ss) ≡ find (λ s. root_of s == root) ss
+    → find (λ s. root_of s == root) (first_of_each_root None ss) ≡ find (λ s. root_of s == root) ss
 first_of_root ss root = first_behind None ss root refl
 
 -- numbers of sections, or of roots, that ascend from n on
@@ -55,7 +55,7 @@ ascend_each f n (s ∷ ss) from (suc i) (suc j) d order within = ascend_each f (
 ascend_each f n ss from i j d order within = absurd (omega arith)
 
 roots_behind : (last n : ℕ) (ss : List Section) → AscendFrom (λ s. s.number) n ss → last ≤ n / 256
-    → AscendFrom root_of (last + 1) (firsts_behind (Some last) ss)
+    → AscendFrom root_of (last + 1) (first_of_each_root (Some last) ss)
 roots_behind last n [] from reached = tt
 roots_behind last n (s ∷ ss) from reached =
     elim (cases_Bool (last == root_of s)) [
@@ -63,12 +63,12 @@ roots_behind last n (s ∷ ss) from reached =
       | inr next ↦ rw next (grind (arith, nat_tests, next, from.0), roots_behind (root_of s) (s.number + 1) ss from.1 (omega arith))
     ]
 
-firsts_from : (n : ℕ) (ss : List Section) → AscendFrom (λ s. s.number) n ss → AscendFrom root_of 0 (firsts_behind None ss)
+firsts_from : (n : ℕ) (ss : List Section) → AscendFrom (λ s. s.number) n ss → AscendFrom root_of 0 (first_of_each_root None ss)
 firsts_from n [] from = tt
 firsts_from n (s ∷ ss) from = (omega arith, roots_behind (root_of s) (s.number + 1) ss from.1 (omega arith))
 
-pub roots_in_order : (ss : List Section) → AreSections ss → (i j : ℕ) (d : Section) → i < j → j < length (firsts_behind None ss)
-    → root_of (get_or (firsts_behind None ss) i d) < root_of (get_or (firsts_behind None ss) j d)
+pub roots_in_order : (ss : List Section) → AreSectionsInOrder ss → (i j : ℕ) (d : Section) → i < j → j < length (first_of_each_root None ss)
+    → root_of (get_or (first_of_each_root None ss) i d) < root_of (get_or (first_of_each_root None ss) j d)
 roots_in_order ss are i j d order within =
-    ascend_each root_of 0 (firsts_behind None ss) (firsts_from 0 ss (from_all 0 ss are.ascend (λ k e in_list. omega arith)))
+    ascend_each root_of 0 (first_of_each_root None ss) (firsts_from 0 ss (from_all 0 ss are.ascend (λ k e in_list. omega arith)))
     i j d order within

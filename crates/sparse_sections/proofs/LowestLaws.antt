@@ -7,8 +7,8 @@ use Rattle.std.proofs.lemmas.List.{get_or_append_left, get_or_push}
 use Rattle.std.proofs.lemmas.List.Elements.{All-append, All-cons, All-nil}
 use Rattle.memblock_model.specs.Labels.{LabelView, Labels}
 use Rattle.memblock_grow.specs.declared.section.Section.{Section}
-use Rattle.stage_model.specs.Noded.{AreOfFrames, IsNoded}
-use Rattle.sparse_sections.specs.Present.{first_label, section_label, section_of, section_for, sections_below, present, IsLowest, IsSectionAt}
+use Rattle.stage_model.specs.Noded.{IsSameInFrames, HasNodes}
+use Rattle.sparse_sections.specs.Present.{first_label, section_label, section_on_node, section_with_label, sections_below, present, HasNodeOfLowestByte, IsSectionAt}
 
 -- the frame whose label is found: the first one that is memory
 record IsFirst (f : Labels) (a n : ℕ) (label : LabelView) : Type 0 where
@@ -62,8 +62,8 @@ label-some f a (suc n) k label few told = elim (cases_label (f (4096 * a))) [
 ]
 
 -- a section that is found has memory
-first-lowest : (f : Labels) (n node : ℕ) (label : LabelView) → AreOfFrames f → IsFirst f (32768 * n) 32768 label → label.node ≡ Some node
-    → IsLowest f (record { number = n; node = node })
+first-lowest : (f : Labels) (n node : ℕ) (label : LabelView) → IsSameInFrames f → IsFirst f (32768 * n) 32768 label → label.node ≡ Some node
+    → HasNodeOfLowestByte f (record { number = n; node = node })
 first-lowest f n node label frames first has =
     record {
       byte = 4096 * (32768 * n + first.behind);
@@ -76,25 +76,25 @@ first-lowest f n node label frames first has =
           frames x ∙ ap f e ∙ first.none (x / 4096 - 32768 * n) (omega (arith, first.within));
     }
 
-of-lowest : (f : Labels) (n : ℕ) (label : LabelView) (o : Option ℕ) → AreOfFrames f → IsFirst f (32768 * n) 32768 label → label.node ≡ o
-    → All (IsLowest f) (section_of n o)
-of-lowest f n label None frames first has = All-nil (IsLowest f)
+of-lowest : (f : Labels) (n : ℕ) (label : LabelView) (o : Option ℕ) → IsSameInFrames f → IsFirst f (32768 * n) 32768 label → label.node ≡ o
+    → All (HasNodeOfLowestByte f) (section_on_node n o)
+of-lowest f n label None frames first has = All-nil (HasNodeOfLowestByte f)
 of-lowest f n label (Some node) frames first has =
-    All-cons (IsLowest f) (record { number = n; node = node }) [] (first-lowest f n node label frames first has) (All-nil (IsLowest f))
+    All-cons (HasNodeOfLowestByte f) (record { number = n; node = node }) [] (first-lowest f n node label frames first has) (All-nil (HasNodeOfLowestByte f))
 
-for-lowest : (f : Labels) (n : ℕ) (o : Option LabelView) → AreOfFrames f → section_label f n ≡ o → All (IsLowest f) (section_for n o)
-for-lowest f n None frames is = All-nil (IsLowest f)
+for-lowest : (f : Labels) (n : ℕ) (o : Option LabelView) → IsSameInFrames f → section_label f n ≡ o → All (HasNodeOfLowestByte f) (section_with_label n o)
+for-lowest f n None frames is = All-nil (HasNodeOfLowestByte f)
 for-lowest f n (Some label) frames is =
     of-lowest f n label label.node frames (label-first f (32768 * n) 32768 label is) refl
 
-sections-lowest : (f : Labels) (n : ℕ) → AreOfFrames f → All (IsLowest f) (sections_below f n)
+sections-lowest : (f : Labels) (n : ℕ) → IsSameInFrames f → All (HasNodeOfLowestByte f) (sections_below f n)
 unfolding sections_below
-sections-lowest f zero frames = All-nil (IsLowest f)
+sections-lowest f zero frames = All-nil (HasNodeOfLowestByte f)
 sections-lowest f (suc n) frames =
-    All-append (IsLowest f) (sections_below f n) (section_for n (section_label f n)) (sections-lowest f n frames)
+    All-append (HasNodeOfLowestByte f) (sections_below f n) (section_with_label n (section_label f n)) (sections-lowest f n frames)
     (for-lowest f n (section_label f n) frames refl)
 
-pub present-lowest : (limit : ℕ) (f : Labels) → IsNoded limit f → All (IsLowest f) (present f)
+pub present-lowest : (limit : ℕ) (f : Labels) → HasNodes limit f → All (HasNodeOfLowestByte f) (present f)
 unfolding present
 present-lowest limit f noded = sections-lowest f (2 ^ 25) noded.frames
 
@@ -111,14 +111,14 @@ at-end xs s = record {
   is = λ d. rw (get_or_push xs s d (length xs) refl) refl;
 }
 
-told-own : (limit : ℕ) (f : Labels) (n : ℕ) (v : LabelView) (xs : List Section) → IsNoded limit f → section_label f n ≡ Some v
-    → (i : ℕ) × IsSectionAt (xs ++ section_for n (section_label f n)) i n
+told-own : (limit : ℕ) (f : Labels) (n : ℕ) (v : LabelView) (xs : List Section) → HasNodes limit f → section_label f n ≡ Some v
+    → (i : ℕ) × IsSectionAt (xs ++ section_with_label n (section_label f n)) i n
 told-own limit f n v xs noded is =
     let first : IsFirst f (32768 * n) 32768 v = label-first f (32768 * n) 32768 v is in
     let has = noded.nodes (4096 * (32768 * n + first.behind)) v first.told in
     (length xs, rw (is, has.1) (at-end xs (record { number = n; node = has.0 })))
 
-told-below : (limit : ℕ) (f : Labels) (n s k : ℕ) (label : LabelView) → IsNoded limit f → s < n → k < 32768
+told-below : (limit : ℕ) (f : Labels) (n s k : ℕ) (label : LabelView) → HasNodes limit f → s < n → k < 32768
     → f (4096 * (32768 * s + k)) ≡ Some label → (i : ℕ) × IsSectionAt (sections_below f n) i s
 unfolding sections_below
 told-below limit f zero s k label noded less few told = absurd (omega arith)
@@ -126,14 +126,14 @@ told-below limit f (suc n) s k label noded less few told =
     elim (cases_lt s n) [
       | inl lt ↦
           let before = told-below limit f n s k label noded lt few told in
-          (before.0, at-left (sections_below f n) (section_for n (section_label f n)) before.0 s before.1)
+          (before.0, at-left (sections_below f n) (section_with_label n (section_label f n)) before.0 s before.1)
       | inr ge ↦
           let e : s ≡ n = omega arith in
           let found = label-some f (32768 * n) 32768 k label few (rw e at told) in
           rw e (told-own limit f n found.0 (sections_below f n) noded found.1)
     ]
 
-pub present-all : (limit x : ℕ) (f : Labels) (label : LabelView) → IsNoded limit f → x < 2 ^ 52 → f x ≡ Some label
+pub present-all : (limit x : ℕ) (f : Labels) (label : LabelView) → HasNodes limit f → x < 2 ^ 52 → f x ≡ Some label
     → (i : ℕ) × IsSectionAt (present f) i (x / 0x8000000)
 unfolding present
 present-all limit x f label noded low told =

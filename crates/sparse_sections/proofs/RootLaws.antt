@@ -10,29 +10,29 @@ use Rattle.memblock_grow.specs.declared.section.Section.{Section}
 use Rattle.memblock_grow.specs.declared.stop.What.TheVariants as what
 use Rattle.memblock_grow.specs.declared.stop.StageStop.{StageStop}
 use Rattle.stage_model.specs.Causes.{stage_stop}
-use Rattle.stage_model.specs.Doing.{StageEnds, returns, listed, in_turn, ◌>>=◌}
-use Rattle.stage_model.specs.Requests.{placed}
+use Rattle.stage_model.specs.Doing.{EndsAsStage, return_value, read_into_list, fold_steps, ◌>>=◌}
+use Rattle.stage_model.specs.Requests.{place_or_stop}
 use Rattle.stage_model.proofs.DoingLaws.{ends-second, ends-first, ends-listed, ends-returns}
 use Rattle.sparse_sections.specs.declared.roots.RootPlace.{RootPlace}
-use Rattle.sparse_sections.specs.Roots.{root_of, is_root, firsts_behind, small_request, root_placed, roots_listed, RootsPlaced, roots}
+use Rattle.sparse_sections.specs.Roots.{root_of, is_last_root, first_of_each_root, small_request, place_root, place_each_root, RootsView, place_roots}
 
 abbrev pub no_section : Section
 no_section = record { number = 0; node = 0 }
 
 -- all roots end as those of the sections that remain
-pub record Goes (entry : List Item) (sections : List Section) (now : List Item) (roots : List RootPlace) (last : Option ℕ)
+pub record Goes (entry : List Item) (sections : List Section) (now : List Item) (place_roots : List RootPlace) (last : Option ℕ)
     (rest : List Section) : Type 0 where
   pub ends : (r : Result (List RootPlace) StageStop) (new : List Item)
-      → StageEnds (in_turn root_placed roots (firsts_behind last rest)) stage_stop r now new
-      → StageEnds (roots_listed sections) stage_stop r entry new
+      → EndsAsStage (fold_steps place_root place_roots (first_of_each_root last rest)) stage_stop r now new
+      → EndsAsStage (place_each_root sections) stage_stop r entry new
 
-pub goes-first : (entry : List Item) (sections : List Section) (roots : List RootPlace) → roots ≡ []
-    → Goes entry sections entry roots None sections
-goes-first entry sections roots none = record {
+pub goes-first : (entry : List Item) (sections : List Section) (place_roots : List RootPlace) → place_roots ≡ []
+    → Goes entry sections entry place_roots None sections
+goes-first entry sections place_roots none = record {
   ends = λ r new h.
-      let firsts : List Section = firsts_behind None sections in
+      let firsts : List Section = first_of_each_root None sections in
       let no_roots : List Item → List RootPlace = λ items. [] in
-      ends-second [] r stage_stop entry entry new (listed no_roots) (λ before. in_turn root_placed before firsts)
+      ends-second [] r stage_stop entry entry new (read_into_list no_roots) (λ before. fold_steps place_root before firsts)
       (ends-listed no_roots stage_stop entry)
       (rw none at h);
 }
@@ -43,81 +43,81 @@ left-at : (sections : List Section) (i : ℕ) (d : Section) → i < length secti
 left-at sections i d few = rw (add-one, drop-cons sections i d few) refl
 
 pub goes-same : (entry : List Item) (sections : List Section) (now : List Item) (before : List RootPlace) (last : Option ℕ) (i : ℕ)
-    (d : Section) → i < length sections → is_root last (root_of (get_or sections i d)) ≡ true → Goes entry sections now before last
+    (d : Section) → i < length sections → is_last_root last (root_of (get_or sections i d)) ≡ true → Goes entry sections now before last
     (drop i sections)
     → Goes entry sections now before last (drop (i + 1) sections)
 goes-same entry sections now before last i d few same goes =
     let here = rw (left-at sections i d few) at goes in record { ends = λ r new h. here.ends r new (rw same h) }
 
-pub goes-next : (entry : List Item) (sections : List Section) (now mid : List Item) (before roots : List RootPlace) (last : Option ℕ)
-    (i : ℕ) (d : Section) → i < length sections → is_root last (root_of (get_or sections i d)) ≡ false
-    → StageEnds (root_placed before (get_or sections i d)) stage_stop (Ok roots) now mid
+pub goes-next : (entry : List Item) (sections : List Section) (now mid : List Item) (before place_roots : List RootPlace) (last : Option ℕ)
+    (i : ℕ) (d : Section) → i < length sections → is_last_root last (root_of (get_or sections i d)) ≡ false
+    → EndsAsStage (place_root before (get_or sections i d)) stage_stop (Ok place_roots) now mid
     → Goes entry sections now before last (drop i sections)
-    → Goes entry sections mid roots (Some (root_of (get_or sections i d))) (drop (i + 1) sections)
-goes-next entry sections now mid before roots last i d few other was goes =
+    → Goes entry sections mid place_roots (Some (root_of (get_or sections i d))) (drop (i + 1) sections)
+goes-next entry sections now mid before place_roots last i d few other was goes =
     let s : Section = get_or sections i d in
     let here = rw (left-at sections i d few) at goes in
     record {
       ends = λ r new h.
-          here.ends r new (rw other (ends-second roots r stage_stop now mid new (root_placed before s)
-          (λ next. in_turn root_placed next (firsts_behind (Some (root_of s)) (drop (i + 1) sections))) was h));
+          here.ends r new (rw other (ends-second place_roots r stage_stop now mid new (place_root before s)
+          (λ next. fold_steps place_root next (first_of_each_root (Some (root_of s)) (drop (i + 1) sections))) was h));
     }
 
 pub goes-fails : (e : StageStop) (entry : List Item) (sections : List Section) (now new : List Item) (before : List RootPlace)
-    (last : Option ℕ) (i : ℕ) (d : Section) → i < length sections → is_root last (root_of (get_or sections i d)) ≡ false
-    → StageEnds {A = List RootPlace} (root_placed before (get_or sections i d)) stage_stop (Err e) now new
+    (last : Option ℕ) (i : ℕ) (d : Section) → i < length sections → is_last_root last (root_of (get_or sections i d)) ≡ false
+    → EndsAsStage {A = List RootPlace} (place_root before (get_or sections i d)) stage_stop (Err e) now new
     → Goes entry sections now before last (drop i sections)
-    → StageEnds {A = List RootPlace} (roots_listed sections) stage_stop (Err e) entry new
+    → EndsAsStage {A = List RootPlace} (place_each_root sections) stage_stop (Err e) entry new
 goes-fails e entry sections now new before last i d few other failed goes =
     let s : Section = get_or sections i d in
     let here = rw (left-at sections i d few) at goes in
-    here.ends (Err e) new (rw other (ends-first e stage_stop now new (root_placed before s)
-    (λ next. in_turn root_placed next (firsts_behind (Some (root_of s)) (drop (i + 1) sections))) failed))
+    here.ends (Err e) new (rw other (ends-first e stage_stop now new (place_root before s)
+    (λ next. fold_steps place_root next (first_of_each_root (Some (root_of s)) (drop (i + 1) sections))) failed))
 
-pub goes-all : (entry : List Item) (sections : List Section) (now : List Item) (roots : List RootPlace) (last : Option ℕ) (i : ℕ)
-    → length sections ≤ i → Goes entry sections now roots last (drop i sections)
-    → StageEnds (roots_listed sections) stage_stop (Ok roots) entry now
-goes-all entry sections now roots last i all goes =
-    let here = rw (drop_all i sections all) at goes in here.ends (Ok roots) now (ends-returns roots stage_stop now)
+pub goes-all : (entry : List Item) (sections : List Section) (now : List Item) (place_roots : List RootPlace) (last : Option ℕ) (i : ℕ)
+    → length sections ≤ i → Goes entry sections now place_roots last (drop i sections)
+    → EndsAsStage (place_each_root sections) stage_stop (Ok place_roots) entry now
+goes-all entry sections now place_roots last i all goes =
+    let here = rw (drop_all i sections all) at goes in here.ends (Ok place_roots) now (ends-returns place_roots stage_stop now)
 
 -- the table and then the roots
-pub roots-fail : (e : StageStop) (width : Width) (q : Request) (sections : List Section) (old new : List Item)
+pub place_roots-fail : (e : StageStop) (width : Width) (q : Request) (sections : List Section) (old new : List Item)
     → q ≡ small_request (root_table_of width) None
-    → StageEnds {A = ℕ} (placed what.Roots q owner.Roots) stage_stop (Err e) old new
-    → StageEnds {A = RootsPlaced} (roots width sections) stage_stop (Err e) old new
-unfolding roots
-roots-fail e width q sections old new request h =
-    ends-first e stage_stop old new (placed what.Roots (small_request (root_table_of width) None) owner.Roots)
-    (λ table. roots_listed sections >>= λ places. returns (record { table = table; roots = places }))
+    → EndsAsStage {A = ℕ} (place_or_stop what.Roots q owner.Roots) stage_stop (Err e) old new
+    → EndsAsStage {A = RootsView} (place_roots width sections) stage_stop (Err e) old new
+unfolding place_roots
+place_roots-fail e width q sections old new request h =
+    ends-first e stage_stop old new (place_or_stop what.Roots (small_request (root_table_of width) None) owner.Roots)
+    (λ table. place_each_root sections >>= λ places. return_value (record { table = table; roots = places }))
     (rw request at h)
 
-roots-behind : (r : Result RootsPlaced StageStop) (table : ℕ) (width : Width) (q : Request) (sections : List Section)
+place_roots-behind : (r : Result RootsView StageStop) (table : ℕ) (width : Width) (q : Request) (sections : List Section)
     (old mid new : List Item)
-    → q ≡ small_request (root_table_of width) None → StageEnds (placed what.Roots q owner.Roots) stage_stop (Ok table) old mid
-    → StageEnds (roots_listed sections
-    >>= λ places. returns (record { table = table; roots = places })) stage_stop r mid new
-    → StageEnds (roots width sections) stage_stop r old new
-unfolding roots
-roots-behind r table width q sections old mid new request was h =
-    ends-second table r stage_stop old mid new (placed what.Roots (small_request (root_table_of width) None) owner.Roots)
-    (λ table. roots_listed sections >>= λ places. returns (record { table = table; roots = places }))
+    → q ≡ small_request (root_table_of width) None → EndsAsStage (place_or_stop what.Roots q owner.Roots) stage_stop (Ok table) old mid
+    → EndsAsStage (place_each_root sections
+    >>= λ places. return_value (record { table = table; roots = places })) stage_stop r mid new
+    → EndsAsStage (place_roots width sections) stage_stop r old new
+unfolding place_roots
+place_roots-behind r table width q sections old mid new request was h =
+    ends-second table r stage_stop old mid new (place_or_stop what.Roots (small_request (root_table_of width) None) owner.Roots)
+    (λ table. place_each_root sections >>= λ places. return_value (record { table = table; roots = places }))
     (rw request at was) h
 
-pub roots-stop : (e : StageStop) (table : ℕ) (width : Width) (q : Request) (sections : List Section) (old mid new : List Item)
-    → q ≡ small_request (root_table_of width) None → StageEnds (placed what.Roots q owner.Roots) stage_stop (Ok table) old mid
-    → StageEnds {A = List RootPlace} (roots_listed sections) stage_stop (Err e) mid new
-    → StageEnds {A = RootsPlaced} (roots width sections) stage_stop (Err e) old new
-roots-stop e table width q sections old mid new request was h =
-    roots-behind (Err e) table width q sections old mid new request was
-    (ends-first e stage_stop mid new (roots_listed sections)
-    (λ places. returns (record { table = table; roots = places })) h)
+pub place_roots-stop : (e : StageStop) (table : ℕ) (width : Width) (q : Request) (sections : List Section) (old mid new : List Item)
+    → q ≡ small_request (root_table_of width) None → EndsAsStage (place_or_stop what.Roots q owner.Roots) stage_stop (Ok table) old mid
+    → EndsAsStage {A = List RootPlace} (place_each_root sections) stage_stop (Err e) mid new
+    → EndsAsStage {A = RootsView} (place_roots width sections) stage_stop (Err e) old new
+place_roots-stop e table width q sections old mid new request was h =
+    place_roots-behind (Err e) table width q sections old mid new request was
+    (ends-first e stage_stop mid new (place_each_root sections)
+    (λ places. return_value (record { table = table; roots = places })) h)
 
-pub roots-all : (table : ℕ) (places : List RootPlace) (width : Width) (q : Request) (sections : List Section) (old mid new : List Item)
-    → q ≡ small_request (root_table_of width) None → StageEnds (placed what.Roots q owner.Roots) stage_stop (Ok table) old mid
-    → StageEnds (roots_listed sections) stage_stop (Ok places) mid new
-    → StageEnds (roots width sections) stage_stop (Ok (record { table = table; roots = places })) old new
-roots-all table places width q sections old mid new request was h =
-    roots-behind (Ok (record { table = table; roots = places })) table width q sections old mid new request was
+pub place_roots-all : (table : ℕ) (places : List RootPlace) (width : Width) (q : Request) (sections : List Section) (old mid new : List Item)
+    → q ≡ small_request (root_table_of width) None → EndsAsStage (place_or_stop what.Roots q owner.Roots) stage_stop (Ok table) old mid
+    → EndsAsStage (place_each_root sections) stage_stop (Ok places) mid new
+    → EndsAsStage (place_roots width sections) stage_stop (Ok (record { table = table; roots = places })) old new
+place_roots-all table places width q sections old mid new request was h =
+    place_roots-behind (Ok (record { table = table; roots = places })) table width q sections old mid new request was
     (ends-second places (Ok (record { table = table; roots = places })) stage_stop mid new new
-    (roots_listed sections) (λ places. returns (record { table = table; roots = places })) h
+    (place_each_root sections) (λ places. return_value (record { table = table; roots = places })) h
     (ends-returns (record { table = table; roots = places }) stage_stop new))

@@ -17,18 +17,18 @@ abbrev pub section_label : Labels → ℕ → Option LabelView
 section_label f s = first_label f (32768 * s) 32768
 
 -- the section, if it has memory, with the node of its lowest frame of memory
-abbrev pub section_of : ℕ → Option ℕ → List Section
-section_of s None = []
-section_of s (Some node) = record { number = s; node = node } ∷ []
+abbrev pub section_on_node : ℕ → Option ℕ → List Section
+section_on_node s None = []
+section_on_node s (Some node) = record { number = s; node = node } ∷ []
 
-abbrev pub section_for : ℕ → Option LabelView → List Section
-section_for s None = []
-section_for s (Some label) = section_of s label.node
+abbrev pub section_with_label : ℕ → Option LabelView → List Section
+section_with_label s None = []
+section_with_label s (Some label) = section_on_node s label.node
 
 -- the sections with memory whose number is below n
 unfoldable pub sections_below : Labels → ℕ → List Section
 sections_below f zero = []
-sections_below f (suc n) = sections_below f n ++ section_for n (section_label f n)
+sections_below f (suc n) = sections_below f n ++ section_with_label n (section_label f n)
 
 -- all sections with memory: 2^25 sections end at 2^52, the highest address that the kernel's
 -- memory model can have (`MAX_PHYSMEM_BITS`)
@@ -41,7 +41,7 @@ sections_from first zero node = []
 sections_from first (suc n) node = sections_from first n node ++ record { number = first + n; node = node } ∷ []
 
 -- a record of memory: whole frames, with a node, ending at or below 2^52
-pub record IsWholeNoded (r : RunOf LabelView) : Type 0 where
+pub record IsWholeWithNode (r : RunOf LabelView) : Type 0 where
   pub node : ℕ
   pub has : r.value.node ≡ Some node
   pub base : r.base % FRAME_SIZE ≡ 0
@@ -49,7 +49,7 @@ pub record IsWholeNoded (r : RunOf LabelView) : Type 0 where
   pub reach : run_end r ≤ 2 ^ 52
 
 -- the section has memory, and its node is that of its lowest byte of memory
-pub record IsLowest (f : Labels) (s : Section) : Type 0 where
+pub record HasNodeOfLowestByte (f : Labels) (s : Section) : Type 0 where
   pub byte : ℕ
   pub label : LabelView
   pub inside : byte / 0x8000000 ≡ s.number
@@ -63,7 +63,7 @@ pub record IsSectionAt (ss : List Section) (i number : ℕ) : Type 0 where
   pub is : (d : Section) → (get_or ss i d).number ≡ number
 
 -- sections in ascending order, below 2^52
-pub record AreSections (ss : List Section) : Type 0 where
+pub record AreSectionsInOrder (ss : List Section) : Type 0 where
   pub ascend : (i j : ℕ) (d : Section) → i < j → j < length ss → (get_or ss i d).number < (get_or ss j d).number
   pub below : All (λ s. s.number < 2 ^ 25) ss
   pub few : length ss ≤ 2 ^ 25

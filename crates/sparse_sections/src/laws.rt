@@ -13,53 +13,53 @@ ghost use Rattle.memblock_model.specs.Items.{memory_of, limit_of};
 ghost use Rattle.memblock_model.specs.Tables.{records_of};
 ghost use Rattle.table_frames.specs.Tables.{AreWholeFrames};
 ghost use Rattle.memblock_grow.specs.declared.section.Section.{Section as AnySection};
-ghost use Rattle.stage_model.specs.Doing.{after};
-ghost use Rattle.stage_model.specs.Noded.{IsNoded};
-ghost use Rattle.sparse_sections.specs.Present.{present, IsWholeNoded, IsLowest, IsSectionAt, AreSections};
-ghost use Rattle.sparse_sections.specs.Roots.{root_of, firsts_behind, roots};
+ghost use Rattle.stage_model.specs.Doing.{items_after_step};
+ghost use Rattle.stage_model.specs.Noded.{HasNodes};
+ghost use Rattle.sparse_sections.specs.Present.{present, IsWholeWithNode, HasNodeOfLowestByte, IsSectionAt, AreSectionsInOrder};
+ghost use Rattle.sparse_sections.specs.Roots.{root_of, first_of_each_root, place_roots};
 
 /// Law: after the stage of nodes the records of memory are its runs, and give each byte the label
 /// that the items give it. All runs of memory are whole frames. If memory ends at or below 4 PiB,
 /// they are records in which sections can be found.
-pub fn noded_memory_is_whole()
-    ensures runs { (limit : ℕ) (items : List AnyItem) → limit ≤ 2 ^ 64 → IsNoded limit (memory_of items) →
+pub fn memory_with_nodes_is_whole()
+    ensures runs { (limit : ℕ) (items : List AnyItem) → limit ≤ 2 ^ 64 → HasNodes limit (memory_of items) →
         IsRunsOf (memory_of items) (records_of which.Memory items) }
-    ensures told { (limit : ℕ) (items : List AnyItem) → limit ≤ 2 ^ 64 → IsNoded limit (memory_of items) →
+    ensures told { (limit : ℕ) (items : List AnyItem) → limit ≤ 2 ^ 64 → HasNodes limit (memory_of items) →
         value_at (records_of which.Memory items) ≡ memory_of items }
-    ensures frames { (limit : ℕ) (f : Labels) (rs : List (RunOf LabelView)) → IsRunsOf f rs → IsNoded limit f → AreWholeFrames rs }
-    ensures records { (f : Labels) (rs : List (RunOf LabelView)) → IsRunsOf f rs → IsNoded (2 ^ 52) f → All IsWholeNoded rs }
+    ensures frames { (limit : ℕ) (f : Labels) (rs : List (RunOf LabelView)) → IsRunsOf f rs → HasNodes limit f → AreWholeFrames rs }
+    ensures records { (f : Labels) (rs : List (RunOf LabelView)) → IsRunsOf f rs → HasNodes (2 ^ 52) f → All IsWholeWithNode rs }
 {}
 
 /// Law: if memory is whole frames with nodes, each of its bytes below 4 PiB is in a section that
 /// is found. Each section that is found has memory, and the node of its lowest byte of memory.
 pub fn present_sections_are_memory()
-    ensures all { (limit x : ℕ) (f : Labels) (label : LabelView) → IsNoded limit f → x < 2 ^ 52 → f x ≡ Some label →
+    ensures all { (limit x : ℕ) (f : Labels) (label : LabelView) → HasNodes limit f → x < 2 ^ 52 → f x ≡ Some label →
         (i : ℕ) × IsSectionAt (present f) i (x / 0x8000000) }
-    ensures each { (limit : ℕ) (f : Labels) → IsNoded limit f → All (IsLowest f) (present f) }
+    ensures each { (limit : ℕ) (f : Labels) → HasNodes limit f → All (HasNodeOfLowestByte f) (present f) }
 {}
 
 /// Law: the sections with memory are in ascending order and below 4 PiB; after the stage of nodes
 /// each has a node below 1,024.
 pub fn present_sections_ascend()
-    ensures ascend { (f : Labels) → AreSections (present f) }
-    ensures nodes { (limit : ℕ) (f : Labels) → IsNoded limit f → All (λ s. s.node < 1024) (present f) }
+    ensures ascend { (f : Labels) → AreSectionsInOrder (present f) }
+    ensures nodes { (limit : ℕ) (f : Labels) → HasNodes limit f → All (λ s. s.node < 1024) (present f) }
 {}
 
 /// Law: of ascending sections, the roots that get a place are ascending, so each is placed once.
 /// The section by which a root gets its place is the first section of that root. So the roots are
 /// exactly those of the sections, each with the node of its lowest section.
 pub fn roots_ascend()
-    ensures ascend { (sections : List AnySection) → AreSections sections →
-        (i j : ℕ) (d : AnySection) → i < j → j < length (firsts_behind None sections) →
-        root_of (get_or (firsts_behind None sections) i d) < root_of (get_or (firsts_behind None sections) j d) }
+    ensures ascend { (sections : List AnySection) → AreSectionsInOrder sections →
+        (i j : ℕ) (d : AnySection) → i < j → j < length (first_of_each_root None sections) →
+        root_of (get_or (first_of_each_root None sections) i d) < root_of (get_or (first_of_each_root None sections) j d) }
     ensures first { (sections : List AnySection) (root : ℕ) →
-        find (λ s. root_of s == root) (firsts_behind None sections) ≡ find (λ s. root_of s == root) sections }
+        find (λ s. root_of s == root) (first_of_each_root None sections) ≡ find (λ s. root_of s == root) sections }
 {}
 
 /// Law: placing roots changes neither memory nor the limit, whether they find a place or not.
-pub fn sections_leave_memory()
+pub fn place_roots_keeps_memory_and_limit()
     ensures memory { (width : AnyWidth) (sections : List AnySection) (items : List AnyItem) →
-        memory_of (after items (roots width sections items)) ≡ memory_of items }
+        memory_of (items_after_step items (place_roots width sections items)) ≡ memory_of items }
     ensures limit { (width : AnyWidth) (sections : List AnySection) (items : List AnyItem) →
-        limit_of (after items (roots width sections items)) ≡ limit_of items }
+        limit_of (items_after_step items (place_roots width sections items)) ≡ limit_of items }
 {}

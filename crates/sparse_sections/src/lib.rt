@@ -23,8 +23,8 @@ mod roots;
 mod sections;
 
 pub use laws::{
-    noded_memory_is_whole, present_sections_are_memory, present_sections_ascend, roots_ascend,
-    sections_leave_memory,
+    memory_with_nodes_is_whole, present_sections_are_memory, present_sections_ascend, roots_ascend,
+    place_roots_keeps_memory_and_limit,
 };
 pub use places::place_roots;
 pub use roots::{RootPlace, Roots};

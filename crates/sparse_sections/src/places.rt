@@ -6,16 +6,16 @@ ghost use Rattle.std.specs.Prelude.{◌≡◌, ◌≤◌, ◌<◌, ◌+◌, ℕ,
 ghost use Rattle.bm_base.specs.Width.{root_table_of};
 ghost use Rattle.growth_model.specs.Sound.{HasBegun};
 ghost use Rattle.stage_model.specs.Causes.{stage_stop};
-ghost use Rattle.stage_model.specs.Doing.{StageEnds, ok_as};
-ghost use Rattle.memblock_grow.specs.Going.{GoesOn};
-ghost use Rattle.sparse_sections.specs.Roots.{root_of, is_root, small_request, root_placed, roots, roots_listed, roots_view};
+ghost use Rattle.stage_model.specs.Doing.{EndsAsStage, view_of_result};
+ghost use Rattle.memblock_grow.specs.Going.{ContinuesMemblock};
+ghost use Rattle.sparse_sections.specs.Roots.{root_of, is_last_root, small_request, place_root, place_roots, place_each_root, roots_view};
 
 use crate::roots::{RootPlace, Roots};
 use bm_base::{FRAME_SIZE, Memory, Width};
 use boot_journal::Owner;
 use growth_model::Request;
 use memblock_grow::{Memblock, no_items_no_change};
-use stage_model::{Section, StageStop, What, place};
+use stage_model::{Section, StageStop, What, place_or_stop};
 use std::alloc::Global;
 
 /// The size of a root in bytes: a page.
@@ -54,8 +54,8 @@ fn root_of(section: &Section) -> u32
 }
 
 /// Tests whether `root` is the last root that was placed.
-fn is_root(last: Option<u32>, root: u32) -> bool
-    ensures { result ≡ is_root last root }
+fn is_last_root(last: Option<u32>, root: u32) -> bool
+    ensures { result ≡ is_last_root last root }
 {
     match last {
         Some(number) => number == root,
@@ -71,15 +71,15 @@ fn place_root(
 ) -> Result<(), StageStop>
     requires begun { HasBegun memblock.old.journal.items }
     requires room { vec_len roots.old < vec_capacity roots.old }
-    ensures ends { StageEnds (root_placed roots.old.items section.now) stage_stop (ok_as (λ _. roots.new.items) result)
+    ensures ends { EndsAsStage (place_root roots.old.items section.now) stage_stop (view_of_result (λ _. roots.new.items) result)
         memblock.old.journal.items memblock.new.journal.items }
     ensures len { vec_len roots.new ≤ vec_len roots.old + 1 }
     ensures capacity { vec_capacity roots.old ≤ vec_capacity roots.new }
-    ensures goes_on { GoesOn memblock.old memblock.new }
+    ensures goes_on { ContinuesMemblock memblock.old memblock.new }
 {
     let number = root_of(section);
     let request = small_request(ROOT_SIZE, Some(section.node));
-    let at = place(memblock, What::Root(number), &request, Owner::Root(number))?;
+    let at = place_or_stop(memblock, What::Root(number), &request, Owner::Root(number))?;
     match roots.push(RootPlace { number, place: at }) {
         Ok(()) => Ok(()),
         Err(_) => unreachable!(),
@@ -87,9 +87,9 @@ fn place_root(
 }
 
 /// Returns an empty list with room for one root for each section.
-fn with_room(alloc: Global, sections: &[Section]) -> Result<Vec<RootPlace>, Memory>
-    ensures empty { IfOk result (λ roots. roots.items ≡ []) }
-    ensures room { IfOk result (λ roots. vec_len roots + length sections.now ≤ vec_capacity roots) }
+fn empty_root_list(alloc: Global, sections: &[Section]) -> Result<Vec<RootPlace>, Memory>
+    ensures empty { IfOk result (λ place_roots. place_roots.items ≡ []) }
+    ensures room { IfOk result (λ place_roots. vec_len place_roots + length sections.now ≤ vec_capacity place_roots) }
 {
     Ok(Vec::with_capacity(alloc, sections.len())?)
 }
@@ -101,16 +101,16 @@ fn place_each_root(
     sections: &[Section],
 ) -> Result<Vec<RootPlace>, StageStop>
     requires { HasBegun memblock.old.journal.items }
-    ensures ends { StageEnds (roots_listed sections.now) stage_stop (ok_as (λ roots. roots.items) result)
+    ensures ends { EndsAsStage (place_each_root sections.now) stage_stop (view_of_result (λ place_roots. place_roots.items) result)
         memblock.old.journal.items memblock.new.journal.items }
-    ensures goes_on { GoesOn memblock.old memblock.new }
+    ensures goes_on { ContinuesMemblock memblock.old memblock.new }
 {
     no_items_no_change(memblock);
-    let mut roots = with_room(alloc, sections)?;
+    let mut roots = empty_root_list(alloc, sections)?;
     let mut last = None;
     for section in sections {
         let root = root_of(section);
-        if !is_root(last, root) {
+        if !is_last_root(last, root) {
             place_root(memblock, &mut roots, section)?;
             last = Some(root);
         }
@@ -138,12 +138,12 @@ pub fn place_roots(
     width: Width,
 ) -> Result<Roots, StageStop>
     requires { HasBegun memblock.old.journal.items }
-    ensures ends { StageEnds (roots width sections.now) stage_stop (ok_as roots_view result)
+    ensures ends { EndsAsStage (place_roots width sections.now) stage_stop (view_of_result roots_view result)
         memblock.old.journal.items memblock.new.journal.items }
-    ensures goes_on { GoesOn memblock.old memblock.new }
+    ensures goes_on { ContinuesMemblock memblock.old memblock.new }
 {
     let request = table_request(width);
-    let table = place(memblock, What::Roots, &request, Owner::Roots)?;
+    let table = place_or_stop(memblock, What::Roots, &request, Owner::Roots)?;
     let roots = place_each_root(alloc, memblock, sections)?;
     Ok(Roots { table, roots })
 }

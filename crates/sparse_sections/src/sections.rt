@@ -7,7 +7,7 @@
 ghost use Rattle.std.specs.Prelude.{◌≡◌, ◌+◌, ◌-◌, ◌/◌, ◌^◌, ◌<◌, ◌≤◌, ◌++◌, max, OnOk, IfOk};
 ghost use Rattle.std.specs.List.{All};
 ghost use Rattle.address_runs.specs.Runs.{value_at};
-ghost use Rattle.sparse_sections.specs.Present.{present, sections_from, IsWholeNoded};
+ghost use Rattle.sparse_sections.specs.Present.{present, sections_from, IsWholeWithNode};
 
 use bm_base::Memory;
 use memblock_model::Which;
@@ -21,7 +21,7 @@ const SECTION_SIZE: u64 = 0x800_0000;
 /// Returns the numbers of the sections that the record has bytes of: the first one, and one more
 /// than the last one. Numbers below `next` are left out. The record must not be empty, and must
 /// end at or below 4 PiB.
-fn numbers_of(region: &Region, next: u32) -> (u32, u32)
+fn section_numbers(region: &Region, next: u32) -> (u32, u32)
     requires some { 0 < region.now.size }
     requires reach { region.now.base + region.now.size ≤ 2 ^ 52 }
     ensures first { result.0 ≡ max next (region.now.base / 0x8000000) }
@@ -33,7 +33,7 @@ fn numbers_of(region: &Region, next: u32) -> (u32, u32)
 }
 
 /// Appends the sections from `first` to below `until`, all with this node.
-fn put_sections(
+fn push_sections(
     sections: &mut Vec<Section>,
     first: u32,
     until: u32,
@@ -57,7 +57,7 @@ fn put_sections(
 ///
 /// `Memory` if this program is out of memory.
 pub fn present(alloc: Global, tables: &Tables) -> Result<Vec<Section>, Memory>
-    requires { All IsWholeNoded tables.now.memory.records }
+    requires { All IsWholeWithNode tables.now.memory.records }
     ensures { IfOk result (λ sections. sections.items ≡ present (value_at tables.now.memory.records)) }
 {
     let records = tables.records(Which::Memory);
@@ -65,8 +65,8 @@ pub fn present(alloc: Global, tables: &Tables) -> Result<Vec<Section>, Memory>
     let mut next = 0;
     for i in 0..records.count() {
         let region = records.get(i);
-        let (first, until) = numbers_of(&region, next);
-        put_sections(&mut sections, first, until, region.node)?;
+        let (first, until) = section_numbers(&region, next);
+        push_sections(&mut sections, first, until, region.node)?;
         next = until;
     }
     Ok(sections)

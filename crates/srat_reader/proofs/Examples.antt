@@ -1,10 +1,10 @@
 -- Worked examples of small tables.
 use Rattle.std.proofs.Common.{Ok, Err, ◌≡◌, ℕ, true, false, List, [], ◌∷◌, ◌++◌, Some, None, refl}
 use Rattle.std.specs.Prelude.{replicate, codes}
-use Rattle.srat_reader.specs.declared.entries.Said.TheVariants as said
+use Rattle.srat_reader.specs.declared.entries.SratEntry.TheVariants as said
 use Rattle.srat_reader.specs.declared.table.SratFault.TheVariants as faults
-use Rattle.srat_reader.specs.Entries.{fits_type, is_whole, is_enabled, apic_domain, block_domain, x2apic_domain, memory_at, said_at, is_far}
-use Rattle.srat_reader.specs.Table.{header_fault, offsets_from, offsets_of, fault_at, first_fault, srat_fault, processors_of, srat_blocks_of, srat_of}
+use Rattle.srat_reader.specs.Entries.{fits_entry_type, is_whole_entry, has_enabled_flag, local_apic_domain, memory_domain, x2apic_domain, memory_entry_at, srat_entry_at, is_memory_overflowing}
+use Rattle.srat_reader.specs.Table.{srat_header_fault, entry_offsets_from, entry_offsets, srat_fault_at, first_srat_fault, srat_fault, processors_of, srat_blocks_of, srat_of}
 
 -- the header of a table with this length (below 256), revision and checksum byte
 abbrev header : ℕ → ℕ → ℕ → List ℕ
@@ -34,95 +34,95 @@ last_memory low high =
     0 ∷ 0 ∷ 0 ∷ 0 ∷ 1 ∷ 0 ∷ 0 ∷ 0 ∷ replicate 8 0
 
 -- the lengths of the three types, and any length of another type
-own_lengths : (fits_type 0 16 ≡ true) × (fits_type 1 16 ≡ false) × (fits_type 2 24 ≡ true) × (fits_type 3 5 ≡ true)
+own_lengths : (fits_entry_type 0 16 ≡ true) × (fits_entry_type 1 16 ≡ false) × (fits_entry_type 2 24 ≡ true) × (fits_entry_type 3 5 ≡ true)
 own_lengths = (refl, refl, refl, refl)
 
 -- which entries are whole. These are not: only one byte is left; the length is below 2; it passes
 -- the end; it doesn't fit the type. The last example is a whole entry at offset 1.
-whole_entries : (is_whole 0 (memory 1) ≡ true) × (is_whole 0 (9 ∷ 2 ∷ []) ≡ true) × (is_whole 0 (9 ∷ []) ≡ false)
-    × (is_whole 0 (9 ∷ 1 ∷ 0 ∷ []) ≡ false) × (is_whole 0 (9 ∷ 4 ∷ 0 ∷ []) ≡ false) × (is_whole 0 (1 ∷ 2 ∷ []) ≡ false)
-    × (is_whole 1 (7 ∷ apic 1) ≡ true)
-unfolding is_whole
+whole_entries : (is_whole_entry 0 (memory 1) ≡ true) × (is_whole_entry 0 (9 ∷ 2 ∷ []) ≡ true) × (is_whole_entry 0 (9 ∷ []) ≡ false)
+    × (is_whole_entry 0 (9 ∷ 1 ∷ 0 ∷ []) ≡ false) × (is_whole_entry 0 (9 ∷ 4 ∷ 0 ∷ []) ≡ false) × (is_whole_entry 0 (1 ∷ 2 ∷ []) ≡ false)
+    × (is_whole_entry 1 (7 ∷ apic 1) ≡ true)
+unfolding is_whole_entry
 whole_entries = (refl, refl, refl, refl, refl, refl, refl)
 
 -- only bit 0 of the flags counts
-lowest_bit : (is_enabled 0 (1 ∷ 0 ∷ 0 ∷ 0 ∷ []) ≡ true) × (is_enabled 0 (3 ∷ 0 ∷ 0 ∷ 0 ∷ []) ≡ true)
-    × (is_enabled 0 (0xFE ∷ 0xFF ∷ 0xFF ∷ 0xFF ∷ []) ≡ false) × (is_enabled 0 (0 ∷ 1 ∷ 0 ∷ 0 ∷ []) ≡ false)
+lowest_bit : (has_enabled_flag 0 (1 ∷ 0 ∷ 0 ∷ 0 ∷ []) ≡ true) × (has_enabled_flag 0 (3 ∷ 0 ∷ 0 ∷ 0 ∷ []) ≡ true)
+    × (has_enabled_flag 0 (0xFE ∷ 0xFF ∷ 0xFF ∷ 0xFF ∷ []) ≡ false) × (has_enabled_flag 0 (0 ∷ 1 ∷ 0 ∷ 0 ∷ []) ≡ false)
 lowest_bit = (refl, refl, refl, refl)
 
 -- the upper bytes of a domain count from revision 2 on; those of an x2APIC always do
-domains_of_revision_1 : (apic_domain 48 (header 64 1 0 ++ apic 1) ≡ 1) × (block_domain 48 (header 88 1 0 ++ memory 1) ≡ 5)
-unfolding apic_domain block_domain
+domains_of_revision_1 : (local_apic_domain 48 (header 64 1 0 ++ apic 1) ≡ 1) × (memory_domain 48 (header 88 1 0 ++ memory 1) ≡ 5)
+unfolding local_apic_domain memory_domain
 domains_of_revision_1 = (refl, refl)
 
-domains_of_revision_2 : (apic_domain 48 (header 64 2 0 ++ apic 1) ≡ 0x04030201) × (block_domain 48 (header 88 2 0 ++ memory 1) ≡ 0x105)
-unfolding apic_domain block_domain
+domains_of_revision_2 : (local_apic_domain 48 (header 64 2 0 ++ apic 1) ≡ 0x04030201) × (memory_domain 48 (header 88 2 0 ++ memory 1) ≡ 0x105)
+unfolding local_apic_domain memory_domain
 domains_of_revision_2 = (refl, refl)
 
 x2apic_of_any_revision : (x2apic_domain 48 (header 72 1 0 ++ x2apic 1) ≡ 0x0C0D) × (x2apic_domain 0 (x2apic 0) ≡ 0x0C0D)
 x2apic_of_any_revision = (refl, refl)
 
-says_memory : (memory_at 48 (header 88 3 0 ++ memory 0) ≡ said.Block 0x105 0x2000 0x1000)
-    × (said_at 48 (header 88 3 0 ++ memory 1) ≡ said.Block 0x105 0x2000 0x1000)
-unfolding said_at block_domain
+says_memory : (memory_entry_at 48 (header 88 3 0 ++ memory 0) ≡ said.Block 0x105 0x2000 0x1000)
+    × (srat_entry_at 48 (header 88 3 0 ++ memory 1) ≡ said.Block 0x105 0x2000 0x1000)
+unfolding srat_entry_at memory_domain
 says_memory = (refl, refl)
 
-says_nothing : (said_at 48 (header 88 3 0 ++ memory 2) ≡ said.Nothing) × (said_at 48 (header 50 3 0 ++ 9 ∷ 2 ∷ []) ≡ said.Nothing)
-unfolding said_at
+says_nothing : (srat_entry_at 48 (header 88 3 0 ++ memory 2) ≡ said.Nothing) × (srat_entry_at 48 (header 50 3 0 ++ 9 ∷ 2 ∷ []) ≡ said.Nothing)
+unfolding srat_entry_at
 says_nothing = (refl, refl)
 
 -- the sum 2^64 - 1 isn't too far, and 2^64 is
-far_memory : (is_far (said.Block 0 0xFFFFFFFFFFFFF000 0xFFF) ≡ false)
-    × (is_far (said.Block 0 0xFFFFFFFFFFFFF000 0x1000) ≡ true)
-    × (is_far (said.Processor 7) ≡ false)
-    × (is_far said.Nothing ≡ false)
+far_memory : (is_memory_overflowing (said.Block 0 0xFFFFFFFFFFFFF000 0xFFF) ≡ false)
+    × (is_memory_overflowing (said.Block 0 0xFFFFFFFFFFFFF000 0x1000) ≡ true)
+    × (is_memory_overflowing (said.Processor 7) ≡ false)
+    × (is_memory_overflowing said.Nothing ≡ false)
 far_memory = (refl, refl, refl, refl)
 
 -- the faults of the header, in their order: too short, another signature, another length, another
 -- checksum, and no fault
-header_faults : (header_fault [] ≡ Some faults.Short) × (header_fault (replicate 47 0) ≡ Some faults.Short)
-    × (header_fault (replicate 48 0) ≡ Some faults.Signature) × (header_fault (header 49 1 0) ≡ Some faults.Length)
-    × (header_fault (header 48 1 0x96) ≡ Some faults.Checksum) × (header_fault (header 48 1 0x95) ≡ None)
+header_faults : (srat_header_fault [] ≡ Some faults.Short) × (srat_header_fault (replicate 47 0) ≡ Some faults.Short)
+    × (srat_header_fault (replicate 48 0) ≡ Some faults.Signature) × (srat_header_fault (header 49 1 0) ≡ Some faults.Length)
+    × (srat_header_fault (header 48 1 0x96) ≡ Some faults.Checksum) × (srat_header_fault (header 48 1 0x95) ≡ None)
 header_faults = (refl, refl, refl, refl, refl, refl)
 
 -- the offsets of the entries: each begins where the one before it ends, and one that isn't whole
 -- is the last
-two_offsets : (offsets_of (header 128 1 0 ++ x2apic 1 ++ (9 ∷ 16 ∷ replicate 14 0) ++ memory 1) ≡ 48 ∷ 72 ∷ 88 ∷ [])
-    × (offsets_of (header 92 1 0 ++ x2apic 1 ++ (9 ∷ 1 ∷ []) ++ apic 1) ≡ 48 ∷ 72 ∷ [])
-unfolding offsets_from is_whole
+two_offsets : (entry_offsets (header 128 1 0 ++ x2apic 1 ++ (9 ∷ 16 ∷ replicate 14 0) ++ memory 1) ≡ 48 ∷ 72 ∷ 88 ∷ [])
+    × (entry_offsets (header 92 1 0 ++ x2apic 1 ++ (9 ∷ 1 ∷ []) ++ apic 1) ≡ 48 ∷ 72 ∷ [])
+unfolding entry_offsets_from is_whole_entry
 two_offsets = (refl, refl)
 
 -- the fault of one entry: whether it is whole is tested first; a range of memory may end at 2^64 -
 -- 1, and not at 2^64
-fault_of_one : (fault_at (9 ∷ []) 0 ≡ Some (faults.EntryLength 0)) × (fault_at (header 50 1 0 ++ 9 ∷ 2 ∷ []) 48 ≡ None)
-    × (fault_at (header 88 1 0 ++ last_memory 0 0x10) 48 ≡ Some (faults.BlockTooFar 48))
-    × (fault_at (header 88 1 0 ++ last_memory 0xFF 0x0F) 48 ≡ None)
-unfolding is_whole said_at block_domain
+fault_of_one : (srat_fault_at (9 ∷ []) 0 ≡ Some (faults.EntryLength 0)) × (srat_fault_at (header 50 1 0 ++ 9 ∷ 2 ∷ []) 48 ≡ None)
+    × (srat_fault_at (header 88 1 0 ++ last_memory 0 0x10) 48 ≡ Some (faults.BlockTooFar 48))
+    × (srat_fault_at (header 88 1 0 ++ last_memory 0xFF 0x0F) 48 ≡ None)
+unfolding is_whole_entry srat_entry_at memory_domain
 fault_of_one = (refl, refl, refl, refl)
 
 -- the first entry with a fault decides, whichever of the two faults it is; no entries, no fault
-first_faults : (first_fault (header 90 1 0 ++ last_memory 0 0x10 ++ 9 ∷ 1 ∷ []) (48 ∷ 88 ∷ []) ≡ Some (faults.BlockTooFar 48))
-    × (first_fault (header 90 1 0 ++ last_memory 0xFF 0x0F ++ 9 ∷ 1 ∷ []) (48 ∷ 88 ∷ []) ≡ Some (faults.EntryLength 88))
-    × (first_fault (header 48 1 0) [] ≡ None)
-unfolding is_whole said_at block_domain
+first_faults : (first_srat_fault (header 90 1 0 ++ last_memory 0 0x10 ++ 9 ∷ 1 ∷ []) (48 ∷ 88 ∷ []) ≡ Some (faults.BlockTooFar 48))
+    × (first_srat_fault (header 90 1 0 ++ last_memory 0xFF 0x0F ++ 9 ∷ 1 ∷ []) (48 ∷ 88 ∷ []) ≡ Some (faults.EntryLength 88))
+    × (first_srat_fault (header 48 1 0) [] ≡ None)
+unfolding is_whole_entry srat_entry_at memory_domain
 first_faults = (refl, refl, refl)
 
 -- a table of 50 bytes whose entry states the length 0: a wrong checksum is reported before the
 -- entry
 srat_faults : (srat_fault (header 50 1 0 ++ 1 ∷ 0 ∷ []) ≡ Some faults.Checksum)
     × (srat_fault (header 50 1 0x92 ++ 1 ∷ 0 ∷ []) ≡ Some (faults.EntryLength 48))
-unfolding offsets_from is_whole
+unfolding entry_offsets_from is_whole_entry
 srat_faults = (refl, refl)
 
 both_lists : (processors_of (header 144 2 0 ++ x2apic 1 ++ memory 1 ++ apic 1 ++ apic 0) ≡ 0x0C0D ∷ 0x04030201 ∷ [])
     × (srat_blocks_of (header 144 2 0 ++ x2apic 1 ++ memory 1 ++ apic 1 ++ apic 0)
     ≡ record { domain = 0x105; range = record { base = 0x2000; size = 0x1000 } } ∷ [])
-unfolding offsets_from is_whole said_at apic_domain block_domain
+unfolding entry_offsets_from is_whole_entry srat_entry_at local_apic_domain memory_domain
 both_lists = (refl, refl)
 
 -- the smallest table, one with a processor, and one whose entry isn't whole
 srat_examples : (srat_of (header 48 1 0x95) ≡ Ok (record { processors = []; blocks = [] }))
     × (srat_of (header 72 1 0x25 ++ x2apic 1) ≡ Ok (record { processors = 0x0C0D ∷ []; blocks = [] }))
     × (srat_of (header 50 1 0x92 ++ 1 ∷ 0 ∷ []) ≡ Err (faults.EntryLength 48))
-unfolding offsets_from is_whole said_at
+unfolding entry_offsets_from is_whole_entry srat_entry_at
 srat_examples = (refl, refl, refl)

@@ -1,7 +1,7 @@
 //! Reads one entry: whether it is whole, how long it is, and what it says. The search for faults
 //! and the reading of the values share this code.
 ghost use Rattle.std.specs.Prelude.{◌≡◌, ℕ, ◌+◌, ◌<◌, ◌≤◌, length, IsTrue};
-ghost use Rattle.srat_reader.specs.Entries.{type_at, length_at, fits_type, is_whole, is_far, is_enabled, apic_domain, block_domain, said_at};
+ghost use Rattle.srat_reader.specs.Entries.{entry_type_at, entry_length_at, fits_entry_type, is_whole_entry, is_memory_overflowing, has_enabled_flag, local_apic_domain, memory_domain, srat_entry_at};
 
 use byteorder::{ByteOrder, LittleEndian};
 
@@ -22,7 +22,7 @@ const ENABLED: u32 = 1;
 
 /// The content of an entry.
 #[derive(Clone, Copy, Debug, PartialEq, Eq)]
-pub enum Said {
+pub enum SratEntry {
     /// The entry has another type, or isn't enabled.
     Nothing,
     /// A processor belongs to this domain.
@@ -33,42 +33,42 @@ pub enum Said {
 }
 
 /// Tests whether the content is a range of memory whose base plus size exceeds 2^64 - 1.
-pub fn is_too_far(said: Said) -> bool
-    ensures { result ≡ is_far said }
+pub fn is_memory_overflowing(said: SratEntry) -> bool
+    ensures { result ≡ is_memory_overflowing said }
 {
     match said {
-        Said::Block { base, size, .. } => base.checked_add(size).is_none(),
+        SratEntry::Block { base, size, .. } => base.checked_add(size).is_none(),
         _ => false,
     }
 }
 
 /// Tests whether a whole entry begins at offset `at`. Its type and length must be there. The
 /// length must be at least 2, must not exceed the bytes that are left, and must fit the type.
-#[tactic(auto, unfolding(crate::specs::Entries::is_whole))]
+#[tactic(auto, unfolding(crate::specs::Entries::is_whole_entry))]
 pub fn is_whole_entry(bytes: &[u8], at: usize) -> bool
     requires { at < length bytes.now }
-    ensures { result ≡ is_whole at bytes.now }
+    ensures { result ≡ is_whole_entry at bytes.now }
 {
     let left = bytes.len() - at;
     if left < 2 {
         return false;
     }
-    let length = entry_length(bytes, at);
-    length >= 2 && length <= left && is_length_of_type(bytes[at], length)
+    let length = entry_length_at(bytes, at);
+    length >= 2 && length <= left && fits_entry_type(bytes[at], length)
 }
 
 /// Returns the length that the entry at offset `at` states, in bytes.
-pub fn entry_length(bytes: &[u8], at: usize) -> usize
+pub fn entry_length_at(bytes: &[u8], at: usize) -> usize
     requires { at + 1 < length bytes.now }
-    ensures { result ≡ length_at at bytes.now }
+    ensures { result ≡ entry_length_at at bytes.now }
 {
     usize::from(bytes[at + 1])
 }
 
 /// Tests whether `length` is the length of entries of this type: 16, 40 or 24 bytes for types 0, 1
 /// and 2. Other types may have any length.
-fn is_length_of_type(kind: u8, length: usize) -> bool
-    ensures { result ≡ fits_type kind length }
+fn fits_entry_type(kind: u8, length: usize) -> bool
+    ensures { result ≡ fits_entry_type kind length }
 {
     match kind {
         LOCAL_APIC => length == 16,
@@ -79,43 +79,43 @@ fn is_length_of_type(kind: u8, length: usize) -> bool
 }
 
 /// Returns the content of the entry at offset `at`, which must be whole.
-#[tactic(auto, unfolding(crate::specs::Entries::is_whole, crate::specs::Entries::said_at))]
-pub fn read_entry(bytes: &[u8], at: usize) -> Said
+#[tactic(auto, unfolding(crate::specs::Entries::is_whole_entry, crate::specs::Entries::srat_entry_at))]
+pub fn srat_entry_at(bytes: &[u8], at: usize) -> SratEntry
     requires header { 48 ≤ length bytes.now }
-    requires whole { IsTrue (is_whole at bytes.now) }
-    ensures { result ≡ said_at at bytes.now }
+    requires whole { IsTrue (is_whole_entry at bytes.now) }
+    ensures { result ≡ srat_entry_at at bytes.now }
 {
     match bytes[at] {
-        LOCAL_APIC if has_enabled_flag(bytes, at + 4) => Said::Processor {
+        LOCAL_APIC if has_enabled_flag(bytes, at + 4) => SratEntry::Processor {
             domain: local_apic_domain(bytes, at),
         },
-        MEMORY if has_enabled_flag(bytes, at + 28) => Said::Block {
+        MEMORY if has_enabled_flag(bytes, at + 28) => SratEntry::Block {
             domain: memory_domain(bytes, at),
             base: LittleEndian::read_u64(&bytes[at + 8..]),
             size: LittleEndian::read_u64(&bytes[at + 16..]),
         },
-        LOCAL_X2APIC if has_enabled_flag(bytes, at + 12) => Said::Processor {
+        LOCAL_X2APIC if has_enabled_flag(bytes, at + 12) => SratEntry::Processor {
             domain: LittleEndian::read_u32(&bytes[at + 4..]),
         },
-        _ => Said::Nothing,
+        _ => SratEntry::Nothing,
     }
 }
 
 /// Tests whether the enabled bit is set in the flags (u32) at this offset.
 fn has_enabled_flag(bytes: &[u8], offset: usize) -> bool
     requires { offset + 4 ≤ length bytes.now }
-    ensures { result ≡ is_enabled offset bytes.now }
+    ensures { result ≡ has_enabled_flag offset bytes.now }
 {
     LittleEndian::read_u32(&bytes[offset..]) & ENABLED != 0
 }
 
 /// Returns the domain of the local APIC entry at `at`. Before revision 2 of the table, only the
 /// lowest byte counts.
-#[tactic(auto, unfolding(crate::specs::Entries::apic_domain))]
+#[tactic(auto, unfolding(crate::specs::Entries::local_apic_domain))]
 fn local_apic_domain(bytes: &[u8], at: usize) -> u32
     requires header { 48 ≤ length bytes.now }
     requires whole { at + 16 ≤ length bytes.now }
-    ensures { result ≡ apic_domain at bytes.now }
+    ensures { result ≡ local_apic_domain at bytes.now }
 {
     if bytes[REVISION_OFFSET] < 2 {
         return u32::from(bytes[at + 2]);
@@ -125,11 +125,11 @@ fn local_apic_domain(bytes: &[u8], at: usize) -> u32
 
 /// Returns the domain of the memory entry at `at`. Before revision 2 of the table, only the lowest
 /// byte counts.
-#[tactic(auto, unfolding(crate::specs::Entries::block_domain))]
+#[tactic(auto, unfolding(crate::specs::Entries::memory_domain))]
 fn memory_domain(bytes: &[u8], at: usize) -> u32
     requires header { 48 ≤ length bytes.now }
     requires whole { at + 40 ≤ length bytes.now }
-    ensures { result ≡ block_domain at bytes.now }
+    ensures { result ≡ memory_domain at bytes.now }
 {
     if bytes[REVISION_OFFSET] < 2 {
         return u32::from(bytes[at + 2]);

@@ -2,11 +2,11 @@
 //! lists.
 ghost use Rattle.std.specs.Prelude.{◌≡◌, ◌≢◌, ℕ, None, Some, ◌^◌, ◌<◌, ◌≤◌, ◌%◌, ◌++◌, ◌⊎◌, length, sum, IfOk, IfErr, IfNone, IsErr, IsSome, OnOk, false};
 ghost use Rattle.std.specs.Option.{option_to_list};
-ghost use Rattle.srat_reader.specs.Entries.{is_far};
+ghost use Rattle.srat_reader.specs.Entries.{is_memory_overflowing};
 ghost use Rattle.bm_base.specs.Answers.{Answers};
-ghost use Rattle.srat_reader.specs.Table.{affinity, srat_of, header_fault, offsets_of, first_fault, srat_fault, processor_of, srat_block_of, processors_of, srat_blocks_of};
+ghost use Rattle.srat_reader.specs.Table.{srat_view, srat_of, srat_header_fault, entry_offsets, first_srat_fault, srat_fault, processor_of, srat_block_of, processors_of, srat_blocks_of};
 
-use crate::entries::{Said, entry_length, is_too_far, is_whole_entry, read_entry};
+use crate::entries::{SratEntry, entry_length_at, is_memory_overflowing, is_whole_entry, srat_entry_at};
 use bm_base::{Memory, Range};
 use byteorder::{ByteOrder, LittleEndian};
 use std::alloc::Global;
@@ -77,26 +77,26 @@ impl From<Memory> for SratFault {
 /// - The first fault of the bytes, in the order that [`SratFault`] states.
 /// - `Memory`: the bytes have no fault, but the program ran out of memory.
 pub fn read_srat(alloc: Global, bytes: &[u8]) -> Result<Srat, SratFault>
-    ensures answers { Answers SratFault.Memory affinity result (srat_of bytes.now) }
+    ensures answers { Answers SratFault.Memory srat_view result (srat_of bytes.now) }
     ensures memory { IfErr result (λ fault. fault ≡ SratFault.Memory → srat_fault bytes.now ≡ None) }
     ensures some { IfErr result (λ fault. fault ≡ SratFault.Memory →
         (0 < length (processors_of bytes.now)) ⊎ (0 < length (srat_blocks_of bytes.now))) }
     ensures few_processors { IfOk result (λ srat. length srat.cpus.items < 2 ^ 32) }
     ensures few_blocks { IfOk result (λ srat. length srat.blocks.items < 2 ^ 32) }
 {
-    if let Some(fault) = find_header_fault(bytes) {
+    if let Some(fault) = srat_header_fault(bytes) {
         return Err(fault);
     }
     if let Some(fault) = find_entry_fault(bytes) {
         return Err(fault);
     }
-    Ok(read_entries(alloc, bytes)?)
+    Ok(read_srat_entries(alloc, bytes)?)
 }
 
 /// Returns the first fault of the header: too short, the signature, the stated length, the
 /// checksum. Returns `None` if there is no such fault.
-fn find_header_fault(bytes: &[u8]) -> Option<SratFault>
-    ensures value { result ≡ header_fault bytes.now }
+fn srat_header_fault(bytes: &[u8]) -> Option<SratFault>
+    ensures value { result ≡ srat_header_fault bytes.now }
     ensures few { IfNone result (length bytes.now < 2 ^ 32) }
 {
     if bytes.len() < HEADER_BYTES {
@@ -129,7 +129,7 @@ fn checksum(bytes: &[u8]) -> u8
 /// must be fewer than 2^32 bytes, as the table's own length ensures.
 fn find_entry_fault(bytes: &[u8]) -> Option<SratFault>
     requires { length bytes.now < 2 ^ 32 }
-    ensures { result ≡ first_fault bytes.now (offsets_of bytes.now) }
+    ensures { result ≡ first_srat_fault bytes.now (entry_offsets bytes.now) }
 {
     let mut at = HEADER_BYTES;
     while at < bytes.len() {
@@ -137,10 +137,10 @@ fn find_entry_fault(bytes: &[u8]) -> Option<SratFault>
         if !is_whole_entry(bytes, at) {
             return Some(SratFault::EntryLength { offset });
         }
-        if is_too_far(read_entry(bytes, at)) {
+        if is_memory_overflowing(srat_entry_at(bytes, at)) {
             return Some(SratFault::BlockTooFar { offset });
         }
-        at += entry_length(bytes, at);
+        at += entry_length_at(bytes, at);
     }
     None
 }
@@ -150,8 +150,8 @@ fn find_entry_fault(bytes: &[u8]) -> Option<SratFault>
 /// # Errors
 ///
 /// - `Memory`: the program ran out of memory; at least one of the two lists has a member.
-fn read_entries(alloc: Global, bytes: &[u8]) -> Result<Srat, Memory>
-    requires { first_fault bytes.now (offsets_of bytes.now) ≡ None }
+fn read_srat_entries(alloc: Global, bytes: &[u8]) -> Result<Srat, Memory>
+    requires { first_srat_fault bytes.now (entry_offsets bytes.now) ≡ None }
     ensures processors { IfOk result (λ srat. srat.cpus.items ≡ processors_of bytes.now) }
     ensures blocks { IfOk result (λ srat. srat.blocks.items ≡ srat_blocks_of bytes.now) }
     ensures some { IsErr result → (0 < length (processors_of bytes.now)) ⊎ (0 < length (srat_blocks_of bytes.now)) }
@@ -162,8 +162,8 @@ fn read_entries(alloc: Global, bytes: &[u8]) -> Result<Srat, Memory>
     };
     let mut at = HEADER_BYTES;
     while at < bytes.len() {
-        keep(&mut srat, read_entry(bytes, at))?;
-        at += entry_length(bytes, at);
+        append_srat_entry(&mut srat, srat_entry_at(bytes, at))?;
+        at += entry_length_at(bytes, at);
     }
     Ok(srat)
 }
@@ -174,16 +174,16 @@ fn read_entries(alloc: Global, bytes: &[u8]) -> Result<Srat, Memory>
 /// # Errors
 ///
 /// - `Memory`: the program ran out of memory; the entry is a processor or a range of memory.
-fn keep(srat: &mut Srat, said: Said) -> Result<(), Memory>
-    requires { is_far said ≡ false }
+fn append_srat_entry(srat: &mut Srat, said: SratEntry) -> Result<(), Memory>
+    requires { is_memory_overflowing said ≡ false }
     ensures processors { OnOk result (srat.new.cpus.items ≡ srat.old.cpus.items ++ option_to_list (processor_of said)) }
     ensures blocks { OnOk result (srat.new.blocks.items ≡ srat.old.blocks.items ++ option_to_list (srat_block_of said)) }
     ensures some { IsErr result → IsSome (processor_of said) ⊎ IsSome (srat_block_of said) }
 {
     match said {
-        Said::Nothing => {}
-        Said::Processor { domain } => srat.cpus.push(domain)?,
-        Said::Block { domain, base, size } => {
+        SratEntry::Nothing => {}
+        SratEntry::Processor { domain } => srat.cpus.push(domain)?,
+        SratEntry::Block { domain, base, size } => {
             let range = Range { base, size };
             srat.blocks.push(SratBlock { domain, range })?;
         }

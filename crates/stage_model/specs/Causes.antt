@@ -4,7 +4,7 @@ use Rattle.std.specs.Prelude.{ℕ, Option, Some, None}
 use Rattle.memblock_model.specs.declared.owner.Which.{Which}
 use Rattle.growth_model.specs.declared.refusal.Refusal.{Refusal}
 use Rattle.growth_model.specs.declared.refusal.Refusal.TheVariants as refusal
-use Rattle.growth_model.specs.Outcome.{Refused}
+use Rattle.growth_model.specs.Outcome.{RefusedGrowth}
 use Rattle.memblock_grow.specs.declared.stop.What.{What}
 use Rattle.memblock_grow.specs.declared.stop.StageStop.{StageStop}
 use Rattle.memblock_grow.specs.declared.stop.StageStop.TheVariants as stop
@@ -20,7 +20,7 @@ stage_stop (Some (NoPlace thing)) = stop.NoPlace thing
 stage_stop (Some (NoTablePlace w room)) = stop.NoTablePlace w room
 
 -- the error of a stage that makes its own searches: only a table that found no place stops it
-abbrev pub refusal_for : Option Refused → Refusal
+abbrev pub refusal_for : Option RefusedGrowth → Refusal
 refusal_for None = refusal.Memory
 refusal_for (Some r) = refusal.NoGapForTable r.which r.room
 

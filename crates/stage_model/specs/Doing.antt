@@ -2,68 +2,68 @@
 -- carries them out ends.
 use Rattle.std.specs.Prelude.{◌≡◌, ◌⊎◌, Option, Some, None, List, [], ◌∷◌, ◌++◌, Result, Ok, Err}
 use Rattle.memblock_model.specs.declared.item.Item.{Item}
-use Rattle.growth_model.specs.Ends.{IsCutShort}
+use Rattle.growth_model.specs.Ends.{StopsBeforeStep}
 
 -- what a step does: the groups of items that it writes, each as a whole or not at all, and the
 -- value that it returns, or its error
-pub record Done (E A : Type 0) : Type 0 where
+pub record StepEffect (E A : Type 0) : Type 0 where
   pub steps : List (List Item)
   pub answer : Result A E
 
-abbrev pub Doing : Type 0 → Type 0 → Type 0
-Doing E A = List Item → Done E A
+abbrev pub StageStep : Type 0 → Type 0 → Type 0
+StageStep E A = List Item → StepEffect E A
 
 -- the items and then the groups
-abbrev pub appended : List Item → List (List Item) → List Item
-appended items [] = items
-appended items (s ∷ ss) = appended (items ++ s) ss
+abbrev pub append_groups : List Item → List (List Item) → List Item
+append_groups items [] = items
+append_groups items (s ∷ ss) = append_groups (items ++ s) ss
 
 module _ {E A : Type 0} where
-  abbrev pub after : List Item → Done E A → List Item
-  after items d = appended items d.steps
+  abbrev pub items_after_step : List Item → StepEffect E A → List Item
+  items_after_step items d = append_groups items d.steps
 
   -- writes nothing and returns the value, or fails with the error
-  abbrev pub returns : A → Doing E A
-  returns a items = record { steps = []; answer = Ok a }
+  abbrev pub return_value : A → StageStep E A
+  return_value a items = record { steps = []; answer = Ok a }
 
-  abbrev pub stops : E → Doing E A
-  stops e items = record { steps = []; answer = Err e }
+  abbrev pub fail_with : E → StageStep E A
+  fail_with e items = record { steps = []; answer = Err e }
 
   -- returns a value that is computed from the items so far
-  abbrev pub seen : (List Item → A) → Doing E A
-  seen f items = record { steps = []; answer = Ok (f items) }
+  abbrev pub read_items : (List Item → A) → StageStep E A
+  read_items f items = record { steps = []; answer = Ok (f items) }
 
   -- returns such a value, and needs memory of this program for it: a group without items
-  abbrev pub listed : (List Item → A) → Doing E A
-  listed f items = record { steps = [] ∷ []; answer = Ok (f items) }
+  abbrev pub read_into_list : (List Item → A) → StageStep E A
+  read_into_list f items = record { steps = [] ∷ []; answer = Ok (f items) }
 
 -- after a value the next step follows; an error ends all
-abbrev pub going_on : {E A B : Type 0} → List (List Item) → Result A E → (A → Done E B) → Done E B
-going_on steps (Ok a) next = record { steps = steps ++ (next a).steps; answer = (next a).answer }
-going_on steps (Err e) next = record { steps = steps; answer = Err e }
+abbrev pub continue_if_ok : {E A B : Type 0} → List (List Item) → Result A E → (A → StepEffect E B) → StepEffect E B
+continue_if_ok steps (Ok a) next = record { steps = steps ++ (next a).steps; answer = (next a).answer }
+continue_if_ok steps (Err e) next = record { steps = steps; answer = Err e }
 
 infixl 10 ◌>>=◌
-abbrev pub ◌>>=◌ : {E A B : Type 0} → Doing E A → (A → Doing E B) → Doing E B
-(f >>= next) items = going_on (f items).steps (f items).answer (λ a. next a (after items (f items)))
+abbrev pub ◌>>=◌ : {E A B : Type 0} → StageStep E A → (A → StageStep E B) → StageStep E B
+(f >>= next) items = continue_if_ok (f items).steps (f items).answer (λ a. next a (items_after_step items (f items)))
 
 -- one step for each element of the list, each with the value that the step before returned
-abbrev pub in_turn : {E S X : Type 0} → (S → X → Doing E S) → S → List X → Doing E S
-in_turn f s [] = returns s
-in_turn f s (x ∷ xs) = f s x >>= λ next. in_turn f next xs
+abbrev pub fold_steps : {E S X : Type 0} → (S → X → StageStep E S) → S → List X → StageStep E S
+fold_steps f s [] = return_value s
+fold_steps f s (x ∷ xs) = f s x >>= λ next. fold_steps f next xs
 
 -- How a call that carries out a stage ends. It returns the stage's value, and all groups are
 -- written. Or it returns the error for the stage's cause, and all groups before it are written. Or
 -- this program is out of memory (`error None`) before a group, and the groups before that one are
 -- written.
-abbrev pub DoneEnds : {E F A : Type 0} → Done E A → (Option E → F) → Result A F → List Item → List Item → Type 0
-DoneEnds d error (Ok a) old new = (d.answer ≡ Ok a) × (new ≡ after old d)
-DoneEnds {E} d error (Err e) old new =
-    ((why : E) × (d.answer ≡ Err why) × (e ≡ error (Some why)) × (new ≡ after old d)) ⊎ ((e ≡ error None) × IsCutShort old new d.steps)
+abbrev pub EndsAsStepEffect : {E F A : Type 0} → StepEffect E A → (Option E → F) → Result A F → List Item → List Item → Type 0
+EndsAsStepEffect d error (Ok a) old new = (d.answer ≡ Ok a) × (new ≡ items_after_step old d)
+EndsAsStepEffect {E} d error (Err e) old new =
+    ((why : E) × (d.answer ≡ Err why) × (e ≡ error (Some why)) × (new ≡ items_after_step old d)) ⊎ ((e ≡ error None) × StopsBeforeStep old new d.steps)
 
-abbrev pub StageEnds : {E F A : Type 0} → Doing E A → (Option E → F) → Result A F → List Item → List Item → Type 0
-StageEnds stage error result old new = DoneEnds (stage old) error result old new
+abbrev pub EndsAsStage : {E F A : Type 0} → StageStep E A → (Option E → F) → Result A F → List Item → List Item → Type 0
+EndsAsStage stage error result old new = EndsAsStepEffect (stage old) error result old new
 
 -- the result, with its value as contracts see it
-abbrev pub ok_as : {E A B : Type 0} → (A → B) → Result A E → Result B E
-ok_as view (Ok a) = Ok (view a)
-ok_as view (Err e) = Err e
+abbrev pub view_of_result : {E A B : Type 0} → (A → B) → Result A E → Result B E
+view_of_result view (Ok a) = Ok (view a)
+view_of_result view (Err e) = Err e

@@ -5,11 +5,11 @@ use Rattle.address_runs.specs.Edits.{NothingFrom}
 use Rattle.memblock_model.specs.Labels.{LabelView, Labels}
 
 -- all bytes of a frame have the same value
-abbrev pub AreOfFrames : {T : Type 0} → (ℕ → T) → Type 0
-AreOfFrames f = (x : ℕ) → f x ≡ f (FRAME_SIZE * (x / FRAME_SIZE))
+abbrev pub IsSameInFrames : {T : Type 0} → (ℕ → T) → Type 0
+IsSameInFrames f = (x : ℕ) → f x ≡ f (FRAME_SIZE * (x / FRAME_SIZE))
 
 -- memory is whole frames below the limit, each with a node below 1,024 (`MAX_NUMNODES`)
-pub record IsNoded (limit : ℕ) (f : Labels) : Type 0 where
-  pub frames : AreOfFrames f
+pub record HasNodes (limit : ℕ) (f : Labels) : Type 0 where
+  pub frames : IsSameInFrames f
   pub nodes : (x : ℕ) (label : LabelView) → f x ≡ Some label → (node : ℕ) × (label.node ≡ Some node) × (node < 1024)
   pub within : NothingFrom limit f

@@ -1,13 +1,13 @@
 //! Calls of memblock whose refusal is returned as the stop of a stage.
 ghost use Rattle.std.specs.Prelude.{◌≡◌, ℕ, ◌+◌, ◌-◌, ◌^◌, ◌<◌, ◌≤◌, false, IfOk, IsOk, Some};
 ghost use Rattle.memblock_model.specs.declared.owner.Which.TheVariants as tables_of;
-ghost use Rattle.growth_model.specs.Growth.{noded, new_in, two, is_full as is_full_by};
+ghost use Rattle.growth_model.specs.Growth.{set_range_node, count_uncovered_pieces, split_record_count, is_full as is_full_by};
 ghost use Rattle.growth_model.specs.Request.{place_for};
 ghost use Rattle.growth_model.specs.Sound.{HasBegun};
-ghost use Rattle.memblock_grow.specs.Going.{GoesOn};
+ghost use Rattle.memblock_grow.specs.Going.{ContinuesMemblock};
 ghost use Rattle.stage_model.specs.Causes.{stage_stop, stop_for};
-ghost use Rattle.stage_model.specs.Doing.{StageEnds};
-ghost use Rattle.stage_model.specs.Requests.{placed, carried};
+ghost use Rattle.stage_model.specs.Doing.{EndsAsStage};
+ghost use Rattle.stage_model.specs.Requests.{place_or_stop, change_or_stop};
 
 use bm_base::Range;
 use boot_journal::Owner;
@@ -34,7 +34,7 @@ pub fn stop_for(what: What, refusal: Refusal) -> StageStop
 /// - `NoPlace` if no place fits the request.
 /// - `NoTablePlace` if a table has to grow and finds no place.
 /// - `Memory` if this program is out of memory. The call then stops before one of its steps.
-pub fn place(
+pub fn place_or_stop(
     memblock: &mut Memblock,
     what: What,
     request: &Request,
@@ -43,12 +43,12 @@ pub fn place(
     requires begun { HasBegun memblock.old.journal.items }
     requires some { 1 ≤ request.now.size }
     requires aligned { (k : ℕ) × (request.now.align ≡ 2 ^ k) }
-    ensures ends { StageEnds (placed what request.now owner) stage_stop result memblock.old.journal.items memblock.new.journal.items }
+    ensures ends { EndsAsStage (place_or_stop what request.now owner) stage_stop result memblock.old.journal.items memblock.new.journal.items }
     ensures inside { IfOk result (λ base. base + request.now.size < 2 ^ 64) }
     ensures ready { (place : ℕ) → place_for request.now memblock.old.journal.items ≡ Some place → 0 < memblock.old.journal.spare →
-        is_full_by tables_of.Reserved (new_in tables_of.Reserved (record { base = place; size = request.now.size }))
+        is_full_by tables_of.Reserved (count_uncovered_pieces tables_of.Reserved (record { base = place; size = request.now.size }))
         memblock.old.journal.items ≡ false → IsOk result × (memblock.new.journal.spare ≡ memblock.old.journal.spare - 1) }
-    ensures goes_on { GoesOn memblock.old memblock.new }
+    ensures goes_on { ContinuesMemblock memblock.old memblock.new }
 {
     match memblock.alloc(request, owner) {
         Ok(base) => Ok(base),
@@ -64,14 +64,14 @@ pub fn place(
 ///
 /// - `NoTablePlace` if a table has to grow and finds no place.
 /// - `Memory` if this program is out of memory. The call then stops before one of its steps.
-pub fn set_node(memblock: &mut Memblock, range: Range, node: u32) -> Result<(), StageStop>
+pub fn set_node_or_stop(memblock: &mut Memblock, range: Range, node: u32) -> Result<(), StageStop>
     requires begun { HasBegun memblock.old.journal.items }
     requires some { 0 < range.size }
     requires node { node < 1024 }
-    ensures ends { StageEnds (carried (noded range node)) stage_stop result memblock.old.journal.items memblock.new.journal.items }
-    ensures ready { 0 < memblock.old.journal.spare → is_full_by tables_of.Memory two memblock.old.journal.items ≡ false →
+    ensures ends { EndsAsStage (change_or_stop (set_range_node range node)) stage_stop result memblock.old.journal.items memblock.new.journal.items }
+    ensures ready { 0 < memblock.old.journal.spare → is_full_by tables_of.Memory split_record_count memblock.old.journal.items ≡ false →
         IsOk result × (memblock.new.journal.spare ≡ memblock.old.journal.spare - 1) }
-    ensures goes_on { GoesOn memblock.old memblock.new }
+    ensures goes_on { ContinuesMemblock memblock.old memblock.new }
 {
     match memblock.set_node(range, node) {
         Ok(()) => Ok(()),

@@ -16,7 +16,7 @@
 //! - `specs/Noded.antt` and `specs/Quiet.antt`: memory after it has its nodes, and steps that
 //!   don't change memory.
 //!
-//! The code of a stage calls [`place`] and [`set_node`] on a memblock. Each ends as its step is
+//! The code of a stage calls [`place_or_stop`] and [`set_node_or_stop`] on a memblock. Each ends as its step is
 //! defined, and keeps `GoesOn` of `memblock_grow`: the kernel's image, the bytes, and which
 //! addresses are prepared. The loop of a stage has two invariants: if the rest ends in some way,
 //! so does the whole stage; and `GoesOn` holds from the stage's start.
@@ -28,6 +28,6 @@
 mod calls;
 mod laws;
 
-pub use calls::{place, set_node, stop_for};
+pub use calls::{place_or_stop, set_node_or_stop, stop_for};
 pub use laws::{allocations_leave_memory, calls_end_as_steps};
 pub use memblock_grow::{Section, StageStop, What};

@@ -10,7 +10,7 @@ use Rattle.bm_base.proofs.TextLaws.{hex_onto, hex_sixteen}
 use Rattle.frame_blocks.specs.declared.block.Block.{Block}
 use Rattle.frame_blocks.specs.declared.block.BlockRow.{BlockRow}
 use Rattle.frame_blocks.specs.Rows.{row_from}
-use Rattle.stage_texts.specs.BlocksText.{ArePlaced, block_line, row_text}
+use Rattle.stage_texts.specs.BlocksText.{AreAlignedBlocks, block_line, row_text}
 use Rattle.stage_texts.specs.Batches.{FillBatches, first_batch, last_digits, low_digits, batch_from, batch_line, batch_text}
 use Rattle.stage_texts.specs.ZonesText.{zone_name}
 use Rattle.stage_texts.proofs.RowLaws.{lines, lines_append, lines_first, row_low, row_parts}
@@ -143,11 +143,11 @@ batch_put front new old i line xs below long eight eight_too is =
     (rw (batch_more i 0 front new, zero-add) (simp append_assoc))
 
 -- the same step in the terms of the code
-pub renumbered : (front new old held : List ℕ) (i size : ℕ) (xs : List ℕ) → i < 1024 → size ≡ length (batch_from front old 0 1024)
+pub renumber_one_line : (front new old held : List ℕ) (i size : ℕ) (xs : List ℕ) → i < 1024 → size ≡ length (batch_from front old 0 1024)
     → length new ≡ 8 → length old ≡ 8 → held ≡ new → xs ≡ batch_from front new 0 i ++ batch_from front old i (1024 - i)
     → put_mid ((i + 1) * (size / 1024) - 9 - 8) ((i + 1) * (size / 1024) - 9 - ((i + 1) * (size / 1024) - 9 - 8)) xs held
     ≡ batch_from front new 0 (i + 1) ++ batch_from front old (i + 1) (1024 - (i + 1))
-renumbered front new old held i size xs below all eight eight_too same is =
+renumber_one_line front new old held i size xs below all eight eight_too same is =
     let sizes = batch_length 1024 0 front old eight_too (omega arith) in
     let line : size / 1024 ≡ length front + 17 = omega (arith, all, sizes) in
     let product : (i + 1) * (size / 1024) ≡ i * (size / 1024) + size / 1024 = (let h = suc-mul i (size / 1024) in omega (arith, h)) in
@@ -174,7 +174,7 @@ batch_size_of row text fill is =
     batch_size (front_of row.node row.zone) _ text (last_length (row.first / 2 ^ 20) (omega arith)) (is ∙ sym (batch_of row fill))
 
 -- these blocks are aligned and below the limit
-pub batch_placed : (row : BlockRow) → FillBatches row → 0 < row.count → ArePlaced (row_from row.order row.first row.node row.zone 1024)
+pub batch_placed : (row : BlockRow) → FillBatches row → 0 < row.count → AreAlignedBlocks (row_from row.order row.first row.node row.zone 1024)
 batch_placed row fill some =
     rw fill.order (row_low 1024 row.first row.node row.zone (omega arith) (omega arith))
 

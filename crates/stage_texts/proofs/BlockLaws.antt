@@ -4,7 +4,7 @@ use Rattle.std.proofs.lemmas.Bool.{cond_both}
 use Rattle.frame_blocks.specs.declared.block.Block.{Block}
 use Rattle.frame_blocks.specs.declared.run.TheConstants.{MAX_FRAMES}
 use Rattle.frame_blocks.specs.Frames.{Frames}
-use Rattle.frame_blocks.specs.Listed.{block_for, block_of, blocks_from, blocks_of, led_by_block, order_up_to}
+use Rattle.frame_blocks.specs.Listed.{block_for, block_of, blocks_from, blocks_of, prepend_block_at, greatest_free_order}
 use Rattle.frame_blocks.proofs.GoodLaws.{up_small}
 use Rattle.frame_blocks.proofs.SetLaws.{base_whole}
 use Rattle.frame_blocks.proofs.ListLaws.{from-few}
@@ -24,14 +24,14 @@ MayBeInBounds None = Unit {0}
 MayBeInBounds (Some b) = InBounds b
 
 -- one more block, if there is one
-led_in_bounds : (x : ℕ) (o : Option Block) (bs : List Block) → MayBeInBounds o → AreInBounds bs → AreInBounds (led_by_block x o bs)
+led_in_bounds : (x : ℕ) (o : Option Block) (bs : List Block) → MayBeInBounds o → AreInBounds bs → AreInBounds (prepend_block_at x o bs)
 led_in_bounds x None bs one rest = rest
 led_in_bounds x (Some b) bs one rest = cond_both (b.first == x) (b ∷ bs) bs AreInBounds (λ here. (one, rest)) (λ other. rest)
 
 found_in_bounds : (f : Frames) (x : ℕ) (n : Option ℕ) → x < 2 ^ 40 → MayBeInBounds (block_for f x n)
 found_in_bounds f x None low = tt
 found_in_bounds f x (Some n) low =
-    record { order = up_small f x n 10; first = omega arith; aligned = base_whole (2 ^ order_up_to f x n 10) x }
+    record { order = up_small f x n 10; first = omega arith; aligned = base_whole (2 ^ greatest_free_order f x n 10) x }
 
 from_in_bounds : (f : Frames) (x n : ℕ) → x + n ≤ 2 ^ 40 → AreInBounds (blocks_from f x n)
 unfolding blocks_from

@@ -14,16 +14,16 @@ use Rattle.page_alloc.specs.declared.outcome.PageOutcome.TheVariants as page
 use Rattle.slit_zonelists.specs.declared.uses.SlitUse.TheVariants as uses
 use Rattle.section_maps.specs.declared.placed.Placed.{Placed}
 use Rattle.zone_spans.specs.declared.span.Span.{Span}
-use Rattle.report_texts.specs.Lines.{lines_from}
+use Rattle.report_texts.specs.Lines.{indexed_lines}
 use Rattle.stage_texts.specs.BlocksText.{block_line}
 use Rattle.stage_texts.specs.CrashText.{crash_text}
-use Rattle.stage_texts.specs.ListsText.{entry_text, use_line}
-use Rattle.stage_texts.specs.NodesText.{nodes_text, why_line}
-use Rattle.stage_texts.specs.PagesText.{page_text, pages_text}
+use Rattle.stage_texts.specs.ListsText.{list_zone_text, slit_use_line}
+use Rattle.stage_texts.specs.NodesText.{nodes_text, srat_use_line}
+use Rattle.stage_texts.specs.PagesText.{page_outcome_text, pages_text}
 use Rattle.stage_texts.specs.ScriptText.{outcome_text, script_text}
 use Rattle.stage_texts.specs.SectionsText.{sections_text}
 use Rattle.stage_texts.specs.SummaryText.{summary_text}
-use Rattle.stage_texts.specs.ZonesText.{buddy_line, counts_text, frames_there, zone_line}
+use Rattle.stage_texts.specs.ZonesText.{buddyinfo_line, block_counts_text, frames_in_zone, zone_line}
 
 -- the early script; lines have their number in the script, not in the report
 script_examples : (outcome_text outcomes.Done ≡ codes "done")
@@ -41,19 +41,19 @@ unfolding digits encode_with
 script_examples = (refl, refl, refl, refl, refl, refl, refl, refl, refl, refl)
 
 -- the page script
-page_examples : (page_text page.Done ≡ codes "done")
-    × (page_text page.NoBlock ≡ codes "no block")
-    × (page_text page.Taken ≡ codes "taken")
-    × (page_text page.Unknown ≡ codes "unknown")
+page_examples : (page_outcome_text page.Done ≡ codes "done")
+    × (page_outcome_text page.NoBlock ≡ codes "no block")
+    × (page_outcome_text page.Taken ≡ codes "taken")
+    × (page_outcome_text page.Unknown ≡ codes "unknown")
     × (pages_text (record { line = 2; outcome = page.At 0 } ∷ record { line = 7; outcome = page.NoBlock } ∷ [])
     ≡ codes "2: at 0x0000000000000000\n7: no block\n")
 unfolding digits
 page_examples = (refl, refl, refl, refl, refl)
 
 -- the zone lists
-list_examples : (use_line uses.Used ≡ codes "slit used\n") × (use_line uses.Absent ≡ codes "slit absent\n")
-    × (use_line uses.NoSrat ≡ codes "slit no srat\n") × (use_line (uses.NotValid 1 12) ≡ codes "slit not valid 1 12\n")
-    × (entry_text (record { node = 12; zone = zone.Dma32 }) ≡ codes " 12/DMA32")
+list_examples : (slit_use_line uses.Used ≡ codes "slit used\n") × (slit_use_line uses.Absent ≡ codes "slit absent\n")
+    × (slit_use_line uses.NoSrat ≡ codes "slit no srat\n") × (slit_use_line (uses.NotValid 1 12) ≡ codes "slit not valid 1 12\n")
+    × (list_zone_text (record { node = 12; zone = zone.Dma32 }) ≡ codes " 12/DMA32")
 unfolding digits
 list_examples = (refl, refl, refl, refl, refl)
 
@@ -62,12 +62,12 @@ first_MiB : RangeView
 first_MiB = record { base = 0; size = 0x100000 }
 
 -- items that give no node have no line
-node_examples : (why_line why.Off ≡ codes "numa off\n")
-    × (why_line why.NoBlocks ≡ codes "numa no blocks\n")
-    × (why_line why.TooManyDomains ≡ codes "numa too many domains\n")
-    × (why_line why.TooManyBlocks ≡ codes "numa too many blocks\n")
-    × (why_line (why.Overlap 2 11) ≡ codes "numa overlap 2 11\n")
-    × (why_line (why.NotCovered 256) ≡ codes "numa not covered 256\n")
+node_examples : (srat_use_line why.Off ≡ codes "numa off\n")
+    × (srat_use_line why.NoBlocks ≡ codes "numa no blocks\n")
+    × (srat_use_line why.TooManyDomains ≡ codes "numa too many domains\n")
+    × (srat_use_line why.TooManyBlocks ≡ codes "numa too many blocks\n")
+    × (srat_use_line (why.Overlap 2 11) ≡ codes "numa overlap 2 11\n")
+    × (srat_use_line (why.NotCovered 256) ≡ codes "numa not covered 256\n")
     × (nodes_text
     (record { why = why.Used; domains = 0 ∷ 8 ∷ []; uncovered = 5; with_memory = 0 ∷ [] })
     (item.Limit 0x100000 ∷ item.Node first_MiB 0 ∷ item.Trim ∷ [])
@@ -116,14 +116,14 @@ far_block = record { order = 10; first = 0x100000; node = 12; zone = zone.Normal
 low_span : Span
 low_span = record { node = 0; zone = zone.Dma; start = 1; end = 4096; present = 3998 }
 
-zone_examples : (lines_from block_line 0 (two_frames ∷ far_block ∷ [])
+zone_examples : (indexed_lines block_line 0 (two_frames ∷ far_block ∷ [])
     ≡ codes "node 0 zone DMA order 1 0x0000000000002000\nnode 12 zone Normal order 10 0x0000000100000000\n")
-    × (frames_there 12 zone.Normal (one_frame ∷ two_frames ∷ far_block ∷ []) ≡ 1024)
+    × (frames_in_zone 12 zone.Normal (one_frame ∷ two_frames ∷ far_block ∷ []) ≡ 1024)
     × (zone_line (one_frame ∷ two_frames ∷ far_block ∷ []) 0 low_span
     ≡ codes "Node 0, zone DMA start 1 end 4096 present 3998 free 3\n")
-    × (buddy_line (one_frame ∷ two_frames ∷ far_block ∷ []) 0 low_span
+    × (buddyinfo_line (one_frame ∷ two_frames ∷ far_block ∷ []) 0 low_span
     ≡ codes "Node 0, zone      DMA      1      1      0      0      0      0      0      0      0      0      0 \n")
-unfolding two_frames far_block digits one_frame frames_there low_span buddy_line counts_text
+unfolding two_frames far_block digits one_frame frames_in_zone low_span buddyinfo_line block_counts_text
 zone_examples = (refl, refl, refl, refl)
 
 -- the summary

@@ -5,7 +5,7 @@ use Rattle.bm_base.specs.declared.memory.Memory.{Memory}
 use Rattle.frame_blocks.specs.declared.block.BlockRow.{BlockRow}
 use Rattle.frame_blocks.specs.declared.block.Block.{Block}
 use Rattle.frame_blocks.specs.Rows.{blocks_of_row}
-use Rattle.stage_texts.specs.BlocksText.{ArePlaced, row_text}
+use Rattle.stage_texts.specs.BlocksText.{AreAlignedBlocks, row_text}
 use Rattle.stage_texts.specs.Batches.{FillBatches}
 use Rattle.stage_texts.proofs.RowLaws.{first_placed, lines, lines_append, part, placed_before, placed_behind, row_end, three_parts}
 
@@ -20,13 +20,13 @@ before_is x aligned = (omega arith, omega (arith, aligned))
 pub record InParts (row : BlockRow) (b e : ℕ) : Type 0 where
   pub few : b + e < row.count
   pub end : row.first + row.count * 1024 ≤ 2 ^ 40
-  pub before : ArePlaced (blocks_of_row (part row 0 b))
+  pub before : AreAlignedBlocks (blocks_of_row (part row 0 b))
   pub fill : FillBatches (part row b (row.count - b - e))
-  pub after : ArePlaced (blocks_of_row (part row (row.count - e) e))
+  pub after : AreAlignedBlocks (blocks_of_row (part row (row.count - e) e))
   pub text : row_text row ≡ row_text (part row 0 b) ++ (row_text (part row b (row.count - b - e)) ++ row_text (part row (row.count - e) e))
 
 in_parts : (row : BlockRow) (b m e : ℕ) → row.order ≡ 10 → row.count ≡ b + (m + e) → 0 < m → m % 1024 ≡ 0 → m ≡ row.count - b - e
-    → (row.first + b * 1024) % 1048576 ≡ 0 → row.first + row.count * 1024 ≤ 2 ^ 40 → ArePlaced (blocks_of_row row) → InParts row b e
+    → (row.first + b * 1024) % 1048576 ≡ 0 → row.first + row.count * 1024 ≤ 2 ^ 40 → AreAlignedBlocks (blocks_of_row row) → InParts row b e
 in_parts row b m e great count some whole middle aligned end placed =
     let front : List Block = blocks_of_row (part row 0 b) in
     let back : List Block = blocks_of_row (part row (row.count - e) e) in
@@ -46,7 +46,7 @@ in_parts row b m e great count some whole middle aligned end placed =
       text = ap lines all ∙ simp lines_append;
     }
 
-pub great_parts : (row : BlockRow) → row.order ≡ 10 → 2048 ≤ row.count → ArePlaced (blocks_of_row row)
+pub great_parts : (row : BlockRow) → row.order ≡ 10 → 2048 ≤ row.count → AreAlignedBlocks (blocks_of_row row)
     → InParts row (before row.first) ((row.count - before row.first) % 1024)
 great_parts row great many placed =
     let here = rw great at placed in

@@ -5,17 +5,17 @@ use Rattle.bm_base.specs.declared.zone.Zone.{Zone}
 use Rattle.frame_blocks.specs.declared.block.Block.{Block}
 use Rattle.frame_blocks.specs.declared.block.BlockRow.{BlockRow}
 use Rattle.frame_blocks.specs.Rows.{row_from, blocks_of_row, blocks_of_rows}
-use Rattle.report_texts.specs.Lines.{lines_from}
+use Rattle.report_texts.specs.Lines.{indexed_lines}
 use Rattle.report_texts.proofs.PutLaws.{text_end}
-use Rattle.stage_texts.specs.BlocksText.{ArePlaced, block_line}
+use Rattle.stage_texts.specs.BlocksText.{AreAlignedBlocks, block_line}
 use Rattle.stage_texts.proofs.BlockLaws.{AreInBounds}
 
 -- the lines of blocks
 abbrev pub lines : List Block → List ℕ
-lines bs = lines_from block_line 0 bs
+lines bs = indexed_lines block_line 0 bs
 
 -- no line depends on its index
-lines_any : (i k : ℕ) (bs : List Block) → lines_from block_line i bs ≡ lines_from block_line k bs
+lines_any : (i k : ℕ) (bs : List Block) → indexed_lines block_line i bs ≡ indexed_lines block_line k bs
 lines_any i k [] = refl
 lines_any i k (b ∷ bs) = ap (λ t. block_line 0 b ++ t) (lines_any (i + 1) (k + 1) bs)
 
@@ -57,24 +57,24 @@ rows_left rs i d within =
     ∙ ap (λ n. n + length rest) (row_length r.order r.first r.node r.count r.zone)
 
 -- blocks in bounds are aligned and below the limit
-pub bounds_placed : (bs : List Block) → AreInBounds bs → ArePlaced bs
+pub bounds_placed : (bs : List Block) → AreInBounds bs → AreAlignedBlocks bs
 bounds_placed [] all = tt
 bounds_placed (b ∷ bs) all = (all.0.order, all.0.first, all.0.aligned, bounds_placed bs all.1)
 
 -- so are the blocks after others, and those before others
-pub placed_behind : (bs cs : List Block) → ArePlaced (bs ++ cs) → ArePlaced cs
+pub placed_behind : (bs cs : List Block) → AreAlignedBlocks (bs ++ cs) → AreAlignedBlocks cs
 placed_behind [] cs all = all
 placed_behind (b ∷ bs) cs all = placed_behind bs cs all.3
 
-pub placed_before : (bs cs : List Block) → ArePlaced (bs ++ cs) → ArePlaced bs
+pub placed_before : (bs cs : List Block) → AreAlignedBlocks (bs ++ cs) → AreAlignedBlocks bs
 placed_before [] cs all = tt
 placed_before (b ∷ bs) cs all = (all.0, all.1, all.2, placed_before bs cs all.3)
 
 -- the first of the blocks in a row, and those after it
-pub first_placed : (o x n k : ℕ) (z : Zone) → ArePlaced (row_from o x n z k) → 0 < k → (o ≤ 10) × (x < 2 ^ 40) × (x % 2 ^ o ≡ 0)
+pub first_placed : (o x n k : ℕ) (z : Zone) → AreAlignedBlocks (row_from o x n z k) → 0 < k → (o ≤ 10) × (x < 2 ^ 40) × (x % 2 ^ o ≡ 0)
 first_placed o x n k z all some = let parts = rw (some_first o x n k z some) at all in (parts.0, parts.1, parts.2)
 
-pub rest_placed : (o x n k : ℕ) (z : Zone) → ArePlaced (row_from o x n z k) → 0 < k → ArePlaced (row_from o (x + 2 ^ o) n z (k - 1))
+pub rest_placed : (o x n k : ℕ) (z : Zone) → AreAlignedBlocks (row_from o x n z k) → 0 < k → AreAlignedBlocks (row_from o (x + 2 ^ o) n z (k - 1))
 rest_placed o x n k z all some = (rw (some_first o x n k z some) at all).3
 
 -- the line of the first of them, and those of the others; and no block is left
@@ -90,7 +90,7 @@ pub none_more : (o x n k : ℕ) (z : Zone) (text whole : List ℕ) → k ≡ 0 �
 none_more o x n k z text whole none so_far = text_end text _ whole (no_lines o x n k z none) so_far
 
 -- blocks of the largest order that end at or below 2^40
-pub row_low : (k x n : ℕ) (z : Zone) → x % 1024 ≡ 0 → x + k * 1024 ≤ 2 ^ 40 → ArePlaced (row_from 10 x n z k)
+pub row_low : (k x n : ℕ) (z : Zone) → x % 1024 ≡ 0 → x + k * 1024 ≤ 2 ^ 40 → AreAlignedBlocks (row_from 10 x n z k)
 unfolding row_from
 row_low zero x n z aligned low = tt
 row_low (suc k) x n z aligned low =
@@ -98,7 +98,7 @@ row_low (suc k) x n z aligned low =
     (omega arith, omega (arith, sum, low), aligned, row_low k (x + 2 ^ 10) n z (omega (arith, aligned)) (omega (arith, sum, low)))
 
 -- blocks of the largest order within the limit end at or below 2^40
-pub row_end : (k x n : ℕ) (z : Zone) → ArePlaced (row_from 10 x n z k) → 0 < k → x + k * 1024 ≤ 2 ^ 40
+pub row_end : (k x n : ℕ) (z : Zone) → AreAlignedBlocks (row_from 10 x n z k) → 0 < k → x + k * 1024 ≤ 2 ^ 40
 unfolding row_from
 row_end zero x n z all some = absurd (omega (arith, some))
 row_end (suc zero) x n z all some = let low = all.1 in let aligned = all.2 in omega (arith, low, aligned)
@@ -122,8 +122,8 @@ three_parts row b m e great count =
     ∙ rw (great, here, last, row_parts b (m + e) 10 x row.node row.zone, row_parts m e 10 (x + b * 1024) row.node row.zone) refl
 
 -- one row of a list, and the text with its lines
-pub rows_placed : (rs : List BlockRow) (i : ℕ) (d : BlockRow) → ArePlaced (blocks_of_rows rs) → i < length rs
-    → ArePlaced (blocks_of_row (get_or rs i d))
+pub rows_placed : (rs : List BlockRow) (i : ℕ) (d : BlockRow) → AreAlignedBlocks (blocks_of_rows rs) → i < length rs
+    → AreAlignedBlocks (blocks_of_row (get_or rs i d))
 rows_placed [] i d all within = absurd (omega arith)
 rows_placed (r ∷ rs) zero d all within = placed_before (blocks_of_row r) (blocks_of_rows rs) all
 rows_placed (r ∷ rs) (suc i) d all within =

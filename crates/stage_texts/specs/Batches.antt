@@ -7,7 +7,7 @@ use Rattle.frame_blocks.specs.declared.block.BlockRow.{BlockRow}
 use Rattle.frame_blocks.specs.declared.block.TheConstants.{MAX_ORDER}
 use Rattle.frame_blocks.specs.declared.run.TheConstants.{MAX_FRAMES}
 use Rattle.frame_blocks.specs.Rows.{row_from}
-use Rattle.report_texts.specs.Lines.{lines_from}
+use Rattle.report_texts.specs.Lines.{indexed_lines}
 use Rattle.stage_texts.specs.BlocksText.{block_line}
 
 -- the last eight hexadecimal digits of a number
@@ -41,4 +41,4 @@ pub record FillBatches (row : BlockRow) : Type 0 where
 
 -- the lines of the first 1,024 blocks of the row
 abbrev pub first_batch : BlockRow → List ℕ
-first_batch row = lines_from block_line 0 (row_from row.order row.first row.node row.zone 1024)
+first_batch row = indexed_lines block_line 0 (row_from row.order row.first row.node row.zone 1024)

@@ -9,7 +9,7 @@ use Rattle.frame_blocks.specs.declared.run.TheConstants.{MAX_FRAMES}
 use Rattle.frame_blocks.specs.Frames.{Frames}
 use Rattle.frame_blocks.specs.Listed.{blocks_of}
 use Rattle.frame_blocks.specs.Rows.{blocks_of_row}
-use Rattle.report_texts.specs.Lines.{lines_from}
+use Rattle.report_texts.specs.Lines.{indexed_lines}
 use Rattle.stage_texts.specs.ZonesText.{zone_name}
 
 -- the line of a block: its node, its zone, its order, and the address of its first byte; the index
@@ -21,14 +21,14 @@ block_line n b =
 
 -- all blocks of these free frames, in ascending order
 abbrev pub blocks_text : Frames → List ℕ
-blocks_text f = lines_from block_line 0 (blocks_of f)
+blocks_text f = indexed_lines block_line 0 (blocks_of f)
 
 -- the lines of a row
 abbrev pub row_text : BlockRow → List ℕ
-row_text row = lines_from block_line 0 (blocks_of_row row)
+row_text row = indexed_lines block_line 0 (blocks_of_row row)
 
 -- each block has an order up to 10; its first frame is below `MAX_FRAMES`, and a multiple of the
 -- number of its frames
-abbrev pub ArePlaced : List Block → Type 0
-ArePlaced [] = Unit {0}
-ArePlaced (b ∷ bs) = (b.order ≤ MAX_ORDER) × (b.first < MAX_FRAMES) × (b.first % 2 ^ b.order ≡ 0) × ArePlaced bs
+abbrev pub AreAlignedBlocks : List Block → Type 0
+AreAlignedBlocks [] = Unit {0}
+AreAlignedBlocks (b ∷ bs) = (b.order ≤ MAX_ORDER) × (b.first < MAX_FRAMES) × (b.first % 2 ^ b.order ≡ 0) × AreAlignedBlocks bs

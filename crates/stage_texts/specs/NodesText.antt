@@ -6,23 +6,23 @@ use Rattle.memblock_model.specs.declared.item.Item.{Item}
 use Rattle.memblock_model.specs.declared.item.Item.TheVariants as item
 use Rattle.node_hulls.specs.declared.reasons.Why.{Why}
 use Rattle.node_hulls.specs.declared.reasons.Why.TheVariants as why
-use Rattle.numa_nodes.specs.Assigned.{Noded}
-use Rattle.report_texts.specs.Lines.{lines_from, range_text}
+use Rattle.numa_nodes.specs.Assigned.{NodesView}
+use Rattle.report_texts.specs.Lines.{indexed_lines, range_text}
 
 -- whether the SRAT is used, and the reason if it isn't: with the numbers of blocks that overlap,
 -- or of frames that aren't covered
-abbrev pub why_text : Why → List ℕ
-why_text why.Used = codes "used"
-why_text why.Off = codes "off"
-why_text why.Absent = codes "absent"
-why_text why.NoBlocks = codes "no blocks"
-why_text why.TooManyDomains = codes "too many domains"
-why_text why.TooManyBlocks = codes "too many blocks"
-why_text (why.Overlap i j) = codes "overlap " ++ decimal i ++ codes " " ++ decimal j
-why_text (why.NotCovered frames) = codes "not covered " ++ decimal frames
+abbrev pub srat_use_text : Why → List ℕ
+srat_use_text why.Used = codes "used"
+srat_use_text why.Off = codes "off"
+srat_use_text why.Absent = codes "absent"
+srat_use_text why.NoBlocks = codes "no blocks"
+srat_use_text why.TooManyDomains = codes "too many domains"
+srat_use_text why.TooManyBlocks = codes "too many blocks"
+srat_use_text (why.Overlap i j) = codes "overlap " ++ decimal i ++ codes " " ++ decimal j
+srat_use_text (why.NotCovered frames) = codes "not covered " ++ decimal frames
 
-abbrev pub why_line : Why → List ℕ
-why_line reason = codes "numa " ++ why_text reason ++ codes "\n"
+abbrev pub srat_use_line : Why → List ℕ
+srat_use_line reason = codes "numa " ++ srat_use_text reason ++ codes "\n"
 
 -- the line of a node: its domain, and its number, which is its index in the list
 abbrev pub domain_line : ℕ → ℕ → List ℕ
@@ -39,6 +39,6 @@ node_line n other = []
 
 -- the nodes of a boot, and the ranges that got them by its journal. If the SRAT isn't used, there
 -- are no domains.
-abbrev pub nodes_text : Noded → List Item → List ℕ
+abbrev pub nodes_text : NodesView → List Item → List ℕ
 nodes_text nodes items =
-    why_line nodes.why ++ lines_from domain_line 0 nodes.domains ++ uncovered_line nodes.uncovered ++ lines_from node_line 0 items
+    srat_use_line nodes.why ++ indexed_lines domain_line 0 nodes.domains ++ uncovered_line nodes.uncovered ++ indexed_lines node_line 0 items

@@ -5,7 +5,7 @@ use Rattle.bm_base.specs.Text.{hex_text}
 use Rattle.early_script.specs.declared.outcome.Answer.{Answer}
 use Rattle.early_script.specs.declared.outcome.Outcome.{Outcome}
 use Rattle.early_script.specs.declared.outcome.Outcome.TheVariants as outcomes
-use Rattle.report_texts.specs.Lines.{lines_from}
+use Rattle.report_texts.specs.Lines.{indexed_lines}
 use Rattle.report_texts.specs.OwnersText.{which_name}
 
 -- the outcome of a line; bytes are written as two lower-case hexadecimal digits each
@@ -28,4 +28,4 @@ abbrev pub answer_line : ℕ → Answer → List ℕ
 answer_line n answer = decimal answer.line ++ codes ": " ++ outcome_text answer.outcome ++ codes "\n"
 
 abbrev pub script_text : List Answer → List ℕ
-script_text answers = lines_from answer_line 0 answers
+script_text answers = indexed_lines answer_line 0 answers

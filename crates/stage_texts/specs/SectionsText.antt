@@ -4,9 +4,9 @@
 use Rattle.std.specs.Prelude.{ℕ, List, ◌++◌, codes, decimal}
 use Rattle.bm_base.specs.Text.{hex_text}
 use Rattle.sparse_sections.specs.declared.roots.RootPlace.{RootPlace}
-use Rattle.sparse_sections.specs.Roots.{RootsPlaced}
+use Rattle.sparse_sections.specs.Roots.{RootsView}
 use Rattle.section_maps.specs.declared.placed.Placed.{Placed}
-use Rattle.report_texts.specs.Lines.{lines_from}
+use Rattle.report_texts.specs.Lines.{indexed_lines}
 
 -- the line of the table of roots
 abbrev pub roots_line : ℕ → List ℕ
@@ -23,8 +23,8 @@ section_line n s =
     ++ hex_text s.usage ++ codes "\n"
 
 -- the table and the roots, and then the sections
-abbrev pub roots_text : RootsPlaced → List ℕ
-roots_text roots = roots_line roots.table ++ lines_from root_line 0 roots.roots
+abbrev pub roots_text : RootsView → List ℕ
+roots_text roots = roots_line roots.table ++ indexed_lines root_line 0 roots.roots
 
-abbrev pub sections_text : RootsPlaced → List Placed → List ℕ
-sections_text roots placed = roots_text roots ++ lines_from section_line 0 placed
+abbrev pub sections_text : RootsView → List Placed → List ℕ
+sections_text roots placed = roots_text roots ++ indexed_lines section_line 0 placed

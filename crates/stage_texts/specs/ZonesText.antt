@@ -8,9 +8,9 @@ use Rattle.bm_base.specs.declared.zone.Zone.TheVariants as zone
 use Rattle.frame_blocks.specs.declared.block.Block.{Block}
 use Rattle.frame_blocks.specs.declared.block.TheConstants.{MAX_ORDER}
 use Rattle.frame_blocks.specs.Frames.{Frames}
-use Rattle.frame_blocks.specs.Listed.{blocks_of, is_of, same_zone}
+use Rattle.frame_blocks.specs.Listed.{blocks_of, is_block_of, is_same_zone}
 use Rattle.zone_spans.specs.declared.span.Span.{Span}
-use Rattle.report_texts.specs.Lines.{lines_from}
+use Rattle.report_texts.specs.Lines.{indexed_lines}
 
 -- the name of a zone (`zone_names`)
 abbrev pub zone_name : Zone → List ℕ
@@ -23,39 +23,39 @@ abbrev pub padded_zone : Zone → List ℕ
 padded_zone z = replicate (8 - length (zone_name z)) 32 ++ zone_name z
 
 -- the block is on the node and in the zone
-abbrev pub is_there : ℕ → Zone → Block → Bool
-is_there node z b = (b.node == node) && same_zone b.zone z
+abbrev pub is_block_in_zone : ℕ → Zone → Block → Bool
+is_block_in_zone node z b = (b.node == node) && is_same_zone b.zone z
 
 -- the number of frames in those of the blocks that are on the node and in the zone; a block has
 -- 2^order frames
-unfoldable pub frames_there : ℕ → Zone → List Block → ℕ
-frames_there node z blocks = sum_by (λ b. 2 ^ b.order) (filter (is_there node z) blocks)
+unfoldable pub frames_in_zone : ℕ → Zone → List Block → ℕ
+frames_in_zone node z blocks = sum_by (λ b. 2 ^ b.order) (filter (is_block_in_zone node z) blocks)
 
 -- the line of a span: its first frame, the one after its last, the number of its frames, and how
 -- many of them are in free blocks; the index isn't printed
 abbrev pub zone_line : List Block → ℕ → Span → List ℕ
 zone_line blocks n s =
     codes "Node " ++ decimal s.node ++ codes ", zone " ++ zone_name s.zone ++ codes " start " ++ decimal s.start ++ codes " end "
-    ++ decimal s.end ++ codes " present " ++ decimal s.present ++ codes " free " ++ decimal (frames_there s.node s.zone blocks)
+    ++ decimal s.end ++ codes " present " ++ decimal s.present ++ codes " free " ++ decimal (frames_in_zone s.node s.zone blocks)
     ++ codes "\n"
 
 -- the lines of the spans, for these free frames
 abbrev pub zones_text : Frames → List Span → List ℕ
-zones_text f spans = lines_from (zone_line (blocks_of f)) 0 spans
+zones_text f spans = indexed_lines (zone_line (blocks_of f)) 0 spans
 
 -- how many of the blocks are on the node, in the zone and of the order, right-aligned in six
 -- columns, and a space (`%6lu `)
-abbrev pub count_text : List Block → ℕ → Zone → ℕ → List ℕ
-count_text blocks node z order = padded_decimal 6 (count_by (is_of node z order) blocks) ++ codes " "
+abbrev pub block_count_text : List Block → ℕ → Zone → ℕ → List ℕ
+block_count_text blocks node z order = padded_decimal 6 (count_by (is_block_of node z order) blocks) ++ codes " "
 
-unfoldable pub counts_text : List Block → ℕ → Zone → List ℕ
-counts_text blocks node z = flat_map (count_text blocks node z) (range_with_len 0 (MAX_ORDER + 1))
+unfoldable pub block_counts_text : List Block → ℕ → Zone → List ℕ
+block_counts_text blocks node z = flat_map (block_count_text blocks node z) (range_with_len 0 (MAX_ORDER + 1))
 
 -- the line of a span: the number of blocks of each order, from 0 on; the index isn't printed
-unfoldable pub buddy_line : List Block → ℕ → Span → List ℕ
-buddy_line blocks n s =
+unfoldable pub buddyinfo_line : List Block → ℕ → Span → List ℕ
+buddyinfo_line blocks n s =
     codes "Node " ++ decimal s.node ++ codes ", zone " ++ padded_zone s.zone ++ codes " "
-    ++ counts_text blocks s.node s.zone ++ codes "\n"
+    ++ block_counts_text blocks s.node s.zone ++ codes "\n"
 
 abbrev pub buddyinfo_text : Frames → List Span → List ℕ
-buddyinfo_text f spans = lines_from (buddy_line (blocks_of f)) 0 spans
+buddyinfo_text f spans = indexed_lines (buddyinfo_line (blocks_of f)) 0 spans

@@ -10,7 +10,7 @@ ghost use Rattle.std.specs.Fmt.{digit_glyph};
 ghost use Rattle.stage_texts.specs.BlocksText.{row_text};
 ghost use Rattle.stage_texts.specs.Batches.{FillBatches, batch_text, first_batch, last_digits};
 
-use crate::blocks::put_each;
+use crate::blocks::put_each_block;
 use bm_base::{Memory, put_text};
 use buddy_handover::{BlockRow, MAX_ORDER};
 use std::alloc::Global;
@@ -32,14 +32,14 @@ pub(crate) fn put_batches(text: &mut Vec<u8>, row: &BlockRow) -> Result<(), Memo
     requires some { 0 < row.now.count }
     ensures { OnOk result (text.new.items ≡ text.old.items ++ row_text row.now) }
 {
-    let mut lines = first_lines(*text.allocator(), row)?;
+    let mut lines = first_batch(*text.allocator(), row)?;
     let mut first = row.first;
     let mut left = row.count;
     while left > 0 {
         put_text(text, &lines)?;
         first += BATCH_FRAMES;
         left -= BATCH_BLOCKS;
-        set_number(&mut lines, first / BATCH_FRAMES);
+        overwrite_batch_addresses(&mut lines, first / BATCH_FRAMES);
     }
     Ok(())
 }
@@ -49,7 +49,7 @@ pub(crate) fn put_batches(text: &mut Vec<u8>, row: &BlockRow) -> Result<(), Memo
 /// # Errors
 ///
 /// - `Memory`: the program ran out of memory.
-fn first_lines(alloc: Global, row: &BlockRow) -> Result<Vec<u8>, Memory>
+fn first_batch(alloc: Global, row: &BlockRow) -> Result<Vec<u8>, Memory>
     requires fill { FillBatches row.now }
     requires some { 0 < row.now.count }
     ensures { IfOk result (λ lines. lines.items ≡ first_batch row.now) }
@@ -59,20 +59,20 @@ fn first_lines(alloc: Global, row: &BlockRow) -> Result<Vec<u8>, Memory>
         count: BATCH_BLOCKS,
         ..*row
     };
-    put_each(&mut lines, &first)?;
+    put_each_block(&mut lines, &first)?;
     Ok(lines)
 }
 
 /// Overwrites the addresses in the lines of a batch, which then are those of the blocks from
 /// address `number * 2^32` on.
-fn set_number(batch: &mut Vec<u8>, number: u64)
+fn overwrite_batch_addresses(batch: &mut Vec<u8>, number: u64)
     requires small { number < 2 ^ 32 }
     requires whole { length batch.old.items % 1024 ≡ 0 }
     requires long { 17 * 1024 ≤ length batch.old.items }
     ensures { (front old : List ℕ) → length old ≡ 8 → batch.old.items ≡ batch_text front old
         → batch.new.items ≡ batch_text front (last_digits number) }
 {
-    renumber(batch, &digits_of(number));
+    renumber(batch, &last_digits(number));
 }
 
 /// Overwrites the eight higher digits of the address in each line of a batch.
@@ -90,7 +90,7 @@ fn renumber(batch: &mut [u8], digits: &[u8; 8])
 }
 
 /// Returns the eight hexadecimal digits of a number below 2^32.
-fn digits_of(number: u64) -> [u8; 8]
+fn last_digits(number: u64) -> [u8; 8]
     requires { number < 2 ^ 32 }
     ensures { result ≡ last_digits number }
 {

@@ -8,9 +8,9 @@ ghost use Rattle.std.specs.Prelude.{◌≡◌, ◌+◌, ◌*◌, ◌^◌, ◌<�
 ghost use Rattle.bm_base.specs.PutsText.{PutsText};
 ghost use Rattle.frame_blocks.specs.declared.run.TheConstants.{MAX_FRAMES};
 ghost use Rattle.frame_blocks.specs.Rows.{blocks_of_row, blocks_of_rows};
-ghost use Rattle.buddy_handover.specs.Contents.{free};
-ghost use Rattle.report_texts.specs.Lines.{lines_from};
-ghost use Rattle.stage_texts.specs.BlocksText.{ArePlaced, block_line, blocks_text, row_text};
+ghost use Rattle.buddy_handover.specs.Contents.{buddy_frames};
+ghost use Rattle.report_texts.specs.Lines.{indexed_lines};
+ghost use Rattle.stage_texts.specs.BlocksText.{AreAlignedBlocks, block_line, blocks_text, row_text};
 
 use crate::batches::{BATCH_BLOCKS, BATCH_FRAMES, put_batches};
 use crate::words::{put_word_dec, put_word_hex};
@@ -29,9 +29,9 @@ const LONGEST_LINE: usize = 56;
 ///
 /// - `Memory`: the program ran out of memory; the text is incomplete.
 pub fn put_blocks(text: &mut Vec<u8>, buddy: &Buddy) -> Result<(), Memory>
-    ensures { OnOk result (text.new.items ≡ text.old.items ++ blocks_text (free buddy.now)) }
+    ensures { OnOk result (text.new.items ≡ text.old.items ++ blocks_text (buddy_frames buddy.now)) }
 {
-    let rows = buddy.rows()?;
+    let rows = buddy.block_rows()?;
     text.reserve(count_blocks(&rows) as usize * LONGEST_LINE)?;
     put_rows(text, &rows)
 }
@@ -50,9 +50,9 @@ fn count_blocks(rows: &[BlockRow]) -> u64
 
 /// Appends the line of each block of all rows.
 fn put_rows(text: &mut Vec<u8>, rows: &[BlockRow]) -> Result<(), Memory>
-    requires { ArePlaced (blocks_of_rows rows.now) }
+    requires { AreAlignedBlocks (blocks_of_rows rows.now) }
     ensures { OnOk result (text.new.items
-        ≡ text.old.items ++ lines_from block_line 0 (blocks_of_rows rows.now)) }
+        ≡ text.old.items ++ indexed_lines block_line 0 (blocks_of_rows rows.now)) }
 {
     for row in rows {
         put_row(text, row)?;
@@ -62,32 +62,32 @@ fn put_rows(text: &mut Vec<u8>, rows: &[BlockRow]) -> Result<(), Memory>
 
 /// Appends the line of each block of a row.
 fn put_row(text: &mut Vec<u8>, row: &BlockRow) -> Result<(), Memory>
-    requires { ArePlaced (blocks_of_row row.now) }
+    requires { AreAlignedBlocks (blocks_of_row row.now) }
     ensures { OnOk result (text.new.items ≡ text.old.items ++ row_text row.now) }
 {
     if row.order == MAX_ORDER && row.count >= 2 * BATCH_BLOCKS {
-        return put_great_row(text, row);
+        return put_max_order_row(text, row);
     }
-    put_each(text, row)
+    put_each_block(text, row)
 }
 
 /// Appends the line of each block of a row of the largest order. The lines from the first multiple
 /// of 4 GiB to the last are written in batches, those before and after one by one.
-fn put_great_row(text: &mut Vec<u8>, row: &BlockRow) -> Result<(), Memory>
+fn put_max_order_row(text: &mut Vec<u8>, row: &BlockRow) -> Result<(), Memory>
     requires great { row.now.order ≡ MAX_ORDER }
     requires many { 2 * 1024 ≤ row.now.count }
-    requires placed { ArePlaced (blocks_of_row row.now) }
+    requires placed { AreAlignedBlocks (blocks_of_row row.now) }
     ensures { OnOk result (text.new.items ≡ text.old.items ++ row_text row.now) }
 {
     let before = (BATCH_FRAMES - row.first % BATCH_FRAMES) % BATCH_FRAMES >> MAX_ORDER;
     let after = (row.count - before) % BATCH_BLOCKS;
-    put_each(text, &part_of(row, 0, before))?;
-    put_batches(text, &part_of(row, before, row.count - before - after))?;
-    put_each(text, &part_of(row, row.count - after, after))
+    put_each_block(text, &part_of_row(row, 0, before))?;
+    put_batches(text, &part_of_row(row, before, row.count - before - after))?;
+    put_each_block(text, &part_of_row(row, row.count - after, after))
 }
 
 /// Returns `count` blocks of a row of the largest order, after the first `skipped`.
-fn part_of(row: &BlockRow, skipped: u64, count: u64) -> BlockRow
+fn part_of_row(row: &BlockRow, skipped: u64, count: u64) -> BlockRow
     requires { row.now.first + skipped * 1024 ≤ MAX_FRAMES }
     ensures { result ≡ record row.now { first = row.now.first + skipped * 1024; count = count } }
 {
@@ -99,8 +99,8 @@ fn part_of(row: &BlockRow, skipped: u64, count: u64) -> BlockRow
 }
 
 /// Appends the line of each block of a row, one after another.
-pub(crate) fn put_each(text: &mut Vec<u8>, row: &BlockRow) -> Result<(), Memory>
-    requires { ArePlaced (blocks_of_row row.now) }
+pub(crate) fn put_each_block(text: &mut Vec<u8>, row: &BlockRow) -> Result<(), Memory>
+    requires { AreAlignedBlocks (blocks_of_row row.now) }
     ensures { PutsText text.old text.new result (row_text row.now) }
 {
     let mut first = row.first;

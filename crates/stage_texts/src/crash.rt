@@ -2,7 +2,7 @@
 //! only this report has the reason.
 
 ghost use Rattle.bm_base.specs.PutsText.{PutsText};
-ghost use Rattle.stage_texts.specs.CrashText.{crash_text, low_line};
+ghost use Rattle.stage_texts.specs.CrashText.{crash_text, crash_low_line};
 
 use bm_base::{Memory, Range, put_text};
 use crash_kernel::Crash;
@@ -21,7 +21,7 @@ pub fn put_crash(text: &mut Vec<u8>, crash: &Crash) -> Result<(), Memory>
         Crash::At { main, low } => {
             put_word_range(text, b"crash at ", main)?;
             put_text(text, b"\n")?;
-            put_low_line(text, low)
+            put_crash_low_line(text, low)
         }
         Crash::NoArea => put_text(text, b"crash no area\n"),
         Crash::InUse => put_text(text, b"crash in use\n"),
@@ -30,8 +30,8 @@ pub fn put_crash(text: &mut Vec<u8>, crash: &Crash) -> Result<(), Memory>
 }
 
 /// Appends the line of the low part, if there is one.
-fn put_low_line(text: &mut Vec<u8>, low: &Option<Range>) -> Result<(), Memory>
-    ensures { PutsText text.old text.new result (low_line low.now) }
+fn put_crash_low_line(text: &mut Vec<u8>, low: &Option<Range>) -> Result<(), Memory>
+    ensures { PutsText text.old text.new result (crash_low_line low.now) }
 {
     match low {
         Some(low) => {

@@ -4,13 +4,13 @@
 
 ghost use Rattle.bm_base.specs.PutsText.{PutsText};
 ghost use Rattle.numa_nodes.specs.Assigned.{nodes_view};
-ghost use Rattle.stage_texts.specs.NodesText.{domain_line, node_line, nodes_text, uncovered_line, why_line, why_text};
+ghost use Rattle.stage_texts.specs.NodesText.{domain_line, node_line, nodes_text, uncovered_line, srat_use_line, srat_use_text};
 
 use crate::words::put_word_dec;
 use bm_base::{Memory, put_text};
 use boot_journal::{Item, Journal};
 use numa_nodes::{Nodes, Why};
-use report_texts::{put_item, put_lines};
+use report_texts::{put_item, put_indexed_lines};
 
 /// Appends why the SRAT is or isn't used, the domain of each node, the number of frames that no
 /// block covers, and a line for each journal item that gives a range its node.
@@ -21,25 +21,25 @@ use report_texts::{put_item, put_lines};
 pub fn put_nodes(text: &mut Vec<u8>, nodes: &Nodes, journal: &Journal) -> Result<(), Memory>
     ensures { PutsText text.old text.new result (nodes_text (nodes_view nodes.now) journal.now.items) }
 {
-    put_why_line(text, &nodes.why)?;
-    put_lines(text, &nodes.domains, put_domain_line)?;
+    put_srat_use_line(text, &nodes.why)?;
+    put_indexed_lines(text, &nodes.domains, put_domain_line)?;
     put_uncovered_line(text, nodes.uncovered)?;
-    put_lines(text, journal.items(), put_node_line)?;
+    put_indexed_lines(text, journal.items(), put_node_line)?;
     Ok(())
 }
 
 /// Appends the line that says whether the SRAT is used, and the reason if it isn't.
-fn put_why_line(text: &mut Vec<u8>, why: &Why) -> Result<(), Memory>
-    ensures { PutsText text.old text.new result (why_line why.now) }
+fn put_srat_use_line(text: &mut Vec<u8>, why: &Why) -> Result<(), Memory>
+    ensures { PutsText text.old text.new result (srat_use_line why.now) }
 {
     put_text(text, b"numa ")?;
-    put_why(text, why)?;
+    put_srat_use(text, why)?;
     put_text(text, b"\n")
 }
 
 /// Appends the reason, with its numbers.
-fn put_why(text: &mut Vec<u8>, why: &Why) -> Result<(), Memory>
-    ensures { PutsText text.old text.new result (why_text why.now) }
+fn put_srat_use(text: &mut Vec<u8>, why: &Why) -> Result<(), Memory>
+    ensures { PutsText text.old text.new result (srat_use_text why.now) }
 {
     match why {
         Why::Used => put_text(text, b"used"),

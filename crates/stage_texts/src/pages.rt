@@ -1,12 +1,12 @@
 //! Writes the outcome of each line of the page script.
 
 ghost use Rattle.bm_base.specs.PutsText.{PutsText};
-ghost use Rattle.stage_texts.specs.PagesText.{page_line, page_text, pages_text};
+ghost use Rattle.stage_texts.specs.PagesText.{page_answer_line, page_outcome_text, pages_text};
 
 use crate::words::put_word_hex;
 use bm_base::{Memory, put_dec, put_text};
 use page_alloc::{PageAnswer, PageOutcome};
-use report_texts::put_lines;
+use report_texts::put_indexed_lines;
 
 /// Appends the outcomes: a line for each, in their order.
 ///
@@ -16,12 +16,12 @@ use report_texts::put_lines;
 pub fn put_pages(text: &mut Vec<u8>, answers: &[PageAnswer]) -> Result<(), Memory>
     ensures { PutsText text.old text.new result (pages_text answers.now) }
 {
-    put_lines(text, answers, put_page_line)
+    put_indexed_lines(text, answers, put_page_answer_line)
 }
 
 /// Appends the line of an outcome: the number of the line in the script, and the outcome.
-fn put_page_line(text: &mut Vec<u8>, index: u64, answer: &PageAnswer) -> Result<(), Memory>
-    ensures { PutsText text.old text.new result (page_line index answer.now) }
+fn put_page_answer_line(text: &mut Vec<u8>, index: u64, answer: &PageAnswer) -> Result<(), Memory>
+    ensures { PutsText text.old text.new result (page_answer_line index answer.now) }
 {
     put_dec(text, u64::from(answer.line), 0)?;
     put_text(text, b": ")?;
@@ -31,7 +31,7 @@ fn put_page_line(text: &mut Vec<u8>, index: u64, answer: &PageAnswer) -> Result<
 
 /// Appends the outcome of a line.
 fn put_page_outcome(text: &mut Vec<u8>, outcome: PageOutcome) -> Result<(), Memory>
-    ensures { PutsText text.old text.new result (page_text outcome) }
+    ensures { PutsText text.old text.new result (page_outcome_text outcome) }
 {
     match outcome {
         PageOutcome::At(address) => put_word_hex(text, b"at ", address),

@@ -10,7 +10,7 @@ use crate::words::{put_word_dec, put_word_hex};
 use bm_base::{Memory, put_dec, put_text};
 use early_script::{Answer, Outcome};
 use memblock_model::Which;
-use report_texts::{put_lines, which_name};
+use report_texts::{put_indexed_lines, which_name};
 
 /// The largest number of bytes that a line of the script prints.
 const MOST_BYTES: usize = 64;
@@ -23,7 +23,7 @@ const MOST_BYTES: usize = 64;
 pub fn put_script(text: &mut Vec<u8>, answers: &[Answer]) -> Result<(), Memory>
     ensures { PutsText text.old text.new result (script_text answers.now) }
 {
-    put_lines(text, answers, put_answer_line)
+    put_indexed_lines(text, answers, put_answer_line)
 }
 
 /// Appends the line of an outcome: the number of the line in the script, and the outcome.

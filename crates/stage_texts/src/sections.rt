@@ -6,7 +6,7 @@ ghost use Rattle.stage_texts.specs.SectionsText.{root_line, roots_text, section_
 
 use crate::words::{put_word_dec, put_word_hex};
 use bm_base::{Memory, put_text};
-use report_texts::put_lines;
+use report_texts::put_indexed_lines;
 use section_maps::Placed;
 use sparse_sections::{RootPlace, Roots};
 
@@ -21,7 +21,7 @@ pub fn put_sections(text: &mut Vec<u8>, roots: &Roots, placed: &[Placed]) -> Res
         (sections_text (record { table = roots.now.table; roots = roots.now.roots.items }) placed.now) }
 {
     put_roots(text, roots)?;
-    put_lines(text, placed, put_section_line)?;
+    put_indexed_lines(text, placed, put_section_line)?;
     Ok(())
 }
 
@@ -31,7 +31,7 @@ fn put_roots(text: &mut Vec<u8>, roots: &Roots) -> Result<(), Memory>
 {
     put_word_hex(text, b"roots ", roots.table)?;
     put_text(text, b"\n")?;
-    put_lines(text, &roots.roots, put_root_line)?;
+    put_indexed_lines(text, &roots.roots, put_root_line)?;
     Ok(())
 }
 

@@ -6,13 +6,13 @@ ghost use Rattle.std.specs.Prelude.{◌≡◌, ◌++◌, codes, decimal};
 ghost use Rattle.bm_base.specs.PutsText.{PutsText};
 ghost use Rattle.bm_base.specs.Text.{padded_decimal};
 ghost use Rattle.frame_blocks.specs.Listed.{blocks_of};
-ghost use Rattle.buddy_handover.specs.Contents.{free};
-ghost use Rattle.stage_texts.specs.ZonesText.{buddy_line, buddyinfo_text, counts_text, frames_there, padded_zone, zone_line, zone_name, zones_text};
+ghost use Rattle.buddy_handover.specs.Contents.{buddy_frames};
+ghost use Rattle.stage_texts.specs.ZonesText.{buddyinfo_line, buddyinfo_text, block_counts_text, frames_in_zone, padded_zone, zone_line, zone_name, zones_text};
 
 use crate::words::put_word_dec;
 use bm_base::{Memory, Zone, put_dec, put_text};
 use buddy_handover::{Buddy, MAX_ORDER};
-use report_texts::put_lines;
+use report_texts::put_indexed_lines;
 use zone_spans::Span;
 
 /// Appends the zones: a line for each span, with the number of its frames that are free.
@@ -21,9 +21,9 @@ use zone_spans::Span;
 ///
 /// - `Memory`: the program ran out of memory; the text is incomplete.
 pub fn put_zones(text: &mut Vec<u8>, spans: &[Span], buddy: &Buddy) -> Result<(), Memory>
-    ensures { PutsText text.old text.new result (zones_text (free buddy.now) spans.now) }
+    ensures { PutsText text.old text.new result (zones_text (buddy_frames buddy.now) spans.now) }
 {
-    put_lines(text, spans, |text: &mut Vec<u8>, index: u64, span: &Span| {
+    put_indexed_lines(text, spans, |text: &mut Vec<u8>, index: u64, span: &Span| {
         put_zone_line(text, index, span, buddy)
     })
 }
@@ -35,10 +35,10 @@ pub fn put_zones(text: &mut Vec<u8>, spans: &[Span], buddy: &Buddy) -> Result<()
 ///
 /// - `Memory`: the program ran out of memory; the text is incomplete.
 pub fn put_buddyinfo(text: &mut Vec<u8>, spans: &[Span], buddy: &Buddy) -> Result<(), Memory>
-    ensures { PutsText text.old text.new result (buddyinfo_text (free buddy.now) spans.now) }
+    ensures { PutsText text.old text.new result (buddyinfo_text (buddy_frames buddy.now) spans.now) }
 {
-    put_lines(text, spans, |text: &mut Vec<u8>, index: u64, span: &Span| {
-        put_buddy_line(text, index, span, buddy)
+    put_indexed_lines(text, spans, |text: &mut Vec<u8>, index: u64, span: &Span| {
+        put_buddyinfo_line(text, index, span, buddy)
     })
 }
 
@@ -56,26 +56,26 @@ pub fn zone_name(zone: Zone) -> &'static str
 /// Appends the line of a span: its bounds, the number of its frames, and the number of these that
 /// are free.
 fn put_zone_line(text: &mut Vec<u8>, index: u64, span: &Span, buddy: &Buddy) -> Result<(), Memory>
-    ensures { PutsText text.old text.new result (zone_line (blocks_of (free buddy.now)) index span.now) }
+    ensures { PutsText text.old text.new result (zone_line (blocks_of (buddy_frames buddy.now)) index span.now) }
 {
     put_node_zone(text, span.node)?;
     put_text(text, zone_name(span.zone).as_bytes())?;
     put_word_dec(text, b" start ", span.start)?;
     put_word_dec(text, b" end ", span.end)?;
     put_word_dec(text, b" present ", span.present)?;
-    put_word_dec(text, b" free ", free_frames(buddy, span.node, span.zone))?;
+    put_word_dec(text, b" free ", free_frames_in_zone(buddy, span.node, span.zone))?;
     put_text(text, b"\n")
 }
 
 /// Appends the line of a span: the number of free blocks of each order.
-#[tactic(auto, unfolding(crate::specs::ZonesText::buddy_line))]
-fn put_buddy_line(text: &mut Vec<u8>, index: u64, span: &Span, buddy: &Buddy) -> Result<(), Memory>
-    ensures { PutsText text.old text.new result (buddy_line (blocks_of (free buddy.now)) index span.now) }
+#[tactic(auto, unfolding(crate::specs::ZonesText::buddyinfo_line))]
+fn put_buddyinfo_line(text: &mut Vec<u8>, index: u64, span: &Span, buddy: &Buddy) -> Result<(), Memory>
+    ensures { PutsText text.old text.new result (buddyinfo_line (blocks_of (buddy_frames buddy.now)) index span.now) }
 {
     put_node_zone(text, span.node)?;
     put_padded_zone(text, span.zone)?;
     put_text(text, b" ")?;
-    put_counts(text, span, buddy)?;
+    put_block_counts(text, span, buddy)?;
     put_text(text, b"\n")
 }
 
@@ -98,18 +98,18 @@ fn put_padded_zone(text: &mut Vec<u8>, zone: Zone) -> Result<(), Memory>
 }
 
 /// Appends the number of free blocks of each order in this node and zone.
-#[tactic(auto, unfolding(crate::specs::ZonesText::counts_text))]
-fn put_counts(text: &mut Vec<u8>, span: &Span, buddy: &Buddy) -> Result<(), Memory>
-    ensures { PutsText text.old text.new result (counts_text (blocks_of (free buddy.now)) span.now.node span.now.zone) }
+#[tactic(auto, unfolding(crate::specs::ZonesText::block_counts_text))]
+fn put_block_counts(text: &mut Vec<u8>, span: &Span, buddy: &Buddy) -> Result<(), Memory>
+    ensures { PutsText text.old text.new result (block_counts_text (blocks_of (buddy_frames buddy.now)) span.now.node span.now.zone) }
 {
     for order in 0..=MAX_ORDER {
-        put_count(text, buddy.count(span.node, span.zone, order))?;
+        put_block_count(text, buddy.count(span.node, span.zone, order))?;
     }
     Ok(())
 }
 
 /// Appends a number of free blocks, right-aligned in six columns, and a space.
-fn put_count(text: &mut Vec<u8>, count: u64) -> Result<(), Memory>
+fn put_block_count(text: &mut Vec<u8>, count: u64) -> Result<(), Memory>
     ensures { PutsText text.old text.new result (padded_decimal 6 count ++ codes " ") }
 {
     put_dec(text, count, 6)?;
@@ -117,8 +117,8 @@ fn put_count(text: &mut Vec<u8>, count: u64) -> Result<(), Memory>
 }
 
 /// Returns the number of frames in the free blocks of this node and zone. Allocates nothing.
-fn free_frames(buddy: &Buddy, node: u32, zone: Zone) -> u64
-    ensures { result ≡ frames_there node zone (blocks_of (free buddy.now)) }
+fn free_frames_in_zone(buddy: &Buddy, node: u32, zone: Zone) -> u64
+    ensures { result ≡ frames_in_zone node zone (blocks_of (buddy_frames buddy.now)) }
 {
     let mut frames = 0;
     for order in 0..=MAX_ORDER {

@@ -1,26 +1,26 @@
 -- Lemmas on checking a list of records one by one.
 use Rattle.std.proofs.Common.{◌≡◌, ◌↔◌, ℕ, ◌+◌, ◌*◌, ◌%◌, ◌<◌, ◌≤◌, List, ◌∷◌, length, drop, arith, drop-cons, add-one, refl}
 use Rattle.std.proofs.lemmas.List.{drop_all}
-use Rattle.phys_store.specs.Bytes.{Stored, byte_of, bytes_at}
+use Rattle.phys_store.specs.Bytes.{ExtentView, byte_of, bytes_at}
 use Rattle.address_runs.specs.Runs.{RunOf, run_end}
 use Rattle.address_runs.specs.Sweep.{StartAtOrPast}
 use Rattle.memblock_model.specs.Labels.{LabelView}
 use Rattle.memblock_ranges.specs.declared.region.Head.{Head}
 use Rattle.memblock_ranges.specs.declared.region.Region.{Region}
-use Rattle.memblock_ranges.specs.Spelling.{region_in, run_in}
-use Rattle.memblock_ranges.specs.Tables.{list_in}
+use Rattle.memblock_ranges.specs.Spelling.{decode_region, decode_record}
+use Rattle.memblock_ranges.specs.Tables.{records_of_head}
 use Rattle.memblock_ranges.proofs.LentLaws.{count_is}
 use Rattle.table_frames.specs.Tables.{AscendBelow, AreWholeFrames}
 use Rattle.table_frames.proofs.RecordLaws.{record_by_bytes}
 
 -- the list from an index on begins with the record that was read there
-pub left_from : (s : List Stored) (h : Head) (i : ℕ) (g : Region) → i < h.count
-    → g ≡ region_in (bytes_at (byte_of s) (h.place + 24 * i) 24)
-    → (r : RunOf LabelView) × (drop i (list_in s h) ≡ r ∷ drop (i + 1) (list_in s h)) × (r.base ≡ g.base) × (r.size ≡ g.size)
+pub left_from : (s : List ExtentView) (h : Head) (i : ℕ) (g : Region) → i < h.count
+    → g ≡ decode_region (bytes_at (byte_of s) (h.place + 24 * i) 24)
+    → (r : RunOf LabelView) × (drop i (records_of_head s h) ≡ r ∷ drop (i + 1) (records_of_head s h)) × (r.base ≡ g.base) × (r.size ≡ g.size)
 left_from s h i g few is =
-    let r : RunOf LabelView = run_in (bytes_at (byte_of s) (h.place + 24 * i) 24) in
+    let r : RunOf LabelView = decode_record (bytes_at (byte_of s) (h.place + 24 * i) 24) in
     let long = count_is s h in
-    (r, rw (add-one, drop-cons (list_in s h) i r (omega arith), record_by_bytes s h i r few) refl, rw is refl, rw is refl)
+    (r, rw (add-one, drop-cons (records_of_head s h) i r (omega arith), record_by_bytes s h i r few) refl, rw is refl, rw is refl)
 
 abbrev pub Ascends : ℕ → ℕ → List (RunOf LabelView) → Type 0
 Ascends from b rs = StartAtOrPast from rs × AscendBelow b rs

@@ -9,7 +9,7 @@ use Rattle.address_runs.specs.Sweep.{StartAtOrPast}
 use Rattle.address_runs.proofs.RunsLaws.{inside, behind}
 use Rattle.memblock_model.specs.Labels.{LabelView, Labels}
 use Rattle.table_frames.specs.declared.frames.RecordFrames.{RecordFrames}
-use Rattle.table_frames.specs.Frames.{frames_of, is_unclaimed, IsPassed}
+use Rattle.table_frames.specs.Frames.{frames_of_record, is_unclaimed, IsPassed}
 use Rattle.table_frames.specs.Tables.{AscendBelow}
 use Rattle.table_frames.proofs.RecordLaws.{ascend_at, ascend_drop, ascend_none}
 
@@ -36,7 +36,7 @@ passed_none rs at x above = refl
 
 -- a record that ends below the frame can be skipped
 pub passed_more : (b : ℕ) (rs : List (RunOf LabelView)) (i at : ℕ) (d : RunOf LabelView) (fs : RecordFrames) → AscendBelow b rs → i < length rs
-    → fs ≡ frames_of (get_or rs i d) → fs.end ≤ at → IsPassed rs i at → IsPassed rs (i + 1) at
+    → fs ≡ frames_of_record (get_or rs i d) → fs.end ≤ at → IsPassed rs i at → IsPassed rs (i + 1) at
 passed_more b rs i at d fs ascend few is ends passed x above =
     let r : RunOf LabelView = get_or rs i d in
     let some = (ascend_at b rs i d ascend few).0 in
@@ -51,7 +51,7 @@ unclaimed_end rs i at x all passed above =
 
 -- between the records so far and the next, the table has no byte of a frame
 pub unclaimed_gap : (b : ℕ) (rs : List (RunOf LabelView)) (i at x : ℕ) (d : RunOf LabelView) (fs : RecordFrames) → AscendBelow b rs
-    → i < length rs → fs ≡ frames_of (get_or rs i d) → IsPassed rs i at → at ≤ x → x < fs.first → is_unclaimed (value_at rs) x ≡ true
+    → i < length rs → fs ≡ frames_of_record (get_or rs i d) → IsPassed rs i at → at ≤ x → x < fs.first → is_unclaimed (value_at rs) x ≡ true
 unclaimed_gap b rs i at x d fs ascend few is passed above before =
     let r : RunOf LabelView = get_or rs i d in
     let first : fs.first ≡ r.base / 4096 = ap (λ (g : RecordFrames). g.first) is in
@@ -61,7 +61,7 @@ unclaimed_gap b rs i at x d fs ascend few is passed above before =
 
 -- the table has a byte of each frame of the next record
 pub claimed_by : (b : ℕ) (rs : List (RunOf LabelView)) (i at x : ℕ) (d : RunOf LabelView) (fs : RecordFrames) → AscendBelow b rs → i < length rs
-    → fs ≡ frames_of (get_or rs i d) → IsPassed rs i at → at ≤ x → fs.first ≤ x → x < fs.end → is_unclaimed (value_at rs) x ≡ false
+    → fs ≡ frames_of_record (get_or rs i d) → IsPassed rs i at → at ≤ x → fs.first ≤ x → x < fs.end → is_unclaimed (value_at rs) x ≡ false
 claimed_by b rs i at x d fs ascend few is passed above from until =
     let r : RunOf LabelView = get_or rs i d in
     let some = (ascend_at b rs i d ascend few).0 in

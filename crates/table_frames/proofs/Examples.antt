@@ -2,7 +2,7 @@
 use Rattle.std.proofs.Common.{◌≡◌, ℕ, true, false, Some, None, [], ◌∷◌, refl, arith}
 use Rattle.address_runs.specs.Runs.{RunOf, value_at}
 use Rattle.memblock_model.specs.Labels.{LabelView, Labels, plain_label, with_node}
-use Rattle.table_frames.specs.Frames.{node_below, frames_of, node_of_frame, is_unclaimed, free_node_in}
+use Rattle.table_frames.specs.Frames.{valid_node, frames_of_record, node_of_frame, is_unclaimed, free_node_in}
 use Rattle.table_frames.specs.Tables.{AscendBelow, AreWholeFrames}
 use Rattle.table_frames.proofs.ClaimLaws.{claimed_byte, unclaimed_bare}
 use Rattle.table_frames.proofs.WholeLaws.{free_by_first}
@@ -17,11 +17,11 @@ forty = record { base = 0x4FC0; size = 0x28; value = plain_label }
 abbrev two : RunOf LabelView
 two = record { base = 0x1000; size = 0x2000; value = of_node 3 }
 
-told_examples : (node_below (Some 1023) ≡ Some 1023) × (node_below (Some 1024) ≡ None)
+told_examples : (valid_node (Some 1023) ≡ Some 1023) × (valid_node (Some 1024) ≡ None)
 told_examples = (refl, refl)
 
-frames_examples : (frames_of forty ≡ record { first = 4; end = 5; node = None })
-    × (frames_of two ≡ record { first = 1; end = 3; node = Some 3 })
+frames_examples : (frames_of_record forty ≡ record { first = 4; end = 5; node = None })
+    × (frames_of_record two ≡ record { first = 1; end = 3; node = Some 3 })
     × (node_of_frame (value_at (two ∷ [])) 2 ≡ Some 3) × (node_of_frame (value_at (two ∷ [])) 3 ≡ None)
 frames_examples = (refl, refl, refl, refl)
 

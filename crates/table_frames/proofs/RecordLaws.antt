@@ -2,29 +2,29 @@
 -- them.
 use Rattle.std.proofs.Common.{◌≡◌, ℕ, zero, suc, ◌+◌, ◌-◌, ◌*◌, ◌/◌, ◌^◌, ◌<◌, ◌≤◌, ◌==◌, nat_lt, Option, Some, None, List, [], ◌∷◌, length, get_or, take, drop, if◌then◌else◌, refl, ap, inl, inr, arith}
 use Rattle.std.proofs.lemmas.Bool.{cases_Bool, eqb-true}
-use Rattle.phys_store.specs.Bytes.{Stored, byte_of, bytes_at}
+use Rattle.phys_store.specs.Bytes.{ExtentView, byte_of, bytes_at}
 use Rattle.address_runs.specs.Runs.{RunOf, run_end, value_at}
 use Rattle.address_runs.specs.Sweep.{StartAtOrPast}
 use Rattle.address_runs.proofs.RunsLaws.{below, behind}
 use Rattle.memblock_model.specs.Labels.{LabelView}
 use Rattle.memblock_ranges.specs.declared.region.Head.{Head}
 use Rattle.memblock_ranges.specs.declared.region.Region.{Region}
-use Rattle.memblock_ranges.specs.Spelling.{node_in, node_of_field, region_in, run_in}
-use Rattle.memblock_ranges.specs.Tables.{list_in}
+use Rattle.memblock_ranges.specs.Spelling.{node_in, node_of_field, decode_region, decode_record}
+use Rattle.memblock_ranges.specs.Tables.{records_of_head}
 use Rattle.memblock_ranges.proofs.SpellLaws.{get-records_at}
 use Rattle.memblock_ranges.proofs.LentLaws.{count_is}
 use Rattle.table_frames.specs.declared.frames.RecordFrames.{RecordFrames}
-use Rattle.table_frames.specs.Frames.{node_below, frames_of}
+use Rattle.table_frames.specs.Frames.{valid_node, frames_of_record}
 use Rattle.table_frames.specs.Tables.{AscendBelow, HasRecords}
 
 -- a record of a head, by its bytes
-pub record_by_bytes : (s : List Stored) (h : Head) (i : ℕ) (d : RunOf LabelView) → i < h.count
-    → get_or (list_in s h) i d ≡ run_in (bytes_at (byte_of s) (h.place + 24 * i) 24)
+pub record_by_bytes : (s : List ExtentView) (h : Head) (i : ℕ) (d : RunOf LabelView) → i < h.count
+    → get_or (records_of_head s h) i d ≡ decode_record (bytes_at (byte_of s) (h.place + 24 * i) 24)
 record_by_bytes s h i d few = get-records_at (byte_of s) h.place h.count i d few
 
 -- the node in a field, if it is below 1,024
-pub field_below : (n : ℕ) → node_below (node_of_field n) ≡ (if nat_lt n 1024 then Some n else None)
-field_below n = elim (cases_Bool (n == 1024)) as (λ _. node_below (node_of_field n) ≡ (if nat_lt n 1024 then Some n else None)) [
+pub field_below : (n : ℕ) → valid_node (node_of_field n) ≡ (if nat_lt n 1024 then Some n else None)
+field_below n = elim (cases_Bool (n == 1024)) as (λ _. valid_node (node_of_field n) ≡ (if nat_lt n 1024 then Some n else None)) [
   | inl none ↦ rw (none, eqb-true n 1024 none) refl
   | inr some ↦ rw some refl
 ]
@@ -70,15 +70,15 @@ taken_none b (r ∷ rs) (suc i) x d ascend few above =
     rw (behind r x (omega (arith, far, above))) (taken_none b rs i x d ascend.3 (omega arith) above)
 
 -- the record that is read is that of the list
-pub region_fits : (s : List Stored) (h : Head) (i : ℕ) (g : Region) → HasRecords s h (2 ^ 64) → i < h.count
-    → g ≡ region_in (bytes_at (byte_of s) (h.place + 24 * i) 24) → (0 < g.size) × (g.base + g.size ≤ 2 ^ 64)
+pub region_fits : (s : List ExtentView) (h : Head) (i : ℕ) (g : Region) → HasRecords s h (2 ^ 64) → i < h.count
+    → g ≡ decode_region (bytes_at (byte_of s) (h.place + 24 * i) 24) → (0 < g.size) × (g.base + g.size ≤ 2 ^ 64)
 region_fits s h i g known few is =
-    let r = run_in (bytes_at (byte_of s) (h.place + 24 * i) 24) in
-    rw is (rw (record_by_bytes s h i r few) at (ascend_at (2 ^ 64) (list_in s h) i r known.ascend (omega (arith, count_is s h))))
+    let r = decode_record (bytes_at (byte_of s) (h.place + 24 * i) 24) in
+    rw is (rw (record_by_bytes s h i r few) at (ascend_at (2 ^ 64) (records_of_head s h) i r known.ascend (omega (arith, count_is s h))))
 
-pub region_frames : (s : List Stored) (h : Head) (i : ℕ) (g : Region) (node : Option ℕ) (d : RunOf LabelView) → i < h.count
-    → g ≡ region_in (bytes_at (byte_of s) (h.place + 24 * i) 24) → node ≡ (if nat_lt g.node 1024 then Some g.node else None)
-    → record { first = g.base / 4096; end = (g.base + (g.size - 1)) / 4096 + 1; node = node } ≡ frames_of (get_or (list_in s h) i d)
+pub region_frames : (s : List ExtentView) (h : Head) (i : ℕ) (g : Region) (node : Option ℕ) (d : RunOf LabelView) → i < h.count
+    → g ≡ decode_region (bytes_at (byte_of s) (h.place + 24 * i) 24) → node ≡ (if nat_lt g.node 1024 then Some g.node else None)
+    → record { first = g.base / 4096; end = (g.base + (g.size - 1)) / 4096 + 1; node = node } ≡ frames_of_record (get_or (records_of_head s h) i d)
 region_frames s h i g node d few is told =
     rw (told, is, record_by_bytes s h i d few, field_below (node_in (bytes_at (byte_of s) (h.place + 24 * i) 24))) refl
 
@@ -86,12 +86,12 @@ pub ascend_higher : (b c : ℕ) (rs : List (RunOf LabelView)) → b ≤ c → As
 ascend_higher b c [] order ascend = tt
 ascend_higher b c (r ∷ rs) order ascend = (ascend.0, omega arith, ascend.2, ascend_higher b c rs order ascend.3)
 
-pub records_higher : (s : List Stored) (h : Head) (b c : ℕ) → b ≤ c → HasRecords s h b → HasRecords s h c
+pub records_higher : (s : List ExtentView) (h : Head) (b c : ℕ) → b ≤ c → HasRecords s h b → HasRecords s h c
 records_higher s h b c order known =
-    record { few = known.few; fits = known.fits; ascend = ascend_higher b c (list_in s h) order known.ascend }
+    record { few = known.few; fits = known.fits; ascend = ascend_higher b c (records_of_head s h) order known.ascend }
 
 -- a record has at least one frame
-pub frames_order : (r : RunOf LabelView) (fs : RecordFrames) → fs ≡ frames_of r → fs.first < fs.end
+pub frames_order : (r : RunOf LabelView) (fs : RecordFrames) → fs ≡ frames_of_record r → fs.first < fs.end
 frames_order r fs is =
     let first : fs.first ≡ r.base / 4096 = ap (λ (g : RecordFrames). g.first) is in
     let end : fs.end ≡ (r.base + (r.size - 1)) / 4096 + 1 = ap (λ (g : RecordFrames). g.end) is in

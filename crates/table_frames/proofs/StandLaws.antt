@@ -4,16 +4,16 @@ use Rattle.std.specs.Option.{is_some, is_none, unwrap_or}
 use Rattle.std.proofs.lemmas.Bool.{cases_lt, cases_Bool}
 use Rattle.bm_base.specs.Frames.{bytes_of_frame}
 use Rattle.bm_base.proofs.EachLaws.{each_in-same}
-use Rattle.phys_store.specs.Bytes.{Stored, byte_of, bytes_at}
+use Rattle.phys_store.specs.Bytes.{ExtentView, byte_of, bytes_at}
 use Rattle.address_runs.specs.Runs.{RunOf, run_end, lies_in, value_at, AreRuns}
 use Rattle.address_runs.specs.Edits.{NothingFrom}
 use Rattle.address_runs.specs.Sweep.{StartAtOrPast}
 use Rattle.address_runs.proofs.RunsLaws.{inside, behind, rest_from}
 use Rattle.memblock_model.specs.Labels.{LabelView}
 use Rattle.memblock_ranges.specs.declared.region.Region.{Region}
-use Rattle.memblock_ranges.specs.Spelling.{node_in, node_of_field, node_field, region_in, region_of, records_at}
-use Rattle.memblock_ranges.specs.Tables.{Table, StandsIn, head_of, list_in}
-use Rattle.table_frames.specs.Frames.{node_below, node_told, node_of_frame, free_node_in}
+use Rattle.memblock_ranges.specs.Spelling.{node_in, node_of_field, node_field, decode_region, region_of, records_at}
+use Rattle.memblock_ranges.specs.Tables.{TableView, IsInStore, head_of, records_of_head}
+use Rattle.table_frames.specs.Frames.{valid_node, node_of_label, node_of_frame, free_node_in}
 use Rattle.table_frames.specs.Tables.{AscendBelow, HasRecords, AreWholeFrames}
 use Rattle.table_frames.proofs.RecordLaws.{field_below}
 use Rattle.table_frames.proofs.WholeLaws.{whole_by_value}
@@ -23,25 +23,25 @@ abbrev Alike : List (RunOf LabelView) → List (RunOf LabelView) → Type 0
 Alike [] [] = Unit {0}
 Alike [] (s ∷ ss) = ⊥
 Alike (r ∷ rs) [] = ⊥
-Alike (r ∷ rs) (s ∷ ss) = (r.base ≡ s.base) × (r.size ≡ s.size) × (node_below r.value.node ≡ node_below s.value.node) × Alike rs ss
+Alike (r ∷ rs) (s ∷ ss) = (r.base ≡ s.base) × (r.size ≡ s.size) × (valid_node r.value.node ≡ valid_node s.value.node) × Alike rs ss
 
-field_for : (o : Option ℕ) → node_below (node_of_field (unwrap_or o 1024)) ≡ node_below o
+field_for : (o : Option ℕ) → valid_node (node_of_field (unwrap_or o 1024)) ≡ valid_node o
 field_for None = refl
 field_for (Some n) = field_below n
 
 alike_from : (f : ℕ → ℕ) (a : ℕ) (rs : List (RunOf LabelView))
-    → ((i : ℕ) (r : RunOf LabelView) → i < length rs → region_in (bytes_at f (a + 24 * i) 24) ≡ region_of (get_or rs i r))
+    → ((i : ℕ) (r : RunOf LabelView) → i < length rs → decode_region (bytes_at f (a + 24 * i) 24) ≡ region_of (get_or rs i r))
     → Alike (records_at f a (length rs)) rs
 unfolding records_at
 alike_from f a [] regions = tt
 alike_from f a (r ∷ rs) regions =
-    let first : region_in (bytes_at f a 24) ≡ region_of r = rw add-zero at (regions 0 r (omega arith)) in
+    let first : decode_region (bytes_at f a 24) ≡ region_of r = rw add-zero at (regions 0 r (omega arith)) in
     let node : node_in (bytes_at f a 24) ≡ node_field r.value = ap (λ (g : Region). g.node) first in (
       ap (λ (g : Region). g.base) first,
       ap (λ (g : Region). g.size) first,
-      ap (λ n. node_below (node_of_field n)) node ∙ field_for r.value.node,
+      ap (λ n. valid_node (node_of_field n)) node ∙ field_for r.value.node,
       alike_from f (a + 24) rs
-          (λ i d few. ap (λ x. region_in (bytes_at f x 24)) (omega arith) ∙ regions (suc i) d (omega arith)),
+          (λ i d few. ap (λ x. decode_region (bytes_at f x 24)) (omega arith) ∙ regions (suc i) d (omega arith)),
     )
 
 -- such lists begin, end and have values alike
@@ -64,7 +64,7 @@ alike_ascends b rs ss alike ascend = absurd alike
 pub record TellsAlike (u v : Option LabelView) : Type 0 where
   pub there : is_some u ≡ is_some v
   pub bare : is_none u ≡ is_none v
-  pub node : node_told u ≡ node_told v
+  pub node : node_of_label u ≡ node_of_label v
 
 alike_tells : (x : ℕ) (rs ss : List (RunOf LabelView)) → Alike rs ss → TellsAlike (value_at rs x) (value_at ss x)
 alike_tells x [] [] alike = record { there = refl; bare = refl; node = refl }
@@ -76,7 +76,7 @@ alike_tells x (r ∷ rs) (s ∷ ss) alike =
     ]
 alike_tells x rs ss alike = absurd alike
 
-alike_stands : (t : Table) (s : List Stored) → StandsIn t s → Alike (list_in s (head_of t)) t.records
+alike_stands : (t : TableView) (s : List ExtentView) → IsInStore t s → Alike (records_of_head s (head_of t)) t.records
 alike_stands t s stands = alike_from (byte_of s) t.place t.records stands.regions
 
 -- a canonical list ascends
@@ -93,14 +93,14 @@ runs_ascend b (r ∷ rs) runs none =
       runs_ascend b rs runs.2 (λ x high. rw (behind r x (omega arith)) at (none x high)),
     )
 
-pub stands_below : (t : Table) (s : List Stored) (b : ℕ) → StandsIn t s → NothingFrom b (value_at t.records) → HasRecords s (head_of t) b
+pub stands_below : (t : TableView) (s : List ExtentView) (b : ℕ) → IsInStore t s → NothingFrom b (value_at t.records) → HasRecords s (head_of t) b
 stands_below t s b stands none = record {
   few = stands.few;
   fits = stands.fits;
-  ascend = alike_ascends b (list_in s (head_of t)) t.records (alike_stands t s stands) (runs_ascend b t.records stands.records.runs none);
+  ascend = alike_ascends b (records_of_head s (head_of t)) t.records (alike_stands t s stands) (runs_ascend b t.records stands.records.runs none);
 }
 
-pub stands_ascending : (t : Table) (s : List Stored) → StandsIn t s → HasRecords s (head_of t) (2 ^ 64)
+pub stands_ascending : (t : TableView) (s : List ExtentView) → IsInStore t s → HasRecords s (head_of t) (2 ^ 64)
 stands_ascending t s stands = stands_below t s (2 ^ 64) stands stands.records.within
 
 alike_whole : (rs ss : List (RunOf LabelView)) → Alike rs ss → AreWholeFrames ss → AreWholeFrames rs
@@ -109,22 +109,22 @@ alike_whole (r ∷ rs) (s ∷ ss) alike whole = (omega arith, omega arith, alike
 alike_whole rs ss alike whole = absurd alike
 
 -- if all addresses of a frame have the same value, the records that are read are whole frames
-pub stands_whole : (t : Table) (s : List Stored) → StandsIn t s
-    → ((x : ℕ) → value_at t.records x ≡ value_at t.records (4096 * (x / 4096))) → AreWholeFrames (list_in s (head_of t))
+pub stands_whole : (t : TableView) (s : List ExtentView) → IsInStore t s
+    → ((x : ℕ) → value_at t.records x ≡ value_at t.records (4096 * (x / 4096))) → AreWholeFrames (records_of_head s (head_of t))
 stands_whole t s stands same =
-    alike_whole (list_in s (head_of t)) t.records (alike_stands t s stands) (whole_by_value t.records stands.records.runs same)
+    alike_whole (records_of_head s (head_of t)) t.records (alike_stands t s stands) (whole_by_value t.records stands.records.runs same)
 
-pub stands_node : (t : Table) (s : List Stored) (frame : ℕ) → StandsIn t s
-    → node_of_frame (value_at (list_in s (head_of t))) frame ≡ node_of_frame (value_at t.records) frame
-stands_node t s frame stands = (alike_tells (4096 * frame) (list_in s (head_of t)) t.records (alike_stands t s stands)).node
+pub stands_node : (t : TableView) (s : List ExtentView) (frame : ℕ) → IsInStore t s
+    → node_of_frame (value_at (records_of_head s (head_of t))) frame ≡ node_of_frame (value_at t.records) frame
+stands_node t s frame stands = (alike_tells (4096 * frame) (records_of_head s (head_of t)) t.records (alike_stands t s stands)).node
 
-pub stands_free : (memory reserved : Table) (s : List Stored) (frame : ℕ) → StandsIn memory s → StandsIn reserved s
-    → free_node_in (value_at (list_in s (head_of memory))) (value_at (list_in s (head_of reserved))) frame
+pub stands_free : (memory reserved : TableView) (s : List ExtentView) (frame : ℕ) → IsInStore memory s → IsInStore reserved s
+    → free_node_in (value_at (records_of_head s (head_of memory))) (value_at (records_of_head s (head_of reserved))) frame
     ≡ free_node_in (value_at memory.records) (value_at reserved.records) frame
 unfolding free_node_in
 stands_free memory reserved s frame first second =
-    let ms = list_in s (head_of memory) in
-    let rs = list_in s (head_of reserved) in
+    let ms = records_of_head s (head_of memory) in
+    let rs = records_of_head s (head_of reserved) in
     let each = each_in-same (bytes_of_frame frame) (λ x. is_some (value_at ms x) && is_none (value_at rs x))
     (λ x. is_some (value_at memory.records x) && is_none (value_at reserved.records x))
     (λ y above below. rw (

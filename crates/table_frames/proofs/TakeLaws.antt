@@ -8,7 +8,7 @@ use Rattle.address_runs.proofs.RunsLaws.{inside}
 use Rattle.address_runs.proofs.SweepLaws.{value_append_none, value_append_left}
 use Rattle.memblock_model.specs.Labels.{LabelView}
 use Rattle.table_frames.specs.declared.frames.RecordFrames.{RecordFrames}
-use Rattle.table_frames.specs.Frames.{node_of_frame, frames_of}
+use Rattle.table_frames.specs.Frames.{node_of_frame, frames_of_record}
 use Rattle.table_frames.specs.Tables.{AscendBelow, AreWholeFrames}
 use Rattle.table_frames.proofs.RecordLaws.{ascend_at, taken_none, in_order, frames_order}
 use Rattle.table_frames.proofs.WholeLaws.{whole_at, first_byte, other_byte}
@@ -25,7 +25,7 @@ tests_both first x end holds = grind (arith, nat_tests)
 -- the values of the records up to one, with the frames of that one
 pub node_more : (b : ℕ) (ms : List (RunOf LabelView)) (i x : ℕ) (d : RunOf LabelView) → AscendBelow b ms → AreWholeFrames ms → i < length ms
     → node_of_frame (value_at (take (i + 1) ms)) x
-    ≡ (if nat_le (frames_of (get_or ms i d)).first x && nat_lt x (frames_of (get_or ms i d)).end then (frames_of (get_or ms i d)).node
+    ≡ (if nat_le (frames_of_record (get_or ms i d)).first x && nat_lt x (frames_of_record (get_or ms i d)).end then (frames_of_record (get_or ms i d)).node
     else node_of_frame (value_at (take i ms)) x)
 node_more b ms i x d ascend whole few =
     let r : RunOf LabelView = get_or ms i d in
@@ -38,11 +38,11 @@ node_more b ms i x d ascend whole few =
           rw (
             value_append_none (take i ms) (r ∷ []) (4096 * x) (taken_none b ms i (4096 * x) d ascend few ends.0),
             lies,
-            both_tests (frames_of r).first x (frames_of r).end frames.0 frames.1,
+            both_tests (frames_of_record r).first x (frames_of_record r).end frames.0 frames.1,
           ) refl
       | inr away ↦
-          let test : (nat_le (frames_of r).first x && nat_lt x (frames_of r).end) ≡ false = false_from_ne_true _ (λ holds.
-          let parts = tests_both (frames_of r).first x (frames_of r).end holds in
+          let test : (nat_le (frames_of_record r).first x && nat_lt x (frames_of_record r).end) ≡ false = false_from_ne_true _ (λ holds.
+          let parts = tests_both (frames_of_record r).first x (frames_of_record r).end holds in
           let bytes = first_byte r x some sizes.0 sizes.1 parts.0 parts.1 in
           cc (sym (inside r (4096 * x) bytes.0 bytes.1) ∙ away)) in
           rw (value_append_left (take i ms) (r ∷ []) (4096 * x) (rw away refl), test) refl
@@ -50,7 +50,7 @@ node_more b ms i x d ascend whole few =
 
 -- the frames of a record: at least one, below the bound, in the order of the records
 pub frames_below : (b m : ℕ) (ms : List (RunOf LabelView)) (i : ℕ) (d : RunOf LabelView) (fs : RecordFrames) → AscendBelow b ms → i < length ms
-    → fs ≡ frames_of (get_or ms i d) → b ≤ 4096 * m → fs.end ≤ m
+    → fs ≡ frames_of_record (get_or ms i d) → b ≤ 4096 * m → fs.end ≤ m
 frames_below b m ms i d fs ascend few is bound =
     let r : RunOf LabelView = get_or ms i d in
     let fits = ascend_at b ms i d ascend few in
@@ -59,7 +59,7 @@ frames_below b m ms i d fs ascend few is bound =
 
 pub frames_in_order : (b : ℕ) (ms : List (RunOf LabelView)) (i k : ℕ) (d : RunOf LabelView) (fs : RecordFrames) → AscendBelow b ms
     → AreWholeFrames ms
-    → i < k → k < length ms → fs ≡ frames_of (get_or ms i d) → fs.end ≤ (frames_of (get_or ms k d)).first
+    → i < k → k < length ms → fs ≡ frames_of_record (get_or ms i d) → fs.end ≤ (frames_of_record (get_or ms k d)).first
 frames_in_order b ms i k d fs ascend whole order few is =
     let r : RunOf LabelView = get_or ms i d in
     let s : RunOf LabelView = get_or ms k d in
@@ -69,5 +69,5 @@ frames_in_order b ms i k d fs ascend whole order few is =
     let end : fs.end ≡ (r.base + (r.size - 1)) / 4096 + 1 = ap (λ (g : RecordFrames). g.end) is in
     omega arith
 
-pub frames_some : (r : RunOf LabelView) (fs : RecordFrames) → fs ≡ frames_of r → fs.first ≤ fs.end
+pub frames_some : (r : RunOf LabelView) (fs : RecordFrames) → fs ≡ frames_of_record r → fs.first ≤ fs.end
 frames_some r fs is = omega (arith, frames_order r fs is)

@@ -10,7 +10,7 @@ use Rattle.address_runs.specs.Runs.{RunOf, run_end, lies_in, value_at, AreRuns}
 use Rattle.address_runs.specs.Sweep.{StartAtOrPast}
 use Rattle.address_runs.proofs.RunsLaws.{inside, behind, none_below, rest_from, other_behind}
 use Rattle.memblock_model.specs.Labels.{LabelView, Labels}
-use Rattle.table_frames.specs.Frames.{node_told, node_of_frame, is_unclaimed, free_node_in, frames_of}
+use Rattle.table_frames.specs.Frames.{node_of_label, node_of_frame, is_unclaimed, free_node_in, frames_of_record}
 use Rattle.table_frames.specs.Tables.{AreWholeFrames}
 
 lies_whole : (r : RunOf LabelView) (y : ℕ) → r.base % 4096 ≡ 0 → r.size % 4096 ≡ 0 → lies_in r y ≡ lies_in r (4096 * (y / 4096))
@@ -30,11 +30,11 @@ whole_at (r ∷ rs) (suc i) d whole few = whole_at rs i d whole.2 (omega arith)
 
 -- the first byte of each frame of such a record is in the record
 pub first_byte : (r : RunOf LabelView) (x : ℕ) → 0 < r.size → r.base % 4096 ≡ 0 → r.size % 4096 ≡ 0
-    → (frames_of r).first ≤ x → x < (frames_of r).end → (r.base ≤ 4096 * x) × (4096 * x < run_end r)
+    → (frames_of_record r).first ≤ x → x < (frames_of_record r).end → (r.base ≤ 4096 * x) × (4096 * x < run_end r)
 first_byte r x some base size from until = (omega arith, omega arith)
 
 pub other_byte : (r : RunOf LabelView) (x : ℕ) → 0 < r.size → r.base % 4096 ≡ 0 → r.size % 4096 ≡ 0
-    → r.base ≤ 4096 * x → 4096 * x < run_end r → ((frames_of r).first ≤ x) × (x < (frames_of r).end)
+    → r.base ≤ 4096 * x → 4096 * x < run_end r → ((frames_of_record r).first ≤ x) × (x < (frames_of_record r).end)
 other_byte r x some base size from until = (omega arith, omega arith)
 
 -- in memory of whole frames, a frame is free if its first byte is memory and none of its bytes is
@@ -49,7 +49,7 @@ free_by_first ms reserved x whole =
     let same : (y : ℕ) → 4096 * x ≤ y → y < 4096 * x + 4096 → value_at ms y ≡ first = λ y above below.
     whole_value ms y whole ∙ ap (value_at ms) (omega arith) in
     let Free : Option LabelView → Type 0 = λ v. value_at ms (4096 * x) ≡ v →
-    (if each_in (bytes_of_frame x) bare then node_told v else None) ≡ (if each_in (bytes_of_frame x) both then node_told v else None) in
+    (if each_in (bytes_of_frame x) bare then node_of_label v else None) ≡ (if each_in (bytes_of_frame x) both then node_of_label v else None) in
     let at : (v : Option LabelView) → Free v = λ v. elim v as Free [
       | None ↦ λ is. grind arith
       | Some label ↦ λ is.

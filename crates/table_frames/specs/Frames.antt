@@ -9,22 +9,22 @@ use Rattle.table_frames.specs.declared.frames.RecordFrames.{RecordFrames}
 use Rattle.table_frames.specs.declared.frames.TheConstants.{MAX_NODES}
 
 -- the node, if its number is below 1,024; any other number means no node
-abbrev pub node_below : Option ℕ → Option ℕ
-node_below None = None
-node_below (Some n) = if nat_lt n MAX_NODES then Some n else None
+abbrev pub valid_node : Option ℕ → Option ℕ
+valid_node None = None
+valid_node (Some n) = if nat_lt n MAX_NODES then Some n else None
 
 -- the node of a byte with this value in the memory table
-abbrev pub node_told : Option LabelView → Option ℕ
-node_told None = None
-node_told (Some label) = node_below label.node
+abbrev pub node_of_label : Option LabelView → Option ℕ
+node_of_label None = None
+node_of_label (Some label) = valid_node label.node
 
 -- the frames that overlap a record, and their node
-abbrev pub frames_of : RunOf LabelView → RecordFrames
-frames_of r = record { first = r.base / FRAME_SIZE; end = (r.base + (r.size - 1)) / FRAME_SIZE + 1; node = node_below r.value.node }
+abbrev pub frames_of_record : RunOf LabelView → RecordFrames
+frames_of_record r = record { first = r.base / FRAME_SIZE; end = (r.base + (r.size - 1)) / FRAME_SIZE + 1; node = valid_node r.value.node }
 
 -- the node of a frame is that of its first byte
 abbrev pub node_of_frame : Labels → ℕ → Option ℕ
-node_of_frame memory frame = node_told (memory (FRAME_SIZE * frame))
+node_of_frame memory frame = node_of_label (memory (FRAME_SIZE * frame))
 
 -- the table has no byte of the frame
 unfoldable pub is_unclaimed : Labels → ℕ → Bool

@@ -3,10 +3,10 @@ use Rattle.std.specs.Prelude.{◌≡◌, ℕ, ◌+◌, ◌*◌, ◌%◌, ◌^◌
 use Rattle.bm_base.specs.declared.range.TheConstants.{FRAME_SIZE}
 use Rattle.address_runs.specs.Runs.{RunOf, run_end}
 use Rattle.address_runs.specs.Sweep.{StartAtOrPast}
-use Rattle.phys_store.specs.Bytes.{Stored}
+use Rattle.phys_store.specs.Bytes.{ExtentView}
 use Rattle.memblock_model.specs.Labels.{LabelView}
 use Rattle.memblock_ranges.specs.declared.region.Head.{Head}
-use Rattle.memblock_ranges.specs.Tables.{list_in}
+use Rattle.memblock_ranges.specs.Tables.{records_of_head}
 
 -- no record is empty, each ends at or below the bound, and each begins at or above the end of the
 -- one before it
@@ -15,10 +15,10 @@ AscendBelow bound [] = Unit {0}
 AscendBelow bound (r ∷ rs) = (0 < r.size) × (run_end r ≤ bound) × StartAtOrPast (run_end r) rs × AscendBelow bound rs
 
 -- the bytes at the head are such a list, and its room is below 2^64
-pub record HasRecords (store : List Stored) (head : Head) (bound : ℕ) : Type 0 where
+pub record HasRecords (store : List ExtentView) (head : Head) (bound : ℕ) : Type 0 where
   pub few : head.count ≤ head.room
   pub fits : head.place + 24 * head.room < 2 ^ 64
-  pub ascend : AscendBelow bound (list_in store head)
+  pub ascend : AscendBelow bound (records_of_head store head)
 
 -- the records begin and end at borders of frames
 abbrev pub AreWholeFrames : List (RunOf LabelView) → Type 0

@@ -2,7 +2,7 @@
 //! have only the bytes, and no table whose contract ensures it.
 
 ghost use Rattle.std.specs.Prelude.{◌≡◌, ◌+◌, ◌*◌, ◌%◌, ◌^◌, ◌<◌, ◌≤◌, ◌↔◌, IsTrue};
-ghost use Rattle.memblock_ranges.specs.Tables.{list_in};
+ghost use Rattle.memblock_ranges.specs.Tables.{records_of_head};
 ghost use Rattle.table_frames.specs.Tables.{HasRecords, AreWholeFrames};
 
 use bm_base::FRAME_SIZE;
@@ -13,7 +13,7 @@ use phys_store::Store;
 const RECORD_SIZE: u64 = 24;
 
 /// Tests whether the head has room for its records, and all of that room is below 2^64.
-fn has_room(head: &Head) -> bool
+fn head_has_room(head: &Head) -> bool
     ensures { IsTrue result ↔ (head.now.count ≤ head.now.room) × (head.now.place + 24 * head.now.room < 2 ^ 64) }
 {
     let Some(size) = head.room.checked_mul(RECORD_SIZE) else {
@@ -33,7 +33,7 @@ fn is_in_place(region: &Region, from: u64, bound: u64) -> bool
 }
 
 /// Tests whether the record begins and ends at the border of a frame.
-fn is_whole(region: &Region) -> bool
+fn is_whole_frames(region: &Region) -> bool
     ensures { IsTrue result ↔ (region.now.base % FRAME_SIZE ≡ 0) × (region.now.size % FRAME_SIZE ≡ 0) }
 {
     region.base % FRAME_SIZE == 0 && region.size % FRAME_SIZE == 0
@@ -45,7 +45,7 @@ pub fn has_records(store: &Store, head: &Head, bound: u64) -> bool
     ensures list { IsTrue result ↔ HasRecords store.now head.now bound }
     ensures space { IsTrue result → HasRecords store.now head.now (2 ^ 64) }
 {
-    if !has_room(head) {
+    if !head_has_room(head) {
         return false;
     }
     let mut from = 0;
@@ -63,11 +63,11 @@ pub fn has_records(store: &Store, head: &Head, bound: u64) -> bool
 /// be a list of records.
 pub fn has_whole_frames(store: &Store, head: &Head) -> bool
     requires { HasRecords store.now head.now (2 ^ 64) }
-    ensures { IsTrue result ↔ AreWholeFrames (list_in store.now head.now) }
+    ensures { IsTrue result ↔ AreWholeFrames (records_of_head store.now head.now) }
 {
     for i in 0..head.count {
         let region = region_at(store, head, i);
-        if !is_whole(&region) {
+        if !is_whole_frames(&region) {
             return false;
         }
     }

@@ -5,8 +5,8 @@
 ghost use Rattle.std.specs.Prelude.{◌≡◌, ◌^◌, ◌<◌, get_or};
 ghost use Rattle.address_runs.specs.Runs.{RunOf};
 ghost use Rattle.memblock_model.specs.Labels.{LabelView};
-ghost use Rattle.memblock_ranges.specs.Tables.{list_in};
-ghost use Rattle.table_frames.specs.Frames.{frames_of};
+ghost use Rattle.memblock_ranges.specs.Tables.{records_of_head};
+ghost use Rattle.table_frames.specs.Frames.{frames_of_record};
 ghost use Rattle.table_frames.specs.Tables.{HasRecords};
 
 use bm_base::FRAME_SIZE;
@@ -28,10 +28,10 @@ pub struct RecordFrames {
 }
 
 /// Returns the frames of the record with index `i`, counted from 0, in the table at this head.
-pub fn frames_at(store: &Store, head: &Head, i: u64) -> RecordFrames
+pub fn frames_of_record(store: &Store, head: &Head, i: u64) -> RecordFrames
     requires table { HasRecords store.now head.now (2 ^ 64) }
     requires within { i < head.now.count }
-    ensures { (r : RunOf LabelView) → result ≡ frames_of (get_or (list_in store.now head.now) i r) }
+    ensures { (r : RunOf LabelView) → result ≡ frames_of_record (get_or (records_of_head store.now head.now) i r) }
 {
     let region = region_at(store, head, i);
     let last = region.base + (region.size - 1);

@@ -3,8 +3,8 @@ use Rattle.std.proofs.Common.{◌≡◌, nat_le, nat_lt, ◌&&◌, true, false, 
 use Rattle.bm_base.specs.declared.zone.Zone.TheVariants as zone
 use Rattle.frame_blocks.specs.Frames.{Frames}
 use Rattle.zone_spans.specs.declared.span.Span.{Span}
-use Rattle.zone_spans.specs.Spans.{is_in, with_frames, span_below, number_below}
-use Rattle.zone_spans.specs.Slots.{place_of, with_run, slot_with}
+use Rattle.zone_spans.specs.Spans.{is_in_node_zone, with_frames, span_below, count_below_in_zone}
+use Rattle.zone_spans.specs.Slots.{zone_index, frames_with_node_run, slot_after}
 
 -- frames 1 and 3 are memory of node 7
 abbrev holed : Frames
@@ -14,18 +14,18 @@ abbrev both : Span
 both = record { node = 7; zone = zone.Dma; start = 1; end = 4; present = 2 }
 
 -- the hole is inside the span, but isn't counted
-span_examples : (is_in holed 7 zone.Dma 3 ≡ true) × (is_in holed 7 zone.Dma 2 ≡ false) × (is_in holed 7 zone.Dma32 3 ≡ false)
-    × (is_in holed 6 zone.Dma 3 ≡ false)
+span_examples : (is_in_node_zone holed 7 zone.Dma 3 ≡ true) × (is_in_node_zone holed 7 zone.Dma 2 ≡ false) × (is_in_node_zone holed 7 zone.Dma32 3 ≡ false)
+    × (is_in_node_zone holed 6 zone.Dma 3 ≡ false)
     × (with_frames 7 zone.Dma 1 1 None ≡ record { node = 7; zone = zone.Dma; start = 1; end = 2; present = 1 })
     × (with_frames 7 zone.Dma 3 1 (Some (record { node = 7; zone = zone.Dma; start = 1; end = 2; present = 1 })) ≡ both)
     × (span_below holed 7 zone.Dma 5 ≡ Some both) × (span_below holed 7 zone.Dma32 5 ≡ None)
     × (span_below holed 7 zone.Dma 1 ≡ None)
-    × (number_below holed 7 zone.Dma 5 ≡ 2) × (number_below holed 7 zone.Dma 2 ≡ 1)
-unfolding span_below number_below
+    × (count_below_in_zone holed 7 zone.Dma 5 ≡ 2) × (count_below_in_zone holed 7 zone.Dma 2 ≡ 1)
+unfolding span_below count_below_in_zone
 span_examples = (refl, refl, refl, refl, refl, refl, refl, refl, refl, refl, refl)
 
-place_examples : (place_of zone.Dma ≡ 0) × (place_of zone.Dma32 ≡ 1) × (place_of zone.Normal ≡ 2)
-    × (with_run 4 6 7 holed 5 ≡ Some 7) × (with_run 4 6 7 holed 6 ≡ None) × (with_run 4 6 8 holed 3 ≡ Some 7)
-    × (slot_with 7 zone.Dma 1 2 None 21 ≡ Some (record { node = 7; zone = zone.Dma; start = 1; end = 2; present = 1 }))
-    × (slot_with 7 zone.Dma 1 2 None 22 ≡ None)
+place_examples : (zone_index zone.Dma ≡ 0) × (zone_index zone.Dma32 ≡ 1) × (zone_index zone.Normal ≡ 2)
+    × (frames_with_node_run 4 6 7 holed 5 ≡ Some 7) × (frames_with_node_run 4 6 7 holed 6 ≡ None) × (frames_with_node_run 4 6 8 holed 3 ≡ Some 7)
+    × (slot_after 7 zone.Dma 1 2 None 21 ≡ Some (record { node = 7; zone = zone.Dma; start = 1; end = 2; present = 1 }))
+    × (slot_after 7 zone.Dma 1 2 None 22 ≡ None)
 place_examples = (refl, refl, refl, refl, refl, refl, refl, refl)

@@ -13,22 +13,22 @@ use Rattle.frame_blocks.proofs.CountLaws.{zone_self, zone_is}
 use Rattle.table_frames.specs.declared.frames.TheConstants.{MAX_NODES}
 use Rattle.zone_spans.specs.declared.span.Span.{Span}
 use Rattle.zone_spans.specs.Spans.{with_frames, span_below, span_of, spans_from, spans_of}
-use Rattle.zone_spans.specs.Slots.{place_of, AreSpans, AreBounded, with_run, slot_with, somes}
+use Rattle.zone_spans.specs.Slots.{zone_index, AreSpans, AreSpansBounded, frames_with_node_run, slot_after, spans_in_slots}
 use Rattle.zone_spans.proofs.SpanLaws.{same_below, skip, grow}
 
 -- each zone has its own index
-low_place : (a : Zone) → place_of a < 3
+low_place : (a : Zone) → zone_index a < 3
 low_place a = grind arith
 
-zone_by_place : (a b : Zone) → place_of a ≡ place_of b → a ≡ b
+zone_by_place : (a b : Zone) → zone_index a ≡ zone_index b → a ≡ b
 zone_by_place a b h = grind arith
 
 -- frames of the node and the zone are added, above all others
 span_grown : (f : Frames) (n at until m : ℕ) (w : Zone) → NothingFrom at f → at < until → until ≤ m
     → ((x : ℕ) → at ≤ x → x < until → zone_of x ≡ w)
-    → span_below (with_run at until n f) n w m ≡ Some (with_frames n w at (until - at) (span_below f n w m))
+    → span_below (frames_with_node_run at until n f) n w m ≡ Some (with_frames n w at (until - at) (span_below f n w m))
 span_grown f n at until m w nothing some low zones =
-    let g : Frames = with_run at until n f in
+    let g : Frames = frames_with_node_run at until n f in
     let k : ℕ = until - at - 1 in
     let behind = skip g n w until (m - until) (λ x above below. grind (arith, nat_tests, nothing x)) in
     let grown = grow g n w at k (λ x above below. grind (arith, nat_tests, zones x, zone_self w)) in
@@ -38,14 +38,14 @@ span_grown f n at until m w nothing some low zones =
 
 -- frames of another node or zone change nothing
 span_other : (f : Frames) (n k at until m : ℕ) (z w : Zone) → NothingFrom at f → ((x : ℕ) → at ≤ x → x < until → zone_of x ≡ w)
-    → ((k ≡ n) → (w ≡ z) → ⊥) → span_below (with_run at until k f) n z m ≡ span_below f n z m
+    → ((k ≡ n) → (w ≡ z) → ⊥) → span_below (frames_with_node_run at until k f) n z m ≡ span_below f n z m
 span_other f n k at until m z w nothing zones other =
-    same_below (with_run at until k f) f n z m (λ x low. grind (arith, nat_tests, nothing x, zones x, other, zone_is (zone_of x) z))
+    same_below (frames_with_node_run at until k f) f n z m (λ x low. grind (arith, nat_tests, nothing x, zones x, other, zone_is (zone_of x) z))
 
 -- the slots have the spans after one of them is changed
 pub told_more : (f : Frames) (k at until : ℕ) (w : Zone) (old new : List (Option Span)) → NothingFrom at f → at < until → until ≤ 2 ^ 52
     → ((x : ℕ) → at ≤ x → x < until → zone_of x ≡ w) → AreSpans f old
-    → ((i : ℕ) → get_or new i None ≡ slot_with k w at until (get_or old i None) i) → AreSpans (with_run at until k f) new
+    → ((i : ℕ) → get_or new i None ≡ slot_after k w at until (get_or old i None) i) → AreSpans (frames_with_node_run at until k f) new
 unfolding span_of
 told_more f k at until w old new nothing some low zones told put n z =
     let grown = span_grown f k at until (2 ^ 52) w nothing some low zones in
@@ -54,20 +54,20 @@ told_more f k at until w old new nothing some low zones told put n z =
 
 -- a run in two parts
 pub run_parts : (first at until n : ℕ) (f : Frames) → first ≤ at → at ≤ until
-    → with_run at until n (with_run first at n f) ≡ with_run first until n f
+    → frames_with_node_run at until n (frames_with_node_run first at n f) ≡ frames_with_node_run first until n f
 run_parts first at until n f order order_too =
-    let same : (x : ℕ) → with_run at until n (with_run first at n f) x ≡ with_run first until n f x = λ x. grind (arith, nat_tests) in
+    let same : (x : ℕ) → frames_with_node_run at until n (frames_with_node_run first at n f) x ≡ frames_with_node_run first until n f x = λ x. grind (arith, nat_tests) in
     λ j x. same x j
 
-pub nothing_behind : (first at n : ℕ) (f : Frames) → first ≤ at → NothingFrom first f → NothingFrom at (with_run first at n f)
+pub nothing_behind : (first at n : ℕ) (f : Frames) → first ≤ at → NothingFrom first f → NothingFrom at (frames_with_node_run first at n f)
 nothing_behind first at n f order nothing x above = grind (arith, nat_tests, nothing x)
 
 -- the bound rises with the frames
-pub bounded_more : (k at until : ℕ) (w : Zone) (old new : List (Option Span)) → at ≤ until → AreBounded at old
-    → ((i : ℕ) → get_or new i None ≡ slot_with k w at until (get_or old i None) i) → AreBounded until new
+pub bounded_more : (k at until : ℕ) (w : Zone) (old new : List (Option Span)) → at ≤ until → AreSpansBounded at old
+    → ((i : ℕ) → get_or new i None ≡ slot_after k w at until (get_or old i None) i) → AreSpansBounded until new
 bounded_more k at until w old new order bound put i s is = grind (arith, nat_tests, put i, bound i)
 
-pub bounded_higher : (at higher : ℕ) (slots : List (Option Span)) → at ≤ higher → AreBounded at slots → AreBounded higher slots
+pub bounded_higher : (at higher : ℕ) (slots : List (Option Span)) → at ≤ higher → AreSpansBounded at slots → AreSpansBounded higher slots
 bounded_higher at higher slots order bound i s is = omega (arith, bound i s is)
 
 -- without any frames there is no span
@@ -78,16 +78,16 @@ told_none f bare n z =
     sym (ap (span_below f n z) all ∙ skip f n z 0 (2 ^ 52) (λ x above below. rw (bare x) refl))
 
 -- the list of the content of the slots
-pub somes_drop : (xs : List (Option Span)) (i : ℕ) → somes (drop i xs) ≡ option_to_list (get_or xs i None) ++ somes (drop (suc i) xs)
+pub somes_drop : (xs : List (Option Span)) (i : ℕ) → spans_in_slots (drop i xs) ≡ option_to_list (get_or xs i None) ++ spans_in_slots (drop (suc i) xs)
 somes_drop [] zero = refl
 somes_drop [] (suc i) = refl
 somes_drop (x ∷ xs) zero = refl
 somes_drop (x ∷ xs) (suc i) = somes_drop xs i
 
 listed_from : (f : Frames) (slots : List (Option Span)) (n k : ℕ) → AreSpans f slots → length slots ≤ 3 * (n + k)
-    → somes (drop (3 * n) slots) ≡ spans_from f n k
+    → spans_in_slots (drop (3 * n) slots) ≡ spans_from f n k
 unfolding spans_from
-listed_from f slots n zero told few = ap somes (drop_all (3 * n) slots (omega arith))
+listed_from f slots n zero told few = ap spans_in_slots (drop_all (3 * n) slots (omega arith))
 listed_from f slots n (suc k) told few =
     let i : ℕ = 3 * n in
     let one : get_or slots i None ≡ span_of f n zone.Dma = rw add-zero at (told n zone.Dma) in
@@ -98,6 +98,6 @@ listed_from f slots n (suc k) told few =
     let rest = listed_from f slots (n + 1) k told (omega (arith, few)) in
     rw (somes_drop slots i, one, somes_drop slots (suc i), two, somes_drop slots (suc (suc i)), three, next, rest) (simp append_assoc)
 
-pub listed : (f : Frames) (slots : List (Option Span)) → AreSpans f slots → length slots ≤ 3072 → somes slots ≡ spans_of f
+pub listed : (f : Frames) (slots : List (Option Span)) → AreSpans f slots → length slots ≤ 3072 → spans_in_slots slots ≡ spans_of f
 unfolding spans_of
 listed f slots told few = listed_from f slots 0 MAX_NODES told (omega (arith, few))

@@ -6,29 +6,29 @@ use Rattle.frame_blocks.specs.Frames.{Frames}
 use Rattle.zone_spans.specs.declared.span.Span.{Span}
 use Rattle.zone_spans.specs.Spans.{span_of, with_frames}
 
-abbrev pub place_of : Zone → ℕ
-place_of zone.Dma = 0
-place_of zone.Dma32 = 1
-place_of zone.Normal = 2
+abbrev pub zone_index : Zone → ℕ
+zone_index zone.Dma = 0
+zone_index zone.Dma32 = 1
+zone_index zone.Normal = 2
 
 -- each slot has the span of its node and zone
 abbrev pub AreSpans : Frames → List (Option Span) → Type 0
-AreSpans f slots = (n : ℕ) (z : Zone) → get_or slots (3 * n + place_of z) None ≡ span_of f n z
+AreSpans f slots = (n : ℕ) (z : Zone) → get_or slots (3 * n + zone_index z) None ≡ span_of f n z
 
 -- no span has more frames than there are below this one
-abbrev pub AreBounded : ℕ → List (Option Span) → Type 0
-AreBounded at slots = (i : ℕ) (s : Span) → get_or slots i None ≡ Some s → s.present ≤ at
+abbrev pub AreSpansBounded : ℕ → List (Option Span) → Type 0
+AreSpansBounded at slots = (i : ℕ) (s : Span) → get_or slots i None ≡ Some s → s.present ≤ at
 
 -- the frames from `first` to below `end` are of the node; the others are unchanged
-abbrev pub with_run : ℕ → ℕ → ℕ → Frames → Frames
-with_run first end n f x = if nat_le first x && nat_lt x end then Some n else f x
+abbrev pub frames_with_node_run : ℕ → ℕ → ℕ → Frames → Frames
+frames_with_node_run first end n f x = if nat_le first x && nat_lt x end then Some n else f x
 
 -- the content of a slot after the frames from `start` to below `end` of a node and a zone were
 -- added
-abbrev pub slot_with : ℕ → Zone → ℕ → ℕ → Option Span → ℕ → Option Span
-slot_with n z start end held i = if i == 3 * n + place_of z then Some (with_frames n z start (end - start) held) else held
+abbrev pub slot_after : ℕ → Zone → ℕ → ℕ → Option Span → ℕ → Option Span
+slot_after n z start end held i = if i == 3 * n + zone_index z then Some (with_frames n z start (end - start) held) else held
 
 -- the spans in the slots, in the order of the slots
-abbrev pub somes : List (Option Span) → List Span
-somes [] = []
-somes (s ∷ ss) = option_to_list s ++ somes ss
+abbrev pub spans_in_slots : List (Option Span) → List Span
+spans_in_slots [] = []
+spans_in_slots (s ∷ ss) = option_to_list s ++ spans_in_slots ss

@@ -5,13 +5,13 @@ use Rattle.bm_base.specs.declared.zone.Zone.{Zone}
 use Rattle.bm_base.specs.declared.zone.Zone.TheVariants as zone
 use Rattle.bm_base.specs.Zones.{zone_of}
 use Rattle.frame_blocks.specs.Frames.{Frames}
-use Rattle.frame_blocks.specs.Listed.{is_node, same_zone}
+use Rattle.frame_blocks.specs.Listed.{is_node, is_same_zone}
 use Rattle.table_frames.specs.declared.frames.TheConstants.{MAX_NODES}
 use Rattle.zone_spans.specs.declared.span.Span.{Span}
 
 -- the frame is memory of the node and in the zone
-abbrev pub is_in : Frames → ℕ → Zone → ℕ → Bool
-is_in f n z x = is_node (f x) n && same_zone (zone_of x) z
+abbrev pub is_in_node_zone : Frames → ℕ → Zone → ℕ → Bool
+is_in_node_zone f n z x = is_node (f x) n && is_same_zone (zone_of x) z
 
 -- the span with more frames, from `first` on, which are above those that it has
 abbrev pub with_frames : ℕ → Zone → ℕ → ℕ → Option Span → Span
@@ -21,7 +21,7 @@ with_frames n z first count (Some s) = record { node = n; zone = z; start = s.st
 -- the span of the frames below m; None if none of them is of the node and in the zone
 unfoldable pub span_below : Frames → ℕ → Zone → ℕ → Option Span
 span_below f n z zero = None
-span_below f n z (suc m) = if is_in f n z m then Some (with_frames n z m 1 (span_below f n z m)) else span_below f n z m
+span_below f n z (suc m) = if is_in_node_zone f n z m then Some (with_frames n z m 1 (span_below f n z m)) else span_below f n z m
 
 -- the span of all frames: each address of 64 bits is in a frame below 2 ^ 52
 unfoldable pub span_of : Frames → ℕ → Zone → Option Span
@@ -42,17 +42,17 @@ unfoldable pub spans_of : Frames → List Span
 spans_of f = spans_from f 0 MAX_NODES
 
 -- how many of the frames below m are of the node and in the zone
-unfoldable pub number_below : Frames → ℕ → Zone → ℕ → ℕ
-number_below f n z zero = 0
-number_below f n z (suc m) = (if is_in f n z m then 1 else 0) + number_below f n z m
+unfoldable pub count_below_in_zone : Frames → ℕ → Zone → ℕ → ℕ
+count_below_in_zone f n z zero = 0
+count_below_in_zone f n z (suc m) = (if is_in_node_zone f n z m then 1 else 0) + count_below_in_zone f n z m
 
 -- what a span states of the frames below m
 pub record IsSpan (f : Frames) (n : ℕ) (z : Zone) (m : ℕ) (s : Span) : Type 0 where
   pub node : s.node ≡ n
   pub zone : s.zone ≡ z
   pub some : s.start < s.end
-  pub first : is_in f n z s.start ≡ true
-  pub last : is_in f n z (s.end - 1) ≡ true
+  pub first : is_in_node_zone f n z s.start ≡ true
+  pub last : is_in_node_zone f n z (s.end - 1) ≡ true
   pub within : s.end ≤ m
-  pub all : (x : ℕ) → x < m → is_in f n z x ≡ true → (s.start ≤ x) × (x < s.end)
-  pub present : s.present ≡ number_below f n z m
+  pub all : (x : ℕ) → x < m → is_in_node_zone f n z x ≡ true → (s.start ≤ x) × (x < s.end)
+  pub present : s.present ≡ count_below_in_zone f n z m

@@ -5,12 +5,12 @@ ghost use Rattle.std.specs.Prelude.{◌≡◌, ◌^◌, ℕ, ◌<◌, true, fals
 ghost use Rattle.bm_base.specs.declared.zone.Zone.{Zone as AnyZone};
 ghost use Rattle.frame_blocks.specs.Frames.{Frames};
 ghost use Rattle.zone_spans.specs.declared.span.Span.{Span as AnySpan};
-ghost use Rattle.zone_spans.specs.Spans.{is_in, span_of, IsSpan};
+ghost use Rattle.zone_spans.specs.Spans.{is_in_node_zone, span_of, IsSpan};
 
 /// Law: the span of a node and a zone begins at a frame of theirs, ends after one, has all others
 /// of theirs between, and `present` is their number. There is no span exactly if no frame is of
 /// that node and zone.
 pub fn spans_are_of_frames()
     ensures some { (f : Frames) (n : ℕ) (z : AnyZone) (s : AnySpan) → span_of f n z ≡ Some s → IsSpan f n z (2 ^ 52) s }
-    ensures none { (f : Frames) (n : ℕ) (z : AnyZone) (x : ℕ) → span_of f n z ≡ None → x < 2 ^ 52 → is_in f n z x ≡ false }
+    ensures none { (f : Frames) (n : ℕ) (z : AnyZone) (x : ℕ) → span_of f n z ≡ None → x < 2 ^ 52 → is_in_node_zone f n z x ≡ false }
 {}

@@ -6,7 +6,7 @@ ghost use Rattle.bm_base.specs.Zones.{zone_of};
 ghost use Rattle.address_runs.specs.Edits.{NothingFrom};
 ghost use Rattle.frame_blocks.specs.Frames.{Frames};
 ghost use Rattle.zone_spans.specs.Spans.{spans_of};
-ghost use Rattle.zone_spans.specs.Slots.{place_of, AreSpans, AreBounded, with_run, slot_with, somes};
+ghost use Rattle.zone_spans.specs.Slots.{zone_index, AreSpans, AreSpansBounded, frames_with_node_run, slot_after, spans_in_slots};
 
 use crate::span::Span;
 use bm_base::{Memory, Zone, zone_of};
@@ -14,8 +14,8 @@ use frame_blocks::zone_until;
 use std::alloc::Global;
 
 /// Returns the index of a zone among the three slots of a node.
-fn place_of(zone: Zone) -> u64
-    ensures { result ≡ place_of zone }
+fn zone_index(zone: Zone) -> u64
+    ensures { result ≡ zone_index zone }
 {
     match zone {
         Zone::Dma => 0,
@@ -30,21 +30,21 @@ fn place_of(zone: Zone) -> u64
 /// # Errors
 ///
 /// - `Memory`: the program ran out of memory.
-pub fn note(slots: &mut Vec<Option<Span>>, node: u32, first: u64, end: u64) -> Result<(), Memory>
+pub fn add_frames(slots: &mut Vec<Option<Span>>, node: u32, first: u64, end: u64) -> Result<(), Memory>
     requires node { node < 1024 }
     requires order { first ≤ end }
     requires low { end ≤ 2 ^ 52 }
     requires few { vec_len slots.old ≤ 3072 }
-    requires bounded { AreBounded first slots.old.items }
+    requires bounded { AreSpansBounded first slots.old.items }
     ensures told { OnOk result ((f : Frames) → NothingFrom first f → AreSpans f slots.old.items →
-        AreSpans (with_run first end node f) slots.new.items) }
+        AreSpans (frames_with_node_run first end node f) slots.new.items) }
     ensures few { OnOk result (vec_len slots.new ≤ 3072) }
-    ensures bounded { OnOk result (AreBounded end slots.new.items) }
+    ensures bounded { OnOk result (AreSpansBounded end slots.new.items) }
 {
     let mut at = first;
     while at < end {
         let until = zone_until(at, end);
-        add(slots, node, zone_of(at), at, until)?;
+        add_zone_frames(slots, node, zone_of(at), at, until)?;
         at = until;
     }
     Ok(())
@@ -56,7 +56,7 @@ pub fn note(slots: &mut Vec<Option<Span>>, node: u32, first: u64, end: u64) -> R
 /// # Errors
 ///
 /// - `Memory`: the program ran out of memory.
-fn add(
+fn add_zone_frames(
     slots: &mut Vec<Option<Span>>,
     node: u32,
     zone: Zone,
@@ -67,13 +67,13 @@ fn add(
     requires order { start < end }
     requires low { end ≤ 2 ^ 52 }
     requires few { vec_len slots.old ≤ 3072 }
-    requires bounded { AreBounded start slots.old.items }
+    requires bounded { AreSpansBounded start slots.old.items }
     ensures slots { OnOk result ((i : ℕ) → get_or slots.new.items i None ≡
-        slot_with node zone start end (get_or slots.old.items i None) i) }
+        slot_after node zone start end (get_or slots.old.items i None) i) }
     ensures few { OnOk result (vec_len slots.new ≤ 3072) }
 {
-    let i = (3 * node as u64 + place_of(zone)) as usize;
-    grow_to(slots, i + 1)?;
+    let i = (3 * node as u64 + zone_index(zone)) as usize;
+    grow_slots(slots, i + 1)?;
     let count = end - start;
     slots[i] = match slots[i] {
         None => Some(Span {
@@ -99,7 +99,7 @@ fn add(
 /// # Errors
 ///
 /// - `Memory`: the program ran out of memory.
-fn grow_to(slots: &mut Vec<Option<Span>>, count: usize) -> Result<(), Memory>
+fn grow_slots(slots: &mut Vec<Option<Span>>, count: usize) -> Result<(), Memory>
     ensures same { OnOk result ((i : ℕ) → get_or slots.new.items i None ≡ get_or slots.old.items i None) }
     ensures enough { OnOk result (count ≤ vec_len slots.new) }
     ensures few { OnOk result (vec_len slots.new ≤ max (vec_len slots.old) count) }
@@ -115,8 +115,8 @@ fn grow_to(slots: &mut Vec<Option<Span>>, count: usize) -> Result<(), Memory>
 /// # Errors
 ///
 /// - `Memory`: the program ran out of memory.
-pub fn all_of(alloc: Global, slots: &[Option<Span>]) -> Result<Vec<Span>, Memory>
-    ensures { IfOk result (λ spans. spans.items ≡ somes slots.now) }
+pub fn spans_in_slots(alloc: Global, slots: &[Option<Span>]) -> Result<Vec<Span>, Memory>
+    ensures { IfOk result (λ spans. spans.items ≡ spans_in_slots slots.now) }
 {
     let mut spans = Vec::new(alloc);
     for slot in slots {

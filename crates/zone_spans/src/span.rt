@@ -1,20 +1,20 @@
 //! Computes the spans from the memory table. The handover of free frames to the page allocator
-//! reads the records by the same function (`frames_at`). So each frame is in the span of the node
+//! reads the records by the same function (`frames_of_record`). So each frame is in the span of the node
 //! for which it is freed.
 
 ghost use Rattle.std.specs.Prelude.{◌≡◌, ◌^◌, ◌*◌, IfOk};
 ghost use Rattle.address_runs.specs.Runs.{value_at};
-ghost use Rattle.memblock_ranges.specs.Tables.{list_in};
+ghost use Rattle.memblock_ranges.specs.Tables.{records_of_head};
 ghost use Rattle.table_frames.specs.Frames.{node_of_frame};
 ghost use Rattle.table_frames.specs.Tables.{HasRecords, AreWholeFrames};
 ghost use Rattle.zone_spans.specs.Spans.{spans_of};
 
-use crate::slots::{all_of, note};
+use crate::slots::{spans_in_slots, add_frames};
 use bm_base::{Memory, Zone};
 use memblock_ranges::Heads;
 use phys_store::Store;
 use std::alloc::Global;
-use table_frames::frames_at;
+use table_frames::frames_of_record;
 
 /// The frames that the memory of a node spans in a zone. All numbers are of frames.
 #[derive(Clone, Copy, Debug, PartialEq, Eq)]
@@ -38,16 +38,16 @@ pub struct Span {
 /// - `Memory`: the program ran out of memory.
 pub fn spans(alloc: Global, store: &Store, heads: &Heads) -> Result<Vec<Span>, Memory>
     requires memory { HasRecords store.now heads.now.memory (2 ^ 64) }
-    requires whole { AreWholeFrames (list_in store.now heads.now.memory) }
+    requires whole { AreWholeFrames (records_of_head store.now heads.now.memory) }
     ensures { IfOk result (λ spans. spans.items ≡
-        spans_of (node_of_frame (value_at (list_in store.now heads.now.memory)))) }
+        spans_of (node_of_frame (value_at (records_of_head store.now heads.now.memory)))) }
 {
     let mut slots = Vec::new(alloc);
     for i in 0..heads.memory.count {
-        let frames = frames_at(store, &heads.memory, i);
+        let frames = frames_of_record(store, &heads.memory, i);
         if let Some(node) = frames.node {
-            note(&mut slots, node, frames.first, frames.end)?;
+            add_frames(&mut slots, node, frames.first, frames.end)?;
         }
     }
-    all_of(alloc, &slots)
+    spans_in_slots(alloc, &slots)
 }

@@ -6,7 +6,7 @@ use Rattle.boot_audit.proofs.HeadlineLaws.{conserved_sound}
 use Rattle.boot_model.specs.View.{booted_view}
 use Rattle.memblock_model.specs.Items.{owner_of}
 use Rattle.memblock_model.specs.declared.owner.Owner.{Owner}
-use Rattle.audit_laws.specs.Told.{IsNear, IsNearOwner}
+use Rattle.audit_laws.specs.Told.{RunEndsInSpace, IsBoundedOwnerRun}
 use Rattle.audit_laws.proofs.BootedLaws.{can_be_told}
 use Rattle.audit_laws.proofs.SavedLaws.{saved_conserved}
 use Rattle.audit_laws.proofs.booted.booted_reports_are_sound.Goals as goal
@@ -14,10 +14,10 @@ use Rattle.audit_laws.proofs.booted.booted_reports_are_sound.Goals as goal
 pub returns-clause-told : goal.returns-clause-told
 returns-clause-told g c =
     can_be_told g.given (booted_view c.args.booted.now) c.requires
-    (subst (λ (rs : List (RunOf ℕ)). All IsNear rs) c.deref.ensures.value c.read_map.ensures)
+    (subst (λ (rs : List (RunOf ℕ)). All RunEndsInSpace rs) c.deref.ensures.value c.map_runs_end_in_space.ensures)
     (subst (λ (rs : List (RunOf Owner)). IsRunsOf (owner_of c.args.booted.now.journal.items) rs) c.owners.ensures.list
     c.owners.ensures.runs)
-    (subst (λ (rs : List (RunOf Owner)). All IsNearOwner rs) c.owners.ensures.list c.read_owners.ensures)
+    (subst (λ (rs : List (RunOf Owner)). All IsBoundedOwnerRun rs) c.owners.ensures.list c.owner_runs_are_bounded.ensures)
 
 pub returns-clause-conserved : goal.returns-clause-conserved
 returns-clause-conserved g c = λ held wanted is.

@@ -1,5 +1,5 @@
 use Rattle.std.proofs.Common.{◌-◌, ap, sym, arith}
-use Rattle.audit_lines.specs.Blocks.{Block}
+use Rattle.audit_lines.specs.Blocks.{BlockLineView}
 use Rattle.boot_audit.proofs.ZoneLaws.{ends_tell, first_tells}
 use Rattle.boot_audit.proofs.blocks.is_in_zone.Goals as goal
 
@@ -9,8 +9,8 @@ returns-then-same_zone c =
     c.first_frame-first.ensures.value
     (omega (arith, c.end_frame-last.ensures.value, c.end_frame-last.ensures.behind))
     (omega (arith, c.end_frame-last.ensures.value, c.end_frame-last.ensures.behind, c.first_frame-first.ensures.value))
-    (rw (← c.zone_of.ensures, ← ap (λ (b : Block). b.zone) c.block.view_is) (sym c.if-same_zone.ensures))
-    (rw (← c.zone_of-then-same_zone.ensures, ← ap (λ (b : Block). b.zone) c.block.view_is) c.same_zone-then-same_zone.ensures)
+    (rw (← c.zone_of.ensures, ← ap (λ (b : BlockLineView). b.zone) c.block.view_is) (sym c.if-same_zone.ensures))
+    (rw (← c.zone_of-then-same_zone.ensures, ← ap (λ (b : BlockLineView). b.zone) c.block.view_is) c.same_zone-then-same_zone.ensures)
 
 pub returns-else-same_zone : goal.returns-else-same_zone
 returns-else-same_zone c =
@@ -18,5 +18,5 @@ returns-else-same_zone c =
     c.first_frame-first.ensures.value
     (omega (arith, c.end_frame-last.ensures.value, c.end_frame-last.ensures.behind))
     (omega (arith, c.end_frame-last.ensures.value, c.end_frame-last.ensures.behind, c.first_frame-first.ensures.value))
-    (rw (← c.zone_of.ensures, ← ap (λ (b : Block). b.zone) c.block.view_is) (sym c.if-same_zone.ensures))
+    (rw (← c.zone_of.ensures, ← ap (λ (b : BlockLineView). b.zone) c.block.view_is) (sym c.if-same_zone.ensures))
     c.if-same_zone.false

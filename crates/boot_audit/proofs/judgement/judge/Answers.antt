@@ -14,5 +14,5 @@ returns-in-Some-lost-clause-near c =
     least_near (is_lost c.limit.result c.args.saved.now.map.items c.args.saved.now.owners.items c.args.saved.now.blocks.items)
     (2 ^ 40) c.in-Some-lost.frame (sym (c.sweep-swept.ensures.lost (rw c.in_default-not_free.is refl)) ∙ c.in-Some-lost.is)
 
-pub first_joinable-requires-clause-order : goal.first_joinable-requires-clause-order
-first_joinable-requires-clause-order c = rw c.deref-3.ensures.value (frames_ascend c.args.saved.now.blocks.items c.requires.block_order)
+pub first_mergeable-requires-clause-order : goal.first_mergeable-requires-clause-order
+first_mergeable-requires-clause-order c = rw c.deref-3.ensures.value (frames_ascend c.args.saved.now.blocks.items c.requires.block_order)

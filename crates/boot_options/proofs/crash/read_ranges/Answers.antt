@@ -16,6 +16,6 @@ loop-rest-preserved c =
     let is : crash_range_of text ≡ Some range = sym c.in-Some-read_range.ensures in
     let parts : parts_of_rest (Byte 44) (text_of c.loop-rest.rest) ≡ text ∷ texts = rw c.in-Some.is c.next_part.ensures.parts in (
       kept ++ range ∷ [],
-      c.keep.ensures kept c.loop-rest.invariant.1,
+      c.append_item.ensures kept c.loop-rest.invariant.1,
       in_front-one kept text texts range is ∙ ap (λ (ts : List (List ℕ)). in_front kept (crash_ranges_of ts)) (sym parts) ∙ so_far,
     )

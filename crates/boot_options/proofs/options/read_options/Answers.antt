@@ -2,11 +2,11 @@ use Rattle.std.proofs.Common.{◌≡◌, Err, arith}
 use Rattle.std.proofs.lemmas.Grind.{common_steps}
 use Rattle.bm_base.specs.Answers.{Answers}
 use Rattle.boot_options.specs.declared.fault.OptionFault.TheVariants.{Memory as memory}
-use Rattle.boot_options.specs.Options.{chosen, options_of}
+use Rattle.boot_options.specs.Options.{options_view, options_of}
 use Rattle.boot_options.specs.Reading.{at_line_end}
 use Rattle.boot_options.proofs.UserMapLaws.{options-read, options-fault}
 use Rattle.boot_options.proofs.ReadingLaws.{state_at}
-use Rattle.boot_options.proofs.LineBounds.{types-given, ranges-given, crash-given, numbered-given, options-remembered}
+use Rattle.boot_options.proofs.LineBounds.{types-given, ranges-given, crash-given, numbered_map_options-given, options-remembered}
 use Rattle.boot_options.proofs.options.read_options.Goals as goal
 
 -- the fault of a word
@@ -19,8 +19,8 @@ returns-in_err-reading-clause-memory c =
 
 pub returns-in_err-reading-clause-words : goal.returns-in_err-reading-clause-words
 returns-in_err-reading-clause-words c =
-    let answers : Answers memory chosen c.from_residual-in_err-reading.result (options_of c.args.bytes.now) = grind (arith, common_steps) in
-    numbered-given c.args.bytes.now c.from_residual-in_err-reading.result answers
+    let answers : Answers memory options_view c.from_residual-in_err-reading.result (options_of c.args.bytes.now) = grind (arith, common_steps) in
+    numbered_map_options-given c.args.bytes.now c.from_residual-in_err-reading.result answers
 
 -- the end of the line
 pub returns-clause-answers : goal.returns-clause-answers
@@ -47,4 +47,4 @@ pub returns-clause-crash : goal.returns-clause-crash
 returns-clause-crash c = crash-given c.args.bytes.now c.finish.result (returns-clause-answers c)
 
 pub returns-clause-words : goal.returns-clause-words
-returns-clause-words c = numbered-given c.args.bytes.now c.finish.result (returns-clause-answers c)
+returns-clause-words c = numbered_map_options-given c.args.bytes.now c.finish.result (returns-clause-answers c)

@@ -1,20 +1,20 @@
 -- Both tables lie in the bytes. After the nodes are assigned, the memory table covers whole
 -- frames.
 use Rattle.std.proofs.Common.{◌≡◌, ◌∙◌, ℕ, List, ap, sym, arith}
-use Rattle.boot_journal.specs.Contents.{Contents as Journal}
+use Rattle.boot_journal.specs.Contents.{JournalView as Journal}
 use Rattle.memblock_model.specs.declared.owner.Which.TheVariants as which
 use Rattle.memblock_model.specs.Tables.{records_of}
 use Rattle.memblock_ranges.specs.declared.region.Heads.{Heads}
 use Rattle.memblock_ranges.specs.Tables.{head_of}
 use Rattle.growth_model.specs.Bytes.{table_for}
-use Rattle.memblock_grow.specs.Contents.{Contents as Memblock}
+use Rattle.memblock_grow.specs.Contents.{MemblockView as Memblock}
 use Rattle.address_runs.specs.Runs.{RunOf, value_at}
-use Rattle.buddy_handover.specs.Contents.{free}
-use Rattle.page_alloc.specs.Book.{state_of}
-use Rattle.page_alloc.specs.Pages.{begun}
+use Rattle.buddy_handover.specs.Contents.{buddy_frames}
+use Rattle.page_alloc.specs.Book.{page_state_of}
+use Rattle.page_alloc.specs.Pages.{first_page_state}
 use Rattle.boot_model.specs.View.{inputs_view}
 use Rattle.table_frames.proofs.RecordLaws.{records_higher}
-use Rattle.boot_stages.proofs.HandoverLaws.{Stand, free-told, memory-records, memory-whole, reserved-records, spans-told, stand-by, told-by}
+use Rattle.boot_stages.proofs.HandoverLaws.{Stand, free-told, memory-records, memory-whole, reserved-records, spans-told, stand-by, finish_boot-by}
 use Rattle.boot_stages.proofs.handover.hand_over_memory.Goals as goal
 use Rattle.boot_stages.proofs.handover.hand_over_memory.Goals.{After-into_parts-store}
 
@@ -48,9 +48,9 @@ returns-clause-told c = λ ids fills. (
     let heads = c.into_parts-store.ensures.heads in
     let memory = c.requires.tables which.Memory in
     let reserved = c.requires.tables which.Reserved in
-    let begins : state_of c.new-after.result ≡ begun (free c.in_ok-buddy.buddy) =
-    c.new-after.ensures ∙ ap (λ (rs : List (RunOf ℕ)). begun (value_at rs)) c.in_ok-copy.ensures in
-    told-by (inputs_view c.args.inputs) c.args.map.items c.args.memblock c.args.later ids fills _ _ _ _ _ _ _ c.requires.kernel
+    let begins : page_state_of c.new-after.result ≡ first_page_state (buddy_frames c.in_ok-buddy.buddy) =
+    c.new-after.ensures ∙ ap (λ (rs : List (RunOf ℕ)). first_page_state (value_at rs)) c.in_ok-copy.ensures in
+    finish_boot-by (inputs_view c.args.inputs) c.args.map.items c.args.memblock c.args.later ids fills _ _ _ _ _ _ _ c.requires.kernel
     (ap (λ (j : Journal). j.items) c.into_parts-store.ensures.journal) (cc) (c.in_ok-spans.ensures ∙ spans-told stands)
     (λ i frame. (c.in_ok-buddy.ensures frame ∙ free-told stands frame) i)
     (rw (c.as_ref.ensures.value, c.deref.ensures.value, c.deref-2.ensures.value) at c.in_ok-lists.ensures)

@@ -7,9 +7,9 @@ use Rattle.memblock_model.specs.declared.owner.Which.TheVariants as which
 use Rattle.memblock_model.specs.Items.{memory_of}
 use Rattle.memblock_model.specs.Labels.{LabelView}
 use Rattle.memblock_model.specs.Tables.{records_of}
-use Rattle.memblock_ranges.specs.Tables.{Table}
+use Rattle.memblock_ranges.specs.Tables.{TableView}
 use Rattle.memblock_grow.proofs.GoingLaws.{goes-then}
-use Rattle.sparse_sections.specs.Present.{IsWholeNoded, present}
+use Rattle.sparse_sections.specs.Present.{IsWholeWithNode, present}
 use Rattle.sparse_sections.proofs.AscendLaws.{present-ascends}
 use Rattle.sparse_sections.proofs.NodedLaws.{noded-records, noded-runs, noded-told}
 use Rattle.boot_stages.proofs.ExitLaws.{exit}
@@ -20,16 +20,16 @@ use Rattle.boot_stages.proofs.later.place_sections.Goals.{After-deref}
 -- the sections that `present` lists are those of memory
 listed : (c : After-deref) → c.deref.result.now ≡ present (memory_of c.args.memblock.now.journal.items)
 listed c =
-    c.deref.ensures.value ∙ c.in_ok-sections.ensures ∙ ap (λ (t : Table). present (value_at t.records)) c.tables.ensures.memory
+    c.deref.ensures.value ∙ c.in_ok-sections.ensures ∙ ap (λ (t : TableView). present (value_at t.records)) c.tables.ensures.memory
     ∙ ap present (noded-told (2 ^ 52) c.args.memblock.now.journal.items (omega arith) c.requires.noded)
 
 pub present-requires : goal.present-requires
 present-requires c =
     let items : List Item = c.args.memblock.now.journal.items in
-    let told : All IsWholeNoded (records_of which.Memory items) =
+    let told : All IsWholeWithNode (records_of which.Memory items) =
     noded-records (memory_of items) (records_of which.Memory items) (noded-runs (2 ^ 52) items (omega arith) c.requires.noded)
     c.requires.noded in
-    subst (λ (rs : List (RunOf LabelView)). All IsWholeNoded rs) (sym (ap (λ (t : Table). t.records) c.tables.ensures.memory)) told
+    subst (λ (rs : List (RunOf LabelView)). All IsWholeWithNode rs) (sym (ap (λ (t : TableView). t.records) c.tables.ensures.memory)) told
 
 pub returns-in_err-sections-clause-ends : goal.returns-in_err-sections-clause-ends
 returns-in_err-sections-clause-ends c =

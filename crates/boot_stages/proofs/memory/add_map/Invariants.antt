@@ -4,7 +4,7 @@ use Rattle.std.proofs.Common.{drop}
 use Rattle.address_runs.specs.Runs.{AreRuns}
 use Rattle.growth_model.specs.Sound.{HasBegun}
 use Rattle.early_stages.specs.Wanted.{items_of_map}
-use Rattle.memblock_grow.specs.Going.{GoesOn}
+use Rattle.memblock_grow.specs.Going.{ContinuesMemblock}
 use Rattle.boot_stages.proofs.ItemsLaws.{Leaves}
 use Rattle.boot_stages.proofs.memory.add_map.Given as goal
 
@@ -14,5 +14,5 @@ invariant-loop-run l = record {
       l.memblock.journal.items;
   runs : AreRuns (drop l.run-index l.map);
   begun : HasBegun l.memblock.journal.items;
-  goes_on : GoesOn l.fn.memblock l.memblock;
+  goes_on : ContinuesMemblock l.fn.memblock l.memblock;
 }

@@ -6,9 +6,9 @@ use Rattle.e820_model.specs.Usable.{is_memory}
 use Rattle.memblock_model.specs.declared.owner.Owner.TheVariants as owner
 use Rattle.memblock_model.specs.declared.item.Item.TheVariants as item
 use Rattle.stage_model.specs.Causes.{refusal_for}
-use Rattle.stage_model.specs.Doing.{StageEnds}
+use Rattle.stage_model.specs.Doing.{EndsAsStage}
 use Rattle.early_stages.specs.Wanted.{items_of_run}
-use Rattle.boot_model.specs.First.{items_carried}
+use Rattle.boot_model.specs.First.{items_with_growths}
 use Rattle.boot_stages.proofs.ItemsLaws.{carries-change, carries-nothing}
 use Rattle.boot_stages.proofs.MemoryLaws.{high_run, memory_run, other_run, soft_run}
 use Rattle.boot_stages.proofs.memory.add_run.Goals as goal
@@ -23,7 +23,7 @@ pub returns-then-not-is_memory-clause-ends : goal.returns-then-not-is_memory-cla
 returns-then-not-is_memory-clause-ends c =
     let old = c.args.memblock.now.journal.items in
     let run : RunOf ℕ = record { base = c.run.inside.range.base; size = c.run.inside.range.size; value = c.run.inside.kind } in
-    let Ends : RunOf ℕ → Type 0 = λ x. StageEnds {A = Unit {0}} (items_carried (items_of_run c.args.reach x)) refusal_for (Ok tt) old old in
+    let Ends : RunOf ℕ → Type 0 = λ x. EndsAsStage {A = Unit {0}} (items_with_growths (items_of_run c.args.reach x)) refusal_for (Ok tt) old old in
     subst Ends c.run.view_is (elim c.then-not-is_memory.either as (λ _. Ends run) [
       | inl other ↦ rw (other_run c.args.reach run c.if-run.false (sym c.is_memory.ensures ∙ other)) (carries-nothing old)
       | inr high ↦

@@ -2,20 +2,20 @@
 use Rattle.std.proofs.Common.{◌∷◌, refl, ap, arith}
 use Rattle.memblock_model.specs.declared.item.Item.TheVariants as item
 use Rattle.early_stages.specs.declared.low.TheConstants.{ISA_END_ADDRESS}
-use Rattle.early_stages.specs.Early.{Early}
+use Rattle.early_stages.specs.Early.{EarlyInputs}
 use Rattle.early_stages.specs.Wanted.{direction_items, early_claims}
-use Rattle.memblock_grow.specs.Contents.{Contents as Memblock}
-use Rattle.memblock_grow.specs.Going.{GoesOn}
+use Rattle.memblock_grow.specs.Contents.{MemblockView as Memblock}
+use Rattle.memblock_grow.specs.Going.{ContinuesMemblock}
 use Rattle.memblock_grow.proofs.GoingLaws.{goes-then}
-use Rattle.boot_model.specs.Boot.{early_of}
+use Rattle.boot_model.specs.Boot.{early_inputs}
 use Rattle.boot_model.specs.View.{inputs_view}
-use Rattle.boot_stages.proofs.ItemsLaws.{carries-exit, carries-second, carries-wanting, change-second}
+use Rattle.boot_stages.proofs.ItemsLaws.{carries-exit, carries-second, carries-wanting, change_for-second}
 use Rattle.boot_stages.proofs.ExitLaws.{exit}
 use Rattle.boot_stages.proofs.memory.begin_memory.Goals as goal
 use Rattle.boot_stages.proofs.memory.begin_memory.Goals.{After-set_limit}
 
 -- memblock went on after the limit
-limited : (c : After-set_limit) → GoesOn c.args.memblock.now c.set_limit.new.self
+limited : (c : After-set_limit) → ContinuesMemblock c.args.memblock.now c.set_limit.new.self
 limited c =
     goes-then _ _ _ c.in_ok-claim_early.ensures.goes_on
     c.set_limit.ensures.goes_on
@@ -27,16 +27,16 @@ returns-in_err-claim_early-clause-ends c =
 
 pub returns-in_err-set_limit-clause-ends : goal.returns-in_err-set_limit-clause-ends
 returns-in_err-set_limit-clause-ends c =
-    let e : Early = early_of (inputs_view c.args.inputs.now) in
+    let e : EarlyInputs = early_inputs (inputs_view c.args.inputs.now) in
     carries-second _ (early_claims e.kernel e.initrd) (item.Limit ISA_END_ADDRESS ∷ direction_items e.upward) _ _ _
     c.in_ok-claim_early.ensures.ends (carries-wanting _ _ _ _ _ (exit _ _ c.from_residual-in_err-set_limit.ensures.1) (omega arith)
     (ap (λ (m : Memblock). m.journal.items) c.in_err-set_limit.ensures.appends.0))
 
 pub returns-clause-ends : goal.returns-clause-ends
 returns-clause-ends c =
-    let e : Early = early_of (inputs_view c.args.inputs.now) in
+    let e : EarlyInputs = early_inputs (inputs_view c.args.inputs.now) in
     carries-second _ (early_claims e.kernel e.initrd) (item.Limit ISA_END_ADDRESS ∷ direction_items e.upward) _ _ _
-    c.in_ok-claim_early.ensures.ends (change-second _ (item.Limit ISA_END_ADDRESS) (direction_items e.upward) _ _ _
+    c.in_ok-claim_early.ensures.ends (change_for-second _ (item.Limit ISA_END_ADDRESS) (direction_items e.upward) _ _ _
     (refl, c.in_ok-set_limit.ensures.appends.0) c.turn_upward.ensures.ends)
 
 pub returns-clause-goes_on : goal.returns-clause-goes_on

@@ -2,9 +2,9 @@
 use Rattle.std.proofs.Common.{[], ◌∷◌, refl, ap, arith}
 use Rattle.memblock_model.specs.declared.owner.Owner.TheVariants as owner
 use Rattle.memblock_model.specs.declared.item.Item.TheVariants as item
-use Rattle.memblock_grow.specs.Contents.{Contents as Memblock}
+use Rattle.memblock_grow.specs.Contents.{MemblockView as Memblock}
 use Rattle.memblock_grow.proofs.GoingLaws.{goes-then}
-use Rattle.boot_stages.proofs.ItemsLaws.{carries-change, carries-wanting, change-second}
+use Rattle.boot_stages.proofs.ItemsLaws.{carries-change, carries-wanting, change_for-second}
 use Rattle.boot_stages.proofs.ExitLaws.{exit}
 use Rattle.boot_stages.proofs.memory.limit_memory.Goals as goal
 
@@ -15,7 +15,7 @@ returns-in_err-set_limit-clause-ends c =
 
 pub returns-clause-ends : goal.returns-clause-ends
 returns-clause-ends c =
-    rw (← c.up_to.ensures) (change-second _ (item.Limit c.args.end) (item.Claim c.up_to.result owner.Low1M ∷ []) _ _ _
+    rw (← c.up_to.ensures) (change_for-second _ (item.Limit c.args.end) (item.Claim c.up_to.result owner.Low1M ∷ []) _ _ _
     (refl, c.in_ok-set_limit.ensures.appends.0) (carries-change _ (item.Claim c.up_to.result owner.Low1M) _ _ c.claim.ensures.ends))
 
 pub returns-clause-goes_on : goal.returns-clause-goes_on

@@ -2,19 +2,19 @@
 -- which are proved for each frame of the definition, hold for the result.
 use Rattle.std.proofs.Common.{◌≡◌, ℕ, List, [], ◌^◌, Ok, ap, subst, sym, ◌∙◌}
 use Rattle.address_runs.specs.Runs.{RunOf}
-use Rattle.boot_journal.specs.Contents.{Contents}
+use Rattle.boot_journal.specs.Contents.{JournalView}
 use Rattle.bm_base.specs.Range.{RangeView}
 use Rattle.address_runs.specs.Edits.{NothingFrom}
 use Rattle.memblock_model.specs.declared.owner.Which.TheVariants as which
 use Rattle.memblock_model.specs.Items.{memory_of, owner_of}
-use Rattle.memblock_model.specs.Tables.{reserved_of}
+use Rattle.memblock_model.specs.Tables.{reserved_labels}
 use Rattle.memblock_ranges.specs.Tables.{table_in}
-use Rattle.growth_model.specs.Bytes.{byte, table_for}
-use Rattle.phys_store.specs.Bytes.{Stored, byte_of}
-use Rattle.memblock_grow.specs.Contents.{Contents as Memblock}
+use Rattle.growth_model.specs.Bytes.{byte_from_history, table_for}
+use Rattle.phys_store.specs.Bytes.{ExtentView, byte_of}
+use Rattle.memblock_grow.specs.Contents.{MemblockView as Memblock}
 use Rattle.bm_base.specs.ResultSteps.{with_error}
-use Rattle.stage_model.specs.Noded.{IsNoded}
-use Rattle.boot_model.specs.Boot.{Given, BootSoFar, Told, boot, map_judged, reach}
+use Rattle.stage_model.specs.Noded.{HasNodes}
+use Rattle.boot_model.specs.Boot.{InputsView, BootSoFar, BootedView, boot, judge_map, reach}
 use Rattle.boot_model.specs.Stop.{stop_of}
 use Rattle.boot_model.specs.View.{inputs_view}
 use Rattle.boot_model.proofs.NodedLaws.{noded_told}
@@ -22,7 +22,7 @@ use Rattle.boot_model.proofs.ReachLaws.{reach-small}
 use Rattle.conservation.proofs.HeadlineLaws.{all_touched_or_in_one, blocks_maximal, blocks_whole, no_other_in_a_block}
 use Rattle.conservation.proofs.PagedLaws.{all_in_one_or_held, no_other_in_one_or_held}
 use Rattle.boot_stages.specs.declared.later.Later.{Later}
-use Rattle.boot_stages.specs.Boots.{AreRun, made_behind}
+use Rattle.boot_stages.specs.Boots.{StagesEndWith, made_after_stages}
 use Rattle.boot_stages.proofs.ExitLaws.{exit}
 use Rattle.boot_stages.proofs.MapLaws.{boot_left, boot_stops, boot_told, made_of, told_ok, told_stops}
 use Rattle.boot_stages.proofs.HandoverLaws.{tables-kept}
@@ -32,42 +32,42 @@ use Rattle.boot_stages.proofs.stages.boot.Goals.{In_ok-later}
 
 pub returns-in_err-map-clause-boots : goal.returns-in_err-map-clause-boots
 returns-in_err-map-clause-boots c =
-    let given : Given = inputs_view c.args.inputs in
+    let given : InputsView = inputs_view c.args.inputs in
     told_stops _ given _ c.in_err-map.field-0.0 (exit _ _ c.from_residual.ensures.1)
     (boot_stops given c.in_err-map.field-0.0 c.in_err-map.ensures.answers)
 
 -- the map that the boot goes on with, as the stages get it
 pub run_stages-requires-clause-judged : goal.run_stages-requires-clause-judged
 run_stages-requires-clause-judged c =
-    let given : Given = inputs_view c.args.inputs in
-    rw c.deref.ensures.value (told_ok stop_of (map_judged given) (made_of given c.in_ok-map.map) c.in_ok-map.ensures.answers)
+    let given : InputsView = inputs_view c.args.inputs in
+    rw c.deref.ensures.value (told_ok stop_of (judge_map given) (made_of given c.in_ok-map.map) c.in_ok-map.ensures.answers)
 
 pub run_stages-requires-clause-bytes : goal.run_stages-requires-clause-bytes
 run_stages-requires-clause-bytes c =
     let m : Memblock = c.in_ok-memblock.memblock in
     record {
       made = tt;
-      each = λ x. c.in_ok-memblock.ensures.bytes x ∙ ap (λ (k : RangeView). byte k [] [] x) (sym c.in_ok-memblock.ensures.kernel)
-          ∙ ap (λ (j : Contents). byte m.kernel j.items [] x) (sym c.in_ok-memblock.ensures.journal);
+      each = λ x. c.in_ok-memblock.ensures.bytes x ∙ ap (λ (k : RangeView). byte_from_history k [] [] x) (sym c.in_ok-memblock.ensures.kernel)
+          ∙ ap (λ (j : JournalView). byte_from_history m.kernel j.items [] x) (sym c.in_ok-memblock.ensures.journal);
     }
 
 pub returns-in_err-later-clause-boots : goal.returns-in_err-later-clause-boots
 returns-in_err-later-clause-boots c =
-    let given : Given = inputs_view c.args.inputs in
+    let given : InputsView = inputs_view c.args.inputs in
     let left = boot_left given (made_of given c.in_ok-map.map) c.in_ok-map.ensures.answers in
     told_stops _ given _ c.in_err-later.field-0.0 (exit _ _ c.from_residual-in_err-later.ensures.1)
     (λ other. ap (with_error stop_of) left ∙ (rw c.deref.ensures.value at c.in_err-later.ensures.stopped) other)
 
 -- what is known after all stages have run
-record Made (given : Given) (map : List (RunOf ℕ)) (m : Memblock) (later : Later) : Type 0 where
-  run : AreRun given map m later
-  boots : boot given ≡ Ok (made_behind given map m later run.ids run.fills)
-  noded : IsNoded (2 ^ 52) (memory_of m.journal.items)
+record Made (given : InputsView) (map : List (RunOf ℕ)) (m : Memblock) (later : Later) : Type 0 where
+  run : StagesEndWith given map m later
+  boots : boot given ≡ Ok (made_after_stages given map m later run.ids run.fills)
+  noded : HasNodes (2 ^ 52) (memory_of m.journal.items)
 
 made : (c : In_ok-later) → Made (inputs_view c.args.inputs) c.in_ok-map.map.items c.run_stages.new.memblock c.in_ok-later.later
 made c =
-    let given : Given = inputs_view c.args.inputs in
-    let run : AreRun given c.in_ok-map.map.items c.run_stages.new.memblock c.in_ok-later.later =
+    let given : InputsView = inputs_view c.args.inputs in
+    let run : StagesEndWith given c.in_ok-map.map.items c.run_stages.new.memblock c.in_ok-later.later =
     rw c.deref.ensures.value at c.in_ok-later.ensures.run in
     let boots = boot_left given (made_of given c.in_ok-map.map) c.in_ok-map.ensures.answers ∙ run.come in
     record {
@@ -90,27 +90,27 @@ hand_over_memory-requires-clause-tables c = λ w.
 
 pub hand_over_memory-requires-clause-within : goal.hand_over_memory-requires-clause-within
 hand_over_memory-requires-clause-within c =
-    subst (λ (m : Memblock). NothingFrom (2 ^ 64) (reserved_of (owner_of m.journal.items))) c.memblock.view_is
+    subst (λ (m : Memblock). NothingFrom (2 ^ 64) (reserved_labels (owner_of m.journal.items))) c.memblock.view_is
     (c.memblock.invariant.kept.ends which.Reserved)
 
 pub returns-clause-boots : goal.returns-clause-boots
 returns-clause-boots c =
-    let given : Given = inputs_view c.args.inputs in
+    let given : InputsView = inputs_view c.args.inputs in
     let known = made (goal.at.returns-clause-boots c).In_ok-later in
     ap (with_error stop_of) (boot_told given _ known.boots)
-    ∙ ap (λ (t : Told). Ok t) (sym (c.in_ok-hand_over_memory.ensures.told known.run.ids known.run.fills))
+    ∙ ap (λ (t : BootedView). Ok t) (sym (c.in_ok-hand_over_memory.ensures.told known.run.ids known.run.fills))
 
 pub returns-clause-bytes : goal.returns-clause-bytes
 returns-clause-bytes c = λ final ends x. (
-    let given : Given = inputs_view c.args.inputs in
+    let given : InputsView = inputs_view c.args.inputs in
     let last : Memblock = c.run_stages.new.memblock in
     let known = made (goal.at.returns-clause-bytes c).In_ok-later in
-    let behind : BootSoFar = made_behind given c.in_ok-map.map.items last c.in_ok-later.later known.run.ids known.run.fills in
+    let behind : BootSoFar = made_after_stages given c.in_ok-map.map.items last c.in_ok-later.later known.run.ids known.run.fills in
     let told : Ok behind ≡ Ok final = sym known.boots ∙ ends in
     let is : behind ≡ final = cc in
-    ap (λ (s : List Stored). byte_of s x) c.in_ok-hand_over_memory.ensures.store ∙ known.run.holds.each x
-    ∙ ap (λ (k : RangeView). byte k last.journal.items known.run.fills x) known.run.kernel
-    ∙ ap (λ (n : BootSoFar). byte given.kernel n.items n.fills x) is)
+    ap (λ (s : List ExtentView). byte_of s x) c.in_ok-hand_over_memory.ensures.store ∙ known.run.holds.each x
+    ∙ ap (λ (k : RangeView). byte_from_history k last.journal.items known.run.fills x) known.run.kernel
+    ∙ ap (λ (n : BootSoFar). byte_from_history given.kernel n.items n.fills x) is)
 
 pub returns-clause-each : goal.returns-clause-each
 returns-clause-each c = all_touched_or_in_one (inputs_view c.args.inputs) _ (told_ok stop_of _ _ (returns-clause-boots c))

@@ -3,34 +3,34 @@ use Rattle.std.proofs.Common.{◌≡◌, ◌∙◌, Option, Err, ap, map, string
 use Rattle.std.specs.Prelude.{IfErr, IfOk}
 use Rattle.bm_io.specs.MemFiles.{file_bytes}
 use Rattle.boot_model.specs.View.{booted_view}
-use Rattle.program_run.specs.Outcome.{outcome}
-use Rattle.program_words.specs.Words.{Wanted, accepted, texts}
-use Rattle.bootmem_c.specs.declared.words.NoTexts.{NoTexts}
+use Rattle.program_run.specs.Outcome.{bootmem_outcome}
+use Rattle.program_words.specs.Words.{BootmemArgsView, read_args, bytes_of_words}
+use Rattle.bootmem_c.specs.declared.words.NoStrings.{NoStrings}
 use Rattle.bootmem_c.specs.Boots.{FailsAs, IsBoot}
-use Rattle.bootmem_c.specs.Call.{asked}
+use Rattle.bootmem_c.specs.Call.{read_lent_args}
 use Rattle.bootmem_c.specs.Lent.{lent_files, lent_words}
 use Rattle.bootmem_c.proofs.RunLaws.{nothing_said, same_asked}
 use Rattle.bootmem_c.proofs.boots.boot_lent.Goals as goal
 
 -- the words that were read ask for what the call's words ask for
-asks : (c : goal.After-drop-texts) → accepted (texts c.deref.result.now) ≡ asked (lent_words c.args.words.now)
+asks : (c : goal.After-drop-texts) → read_args (bytes_of_words c.deref.result.now) ≡ read_lent_args (lent_words c.args.words.now)
 asks c =
     same_asked c.deref.result.now (lent_words c.args.words.now) (ap (map string_bytes) c.deref.ensures.value ∙ c.in-Ok.ensures.texts)
     c.in-Ok.ensures.utf8
 
 pub returns-in-Ok-clause-boots : goal.returns-in-Ok-clause-boots
 returns-in-Ok-clause-boots c =
-    subst (λ (a : Option Wanted). IfOk c.boot_texts.result
+    subst (λ (a : Option BootmemArgsView). IfOk c.boot_with_strings.result
     (λ booted. IsBoot a (file_bytes (lent_files c.args.files.now)) (booted_view booted)))
-    (asks c) c.boot_texts.ensures.boots
+    (asks c) c.boot_with_strings.ensures.boots
 
 pub returns-in-Ok-clause-fails : goal.returns-in-Ok-clause-fails
 returns-in-Ok-clause-fails c =
-    subst (λ (a : Option Wanted). IfErr c.boot_texts.result
-    (λ failure. FailsAs failure (outcome a (file_bytes (lent_files c.args.files.now)))))
-    (asks c) c.boot_texts.ensures.fails
+    subst (λ (a : Option BootmemArgsView). IfErr c.boot_with_strings.result
+    (λ failure. FailsAs failure (bootmem_outcome a (file_bytes (lent_files c.args.files.now)))))
+    (asks c) c.boot_with_strings.ensures.fails
 
 pub returns-in-Err-NotUtf8-clause-fails : goal.returns-in-Err-NotUtf8-clause-fails
 returns-in-Err-NotUtf8-clause-fails c =
     nothing_said (lent_words c.args.words.now) (file_bytes (lent_files c.args.files.now))
-    (c.in-Err-NotUtf8.ensures.other (ap (λ (e : NoTexts). Err e) c.in-Err-NotUtf8.field-0-is))
+    (c.in-Err-NotUtf8.ensures.other (ap (λ (e : NoStrings). Err e) c.in-Err-NotUtf8.field-0-is))

@@ -1,9 +1,9 @@
 use Rattle.std.proofs.Common.{◌≡◌, ◌≤◌, ◌-◌, ℕ}
 use Rattle.address_runs.specs.Runs.{value_at}
-use Rattle.memblock_ranges.specs.Tables.{list_in}
+use Rattle.memblock_ranges.specs.Tables.{records_of_head}
 use Rattle.table_frames.specs.Frames.{IsPassed}
-use Rattle.buddy_handover.specs.Contents.{free}
-use Rattle.buddy_handover.specs.Handover.{freed}
+use Rattle.buddy_handover.specs.Contents.{buddy_frames}
+use Rattle.buddy_handover.specs.Handover.{free_unclaimed_frames}
 use Rattle.buddy_handover.proofs.handover.free_unclaimed.Given as goal
 
 abbrev pub invariant-loop-at : goal.invariant-loop-at
@@ -11,8 +11,8 @@ invariant-loop-at l = record {
   above : l.first ≤ l.at;
   below : l.at ≤ l.end;
   few : l.next ≤ l.reserved.count;
-  passed : IsPassed (list_in l.store l.reserved) l.next l.at;
-  freed : (x : ℕ) → free l.buddy x ≡ freed l.first l.at l.node (value_at (list_in l.store l.reserved)) (free l.fn.buddy) x;
+  passed : IsPassed (records_of_head l.store l.reserved) l.next l.at;
+  freed : (x : ℕ) → buddy_frames l.buddy x ≡ free_unclaimed_frames l.first l.at l.node (value_at (records_of_head l.store l.reserved)) (buddy_frames l.fn.buddy) x;
 }
 
 abbrev pub decreases-loop-at : goal.decreases-loop-at

@@ -2,14 +2,14 @@
 use Rattle.std.proofs.Common.{◌≡◌, map, take}
 use Rattle.std.specs.List.{flat_map}
 use Rattle.boot_model.specs.View.{booted_view}
-use Rattle.debugfs_reports.specs.ReportList.{shown_part}
+use Rattle.debugfs_reports.specs.ReportList.{render_part}
 use Rattle.debugfs_reports.specs.Stand.{records_at_heads}
 use Rattle.debugfs_reports.proofs.list.render_all.Given as goal
 
 abbrev pub invariant-loop-report : goal.invariant-loop-report
 invariant-loop-report l = record {
   each : map (λ text. text.items) l.texts.items
-      ≡ map (shown_part l.several (booted_view l.booted) (records_at_heads l.booted)) (take l.report-index l.reports);
+      ≡ map (render_part l.several (booted_view l.booted) (records_at_heads l.booted)) (take l.report-index l.reports);
   whole : flat_map (λ text. text.items) l.texts.items
-      ≡ flat_map (shown_part l.several (booted_view l.booted) (records_at_heads l.booted)) (take l.report-index l.reports);
+      ≡ flat_map (render_part l.several (booted_view l.booted) (records_at_heads l.booted)) (take l.report-index l.reports);
 }

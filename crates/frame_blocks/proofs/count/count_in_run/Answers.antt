@@ -2,7 +2,7 @@ use Rattle.std.proofs.Common.{◌≡◌, ◌⊎◌, ◌+◌, ◌-◌, ◌*◌, �
 use Rattle.std.specs.List.{count_by}
 use Rattle.bm_base.specs.Zones.{zone_of}
 use Rattle.frame_blocks.specs.declared.block.Block.{Block}
-use Rattle.frame_blocks.specs.Listed.{is_of, blocks_from}
+use Rattle.frame_blocks.specs.Listed.{is_block_of, blocks_from}
 use Rattle.frame_blocks.proofs.RunLaws.{nothing_more, start_first, start_whole}
 use Rattle.frame_blocks.proofs.CountLaws.{alike_more, alike_told, if_alike, many, at_most_one, mul_one_most, next_start}
 use Rattle.frame_blocks.proofs.count.count_in_run.Goals as goal
@@ -15,7 +15,7 @@ loop-at-init c = record {
   few = omega arith;
   start = start_first c.args.first c.args.end;
   counted = λ f n run.
-      let p : Block → Bool = is_of n c.args.zone c.args.order in
+      let p : Block → Bool = is_block_of n c.args.zone c.args.order in
       ap (λ (bs : List Block). count_by p bs) (nothing_more f c.args.first []);
 }
 
@@ -23,12 +23,12 @@ pub loop-at-preserved : goal.loop-at-preserved
 loop-at-preserved c =
     let first = c.args.first in let end = c.args.end in let at = c.loop-at.at in
     let o = c.set_within-set.result.order in let s = c.set_within-set.result.size in
-    let k = c.blocks_alike-blocks.result in
+    let k = c.count_blocks_alike-blocks.result in
     let e = c.set_within-set.ensures in
     let above = c.loop-at.invariant.above in
     let few = c.loop-at.invariant.few in
-    let room : at + k * s ≤ end = c.blocks_alike-blocks.ensures.room in
-    let single : (o ≡ 10) ⊎ (k ≡ 1) = c.blocks_alike-blocks.ensures.single in
+    let room : at + k * s ≤ end = c.count_blocks_alike-blocks.ensures.room in
+    let single : (o ≡ 10) ⊎ (k ≡ 1) = c.count_blocks_alike-blocks.ensures.single in
     let whole : at % s ≡ 0 = start_whole first end at o s c.loop-at.invariant.start e.small e.size e.fits in
     let long : k ≤ k * s = many k s o e.size in
     let v : ℕ = if_alike o (zone_of at) c.args.order c.args.zone in
@@ -51,13 +51,13 @@ loop-at-preserved c =
       start = next_start first end at o s k whole e.small e.size e.greatest single;
       counted = λ f n run.
           more ∙ ap (λ t. t + k * v) (c.loop-at.invariant.counted f n run)
-          ∙ sym (alike_more f first end n o s at k c.args.order c.args.zone run above c.blocks_alike-blocks.ensures.some room e.small
+          ∙ sym (alike_more f first end n o s at k c.args.order c.args.zone run above c.count_blocks_alike-blocks.ensures.some room e.small
           e.size whole
-          e.fits e.greatest single c.blocks_alike-blocks.ensures.zone);
+          e.fits e.greatest single c.count_blocks_alike-blocks.ensures.zone);
     }
 
 pub returns-clause-count : goal.returns-clause-count
 returns-clause-count c =
     let here : c.loop-at.at ≡ c.args.end = let below = c.loop-at.invariant.below in omega arith in
     λ f n run. c.loop-at.invariant.counted f n run
-    ∙ ap (λ (e : ℕ). count_by (is_of n c.args.zone c.args.order) (blocks_from f c.args.first (e - c.args.first))) here
+    ∙ ap (λ (e : ℕ). count_by (is_block_of n c.args.zone c.args.order) (blocks_from f c.args.first (e - c.args.first))) here

@@ -1,8 +1,8 @@
 use Rattle.std.proofs.Common.{◌≡◌, ◌≤◌, ◌-◌, ℕ}
 use Rattle.std.specs.List.{count_by}
 use Rattle.frame_blocks.specs.Frames.{Frames}
-use Rattle.frame_blocks.specs.Listed.{blocks_from, is_of}
-use Rattle.frame_blocks.specs.Sets.{IsRun, IsStart}
+use Rattle.frame_blocks.specs.Listed.{blocks_from, is_block_of}
+use Rattle.frame_blocks.specs.Sets.{IsNodeRun, IsStart}
 use Rattle.frame_blocks.proofs.count.count_in_run.Given as goal
 
 abbrev pub invariant-loop-at : goal.invariant-loop-at
@@ -11,8 +11,8 @@ invariant-loop-at l = record {
   below : l.at ≤ l.end;
   few : l.total ≤ l.at - l.first;
   start : IsStart l.first l.end l.at;
-  counted : (f : Frames) (n : ℕ) → IsRun f l.first l.end n
-      → l.total ≡ count_by (is_of n l.zone l.order) (blocks_from f l.first (l.at - l.first));
+  counted : (f : Frames) (n : ℕ) → IsNodeRun f l.first l.end n
+      → l.total ≡ count_by (is_block_of n l.zone l.order) (blocks_from f l.first (l.at - l.first));
 }
 
 abbrev pub decreases-loop-at : goal.decreases-loop-at

@@ -1,7 +1,7 @@
 use Rattle.std.proofs.Common.{◌≡◌, ◌≤◌, ◌-◌, ◌++◌}
 use Rattle.frame_blocks.specs.Frames.{Frames}
 use Rattle.frame_blocks.specs.Listed.{blocks_from}
-use Rattle.frame_blocks.specs.Sets.{IsRun, IsStart}
+use Rattle.frame_blocks.specs.Sets.{IsNodeRun, IsStart}
 use Rattle.frame_blocks.proofs.list.push_blocks.Given as goal
 
 abbrev pub invariant-loop-at : goal.invariant-loop-at
@@ -9,7 +9,7 @@ invariant-loop-at l = record {
   above : l.first ≤ l.at;
   below : l.at ≤ l.end;
   start : IsStart l.first l.end l.at;
-  listed : (f : Frames) → IsRun f l.first l.end l.node → l.blocks.items ≡ l.fn.blocks.items ++ blocks_from f l.first (l.at - l.first);
+  listed : (f : Frames) → IsNodeRun f l.first l.end l.node → l.blocks.items ≡ l.fn.blocks.items ++ blocks_from f l.first (l.at - l.first);
 }
 
 abbrev pub decreases-loop-at : goal.decreases-loop-at

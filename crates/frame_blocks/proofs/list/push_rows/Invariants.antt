@@ -2,7 +2,7 @@ use Rattle.std.proofs.Common.{◌≡◌, ◌≤◌, ◌-◌, ◌++◌}
 use Rattle.frame_blocks.specs.Frames.{Frames}
 use Rattle.frame_blocks.specs.Listed.{blocks_from}
 use Rattle.frame_blocks.specs.Rows.{blocks_of_rows, AreRows}
-use Rattle.frame_blocks.specs.Sets.{IsRun, IsStart, OfLast, EndsFree}
+use Rattle.frame_blocks.specs.Sets.{IsNodeRun, IsStart, LastRowFulfils, EndsFree}
 use Rattle.frame_blocks.proofs.LongLaws.{EndsAt}
 use Rattle.frame_blocks.proofs.list.push_rows.Given as goal
 
@@ -11,10 +11,10 @@ invariant-loop-at l = record {
   above : l.first ≤ l.at;
   below : l.at ≤ l.end;
   start : IsStart l.first l.end l.at;
-  listed : (f : Frames) → IsRun f l.first l.end l.node
+  listed : (f : Frames) → IsNodeRun f l.first l.end l.node
       → blocks_of_rows l.rows.items ≡ blocks_of_rows l.fn.rows.items ++ blocks_from f l.first (l.at - l.first);
-  longest : (f : Frames) → IsRun f l.first l.end l.node → OfLast (EndsFree f) l.fn.rows.items → AreRows l.fn.rows.items
-      → OfLast (EndsFree f) l.rows.items × OfLast (EndsAt l.at l.end l.node) l.rows.items × AreRows l.rows.items;
+  longest : (f : Frames) → IsNodeRun f l.first l.end l.node → LastRowFulfils (EndsFree f) l.fn.rows.items → AreRows l.fn.rows.items
+      → LastRowFulfils (EndsFree f) l.rows.items × LastRowFulfils (EndsAt l.at l.end l.node) l.rows.items × AreRows l.rows.items;
 }
 
 abbrev pub decreases-loop-at : goal.decreases-loop-at

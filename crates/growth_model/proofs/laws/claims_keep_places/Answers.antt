@@ -1,7 +1,7 @@
-use Rattle.growth_model.specs.Growth.{freed}
-use Rattle.growth_model.specs.Sound.{Seated}
+use Rattle.growth_model.specs.Growth.{free_range}
+use Rattle.growth_model.specs.Sound.{TablesAreClaimed}
 use Rattle.growth_model.proofs.CutLaws.{cuts-ends}
-use Rattle.growth_model.proofs.PlacedReservedLaws.{freed-cuts}
+use Rattle.growth_model.proofs.PlacedReservedLaws.{free_range-cuts}
 use Rattle.growth_model.proofs.SoundLaws.{claim-stands}
 use Rattle.growth_model.proofs.laws.claims_keep_places.Goals as goal
 
@@ -11,4 +11,4 @@ returns-clause-claimed c = λ kernel result old new range who image small stands
 
 pub returns-clause-freed : goal.returns-clause-freed
 returns-clause-freed c = λ kernel result old new range placed away ends.
-    cuts-ends (Seated kernel) result old new (freed range old) (freed-cuts kernel old range away placed) ends
+    cuts-ends (TablesAreClaimed kernel) result old new (free_range range old) (free_range-cuts kernel old range away placed) ends

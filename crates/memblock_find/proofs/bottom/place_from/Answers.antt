@@ -1,6 +1,6 @@
 use Rattle.std.proofs.Common.{◌≡◌, true, false, min, Some, arith}
 use Rattle.std.proofs.lemmas.Grind.{common_steps}
-use Rattle.memblock_find.specs.Places.{serves}
+use Rattle.memblock_find.specs.Places.{is_allowed_label}
 use Rattle.memblock_find.proofs.BottomLaws.{none_begins_bare, none_begins_refused, first_of_stretch}
 use Rattle.memblock_find.proofs.bottom.place_from.Goals as goal
 
@@ -9,15 +9,15 @@ returns-in_default c = λ memory reserved stays up.
     none_begins_bare c.args.mirror memory reserved c.args.query.now c.args.from c.args.until c.args.label c.requires.some
     (record { stays = stays; up = up }) c.in_default.is
 
-pub returns-then-not-serves : goal.returns-then-not-serves
-returns-then-not-serves c = λ memory reserved stays up.
-    let refused : serves c.args.mirror c.args.query.now.node (Some c.in-Some.found) ≡ false = grind (arith, common_steps) in
+pub returns-then-not-is_allowed_label : goal.returns-then-not-is_allowed_label
+returns-then-not-is_allowed_label c = λ memory reserved stays up.
+    let refused : is_allowed_label c.args.mirror c.args.query.now.node (Some c.in-Some.found) ≡ false = grind (arith, common_steps) in
     none_begins_refused c.args.mirror memory reserved c.args.query.now c.args.from c.args.until c.args.label c.in-Some.found c.requires.some
     (record { stays = stays; up = up }) c.in-Some.is refused
 
 pub returns : goal.returns
 returns c = λ memory reserved stays up.
-    let served : serves c.args.mirror c.args.query.now.node (Some c.in-Some.found) ≡ true = grind (arith, common_steps) in
+    let served : is_allowed_label c.args.mirror c.args.query.now.node (Some c.in-Some.found) ≡ true = grind (arith, common_steps) in
     let window = c.requires.window in
     let high : c.min.result ≡ min c.args.until c.args.query.now.hi = grind (arith, common_steps) in
     first_of_stretch c.args.mirror memory reserved c.args.query.now c.args.from c.args.until c.args.label c.in-Some.found

@@ -1,16 +1,16 @@
 use Rattle.std.proofs.Common.{◌≤◌, None}
 use Rattle.address_runs.specs.Runs.{value_at}
 use Rattle.address_runs.specs.Sweep.{Stays}
-use Rattle.memblock_find.specs.Free.{unclaimed}
-use Rattle.memblock_find.specs.Walk.{IsDownAt}
+use Rattle.memblock_find.specs.Free.{unclaimed_memory}
+use Rattle.memblock_find.specs.Walk.{IsWalkDownAt}
 use Rattle.memblock_find.proofs.free.prev_in.Given as goal
 
 -- nothing above the cursor is unclaimed memory
 abbrev pub invariant-loop-cursor : goal.invariant-loop-cursor
 invariant-loop-cursor l = record {
-  walk : IsDownAt l.lists.memory l.lists.reserved l.cursor;
+  walk : IsWalkDownAt l.lists.memory l.lists.reserved l.cursor;
   order : l.cursor.at ≤ l.below;
-  behind : Stays (unclaimed (value_at l.lists.memory) (value_at l.lists.reserved)) l.cursor.at l.below None;
+  behind : Stays (unclaimed_memory (value_at l.lists.memory) (value_at l.lists.reserved)) l.cursor.at l.below None;
 }
 
 abbrev pub decreases-loop-cursor : goal.decreases-loop-cursor

@@ -2,7 +2,7 @@ use Rattle.std.proofs.Common.{◌≡◌, ◌-◌, ◌≤◌, false, max, min, sy
 use Rattle.std.proofs.lemmas.Grind.{common_steps}
 use Rattle.address_runs.specs.Runs.{run_end, value_at}
 use Rattle.memblock_find.specs.Places.{NoPlaceEnds}
-use Rattle.memblock_find.specs.Walk.{run_at}
+use Rattle.memblock_find.specs.Walk.{nth_record}
 use Rattle.memblock_find.proofs.DownLaws.{stretch_stays, stretch_down}
 use Rattle.memblock_find.proofs.PlaceLaws.{none_above, best_answer, no_answer, none_found}
 use Rattle.memblock_find.proofs.SlotLaws.{nothing_behind}
@@ -11,16 +11,16 @@ use Rattle.memblock_find.proofs.search.find_in.Goals as goal
 pub loop-cursor-init : goal.loop-cursor-init
 loop-cursor-init c =
     let t = c.args.lists.now in
-    let high : c.cursor_below-cursor.result.at ≡ min c.args.query.now.hi c.end_of-end.result =
+    let high : c.cursor_below-cursor.result.at ≡ min c.args.query.now.hi c.end_of_records-end.result =
     c.cursor_below-cursor.ensures.at ∙ c.min-high.ensures in
-    let behind = nothing_behind t.memory c.end_of-end.result c.count.ensures.records.runs
-    (λ some. c.end_of-end.ensures.end (omega (arith, some, c.count.ensures.count))
-    ∙ ap (λ n. run_end (run_at t.memory (n - 1))) c.count.ensures.count) in
+    let behind = nothing_behind t.memory c.end_of_records-end.result c.count.ensures.records.runs
+    (λ some. c.end_of_records-end.ensures.end (omega (arith, some, c.count.ensures.count))
+    ∙ ap (λ n. run_end (nth_record t.memory (n - 1))) c.count.ensures.count) in
     record {
       walk = c.cursor_below-cursor.ensures.down;
       window = omega (arith, high);
       past = subst (λ at. NoPlaceEnds false (value_at t.memory) (value_at t.reserved) c.args.query.now at c.args.query.now.hi) (sym high)
-          (none_above false (value_at t.memory) (value_at t.reserved) c.args.query.now c.end_of-end.result c.requires.some behind);
+          (none_above false (value_at t.memory) (value_at t.reserved) c.args.query.now c.end_of_records-end.result c.requires.some behind);
     }
 
 pub returns-then-is_some : goal.returns-then-is_some
@@ -30,8 +30,8 @@ returns-then-is_some c =
     best_answer false (value_at t.memory) (value_at t.reserved) c.args.query.now c.bottom.result c.loop-cursor.cursor.at
     c.place_in_run-place.result i.past
     (c.place_in_run-place.ensures (value_at t.memory) (value_at t.reserved)
-    (stretch_stays t.memory t.reserved c.loop-cursor.cursor c.bottom.result c.label.result i.walk c.bottom.ensures c.label.ensures)
-    (stretch_down t.memory t.reserved c.loop-cursor.cursor c.bottom.result c.label.result i.walk c.bottom.ensures c.label.ensures))
+    (stretch_stays t.memory t.reserved c.loop-cursor.cursor c.bottom.result c.unclaimed_label.result i.walk c.bottom.ensures c.unclaimed_label.ensures)
+    (stretch_down t.memory t.reserved c.loop-cursor.cursor c.bottom.result c.unclaimed_label.result i.walk c.bottom.ensures c.unclaimed_label.ensures))
     (grind (arith, common_steps)) (omega arith)
 
 pub loop-cursor-preserved : goal.loop-cursor-preserved
@@ -48,8 +48,8 @@ loop-cursor-preserved c =
       past = rw (← bottom) (no_answer false (value_at t.memory) (value_at t.reserved) c.args.query.now c.bottom.result
           c.loop-cursor.cursor.at c.place_in_run-place.result i.past
           (c.place_in_run-place.ensures (value_at t.memory) (value_at t.reserved)
-          (stretch_stays t.memory t.reserved c.loop-cursor.cursor c.bottom.result c.label.result i.walk c.bottom.ensures c.label.ensures)
-          (stretch_down t.memory t.reserved c.loop-cursor.cursor c.bottom.result c.label.result i.walk c.bottom.ensures c.label.ensures))
+          (stretch_stays t.memory t.reserved c.loop-cursor.cursor c.bottom.result c.unclaimed_label.result i.walk c.bottom.ensures c.unclaimed_label.ensures)
+          (stretch_down t.memory t.reserved c.loop-cursor.cursor c.bottom.result c.unclaimed_label.result i.walk c.bottom.ensures c.unclaimed_label.ensures))
           (grind (arith, common_steps)));
     }
 

@@ -1,13 +1,13 @@
 use Rattle.std.proofs.Common.{◌≤◌, false}
 use Rattle.address_runs.specs.Runs.{value_at}
 use Rattle.memblock_find.specs.Places.{NoPlaceEnds}
-use Rattle.memblock_find.specs.Walk.{IsDownAt}
+use Rattle.memblock_find.specs.Walk.{IsWalkDownAt}
 use Rattle.memblock_find.proofs.search.find_in.Given as goal
 
 -- no place ends above the cursor
 abbrev pub invariant-loop-cursor : goal.invariant-loop-cursor
 invariant-loop-cursor l = record {
-  walk : IsDownAt l.lists.memory l.lists.reserved l.cursor;
+  walk : IsWalkDownAt l.lists.memory l.lists.reserved l.cursor;
   window : l.cursor.at ≤ l.query.hi;
   past : NoPlaceEnds false (value_at l.lists.memory) (value_at l.lists.reserved) l.query l.cursor.at l.query.hi;
 }

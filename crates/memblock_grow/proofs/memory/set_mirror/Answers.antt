@@ -1,7 +1,7 @@
 use Rattle.std.proofs.Common.{refl}
 use Rattle.memblock_model.specs.declared.owner.Which.TheVariants as which
 use Rattle.memblock_model.specs.declared.item.Item.TheVariants as item
-use Rattle.growth_model.specs.Growth.{memory_growth, two, grown, mirrored}
+use Rattle.growth_model.specs.Growth.{memory_growth, split_record_count, make_table_room, set_range_mirror}
 use Rattle.growth_model.proofs.ToldLaws.{edit-told}
 use Rattle.memblock_grow.proofs.KeptLaws.{kept-mirror}
 use Rattle.memblock_grow.proofs.PreparedLaws.{prepares-item, by-item}
@@ -9,15 +9,15 @@ use Rattle.memblock_grow.proofs.ChangeLaws.{change-fails, change-wants, change-d
 use Rattle.memblock_grow.proofs.memory.set_mirror.Goals as goal
 
 pub returns-in_err-make_memory_room-clause-ends : goal.returns-in_err-make_memory_room-clause-ends
-unfolding mirrored
+unfolding set_range_mirror
 returns-in_err-make_memory_room-clause-ends c =
-    change-fails (grown which.Memory two memory_growth) (item.Mirror c.args.range) _ _ _ _ c.from_residual.ensures.1
+    change-fails (make_table_room which.Memory split_record_count memory_growth) (item.Mirror c.args.range) _ _ _ _ c.from_residual.ensures.1
     c.in_err-make_memory_room.ensures.ends
 
 pub returns-in_err-push-clause-ends : goal.returns-in_err-push-clause-ends
-unfolding mirrored
+unfolding set_range_mirror
 returns-in_err-push-clause-ends c =
-    change-wants (grown which.Memory two memory_growth) (item.Mirror c.args.range) _ _ _ _ c.from_residual-in_err-push.ensures.1
+    change-wants (make_table_room which.Memory split_record_count memory_growth) (item.Mirror c.args.range) _ _ _ _ c.from_residual-in_err-push.ensures.1
     c.in_ok-make_memory_room.ensures.ends (λ k. (c.in_err-push.ensures.err k).items)
 
 pub returns-in_err-push-clause-prepared : goal.returns-in_err-push-clause-prepared
@@ -26,9 +26,9 @@ returns-in_err-push-clause-prepared c =
     c.in_ok-make_memory_room.ensures.prepared
 
 pub returns-clause-ends : goal.returns-clause-ends
-unfolding mirrored
+unfolding set_range_mirror
 returns-clause-ends c =
-    change-done (grown which.Memory two memory_growth) (item.Mirror c.args.range) _ _ _ c.in_ok-make_memory_room.ensures.ends
+    change-done (make_table_room which.Memory split_record_count memory_growth) (item.Mirror c.args.range) _ _ _ c.in_ok-make_memory_room.ensures.ends
     c.in_ok-push.ensures.ok
 
 pub returns-clause-kept : goal.returns-clause-kept
@@ -40,7 +40,7 @@ pub returns-clause-bytes : goal.returns-clause-bytes
 returns-clause-bytes c =
     change-bytes (item.Mirror c.args.range) c.make_memory_room.new.tables c.in_ok-push.ensures.ok (λ kernel x. refl)
     (returns-clause-kept c) (edit-told which.Memory c.make_memory_room.new.tables c.set_mirror.new.self _ c.set_mirror.ensures.memory c.set_mirror.ensures.elsewhere
-    c.tables_stand.ensures.memory c.tables_stand.ensures.reserved) c.make_memory_room.ensures.bytes
+    c.tables_are_in_store.ensures.memory c.tables_are_in_store.ensures.reserved) c.make_memory_room.ensures.bytes
 
 pub returns-clause-prepared : goal.returns-clause-prepared
 returns-clause-prepared c =

@@ -2,7 +2,7 @@ use Rattle.std.proofs.Common.{◌≡◌, ℕ, false, Some, refl, sym, ◌∙◌,
 use Rattle.std.proofs.lemmas.Bool.{true≢false}
 use Rattle.std.proofs.lemmas.Option.{none-some}
 use Rattle.memblock_model.specs.declared.owner.Which.TheVariants as which
-use Rattle.growth_model.specs.Growth.{is_full, new_in}
+use Rattle.growth_model.specs.Growth.{is_full, count_uncovered_pieces}
 use Rattle.growth_model.specs.Request.{place_for}
 use Rattle.memblock_grow.proofs.PlaceLaws.{knows-mirrors}
 use Rattle.memblock_grow.proofs.ReservedLaws.{still-bytes}
@@ -52,9 +52,9 @@ returns-in_default-clause-ready c = λ place is spare idle.
 
 -- a claim of that place needs no growth if the table has room
 idle_at : (c : In-Some) (place : ℕ) → place_for c.args.request.now c.args.journal.now.items ≡ Some place
-    → is_full which.Reserved (new_in which.Reserved (record { base = place; size = c.args.request.now.size })) c.args.journal.now.items
+    → is_full which.Reserved (count_uncovered_pieces which.Reserved (record { base = place; size = c.args.request.now.size })) c.args.journal.now.items
     ≡ false
-    → is_full which.Reserved (new_in which.Reserved (record { base = c.in-Some.base; size = c.args.request.now.size }))
+    → is_full which.Reserved (count_uncovered_pieces which.Reserved (record { base = c.in-Some.base; size = c.args.request.now.size }))
     c.args.journal.now.items ≡ false
 idle_at c place is idle = let at : c.in-Some.base ≡ place = cc (sym (found c) ∙ is) in rw at idle
 

@@ -1,15 +1,15 @@
 use Rattle.std.proofs.Common.{◌∙◌, List, ℕ, ap, sym, subst}
 use Rattle.phys_store.specs.Bytes.{byte_of}
-use Rattle.memblock_ranges.specs.Lent.{runs_in, AreLent}
+use Rattle.memblock_ranges.specs.Lent.{records_in_bytes, AreRecordBytes}
 use Rattle.memblock_ranges.proofs.LentLaws.{lent_runs, are_lent}
 use Rattle.memblock_ranges.proofs.lent.records.Goals as goal
 
 pub of-requires : goal.of-requires
 of-requires c =
     let h = c.args.head.now in
-    subst (λ (bs : List ℕ). AreLent bs h.count) (sym c.slice.ensures) (are_lent c.args.store.now h c.requires.table c.requires.records)
+    subst (λ (bs : List ℕ). AreRecordBytes bs h.count) (sym c.slice.ensures) (are_lent c.args.store.now h c.requires.table c.requires.records)
 
 pub returns : goal.returns
 returns c =
     let h = c.args.head.now in
-    c.of.ensures ∙ ap (λ (bs : List ℕ). runs_in bs h.count) c.slice.ensures ∙ lent_runs (byte_of c.args.store.now) h.place h.count
+    c.of.ensures ∙ ap (λ (bs : List ℕ). records_in_bytes bs h.count) c.slice.ensures ∙ lent_runs (byte_of c.args.store.now) h.place h.count

@@ -21,10 +21,10 @@ loop-from-init g c =
       first = omega (arith, base);
       last = omega (arith, base);
       rest = rest;
-      here = none_told c.is_none-bare.result c.look-first.result.0 c.is_none-bare.ensures ∙ ap is_none (c.look-first.ensures.value f rest);
-      stays = c.look-first.ensures.stays f rest;
-      ends = c.look-first.ensures.ends rest.ends;
-      behind = c.look-first.ensures.behind rest.ends;
+      here = none_told c.is_none-bare.result c.value_and_end-first.result.0 c.is_none-bare.ensures ∙ ap is_none (c.value_and_end-first.ensures.value f rest);
+      stays = c.value_and_end-first.ensures.stays f rest;
+      ends = c.value_and_end-first.ensures.ends rest.ends;
+      behind = c.value_and_end-first.ensures.behind rest.ends;
       few = omega arith;
       count = sym (ap (λ n. total (edges same_label (gaps_in_range r plain_label f)) 0 n) base ∙ no_pieces r f);
     }
@@ -48,7 +48,7 @@ loop-from-preserved g c =
     let rest : IsRestFrom f to (drop c.skip_ended-read.result (g.T.Rows.list c.args.table.now)) =
     c.skip_ended-read.ensures.rest f from i.rest (omega (arith, order))
     (ends_sooner to next (drop c.loop-from.read (g.T.Rows.list c.args.table.now)) by_next i.ends) in
-    let value = c.look-there.ensures.value f rest in
+    let value = c.value_and_end-there.ensures.value f rest in
     let ends : c.ends_piece-count.result ≡ (if c.loop-from.bare && not (nat_lt to (r.base + r.size) && c.is_none.result) then 1 else 0) =
     c.ends_piece-count.ensures ∙ ap (λ n. if c.loop-from.bare && not (nat_lt to n && c.is_none.result) then 1 else 0) until in
     let few = one_at_most (c.loop-from.bare && not (nat_lt to (r.base + r.size) && c.is_none.result)) in
@@ -56,14 +56,14 @@ loop-from-preserved g c =
       first = omega (arith, i.first, order);
       last = by_end;
       rest = rest;
-      here = none_told c.is_none-bare-in-loop-from.result c.look-there.result.0 c.is_none-bare-in-loop-from.ensures ∙ ap is_none value;
-      stays = c.look-there.ensures.stays f rest;
-      ends = c.look-there.ensures.ends rest.ends;
-      behind = c.look-there.ensures.behind rest.ends;
+      here = none_told c.is_none-bare-in-loop-from.result c.value_and_end-there.result.0 c.is_none-bare-in-loop-from.ensures ∙ ap is_none value;
+      stays = c.value_and_end-there.ensures.stays f rest;
+      ends = c.value_and_end-there.ensures.ends rest.ends;
+      behind = c.value_and_end-there.ensures.behind rest.ends;
       few = omega (arith, i.few, order, few, ends);
       count = more_pieces r f from to next c.loop-from.count c.ends_piece-count.result c.loop-from.bare c.is_none.result i.first order
           by_end by_next
-          i.stays i.here (none_told c.is_none.result c.look-there.result.0 c.is_none.ensures ∙ ap is_none value) ends i.count;
+          i.stays i.here (none_told c.is_none.result c.value_and_end-there.result.0 c.is_none.ensures ∙ ap is_none value) ends i.count;
     }
 
 pub returns : goal.returns

@@ -33,9 +33,9 @@ loop-read-preserved g c =
     let up : ℕ = b + (4096 - b % 4096) % 4096 in
     let down : ℕ = e - e % 4096 in
     let step = trim_step f at r rest turns up down (ap (λ n. n + (4096 - n % 4096) % 4096) base) (ap (λ n. n - n % 4096) ends)
-    c.frames-start.result.0 c.frames-start.result.1 (take c.loop-read.write t) i.swept.1
-    c.frames-start.ensures.start c.frames-start.ensures.until c.frames-start.ensures.none in
-    let with_value : LabelView → List (RunOf LabelView) = λ v. take c.loop-read.write t ++ stretch c.frames-start.result.0 c.frames-start.result.1
+    c.whole_frame_bounds-start.result.0 c.whole_frame_bounds-start.result.1 (take c.loop-read.write t) i.swept.1
+    c.whole_frame_bounds-start.ensures.start c.whole_frame_bounds-start.ensures.until c.whole_frame_bounds-start.ensures.none in
+    let with_value : LabelView → List (RunOf LabelView) = λ v. take c.loop-read.write t ++ stretch c.whole_frame_bounds-start.result.0 c.whole_frame_bounds-start.result.1
     (Some v) in
     let written : take c.emit.result.0 (g.T.Rows.list c.emit.new.table) ≡ with_value r.value =
     c.emit.ensures.written ∙ ap with_value c.value.ensures in

@@ -1,11 +1,11 @@
 use Rattle.std.proofs.Common.{◌≡◌, length, take, drop, reverse}
-use Rattle.node_hulls.specs.Steps.{filled}
+use Rattle.node_hulls.specs.Steps.{fill_gaps}
 use Rattle.node_hulls.proofs.hulls.fill_gaps.Given as goal
 
 abbrev pub invariant-loop-rest : goal.invariant-loop-rest
 invariant-loop-rest l = record {
   left : l.rest ≡ take (length l.rest) l.runs;
-  done : l.joined.items ≡ reverse (filled (drop (length l.rest) l.runs));
+  done : l.joined.items ≡ reverse (fill_gaps (drop (length l.rest) l.runs));
 }
 
 abbrev pub decreases-loop-rest : goal.decreases-loop-rest

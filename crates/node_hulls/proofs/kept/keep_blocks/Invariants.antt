@@ -1,11 +1,11 @@
 use Rattle.std.proofs.Common.{◌≡◌, ◌++◌, drop}
-use Rattle.node_hulls.specs.Kept.{numa_blocks_of, kept_from, kept_of}
-use Rattle.node_hulls.specs.Steps.{EndInSpace, in_runs}
+use Rattle.node_hulls.specs.Kept.{numa_blocks_of, keep_blocks_from, keep_blocks}
+use Rattle.node_hulls.specs.Steps.{EndInSpace, is_in_runs}
 use Rattle.node_hulls.proofs.kept.keep_blocks.Given as goal
 
 abbrev pub invariant-loop-index : goal.invariant-loop-index
 invariant-loop-index l = record {
-  kept_so_far : l.kept.items ++ kept_from (in_runs l.memory.items) l.domains l.index (drop l.index l.blocks)
-      ≡ kept_of (in_runs l.memory.items) l.domains l.blocks;
+  kept_so_far : l.kept.items ++ keep_blocks_from (is_in_runs l.memory.items) l.domains l.index (drop l.index l.blocks)
+      ≡ keep_blocks (is_in_runs l.memory.items) l.domains l.blocks;
   space : EndInSpace (numa_blocks_of l.kept.items);
 }

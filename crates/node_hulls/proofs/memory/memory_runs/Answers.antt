@@ -4,14 +4,14 @@ use Rattle.std.specs.Option.{option_or}
 use Rattle.address_runs.specs.Overlay.{overlay_runs}
 use Rattle.address_runs.specs.Runs.{RunOf, IsRunsOf}
 use Rattle.address_runs.proofs.OverlayLaws.{plain_addresses, plain_runs}
-use Rattle.node_hulls.specs.Steps.{nodeless}
+use Rattle.node_hulls.specs.Steps.{run_without_node}
 use Rattle.node_hulls.proofs.MemoryLaws.{told_memory}
 use Rattle.node_hulls.proofs.RestLaws.{bare_addresses}
 use Rattle.node_hulls.proofs.memory.memory_runs.Goals as goal
 
 pub overlay_all-requires : goal.overlay_all-requires
 overlay_all-requires c =
-    plain_addresses c.deref.result.now (rw (c.deref.ensures.value, c.in_ok-tell_memory.ensures, c.new-told.ensures.items)
+    plain_addresses c.deref.result.now (rw (c.deref.ensures.value, c.in_ok-push_uncovered_memory.ensures, c.new-told.ensures.items)
     (bare_addresses c.args.memory.now c.requires))
 
 pub returns-clause-bytes : goal.returns-clause-bytes
@@ -19,6 +19,6 @@ returns-clause-bytes c =
     IfOk-weaker c.overlay_all.result _ _ (λ runs laid.
     told_memory c.args.memory.now runs.items
     (subst (λ (ss : List (RunOf Bool)). IsRunsOf (overlay_runs option_or ss) runs.items)
-    (c.deref.ensures.value ∙ c.in_ok-tell_memory.ensures ∙ ap (λ (rs : List (RunOf Bool)). rs ++ map nodeless c.args.memory.now)
+    (c.deref.ensures.value ∙ c.in_ok-push_uncovered_memory.ensures ∙ ap (λ (rs : List (RunOf Bool)). rs ++ map run_without_node c.args.memory.now)
     c.new-told.ensures.items) (plain_runs option_or c.deref.result.now runs.items laid)))
     c.overlay_all.ensures

@@ -1,12 +1,12 @@
 use Rattle.std.proofs.Common.{◌≡◌, ◌+◌, length}
 use Rattle.address_runs.specs.Runs.{AreRuns, value_at}
-use Rattle.node_hulls.specs.Judgement.{frames_given}
+use Rattle.node_hulls.specs.Judgement.{count_frames_with_node}
 use Rattle.node_hulls.proofs.rest.count_frames.Given as goal
 
 abbrev pub invariant-loop-rest : goal.invariant-loop-rest
 invariant-loop-rest l = record {
   runs : AreRuns l.rest;
-  counted : l.frames + frames_given (value_at l.rest) ≡ frames_given (value_at l.runs);
+  counted : l.frames + count_frames_with_node (value_at l.rest) ≡ count_frames_with_node (value_at l.runs);
 }
 
 abbrev pub decreases-loop-rest : goal.decreases-loop-rest

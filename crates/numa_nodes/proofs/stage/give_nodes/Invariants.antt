@@ -1,6 +1,6 @@
 -- The stage ends as its remaining steps end.
 use Rattle.growth_model.specs.Sound.{HasBegun}
-use Rattle.numa_nodes.specs.Assigned.{given}
+use Rattle.numa_nodes.specs.Assigned.{set_block_node}
 use Rattle.numa_nodes.specs.Steps.{GoesFurther}
 use Rattle.numa_nodes.proofs.TurnLaws.{Turns}
 use Rattle.numa_nodes.proofs.stage.give_nodes.Given as goal
@@ -8,6 +8,6 @@ use Rattle.numa_nodes.proofs.stage.give_nodes.Given as goal
 abbrev pub invariant-loop-run : goal.invariant-loop-run
 invariant-loop-run l = record {
   begun : HasBegun l.memblock.journal.items;
-  ends : Turns given l.ranges l.run-index l.fn.memblock.journal.items l.memblock.journal.items;
+  ends : Turns set_block_node l.ranges l.run-index l.fn.memblock.journal.items l.memblock.journal.items;
   goes_on : GoesFurther l.fn.memblock l.memblock;
 }

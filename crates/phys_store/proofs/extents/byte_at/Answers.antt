@@ -1,6 +1,6 @@
 use Rattle.std.proofs.Common.{◌+◌, ◌-◌, ◌<◌, length, map, sym, ◌∙◌, arith}
 use Rattle.std.proofs.lemmas.List.{get_or_read, get_or-drop}
-use Rattle.phys_store.specs.Extents.{stored}
+use Rattle.phys_store.specs.Extents.{extent_view}
 use Rattle.phys_store.proofs.Lookup.{Holds, holds_one, read-at, none-found, byte-unready}
 use Rattle.phys_store.proofs.extents.byte_at.Goals as goal
 use Rattle.phys_store.proofs.extents.byte_at.Goals.{In-Some}
@@ -28,9 +28,9 @@ returns-in-Some c =
     let below : k < length e.bytes.items = omega (arith, h.low, h.inner, h.long) in
     get_or_read e.bytes.items k c.index.result.now below c.index.ensures 0
     ∙ sym (get_or-drop e.front e.bytes.items (c.args.address - e.base) 0)
-    ∙ sym (read-at 0 (map stored c.args.extents.now) i (stored e) c.args.address c.requires h.count h.there h.low h.inner).0
+    ∙ sym (read-at 0 (map extent_view c.args.extents.now) i (extent_view e) c.args.address c.requires h.count h.there h.low h.inner).0
 
 pub returns-in-None : goal.returns-in-None
 returns-in-None c =
     let es = c.args.extents.now in
-    sym (byte-unready (map stored es) c.args.address (none-found es c.args.address c.in-None.ensures))
+    sym (byte-unready (map extent_view es) c.args.address (none-found es c.args.address c.in-None.ensures))

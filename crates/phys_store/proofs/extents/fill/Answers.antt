@@ -2,9 +2,9 @@ use Rattle.std.proofs.Common.{◌≡◌, ◌+◌, ◌-◌, length, get_or, set, 
 use Rattle.std.specs.Vec.{with_items}
 use borrow.Rule.Slice.PartMut.{put_mid}
 use Rattle.bm_base.specs.Range.{RangeView}
-use Rattle.phys_store.specs.declared.extents.Held.{Held}
-use Rattle.phys_store.specs.Bytes.{AreReady, Wrote}
-use Rattle.phys_store.specs.Extents.{stored, Apart}
+use Rattle.phys_store.specs.declared.extents.Extent.{Extent}
+use Rattle.phys_store.specs.Bytes.{ArePrepared, WritesBytes}
+use Rattle.phys_store.specs.Extents.{extent_view, AreApart}
 use Rattle.phys_store.proofs.Lookup.{Holds, holds, none_ready}
 use Rattle.phys_store.proofs.Writes.{wrote-mid, wrote-none, filled}
 use Rattle.phys_store.proofs.extents.fill.Goals as goal
@@ -16,8 +16,8 @@ has_range : (c : After-index-extents-i) → Holds c.args.extents.now c.range.ins
 has_range c =
     holds c.args.extents.now c.range.inside.base c.range.inside.size c.in-Some.i
     (get_or c.args.extents.now c.in-Some.i c.index-extents-i.result) c.requires.apart
-    (subst (λ (r : RangeView). AreReady (map stored c.args.extents.now) r.base r.size) (sym c.range.view_is) c.requires.prepared)
-    (sym c.place_of.ensures ∙ c.in-Some.is) (ap (λ (d : Held). get_or c.args.extents.now c.in-Some.i d) c.index-extents-i.is)
+    (subst (λ (r : RangeView). ArePrepared (map extent_view c.args.extents.now) r.base r.size) (sym c.range.view_is) c.requires.prepared)
+    (sym c.index_of_extent.ensures ∙ c.in-Some.is) (ap (λ (d : Extent). get_or c.args.extents.now c.in-Some.i d) c.index-extents-i.is)
 
 pub overflow_sub-from : goal.overflow_sub-from
 overflow_sub-from c = (has_range (goal.at.overflow_sub-from c).After-index-extents-i).low
@@ -35,7 +35,7 @@ slice_bounds-fill-end c =
     let h = has_range (goal.at.slice_bounds-fill-end c).After-index-extents-i in omega (arith, h.room, c.deref_mut.ensures.len, h.len)
 
 -- the same extent with the bytes filled
-abbrev filled_in : After-fill → Held
+abbrev filled_in : After-fill → Extent
 filled_in c =
     let e = get_or c.args.extents.now c.in-Some.i c.index-extents-i.result in
     let k = e.front + (c.range.inside.base - e.base) in
@@ -47,8 +47,8 @@ filled_in c =
 
 all_filled : (c : After-fill) → Holds c.args.extents.now c.range.inside.base c.range.inside.size c.in-Some.i
     (get_or c.args.extents.now c.in-Some.i c.index-extents-i.result) →
-    Apart 0 (map stored (set c.args.extents.now c.in-Some.i (filled_in c)))
-    × Wrote (map stored c.args.extents.now) (map stored (set c.args.extents.now c.in-Some.i (filled_in c))) c.range.inside.base
+    AreApart 0 (map extent_view (set c.args.extents.now c.in-Some.i (filled_in c)))
+    × WritesBytes (map extent_view c.args.extents.now) (map extent_view (set c.args.extents.now c.in-Some.i (filled_in c))) c.range.inside.base
     c.range.inside.size (λ _. c.args.byte)
 all_filled c h =
     let e = get_or c.args.extents.now c.in-Some.i c.index-extents-i.result in
@@ -72,6 +72,6 @@ returns-in-Some-clause-wrote c =
 
 pub returns-in_default-clause-wrote : goal.returns-in_default-clause-wrote
 returns-in_default-clause-wrote c =
-    let ready = subst (λ (r : RangeView). AreReady (map stored c.args.extents.now) r.base r.size) (sym c.range.view_is) c.requires.prepared in
-    rw (← c.range.view_is) (wrote-none (map stored c.args.extents.now) c.range.inside.base c.range.inside.size (λ _. c.args.byte)
-    (none_ready c.args.extents.now c.range.inside.base c.range.inside.size (sym c.place_of.ensures ∙ c.in_default.is) ready))
+    let ready = subst (λ (r : RangeView). ArePrepared (map extent_view c.args.extents.now) r.base r.size) (sym c.range.view_is) c.requires.prepared in
+    rw (← c.range.view_is) (wrote-none (map extent_view c.args.extents.now) c.range.inside.base c.range.inside.size (λ _. c.args.byte)
+    (none_ready c.args.extents.now c.range.inside.base c.range.inside.size (sym c.index_of_extent.ensures ∙ c.in_default.is) ready))

@@ -1,7 +1,7 @@
 use Rattle.std.proofs.Common.{◌≡◌, ◌+◌, ◌-◌, length, get_or, take, drop, map, refl, sym, ◌∙◌, ap, arith}
 use Rattle.std.proofs.lemmas.List.{get_or-take, get_or-drop, length-take, length-drop}
 use Rattle.phys_store.specs.Bytes.{byte_of, bytes_at}
-use Rattle.phys_store.specs.Extents.{stored}
+use Rattle.phys_store.specs.Extents.{extent_view}
 use Rattle.phys_store.proofs.Lookup.{Holds, holds, read-at, none_ready}
 use Rattle.phys_store.proofs.ByteLists.{told_bytes}
 use Rattle.phys_store.proofs.extents.slice.Goals as goal
@@ -33,7 +33,7 @@ returns-in-Some c =
     let h = has_all (goal.at.returns-in-Some c).In-Some in
     let m = e.front + (c.args.at - e.base) in
     let n = m + c.args.count - m in
-    let ps = map stored c.args.extents.now in
+    let ps = map extent_view c.args.extents.now in
     let xs = c.deref.result.now in
     let value : xs ≡ e.bytes.items = c.deref.ensures.value in
     let long : length xs ≡ length e.bytes.items = ap length value in
@@ -42,7 +42,7 @@ returns-in-Some c =
     (λ k below.
     get_or-take n (drop m xs) k 0 (omega arith) ∙ get_or-drop m xs k 0 ∙ ap (λ ys. get_or ys (m + k) 0) value
     ∙ ap (λ j. get_or e.bytes.items j 0) (omega (arith, h.low)) ∙ sym (get_or-drop e.front e.bytes.items (c.args.at + k - e.base) 0)
-    ∙ sym (read-at 0 ps i (stored e) (c.args.at + k) c.requires.apart h.count h.there (omega (arith, h.low))
+    ∙ sym (read-at 0 ps i (extent_view e) (c.args.at + k) c.requires.apart h.count h.there (omega (arith, h.low))
     (omega (arith, h.high))).0)
 
 pub returns-in-None : goal.returns-in-None

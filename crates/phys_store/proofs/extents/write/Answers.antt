@@ -1,9 +1,9 @@
 use Rattle.std.proofs.Common.{ℕ, ◌+◌, ◌-◌, List, length, get_or, set, map, refl, sym, ◌∙◌, ap, arith}
 use Rattle.std.specs.Vec.{with_items}
 use borrow.Rule.Slice.PartMut.{put_mid}
-use Rattle.phys_store.specs.declared.extents.Held.{Held}
-use Rattle.phys_store.specs.Bytes.{Wrote}
-use Rattle.phys_store.specs.Extents.{stored, Apart}
+use Rattle.phys_store.specs.declared.extents.Extent.{Extent}
+use Rattle.phys_store.specs.Bytes.{WritesBytes}
+use Rattle.phys_store.specs.Extents.{extent_view, AreApart}
 use Rattle.phys_store.proofs.Lookup.{Holds, holds, none_ready}
 use Rattle.phys_store.proofs.Writes.{wrote-mid, wrote-none}
 use Rattle.phys_store.proofs.extents.write.Goals as goal
@@ -15,7 +15,7 @@ has_place : (c : After-index-extents-i) → Holds c.args.extents.now c.args.at (
 has_place c =
     holds c.args.extents.now c.args.at (length c.args.bytes.now) c.in-Some.i
     (get_or c.args.extents.now c.in-Some.i c.index-extents-i.result) c.requires.apart c.requires.prepared
-    (sym c.place_of.ensures ∙ c.in-Some.is) (ap (λ (d : Held). get_or c.args.extents.now c.in-Some.i d) c.index-extents-i.is)
+    (sym c.index_of_extent.ensures ∙ c.in-Some.is) (ap (λ (d : Extent). get_or c.args.extents.now c.in-Some.i d) c.index-extents-i.is)
 
 pub overflow_sub-from : goal.overflow_sub-from
 overflow_sub-from c = (has_place (goal.at.overflow_sub-from c).After-index-extents-i).low
@@ -34,7 +34,7 @@ slice_bounds-copy_from_slice-end c =
     omega (arith, h.room, c.deref_mut.ensures.len, h.len)
 
 -- the same extent with the bytes written
-abbrev written_in : After-copy_from_slice → Held
+abbrev written_in : After-copy_from_slice → Extent
 written_in c =
     let e = get_or c.args.extents.now c.in-Some.i c.index-extents-i.result in
     let k = e.front + (c.args.at - e.base) in
@@ -46,8 +46,8 @@ written_in c =
 
 written : (c : After-copy_from_slice) → Holds c.args.extents.now c.args.at (length c.args.bytes.now) c.in-Some.i
     (get_or c.args.extents.now c.in-Some.i c.index-extents-i.result) →
-    Apart 0 (map stored (set c.args.extents.now c.in-Some.i (written_in c)))
-    × Wrote (map stored c.args.extents.now) (map stored (set c.args.extents.now c.in-Some.i (written_in c))) c.args.at
+    AreApart 0 (map extent_view (set c.args.extents.now c.in-Some.i (written_in c)))
+    × WritesBytes (map extent_view c.args.extents.now) (map extent_view (set c.args.extents.now c.in-Some.i (written_in c))) c.args.at
     (length c.args.bytes.now) (λ j. get_or c.args.bytes.now j 0)
 written c h =
     let e = get_or c.args.extents.now c.in-Some.i c.index-extents-i.result in
@@ -68,5 +68,5 @@ returns-in-Some-clause-wrote c =
 pub returns-in_default-clause-wrote : goal.returns-in_default-clause-wrote
 returns-in_default-clause-wrote c =
     let n = length c.args.bytes.now in
-    let none = none_ready c.args.extents.now c.args.at n (sym c.place_of.ensures ∙ c.in_default.is) c.requires.prepared in
-    wrote-none (map stored c.args.extents.now) c.args.at n (λ j. get_or c.args.bytes.now j 0) none
+    let none = none_ready c.args.extents.now c.args.at n (sym c.index_of_extent.ensures ∙ c.in_default.is) c.requires.prepared in
+    wrote-none (map extent_view c.args.extents.now) c.args.at n (λ j. get_or c.args.bytes.now j 0) none

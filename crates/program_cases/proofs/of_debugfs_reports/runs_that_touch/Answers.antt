@@ -3,11 +3,11 @@ use Rattle.std.proofs.Common.{◌≡◌, Result, Ok, subst}
 use Rattle.std.specs.Prelude.{IfOk}
 use Rattle.boot_model.specs.declared.booted.Booted.{Booted}
 use Rattle.boot_model.specs.declared.stop.Stop.{Stop}
-use Rattle.debugfs_reports.specs.Stand.{TablesStand}
+use Rattle.debugfs_reports.specs.Stand.{HeadsHaveRecords}
 use Rattle.program_cases.proofs.of_debugfs_reports.runs_that_touch.Goals as goal
 
-stand : (answer : Result Booted Stop) (b : Booted) → answer ≡ Ok b → IfOk answer (λ b. TablesStand b) → TablesStand b
-stand answer b is = subst (λ (r : Result Booted Stop). IfOk r (λ b. TablesStand b)) is
+stand : (answer : Result Booted Stop) (b : Booted) → answer ≡ Ok b → IfOk answer (λ b. HeadsHaveRecords b) → HeadsHaveRecords b
+stand answer b is = subst (λ (r : Result Booted Stop). IfOk r (λ b. HeadsHaveRecords b)) is
 
 pub render-requires-clause-tables : goal.render-requires-clause-tables
 render-requires-clause-tables g c =

@@ -16,13 +16,13 @@ pub returns-in-Ok-clause-unput : goal.returns-in-Ok-clause-unput
 returns-in-Ok-clause-unput g c = λ none. absurd (never_refused _ _ c.in-Ok.ensures none)
 
 pub returns-in-Ok-clause-told : goal.returns-in-Ok-clause-told
-returns-in-Ok-clause-told g c = rw (are_accepted _ _ c.in-Ok.ensures) c.tell_end.ensures
+returns-in-Ok-clause-told g c = rw (are_accepted _ _ c.in-Ok.ensures) c.put_end_line.ensures
 
 pub returns-in-Err-clause-writes : goal.returns-in-Err-clause-writes
 returns-in-Err-clause-writes g c =
-    rw c.no_words.ensures (words_fit (g.F.Files.holds c.args.files.now) _ c.in-Err.error c.in-Err.ensures)
+    rw c.reason_by_args_error.ensures (words_fit (g.F.Files.holds c.args.files.now) _ c.in-Err.error c.in-Err.ensures)
 
 pub returns-in-Err-clause-cause : goal.returns-in-Err-clause-cause
 returns-in-Err-clause-cause g c =
-    rw c.no_words.ensures
+    rw c.reason_by_args_error.ensures
     (words_cause (g.F.Files.faults c.args.files.now) (g.F.Files.faults c.args.files.now) _ c.in-Err.error c.in-Err.ensures)

@@ -1,7 +1,7 @@
 -- Each record isn't empty, and its line is the next one.
 use Rattle.std.proofs.Common.{arith}
 use Rattle.std.proofs.lemmas.Result.{err_from_is_err_and}
-use Rattle.memblock_ranges.specs.Tables.{list_in}
+use Rattle.memblock_ranges.specs.Tables.{records_of_head}
 use Rattle.memblock_ranges.proofs.LentLaws.{count_is}
 use Rattle.table_frames.proofs.RecordLaws.{region_fits}
 use Rattle.report_texts.specs.RecordsText.{record_line}
@@ -33,7 +33,7 @@ loop-index-preserved c =
 
 pub returns : goal.returns
 returns c =
-    let rs = list_in c.args.store.now c.args.head.now in
+    let rs = records_of_head c.args.store.now c.args.head.now in
     let long = count_is c.args.store.now c.args.head.now in
     let none = lines_end record_line rs c.loop-index.index (omega (arith, long)) in
     (text_end _ _ _ none c.loop-index.invariant.lines, c.loop-index.invariant.room)

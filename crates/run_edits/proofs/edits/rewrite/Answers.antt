@@ -37,13 +37,13 @@ advance-sweep-requires-clause-room g c = λ free lt some other.
     let small : end_of r < 2 ^ 64 = c.end-until.ensures.small in
     let first : r.base ≤ from = i.first in
     let test : from < c.end-until.result = c.loop-from-test.true in
-    let next : from < c.look-here.result.1 = c.look-here.ensures.behind i.rest.ends (omega arith) in
+    let next : from < c.value_and_end-here.result.1 = c.value_and_end-here.ensures.behind i.rest.ends (omega arith) in
     let order : from ≤ c.min-to.result = omega arith in
     let here : h from ≡ c.apply.result = amended_inside change r f from first (omega arith)
-    ∙ ap change (sym (c.look-here.ensures.value f i.rest)) ∙ sym c.apply.ensures in
+    ∙ ap change (sym (c.value_and_end-here.ensures.value f i.rest)) ∙ sym c.apply.ensures in
     let rest : IsRestFrom f c.min-to.result (drop c.skip_ended.result (g.T.Rows.list c.loop-from.table)) =
-    c.skip_ended.ensures.rest f from i.rest order (ends_sooner c.min-to.result c.look-here.result.1 _ (omega arith)
-    (c.look-here.ensures.ends i.rest.ends)) in
+    c.skip_ended.ensures.rest f from i.rest order (ends_sooner c.min-to.result c.value_and_end-here.result.1 _ (omega arith)
+    (c.value_and_end-here.ensures.ends i.rest.ends)) in
     let room : length (g.T.Rows.list c.loop-from.table) < g.T.Slots.room c.args.table.now =
     room_here c.requires.room.0 c.requires.room.1 f h c.loop-from.sweep.start from c.min-to.result c.loop-from.sweep.value
     (g.T.Rows.list c.loop-from.table) c.loop-from.sweep.write c.skip_ended.result
@@ -64,15 +64,15 @@ loop-from-preserved g c =
     let small : end_of r < 2 ^ 64 = c.end-until.ensures.small in
     let first : r.base ≤ from = i.first in
     let test : from < c.end-until.result = c.loop-from-test.true in
-    let next : from < c.look-here.result.1 = c.look-here.ensures.behind i.rest.ends (omega arith) in
+    let next : from < c.value_and_end-here.result.1 = c.value_and_end-here.ensures.behind i.rest.ends (omega arith) in
     let order : from ≤ to = omega arith in
-    let value : c.apply.result ≡ change (f from) = c.apply.ensures ∙ ap change (c.look-here.ensures.value f i.rest) in
+    let value : c.apply.result ≡ change (f from) = c.apply.ensures ∙ ap change (c.value_and_end-here.ensures.value f i.rest) in
     let here : h from ≡ c.apply.result = amended_inside change r f from first (omega arith) ∙ sym value in
     let rest : IsRestFrom f to (drop c.skip_ended.result (g.T.Rows.list c.loop-from.table)) =
-    c.skip_ended.ensures.rest f from i.rest order (ends_sooner to c.look-here.result.1 _ (omega arith) (c.look-here.ensures.ends i.rest.ends))
+    c.skip_ended.ensures.rest f from i.rest order (ends_sooner to c.value_and_end-here.result.1 _ (omega arith) (c.value_and_end-here.ensures.ends i.rest.ends))
     in
-    let stays : Stays h from to c.apply.result = amended_stays change r f from to c.look-here.result.1 c.apply.result first (omega arith)
-    (omega arith) (c.look-here.ensures.stays f i.rest) value in
+    let stays : Stays h from to c.apply.result = amended_stays change r f from to c.value_and_end-here.result.1 c.apply.result first (omega arith)
+    (omega arith) (c.value_and_end-here.ensures.stays f i.rest) value in
     record {
       first = omega arith;
       last = omega arith;
@@ -100,13 +100,13 @@ advance-sweep-requires-2-clause-room g c = λ free lt some other.
     c.loop-from.sweep.value =
     subst (λ (n : ℕ). IsBuiltTo h n (take c.loop-from.sweep.write (g.T.Rows.list c.loop-from.table)) c.loop-from.sweep.start
     c.loop-from.sweep.value) at i.built in
-    let order : until ≤ c.look-here-2.result.1 = c.look-here-2.ensures.forward left.ends (omega arith) in
-    let here : h until ≡ c.look-here-2.result.0 = amended_behind change r f until (omega arith)
-    ∙ sym (c.look-here-2.ensures.value f left) in
-    let rest : IsRestFrom f c.look-here-2.result.1 (drop c.skip_ended-2.result (g.T.Rows.list c.loop-from.table)) =
-    c.skip_ended-2.ensures.rest f until left order (c.look-here-2.ensures.ends left.ends) in
+    let order : until ≤ c.value_and_end-here-2.result.1 = c.value_and_end-here-2.ensures.forward left.ends (omega arith) in
+    let here : h until ≡ c.value_and_end-here-2.result.0 = amended_behind change r f until (omega arith)
+    ∙ sym (c.value_and_end-here-2.ensures.value f left) in
+    let rest : IsRestFrom f c.value_and_end-here-2.result.1 (drop c.skip_ended-2.result (g.T.Rows.list c.loop-from.table)) =
+    c.skip_ended-2.ensures.rest f until left order (c.value_and_end-here-2.ensures.ends left.ends) in
     let room : length (g.T.Rows.list c.loop-from.table) < g.T.Slots.room c.args.table.now =
-    room_here c.requires.room.0 c.requires.room.1 f h c.loop-from.sweep.start until c.look-here-2.result.1 c.loop-from.sweep.value
+    room_here c.requires.room.0 c.requires.room.1 f h c.loop-from.sweep.start until c.value_and_end-here-2.result.1 c.loop-from.sweep.value
     (g.T.Rows.list c.loop-from.table) c.loop-from.sweep.write c.skip_ended-2.result
     (g.T.Slots.room c.args.table.now) c.requires.room.2 c.requires.within order (grind (arith, common_steps)) built
     (λ same. absurd (other (sym same ∙ here))) rest free (c.skip_ended-2.ensures.within i.within) lt some in
@@ -118,7 +118,7 @@ emit-write-requires-clause-room g c = λ free lt some.
     let change = g.C.Change.makes c.args.change in
     let r : RangeView = c.args.range.now in
     let until : ℕ = c.end-until.result in
-    let next : ℕ = c.look-here-2.result.1 in
+    let next : ℕ = c.value_and_end-here-2.result.1 in
     let h = change_range change r f in
     let i = c.loop-from.invariant in
     let a = c.advance-sweep-2 in
@@ -131,21 +131,21 @@ emit-write-requires-clause-room g c = λ free lt some.
     c.loop-from.sweep.value =
     subst (λ (n : ℕ). IsBuiltTo h n (take c.loop-from.sweep.write (g.T.Rows.list c.loop-from.table)) c.loop-from.sweep.start
     c.loop-from.sweep.value) at i.built in
-    let order : until ≤ next = c.look-here-2.ensures.forward left.ends (omega arith) in
-    let value : c.look-here-2.result.0 ≡ f until = c.look-here-2.ensures.value f left in
-    let here : h until ≡ c.look-here-2.result.0 = amended_behind change r f until (omega arith) ∙ sym value in
-    let stays : Stays h until next c.look-here-2.result.0 = amended_stays_behind change r f until next c.look-here-2.result.0
-    (omega arith) (c.look-here-2.ensures.stays f left) value in
+    let order : until ≤ next = c.value_and_end-here-2.ensures.forward left.ends (omega arith) in
+    let value : c.value_and_end-here-2.result.0 ≡ f until = c.value_and_end-here-2.ensures.value f left in
+    let here : h until ≡ c.value_and_end-here-2.result.0 = amended_behind change r f until (omega arith) ∙ sym value in
+    let stays : Stays h until next c.value_and_end-here-2.result.0 = amended_stays_behind change r f until next c.value_and_end-here-2.result.0
+    (omega arith) (c.value_and_end-here-2.ensures.stays f left) value in
     let built : IsBuiltTo h next (take a.result.write (g.T.Rows.list a.new.table)) a.result.start a.result.value = a.ensures.built h next
     before here order stays in
     let rest : IsRestFrom f next (drop a.result.read (g.T.Rows.list a.new.table)) =
-    rw a.ensures.rest (c.skip_ended-2.ensures.rest f until left order (c.look-here-2.ensures.ends left.ends)) in
+    rw a.ensures.rest (c.skip_ended-2.ensures.rest f until left order (c.value_and_end-here-2.ensures.ends left.ends)) in
     let last : a.result.value ≡ f until = a.ensures.value ∙ value in
     let room : length (g.T.Rows.list a.new.table) < g.T.Slots.room c.args.table.now =
     room_here c.requires.room.0 c.requires.room.1 f h a.result.start next next a.result.value (g.T.Rows.list a.new.table) a.result.write
     a.result.read
     (g.T.Slots.room c.args.table.now) c.requires.room.2 c.requires.within (omega arith) (grind (arith, common_steps)) built
-    (λ same. last ∙ c.look-here-2.ensures.another f left (sym (amended_behind change r f next (omega arith)) ∙ same ∙ last)) rest free
+    (λ same. last ∙ c.value_and_end-here-2.ensures.another f left (sym (amended_behind change r f next (omega arith)) ∙ same ∙ last)) rest free
     a.ensures.within lt some in
     let keeps = g.met.T.Slots.keeps_on c.args.table.now c.loop-from.table a.new.table i.keeps a.ensures.keeps in
     g.met.T.Slots.keeps_room c.args.table.now a.new.table keeps (suc (length (g.T.Rows.list a.new.table))) room
@@ -156,7 +156,7 @@ returns-clause-list g c =
     let change = g.C.Change.makes c.args.change in
     let r : RangeView = c.args.range.now in
     let until : ℕ = c.end-until.result in
-    let next : ℕ = c.look-here-2.result.1 in
+    let next : ℕ = c.value_and_end-here-2.result.1 in
     let h = change_range change r f in
     let i = c.loop-from.invariant in
     let a = c.advance-sweep-2 in
@@ -169,22 +169,22 @@ returns-clause-list g c =
     c.loop-from.sweep.value =
     subst (λ (n : ℕ). IsBuiltTo h n (take c.loop-from.sweep.write (g.T.Rows.list c.loop-from.table)) c.loop-from.sweep.start
     c.loop-from.sweep.value) at i.built in
-    let order : until ≤ next = c.look-here-2.ensures.forward left.ends (omega arith) in
-    let value : c.look-here-2.result.0 ≡ f until = c.look-here-2.ensures.value f left in
-    let here : h until ≡ c.look-here-2.result.0 = amended_behind change r f until (omega arith) ∙ sym value in
-    let stays : Stays h until next c.look-here-2.result.0 = amended_stays_behind change r f until next c.look-here-2.result.0
-    (omega arith) (c.look-here-2.ensures.stays f left) value in
+    let order : until ≤ next = c.value_and_end-here-2.ensures.forward left.ends (omega arith) in
+    let value : c.value_and_end-here-2.result.0 ≡ f until = c.value_and_end-here-2.ensures.value f left in
+    let here : h until ≡ c.value_and_end-here-2.result.0 = amended_behind change r f until (omega arith) ∙ sym value in
+    let stays : Stays h until next c.value_and_end-here-2.result.0 = amended_stays_behind change r f until next c.value_and_end-here-2.result.0
+    (omega arith) (c.value_and_end-here-2.ensures.stays f left) value in
     let built : IsBuiltTo h next (take a.result.write (g.T.Rows.list a.new.table)) a.result.start a.result.value = a.ensures.built h next
     before here order stays in
     let last : a.result.value ≡ f until = a.ensures.value ∙ value in
-    let ends : FirstEndsAtOrPast next (drop c.loop-from.sweep.read (g.T.Rows.list c.loop-from.table)) = c.look-here-2.ensures.ends left.ends in
+    let ends : FirstEndsAtOrPast next (drop c.loop-from.sweep.read (g.T.Rows.list c.loop-from.table)) = c.value_and_end-here-2.ensures.ends left.ends in
     let passed : IsRestFrom f next (drop c.skip_ended-2.result (g.T.Rows.list c.loop-from.table)) = c.skip_ended-2.ensures.rest f until left order
     ends in
     let starts : StartAtOrPast next (drop c.skip_ended-2.result (g.T.Rows.list c.loop-from.table)) = c.skip_ended-2.ensures.starts f until left ends
-    c.look-here-2.ensures.uncut in
+    c.value_and_end-here-2.ensures.uncut in
     let swept : IsSweptTo h next (take a.result.write (g.T.Rows.list a.new.table) ++ stretch a.result.start next a.result.value) =
     swept_stretch h a.result.start next a.result.value (take a.result.write (g.T.Rows.list a.new.table)) built.swept built.begun built.stays
-    (λ same. last ∙ c.look-here-2.ensures.another f left (sym (amended_behind change r f next (omega arith)) ∙ same ∙ last)) in
+    (λ same. last ∙ c.value_and_end-here-2.ensures.another f left (sym (amended_behind change r f next (omega arith)) ∙ same ∙ last)) in
     let close : c.emit-write.result.0 + (c.emit-write.result.1 - c.emit-write.result.0)
     ≡ c.emit-write.result.1 = omega (arith, c.emit-write.ensures.order) in
     rw (c.close.ensures.list, close, c.emit-write.ensures.written, c.emit-write.ensures.rest, a.ensures.rest)

@@ -1,7 +1,7 @@
 -- The sequence ends as the groups that remain end.
 use Rattle.std.proofs.Common.{◌≤◌, ◌+◌, ◌^◌, length, vec_len, vec_capacity}
 use Rattle.growth_model.specs.Sound.{HasBegun}
-use Rattle.memblock_grow.specs.Going.{GoesOn}
+use Rattle.memblock_grow.specs.Going.{ContinuesMemblock}
 use Rattle.section_maps.proofs.GroupLaws.{Goes}
 use Rattle.section_maps.proofs.maps.place_maps.Given as goal
 
@@ -11,7 +11,7 @@ invariant-loop-rest l = record {
   few : length l.rest ≤ 2 ^ 32;
   room : vec_len l.placed + length l.rest ≤ vec_capacity l.placed;
   begun : HasBegun l.memblock.journal.items;
-  goes_on : GoesOn l.fn.memblock l.memblock;
+  goes_on : ContinuesMemblock l.fn.memblock l.memblock;
 }
 
 abbrev pub decreases-loop-rest : goal.decreases-loop-rest

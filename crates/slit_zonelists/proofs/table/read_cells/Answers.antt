@@ -2,8 +2,8 @@
 use Rattle.std.proofs.Common.{◌≡◌, ◌∙◌, ℕ, zero, suc, ◌-◌, ◌*◌, ◌≤◌, length, arith, subst, ap}
 use Rattle.std.proofs.Math.Nat.{le-mul_of_pos_right}
 use Rattle.std.proofs.lemmas.List.{take_rest}
-use Rattle.slit_zonelists.specs.Matrix.{Matrix}
-use Rattle.slit_zonelists.specs.Table.{localities}
+use Rattle.slit_zonelists.specs.Matrix.{SlitView}
+use Rattle.slit_zonelists.specs.Table.{locality_count}
 use Rattle.slit_zonelists.proofs.table.read_cells.Goals as goal
 
 -- a number is at most its square
@@ -13,11 +13,11 @@ root_low (suc n) m is = subst (λ x. suc n ≤ x) is (le-mul_of_pos_right (suc n
 
 pub overflow_cast-result : goal.overflow_cast-result
 overflow_cast-result c =
-    let low = root_low (localities c.args.bytes.now) (length c.args.bytes.now - 44) c.requires.square in
-    omega (arith, low, c.requires.few, c.read_localities-count.ensures)
+    let low = root_low (locality_count c.args.bytes.now) (length c.args.bytes.now - 44) c.requires.square in
+    omega (arith, low, c.requires.few, c.locality_count-count.ensures)
 
 pub returns-clause-cells : goal.returns-clause-cells
 returns-clause-cells c =
-    ap (λ n. let m : Matrix = record { count = n; cells = c.in_ok-cells.cells.items } in m) c.read_localities-count.ensures
-    ∙ ap (λ xs. let m : Matrix = record { count = localities c.args.bytes.now; cells = xs } in m)
+    ap (λ n. let m : SlitView = record { count = n; cells = c.in_ok-cells.cells.items } in m) c.locality_count-count.ensures
+    ∙ ap (λ xs. let m : SlitView = record { count = locality_count c.args.bytes.now; cells = xs } in m)
     (c.in_ok-cells.ensures.same ∙ take_rest c.args.bytes.now 44)

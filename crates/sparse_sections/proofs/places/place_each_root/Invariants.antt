@@ -1,7 +1,7 @@
 -- The sequence ends as the roots of the remaining sections end.
 use Rattle.std.proofs.Common.{◌≤◌, ◌+◌, drop, length, vec_len, vec_capacity}
 use Rattle.growth_model.specs.Sound.{HasBegun}
-use Rattle.memblock_grow.specs.Going.{GoesOn}
+use Rattle.memblock_grow.specs.Going.{ContinuesMemblock}
 use Rattle.sparse_sections.proofs.RootLaws.{Goes}
 use Rattle.sparse_sections.proofs.places.place_each_root.Given as goal
 
@@ -10,5 +10,5 @@ invariant-loop-section l = record {
   goes : Goes l.fn.memblock.journal.items l.sections l.memblock.journal.items l.roots.items l.last (drop l.section-index l.sections);
   room : vec_len l.roots + length l.sections ≤ vec_capacity l.roots + l.section-index;
   begun : HasBegun l.memblock.journal.items;
-  goes_on : GoesOn l.fn.memblock l.memblock;
+  goes_on : ContinuesMemblock l.fn.memblock l.memblock;
 }

@@ -3,5 +3,5 @@ use Rattle.std.proofs.Common.{ap}
 use Rattle.memblock_model.specs.declared.query.Request.{Request}
 use Rattle.sparse_sections.proofs.places.place_root.Goals as goal
 
-pub place-requires-clause-aligned : goal.place-requires-clause-aligned
-place-requires-clause-aligned c = (6, ap (λ (q : Request). q.align) c.small_request-request.ensures)
+pub place_or_stop-requires-clause-aligned : goal.place_or_stop-requires-clause-aligned
+place_or_stop-requires-clause-aligned c = (6, ap (λ (q : Request). q.align) c.small_request-request.ensures)

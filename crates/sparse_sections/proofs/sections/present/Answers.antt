@@ -24,25 +24,25 @@ loop-i-init c =
       reach = omega arith;
     }
 
-pub numbers_of-first-requires : goal.numbers_of-first-requires
-numbers_of-first-requires c =
-    let n = next (goal.at.numbers_of-first-requires c).After-get-region in record { some = n.some; reach = n.reach }
+pub section_numbers-first-requires : goal.section_numbers-first-requires
+section_numbers-first-requires c =
+    let n = next (goal.at.section_numbers-first-requires c).After-get-region in record { some = n.some; reach = n.reach }
 
-pub put_sections-requires : goal.put_sections-requires
-put_sections-requires c =
-    let n = next (goal.at.put_sections-requires c).After-get-region in
-    omega (arith, n.from, n.some, c.numbers_of-first.ensures.first, c.numbers_of-first.ensures.until)
+pub push_sections-requires : goal.push_sections-requires
+push_sections-requires c =
+    let n = next (goal.at.push_sections-requires c).After-get-region in
+    omega (arith, n.from, n.some, c.section_numbers-first.ensures.first, c.section_numbers-first.ensures.until)
 
 pub loop-i-preserved : goal.loop-i-preserved
 loop-i-preserved c =
     let rs = c.args.tables.now.memory.records in
     let n = next (goal.at.loop-i-preserved c).After-get-region in
     let r : RunOf LabelView = get_or rs c.loop-i.i nobody in
-    let until : c.numbers_of-first.result.1 ≡ (run_end r - 1) / 0x8000000 + 1 = rw (n.base, n.size) at c.numbers_of-first.ensures.until in
+    let until : c.section_numbers-first.result.1 ≡ (run_end r - 1) / 0x8000000 + 1 = rw (n.base, n.size) at c.section_numbers-first.ensures.until in
     record {
-      put = rw (c.in_ok-put_sections.ensures, c.loop-i.invariant.put) (sym (sections-record (value_at rs) c.loop-i.next r
-          (drop (c.loop-i.i + 1) rs) c.numbers_of-first.result.0 c.numbers_of-first.result.1 c.get-region.result.node n.left n.whole.base
-          n.node (rw n.base at c.numbers_of-first.ensures.first) until));
+      put = rw (c.in_ok-push_sections.ensures, c.loop-i.invariant.put) (sym (sections-record (value_at rs) c.loop-i.next r
+          (drop (c.loop-i.i + 1) rs) c.section_numbers-first.result.0 c.section_numbers-first.result.1 c.get-region.result.node n.left n.whole.base
+          n.node (rw n.base at c.section_numbers-first.ensures.first) until));
       left = rw until (left-next (value_at rs) c.loop-i.next r (drop (c.loop-i.i + 1) rs) n.left);
       reach = omega (arith, until, n.base, n.size, n.reach);
     }

@@ -12,16 +12,16 @@ overflow_add-first c = let end = c.loop-left.invariant.fill.end in omega (arith,
 pub overflow_sub-left : goal.overflow_sub-left
 overflow_sub-left c = let whole = c.loop-left.invariant.fill.count in omega (arith, whole)
 
-pub set_number-requires-clause-small : goal.set_number-requires-clause-small
-set_number-requires-clause-small c = let end = c.loop-left.invariant.fill.end in omega (arith, end)
+pub overwrite_batch_addresses-requires-clause-small : goal.overwrite_batch_addresses-requires-clause-small
+overwrite_batch_addresses-requires-clause-small c = let end = c.loop-left.invariant.fill.end in omega (arith, end)
 
-pub set_number-requires-clause-whole : goal.set_number-requires-clause-whole
-set_number-requires-clause-whole c =
+pub overwrite_batch_addresses-requires-clause-whole : goal.overwrite_batch_addresses-requires-clause-whole
+overwrite_batch_addresses-requires-clause-whole c =
     let l = c.loop-left in
     (batch_size_of (record c.args.row.now { first = l.first; count = l.left }) l.lines.items l.invariant.fill l.invariant.lines).0
 
-pub set_number-requires-clause-long : goal.set_number-requires-clause-long
-set_number-requires-clause-long c =
+pub overwrite_batch_addresses-requires-clause-long : goal.overwrite_batch_addresses-requires-clause-long
+overwrite_batch_addresses-requires-clause-long c =
     let l = c.loop-left in
     (batch_size_of (record c.args.row.now { first = l.first; count = l.left }) l.lines.items l.invariant.fill l.invariant.lines).1
 
@@ -31,7 +31,7 @@ loop-left-preserved c =
     let row : BlockRow = record c.args.row.now { first = l.first; count = l.left } in
     record {
       fill = rest_fill row l.invariant.fill (omega arith);
-      lines = rest_batch row l.lines.items c.set_number.new.batch.items l.invariant.fill (omega arith) l.invariant.lines c.set_number.ensures;
+      lines = rest_batch row l.lines.items c.overwrite_batch_addresses.new.batch.items l.invariant.fill (omega arith) l.invariant.lines c.overwrite_batch_addresses.ensures;
       text = text_more _ _ _ _ _ _ (batch_then row l.invariant.fill (omega arith)) l.invariant.text
           (c.in_ok-put_text.ensures.puts.0 ∙ ap (λ t. l.text.items ++ t) (c.deref.ensures.value ∙ l.invariant.lines));
     }

@@ -1,5 +1,5 @@
 use Rattle.std.proofs.Common.{◌≡◌, ℕ, List, length, ap, append-nil, arith}
-use Rattle.stage_texts.proofs.BatchLaws.{renumbered, batch_none}
+use Rattle.stage_texts.proofs.BatchLaws.{renumber_one_line, batch_none}
 use Rattle.stage_texts.proofs.batches.renumber.Goals as goal
 
 pub loop-i-init : goal.loop-i-init
@@ -7,7 +7,7 @@ loop-i-init c = λ front old eight is. rw (batch_none 0 front c.args.digits.now)
 
 pub loop-i-preserved : goal.loop-i-preserved
 loop-i-preserved c = λ front old eight is.
-    renumbered front c.args.digits.now old c.copy_from_slice.new.self c.loop-i.i (length c.args.batch.now) c.loop-i.batch (omega arith)
+    renumber_one_line front c.args.digits.now old c.copy_from_slice.new.self c.loop-i.i (length c.args.batch.now) c.loop-i.batch (omega arith)
     (ap (λ (t : List ℕ). length t) is) (omega arith) eight c.copy_from_slice.ensures.after (c.loop-i.invariant front old eight is)
 
 pub returns : goal.returns

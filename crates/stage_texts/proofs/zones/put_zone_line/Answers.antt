@@ -1,10 +1,10 @@
 -- The parts of the line, one after another.
 use Rattle.std.proofs.Common.{◌++◌, codes, decimal, arith}
 use Rattle.std.proofs.lemmas.Grind.{common_steps}
-use Rattle.buddy_handover.specs.Contents.{free}
+use Rattle.buddy_handover.specs.Contents.{buddy_frames}
 use Rattle.frame_blocks.specs.Listed.{blocks_of}
 use Rattle.report_texts.proofs.PutLaws.{goes_on}
-use Rattle.stage_texts.specs.ZonesText.{frames_there, zone_name}
+use Rattle.stage_texts.specs.ZonesText.{frames_in_zone, zone_name}
 use Rattle.stage_texts.proofs.zones.put_zone_line.Goals as goal
 
 pub returns : goal.returns
@@ -12,6 +12,6 @@ returns c =
     let s = c.args.span.now in
     goes_on c.args.text.now c.put_word_dec-4.new.text c.put_text-2.new.out c.put_text-2.result
     (codes "Node " ++ decimal s.node ++ codes ", zone " ++ zone_name s.zone ++ codes " start " ++ decimal s.start ++ codes " end "
-    ++ decimal s.end ++ codes " present " ++ decimal s.present ++ codes " free "
-    ++ decimal (frames_there s.node s.zone (blocks_of (free c.args.buddy.now)))) (codes "\n")
+    ++ decimal s.end ++ codes " present " ++ decimal s.present ++ codes " buddy_frames "
+    ++ decimal (frames_in_zone s.node s.zone (blocks_of (buddy_frames c.args.buddy.now)))) (codes "\n")
     c.put_text-2.ensures.puts (grind (arith, common_steps)) (grind (arith, common_steps))

@@ -1,6 +1,6 @@
 use Rattle.std.proofs.Common.{◌+◌, drop, arith, refl}
 use Rattle.std.proofs.lemmas.Bool.{false≢true}
-use Rattle.memblock_ranges.specs.Tables.{list_in}
+use Rattle.memblock_ranges.specs.Tables.{records_of_head}
 use Rattle.memblock_ranges.proofs.LentLaws.{count_is}
 use Rattle.table_frames.specs.Tables.{HasRecords}
 use Rattle.table_frames.proofs.RecordLaws.{records_higher}
@@ -9,7 +9,7 @@ use Rattle.table_frames.proofs.check.has_records.Goals as goal
 
 pub returns-then-not-is_in_place-clause-list : goal.returns-then-not-is_in_place-clause-list
 returns-then-not-is_in_place-clause-list c =
-    let rs = list_in c.args.store.now c.args.head.now in
+    let rs = records_of_head c.args.store.now c.args.head.now in
     let i = c.loop-i.i in
     let left = left_from c.args.store.now c.args.head.now i c.region_at-region.result c.loop-i-test.true c.region_at-region.ensures in (
       (λ never. absurd (false≢true never)),
@@ -21,7 +21,7 @@ returns-then-not-is_in_place-clause-list c =
 
 pub loop-i-preserved : goal.loop-i-preserved
 loop-i-preserved c =
-    let rs = list_in c.args.store.now c.args.head.now in
+    let rs = records_of_head c.args.store.now c.args.head.now in
     let i = c.loop-i.i in
     let left = left_from c.args.store.now c.args.head.now i c.region_at-region.result c.loop-i-test.true c.region_at-region.ensures in
     let facts = c.if-not-is_in_place.ensures.0 refl in
@@ -30,9 +30,9 @@ loop-i-preserved c =
 
 pub returns : goal.returns
 returns c =
-    let rs = list_in c.args.store.now c.args.head.now in
+    let rs = records_of_head c.args.store.now c.args.head.now in
     let long = count_is c.args.store.now c.args.head.now in
-    let room = c.if-not-has_room.ensures.0 refl in
+    let room = c.if-not-head_has_room.ensures.0 refl in
     let known : HasRecords c.args.store.now c.args.head.now c.args.bound = record {
       few = room.0;
       fits = room.1;

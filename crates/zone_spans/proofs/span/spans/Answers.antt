@@ -2,7 +2,7 @@ use Rattle.std.proofs.Common.{◌≡◌, ◌<◌, ◌≤◌, [], length, get_or,
 use Rattle.std.proofs.lemmas.List.{get_or_past}
 use Rattle.address_runs.specs.Runs.{RunOf, value_at}
 use Rattle.memblock_model.specs.Labels.{LabelView, plain_label}
-use Rattle.memblock_ranges.specs.Tables.{list_in}
+use Rattle.memblock_ranges.specs.Tables.{records_of_head}
 use Rattle.memblock_ranges.proofs.LentLaws.{count_is}
 use Rattle.table_frames.specs.Frames.{node_of_frame}
 use Rattle.table_frames.proofs.TakeLaws.{frames_below, frames_in_order, frames_some}
@@ -10,7 +10,7 @@ use Rattle.zone_spans.specs.Slots.{AreSpans}
 use Rattle.zone_spans.proofs.SlotLaws.{told_none, bounded_higher, listed}
 use Rattle.zone_spans.proofs.TableLaws.{low_node, nothing_taken, taken_run, taken_left, taken_all}
 use Rattle.zone_spans.proofs.span.spans.Goals as goal
-use Rattle.zone_spans.proofs.span.spans.Goals.{in-Some+in_ok-note, in_default}
+use Rattle.zone_spans.proofs.span.spans.Goals.{in-Some+in_ok-add_frames, in_default}
 
 nobody : RunOf LabelView
 nobody = record { base = 0; size = 0; value = plain_label }
@@ -24,45 +24,45 @@ loop-i-init c =
       told = rw empty (told_none (node_of_frame (value_at [])) (λ x. refl));
     }
 
-pub note-requires-clause-node : goal.note-requires-clause-node
-note-requires-clause-node c =
-    let ms = list_in c.args.store.now c.args.heads.now.memory in
-    low_node (get_or ms c.loop-i.i nobody).value.node c.in-Some.node (rw (c.frames_at-frames.ensures nobody) at c.in-Some.is)
+pub add_frames-requires-clause-node : goal.add_frames-requires-clause-node
+add_frames-requires-clause-node c =
+    let ms = records_of_head c.args.store.now c.args.heads.now.memory in
+    low_node (get_or ms c.loop-i.i nobody).value.node c.in-Some.node (rw (c.frames_of_record-frames.ensures nobody) at c.in-Some.is)
 
-pub note-requires-clause-order : goal.note-requires-clause-order
-note-requires-clause-order c = frames_some (get_or _ c.loop-i.i nobody) _ (c.frames_at-frames.ensures nobody)
+pub add_frames-requires-clause-order : goal.add_frames-requires-clause-order
+add_frames-requires-clause-order c = frames_some (get_or _ c.loop-i.i nobody) _ (c.frames_of_record-frames.ensures nobody)
 
-pub note-requires-clause-low : goal.note-requires-clause-low
-note-requires-clause-low c =
-    let ms = list_in c.args.store.now c.args.heads.now.memory in
+pub add_frames-requires-clause-low : goal.add_frames-requires-clause-low
+add_frames-requires-clause-low c =
+    let ms = records_of_head c.args.store.now c.args.heads.now.memory in
     let few : c.loop-i.i < length ms = omega (arith, count_is c.args.store.now c.args.heads.now.memory) in
-    frames_below _ _ ms c.loop-i.i nobody _ c.requires.memory.ascend few (c.frames_at-frames.ensures nobody) (omega arith)
+    frames_below _ _ ms c.loop-i.i nobody _ c.requires.memory.ascend few (c.frames_of_record-frames.ensures nobody) (omega arith)
 
-pub note-requires-clause-bounded : goal.note-requires-clause-bounded
-note-requires-clause-bounded c =
-    rw (c.frames_at-frames.ensures nobody) (c.loop-i.invariant.bounded c.loop-i.i nobody (omega arith) c.loop-i-test.true)
+pub add_frames-requires-clause-bounded : goal.add_frames-requires-clause-bounded
+add_frames-requires-clause-bounded c =
+    rw (c.frames_of_record-frames.ensures nobody) (c.loop-i.invariant.bounded c.loop-i.i nobody (omega arith) c.loop-i-test.true)
 
 pub loop-i-preserved : goal.loop-i-preserved
 loop-i-preserved c =
-    let ms = list_in c.args.store.now c.args.heads.now.memory in
+    let ms = records_of_head c.args.store.now c.args.heads.now.memory in
     let i = c.loop-i.i in
     let long = count_is c.args.store.now c.args.heads.now.memory in
     let few : i < length ms = omega (arith, long) in
-    let is = c.frames_at-frames.ensures nobody in
+    let is = c.frames_of_record-frames.ensures nobody in
     let ascend = c.requires.memory.ascend in
     let whole = c.requires.whole in
     let told = c.loop-i.invariant.told in
     elim c.match-frames.branch [
-      | in-Some+in_ok-note w ↦
+      | in-Some+in_ok-add_frames w ↦
           let nothing = nothing_taken _ ms i nobody ascend whole few in
           let more = taken_run _ ms i w.in-Some.node nobody ascend whole few (rw is at w.in-Some.is) in
           record {
-            few = rw w.slots-is w.in_ok-note.ensures.few;
+            few = rw w.slots-is w.in_ok-add_frames.ensures.few;
             bounded = λ k d later inner.
                 let below : k < length ms = omega (arith, long, inner) in
-                let order = frames_in_order _ ms i k d _ ascend whole (omega (arith, later)) below (c.frames_at-frames.ensures d) in
-                rw w.slots-is (bounded_higher _ _ w.note.new.slots.items order w.in_ok-note.ensures.bounded);
-            told = rw (w.slots-is, ← more) (rw is at (w.in_ok-note.ensures.told _ (rw is nothing) told));
+                let order = frames_in_order _ ms i k d _ ascend whole (omega (arith, later)) below (c.frames_of_record-frames.ensures d) in
+                rw w.slots-is (bounded_higher _ _ w.add_frames.new.slots.items order w.in_ok-add_frames.ensures.bounded);
+            told = rw (w.slots-is, ← more) (rw is at (w.in_ok-add_frames.ensures.told _ (rw is nothing) told));
           }
       | in_default w ↦
           let same = taken_left _ ms i nobody ascend whole few (rw is at w.in_default.is) in
@@ -75,9 +75,9 @@ loop-i-preserved c =
 
 pub returns : goal.returns
 returns c =
-    let ms = list_in c.args.store.now c.args.heads.now.memory in
+    let ms = records_of_head c.args.store.now c.args.heads.now.memory in
     let ss = c.loop-i.slots.items in
     let all : c.loop-i.i ≡ length ms = omega (arith, count_is c.args.store.now c.args.heads.now.memory) in
     let told : AreSpans (node_of_frame (value_at ms)) ss = rw (← taken_all ms c.loop-i.i all) c.loop-i.invariant.told in
     let few : length ss ≤ 3072 = let size = c.loop-i.slots.ok.0 in omega (arith, size) in
-    rw (← listed (node_of_frame (value_at ms)) ss told few, ← c.deref.ensures.value) c.all_of.ensures
+    rw (← listed (node_of_frame (value_at ms)) ss told few, ← c.deref.ensures.value) c.spans_in_slots.ensures

@@ -5,30 +5,30 @@ use Rattle.address_runs.specs.Edits.{NothingFrom}
 use Rattle.frame_blocks.specs.declared.run.TheConstants.{MAX_FRAMES}
 use Rattle.frame_blocks.specs.Listed.{block_of}
 use Rattle.frame_blocks.specs.Buddies.{without_set}
-use Rattle.buddy_handover.specs.Contents.{Contents, free}
+use Rattle.buddy_handover.specs.Contents.{BuddyView, buddy_frames}
 use Rattle.std.proofs.lemmas.Option.{IfSome_then}
 use Rattle.buddy_handover.proofs.TakeLaws.{first_is, first_none, runs_without}
 use Rattle.buddy_handover.proofs.buddy.Buddy.take.Goals as goal
 
-pub returns-in_default-least-clause-none : goal.returns-in_default-least-clause-none
-returns-in_default-least-clause-none c =
-    let low = subst (λ (b : Contents). NothingFrom MAX_FRAMES (free b)) (c.self.view_is ∙ c.in-Ok.ensures.stays) c.self.invariant.2 in
-    λ same. first_none (free c.args.self.now) c.args.node c.args.zone c.args.order low
-    (c.in_default-least.ensures (free c.args.self.now) c.in-Ok.ensures.areas)
+pub returns-in_default-find_picked_block-clause-none : goal.returns-in_default-find_picked_block-clause-none
+returns-in_default-find_picked_block-clause-none c =
+    let low = subst (λ (b : BuddyView). NothingFrom MAX_FRAMES (buddy_frames b)) (c.self.view_is ∙ c.in-Ok.ensures.stays) c.self.invariant.2 in
+    λ same. first_none (buddy_frames c.args.self.now) c.args.node c.args.zone c.args.order low
+    (c.in_default-find_picked_block.ensures (buddy_frames c.args.self.now) c.in-Ok.ensures.areas)
 
 pub invariant_of-self-2 : goal.invariant_of-self-2
 invariant_of-self-2 c =
     let o = c.args.order in
     let b = c.in-Some.block in
-    let f = free c.args.self.now in
-    let new = c.cut.new.runs.items in
-    let view = ap (λ (d : Contents). d.runs) c.self-2.view_is in
+    let f = buddy_frames c.args.self.now in
+    let new = c.remove_frames.new.runs.items in
+    let view = ap (λ (d : BuddyView). d.runs) c.self-2.view_is in
     let ready = c.in_ok-ready.ensures.runs in
-    let stays = ap (λ (d : Contents). d.runs) c.in-Ok.ensures.stays in
-    let spare = ap (λ (d : Contents). d.spare) c.self-2.view_is in
+    let stays = ap (λ (d : BuddyView). d.runs) c.in-Ok.ensures.stays in
+    let spare = ap (λ (d : BuddyView). d.spare) c.self-2.view_is in
     let room = c.self-2.invariant.0 in
     let runs : IsRunsOf (without_set o b.first f) new =
-    rw (view ∙ ready ∙ stays) at (rw c.set_around-2.ensures.frames at c.cut.ensures.runs) in
+    rw (view ∙ ready ∙ stays) at (rw c.set_around-2.ensures.frames at c.remove_frames.ensures.runs) in
     let is = c.in-Some.ensures f c.in-Ok.ensures.areas in
     let aligned = is.block.aligned in
     let base = ap (λ (r : RangeView). r.base) c.set_around.ensures.frames in
@@ -37,16 +37,16 @@ invariant_of-self-2 c =
     let behind : c.block_of-behind.result ≡ block_of f (b.first + 2 ^ b.order) = rw (← end, ← ready ∙ stays) c.block_of-behind.ensures in (
       omega (arith, spare, room),
       runs.runs,
-      c.cut.ensures.within,
-      IfSome_then c.split-rest.result c.split-rest.ensures (λ left told.
+      c.remove_frames.ensures.within,
+      IfSome_then c.index_after_alloc-rest.result c.index_after_alloc-rest.ensures (λ left told.
           told f (value_at new) c.in-Ok.ensures.areas (runs_without f new o b.first runs) is.block is.serves.enough behind),
     )
 
 pub returns-clause-first : goal.returns-clause-first
 returns-clause-first c =
-    let low = subst (λ (b : Contents). NothingFrom MAX_FRAMES (free b)) (c.self.view_is ∙ c.in-Ok.ensures.stays) c.self.invariant.2 in
-    first_is (free c.args.self.now) c.args.node c.args.zone c.args.order c.in-Some.block low
-    (c.in-Some.ensures (free c.args.self.now) c.in-Ok.ensures.areas)
+    let low = subst (λ (b : BuddyView). NothingFrom MAX_FRAMES (buddy_frames b)) (c.self.view_is ∙ c.in-Ok.ensures.stays) c.self.invariant.2 in
+    first_is (buddy_frames c.args.self.now) c.args.node c.args.zone c.args.order c.in-Some.block low
+    (c.in-Some.ensures (buddy_frames c.args.self.now) c.in-Ok.ensures.areas)
 
 -- what holds of each error
 any_err : {X E : Type 0} → (r : Result X E) (P : E → Type 0) → ((e : E) → P e) → IfErr r P
@@ -55,7 +55,7 @@ any_err (Err e) P holds = holds e
 
 pub returns-in_err-ready-clause-memory : goal.returns-in_err-ready-clause-memory
 returns-in_err-ready-clause-memory c =
-    let low = subst (λ (b : Contents). NothingFrom MAX_FRAMES (free b)) (c.self.view_is ∙ c.in-Ok.ensures.stays) c.self.invariant.2 in
-    let first = first_is (free c.args.self.now) c.args.node c.args.zone c.args.order c.in-Some.block low
-    (c.in-Some.ensures (free c.args.self.now) c.in-Ok.ensures.areas) in
+    let low = subst (λ (b : BuddyView). NothingFrom MAX_FRAMES (buddy_frames b)) (c.self.view_is ∙ c.in-Ok.ensures.stays) c.self.invariant.2 in
+    let first = first_is (buddy_frames c.args.self.now) c.args.node c.args.zone c.args.order c.in-Some.block low
+    (c.in-Some.ensures (buddy_frames c.args.self.now) c.in-Ok.ensures.areas) in
     any_err c.from_residual.result _ (λ refusal wanted. ap is_some first)

@@ -6,5 +6,5 @@ use Rattle.memblock_grow.proofs.memblock.Memblock.add_memory.Goals as goal
 
 pub invariant_of-self : goal.invariant_of-self
 invariant_of-self c =
-    whole-on c.self.invariant c.add.ensures.kept c.add.ensures.bytes
-    (add-stands _ _ _ _ c.args.range c.self.invariant.placed (rw (sym c.self.view_is) at c.requires.begun) c.add.ensures.ends)
+    whole-on c.self.invariant c.add_memory.ensures.kept c.add_memory.ensures.bytes
+    (add-stands _ _ _ _ c.args.range c.self.invariant.placed (rw (sym c.self.view_is) at c.requires.begun) c.add_memory.ensures.ends)

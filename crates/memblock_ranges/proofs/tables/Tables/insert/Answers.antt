@@ -7,15 +7,15 @@ use Rattle.memblock_model.specs.Same.{same_label}
 use Rattle.memblock_model.specs.Tables.{records_for}
 use Rattle.memblock_model.proofs.SameLaws.{label_tells}
 use Rattle.memblock_ranges.specs.Spelling.{label_of}
-use Rattle.memblock_ranges.specs.Tables.{list_in, AreTables, HaveNoNode}
+use Rattle.memblock_ranges.specs.Tables.{records_of_head, AreTables, HaveNoNode}
 use Rattle.memblock_ranges.proofs.EditLaws.{cover_room, edited}
-use Rattle.memblock_ranges.proofs.PairLaws.{Edits, memory_edited, reserved_edited, plain_covered}
+use Rattle.memblock_ranges.proofs.PairLaws.{EditsTable, memory_edited, reserved_edited, plain_covered}
 use Rattle.memblock_ranges.proofs.tables.Tables.insert.Goals as goal
 use Rattle.memblock_ranges.proofs.tables.Tables.insert.Goals.{After-rewrite, In-Reserved}
 
 -- no record of the reserved table gets a node
 plain : (c : In-Reserved) → HaveNoNode (records_for (cover_range c.args.range c.label_of.result
-    (value_at (list_in c.self.inside.store c.self.inside.heads.reserved))))
+    (value_at (records_of_head c.self.inside.store c.self.inside.heads.reserved))))
 plain c =
     let none = rw c.in-Reserved.is at c.requires.node in
     let label : c.label_of.result ≡ plain_label = c.label_of.ensures ∙ ap (label_of 0) none in
@@ -41,8 +41,8 @@ rewrite-requires-in-Reserved-clause-room c = (
 
 -- the memory table after the edit
 edit : (c : After-rewrite) → AreTables c.rewrite.new.table.store.now c.rewrite.new.table.head.now c.self.inside.heads.reserved
-    × Edits c.self.inside.store c.rewrite.new.table.store.now c.self.inside.heads.memory c.rewrite.new.table.head.now
-    c.self.inside.heads.reserved (records_for (cover_range c.args.range c.label_of.result (value_at (list_in c.self.inside.store c.self.inside.heads.memory))))
+    × EditsTable c.self.inside.store c.rewrite.new.table.store.now c.self.inside.heads.memory c.rewrite.new.table.head.now
+    c.self.inside.heads.reserved (records_for (cover_range c.args.range c.label_of.result (value_at (records_of_head c.self.inside.store c.self.inside.heads.memory))))
 edit c =
     memory_edited _ _ _ _ _ _ c.self.invariant c.rewrite.new.table.table c.rewrite.ensures.keeps.2
     (edited (λ (carried : Option LabelView). Some (unwrap_or carried c.label_of.result)) c.args.range _ _ c.self.invariant.memory_records (omega (arith, c.range_end_fits.ensures)) c.rewrite.ensures.list)

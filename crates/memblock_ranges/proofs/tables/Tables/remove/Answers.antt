@@ -4,9 +4,9 @@ use Rattle.memblock_model.specs.Labels.{LabelView}
 use Rattle.address_runs.specs.Runs.{value_at}
 use Rattle.address_runs.specs.Edits.{uncover_range}
 use Rattle.memblock_model.specs.Tables.{records_for}
-use Rattle.memblock_ranges.specs.Tables.{list_in, AreTables}
+use Rattle.memblock_ranges.specs.Tables.{records_of_head, AreTables}
 use Rattle.memblock_ranges.proofs.EditLaws.{edited, no_edit}
-use Rattle.memblock_ranges.proofs.PairLaws.{Edits, memory_edited, reserved_edited, with_records, plain_uncovered}
+use Rattle.memblock_ranges.proofs.PairLaws.{EditsTable, memory_edited, reserved_edited, with_records, plain_uncovered}
 use Rattle.memblock_ranges.proofs.tables.Tables.remove.Goals as goal
 use Rattle.memblock_ranges.proofs.tables.Tables.remove.Goals.{After-amend}
 
@@ -22,8 +22,8 @@ returns-then-range-eq0-2-clause-table c =
 
 -- the memory table after the edit
 edit : (c : After-amend) → AreTables c.amend.new.table.store.now c.amend.new.table.head.now c.self.inside.heads.reserved
-    × Edits c.self.inside.store c.amend.new.table.store.now c.self.inside.heads.memory c.amend.new.table.head.now
-    c.self.inside.heads.reserved (records_for (uncover_range c.args.range (value_at (list_in c.self.inside.store c.self.inside.heads.memory))))
+    × EditsTable c.self.inside.store c.amend.new.table.store.now c.self.inside.heads.memory c.amend.new.table.head.now
+    c.self.inside.heads.reserved (records_for (uncover_range c.args.range (value_at (records_of_head c.self.inside.store c.self.inside.heads.memory))))
 edit c =
     memory_edited _ _ _ _ _ _ c.self.invariant c.amend.new.table.table c.amend.ensures.keeps.2
     (edited (λ (carried : Option LabelView). None) c.args.range _ _ c.self.invariant.memory_records (grind (arith, common_steps)) c.amend.ensures.list)

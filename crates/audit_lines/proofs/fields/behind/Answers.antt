@@ -1,9 +1,0 @@
-use Rattle.std.proofs.lemmas.Bool.Decides.{Decides-eqb}
-use Rattle.std.proofs.lemmas.Slice.Eq.{strip_prefix_is}
-use Rattle.audit_lines.proofs.FieldLaws.{stripped}
-use Rattle.audit_lines.proofs.fields.behind.Goals as goal
-
-pub returns : goal.returns
-returns c =
-    stripped c.args.front.now c.args.text.now c.strip_prefix.result
-    (strip_prefix_is Decides-eqb c.args.text.now c.args.front.now c.strip_prefix.result c.strip_prefix.ensures.cases)

@@ -1,5 +1,0 @@
-use Rattle.boot_inputs.proofs.WantLaws.{refused_other}
-use Rattle.boot_inputs.proofs.laws.bytes_want_no_memory.Goals as goal
-
-pub returns-clause-refused : goal.returns-clause-refused
-returns-clause-refused c = refused_other c.want_no_memory.ensures

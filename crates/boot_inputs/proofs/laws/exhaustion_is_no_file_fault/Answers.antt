@@ -1,0 +1,5 @@
+use Rattle.boot_inputs.proofs.WantLaws.{refused_other}
+use Rattle.boot_inputs.proofs.laws.exhaustion_is_no_file_fault.Goals as goal
+
+pub returns-clause-refused : goal.returns-clause-refused
+returns-clause-refused c = refused_other c.want_no_memory.ensures

@@ -1,5 +1,0 @@
-use Rattle.conservation.proofs.MapLaws.{usable_mapped}
-use Rattle.conservation.proofs.laws.map_tells_usable_frames.Goals as goal
-
-pub returns : goal.returns
-returns c = usable_mapped

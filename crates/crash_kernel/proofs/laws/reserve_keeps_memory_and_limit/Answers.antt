@@ -1,0 +1,10 @@
+use Rattle.stage_model.proofs.QuietLaws.{quiet-appended_memory, quiet-appended_limit}
+use Rattle.crash_kernel.specs.Reserved.{reserve_crash_area}
+use Rattle.crash_kernel.proofs.QuietLaws.{quiet-reserved}
+use Rattle.crash_kernel.proofs.laws.reserve_keeps_memory_and_limit.Goals as goal
+
+pub returns-clause-memory : goal.returns-clause-memory
+returns-clause-memory c = λ asked items. quiet-appended_memory items (reserve_crash_area asked items).steps ((quiet-reserved asked).each items)
+
+pub returns-clause-limit : goal.returns-clause-limit
+returns-clause-limit c = λ asked items. quiet-appended_limit items (reserve_crash_area asked items).steps ((quiet-reserved asked).each items)

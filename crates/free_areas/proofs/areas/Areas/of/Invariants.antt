@@ -1,5 +1,0 @@
-use Rattle.free_areas.proofs.AreaLaws.{HasLeads}
-use Rattle.free_areas.proofs.areas.Areas.of.Given as goal
-
-abbrev pub invariant-loop-row : goal.invariant-loop-row
-invariant-loop-row l = HasLeads l.row-items l.row-index l.blocks.keys

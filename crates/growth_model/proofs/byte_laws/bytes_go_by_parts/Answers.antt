@@ -1,9 +1,0 @@
--- The bytes of two parts of the items, one after the other.
-use Rattle.growth_model.proofs.BytesLaws.{after-after, after-byte}
-use Rattle.growth_model.proofs.byte_laws.bytes_go_by_parts.Goals as goal
-
-pub returns-clause-after : goal.returns-clause-after
-returns-clause-after c = after-after
-
-pub returns-clause-byte : goal.returns-clause-byte
-returns-clause-byte c = after-byte

@@ -1,7 +1,0 @@
--- The ends of two calls in turn.
-use Rattle.growth_model.proofs.EndLaws.{Ends-second}
-use Rattle.growth_model.proofs.laws.ends_add_up.Goals as goal
-
-pub returns-clause-second : goal.returns-clause-second
-returns-clause-second c = λ result old mid new first second was then.
-    Ends-second {T = Unit {0}} {U = Unit {0}} tt result old mid new first second was then

@@ -1,5 +1,0 @@
-use Rattle.growth_model.proofs.CarriedLaws.{carried-memory}
-use Rattle.growth_model.proofs.memory_laws.wanted_items_make_memory.Goals as goal
-
-pub returns : goal.returns
-returns c = carried-memory

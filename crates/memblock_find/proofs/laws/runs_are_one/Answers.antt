@@ -1,5 +1,0 @@
-use Rattle.memblock_find.proofs.OneLaws.{one_below}
-use Rattle.memblock_find.proofs.laws.runs_are_one.Goals as goal
-
-pub returns-clause-below : goal.returns-clause-below
-returns-clause-below c = one_below

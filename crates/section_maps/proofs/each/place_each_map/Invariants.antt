@@ -1,0 +1,17 @@
+-- The sequence ends as the maps that remain end.
+use Rattle.std.proofs.Common.{◌≡◌, ◌≤◌, ◌+◌, ◌*◌, drop, vec_len, vec_capacity}
+use Rattle.growth_model.specs.Sound.{HasBegun}
+use Rattle.memblock_grow.specs.Going.{ContinuesMemblock}
+use Rattle.section_maps.proofs.MapLaws.{Goes}
+use Rattle.section_maps.proofs.each.place_each_map.Given as goal
+
+abbrev pub invariant-loop-section : goal.invariant-loop-section
+invariant-loop-section l = record {
+  goes : Goes l.fn.memblock.journal.items l.usage l.fn.placed.items l.sections l.memblock.journal.items l.at l.placed.items (drop
+      l.section-index l.sections);
+  usages : l.at ≡ l.usage + 40 * l.section-index;
+  len : vec_len l.placed ≤ vec_len l.fn.placed + l.section-index;
+  capacity : vec_capacity l.fn.placed ≤ vec_capacity l.placed;
+  begun : HasBegun l.memblock.journal.items;
+  goes_on : ContinuesMemblock l.fn.memblock l.memblock;
+}
