@@ -10,8 +10,8 @@ import tempfile
 
 from memblock import build, least_time, write_crates
 
-CRATES = ("bm_base", "address_runs", "run_edits", "text_words", "phys_store", "memblock_model", "script_reader", "memblock_ranges", "table_frames",
-          "frame_blocks", "free_areas", "zone_spans", "buddy_handover", "page_alloc", "slit_zonelists")
+CRATES = ("bm_base", "address_runs", "run_edits", "text_words", "phys_store", "memblock_model", "script_reader", "memblock_ranges", "memblock_frames",
+          "buddy_blocks", "free_areas", "zone_spans", "buddy_handover", "page_alloc", "slit_zonelists")
 ROUNDS = {"lists": 10, "near": 20, "pages": 20}
 
 

@@ -31,7 +31,7 @@ PROMISED = {
     "memblock_grow/request-allocate-always_no_gap",
     "memblock_grow/places-table_frames_beside-new_place_meets_the_claimed_range",
     "memblock_grow/reserved-grow_reserved-new_place_is_never_claimed",
-    "memblock_grow/more-lacks_room-table_doubles_one_record_early",
+    "memblock_grow/new_records-lacks_room-table_doubles_one_record_early",
     "memblock_grow/places-old_place_frames-old_place_stays_claimed",
     "boot_stages/memory-limit_memory-all_memory_is_claimed_for_the_kernel",
     # nodes and the early script
@@ -40,8 +40,8 @@ PROMISED = {
     "early_script/live-fill-byte_past_the_id_is_written",
     # free frames and pages
     "buddy_handover/buddy-mark_free-last_frame_of_a_free_range_is_dropped",
-    "frame_blocks/run-is_same-runs_of_two_nodes_are_one",
-    "frame_blocks/run-is_same-ranges_that_meet_stay_apart",
+    "buddy_blocks/run-is_same-runs_of_two_nodes_are_one",
+    "buddy_blocks/run-is_same-ranges_that_meet_stay_apart",
     "buddy_handover/buddy-take-always_no_block",
     "buddy_handover/buddy-put_back-frames_are_not_merged",
     # the program's statuses

@@ -56,8 +56,8 @@ class Words(Case):
 
     def test_definitions(self):
         """The definitions by which the program is proved have these words, in this order."""
-        self.check("options of Grammar.antt", codes_in("program_words", "Grammar", r"^options =\n(.*?)∷ \[\]"), list(words.OPTIONS))
-        self.check("flags of Grammar.antt", re.findall(r'codes "([a-z0-9-]+)", SetTrue', text("crates/program_words/specs/Grammar.antt")),
+        self.check("options of Grammar.antt", codes_in("program_args", "Grammar", r"^options =\n(.*?)∷ \[\]"), list(words.OPTIONS))
+        self.check("flags of Grammar.antt", re.findall(r'codes "([a-z0-9-]+)", SetTrue', text("crates/program_args/specs/Grammar.antt")),
                    [name for name, value in words.OPTIONS.items() if not value])
         self.check("reports of Report.antt", codes_in("debugfs_reports", "Report", r"^(name_of reports.*?)$"), list(words.REPORTS))
         self.check("inputs of Input.antt", codes_in("boot_inputs", "Input", r"^(word_for inputs.*?)$"), list(words.INPUTS))

@@ -22,7 +22,6 @@ mod forms;
 mod lines;
 mod names;
 mod report;
-mod split;
 
 pub use lines::{BlockLine, MapLine};
 pub use report::{LineFault, ReadError, ReportLine, read_report};

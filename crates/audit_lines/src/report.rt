@@ -1,13 +1,12 @@
 //! Reads a report: lines of one form, ascending and without overlap.
 
-ghost use Rattle.std.specs.Prelude.{◌≡◌, ◌+◌, ◌<◌, ◌≤◌, ◌^◌, ℕ, List, Option, length, map, IfOk, IsErrOf};
+ghost use Rattle.std.specs.Prelude.{◌≡◌, ◌+◌, ◌<◌, ◌≤◌, ◌^◌, ℕ, List, Option, length, map, IfOk, IsErrOf, [], ◌∷◌, IfSome, IfNone};
 ghost use Rattle.audit_lines.specs.Lines.{AscendApart};
-ghost use Rattle.audit_lines.specs.Reports.{report_line_at, report_of};
+ghost use Rattle.audit_lines.specs.Reports.{report_line_at, report_of, split_lines};
 ghost use Rattle.bm_base.specs.Answers.{Answers};
 ghost use Rattle.bm_base.specs.Range.{RangeView, end_of};
 ghost use Rattle.bm_base.specs.ResultSteps.{with_error};
 
-use crate::split::cut_line;
 use std::alloc::Global;
 
 /// What is wrong with a line of a report. Lines are numbered from 1.
@@ -111,4 +110,20 @@ fn report_line_at<L: ReportLine>(index: u64, at: u64, text: &[u8]) -> Result<L, 
         return Err(LineFault::Order { line: index + 1 });
     }
     Ok(line)
+}
+
+/// Returns the first line, without its newline, and the rest of the text after that. Returns
+/// `None` if there is no newline.
+pub fn cut_line(text: &[u8]) -> Option<(&[u8], &[u8])>
+    ensures line { IfSome result (λ found. split_lines text.now
+        ≡ (found.0.now ∷ (split_lines found.1.now).0, (split_lines found.1.now).1)) }
+    ensures shorter { IfSome result (λ found. length found.1.now < length text.now) }
+    ensures none { IfNone result (split_lines text.now ≡ ([], text.now)) }
+{
+    for (index, byte) in text.iter().enumerate() {
+        if *byte == b'\n' {
+            return Some((text.split_at(index).0, text.split_at(index + 1).1));
+        }
+    }
+    None
 }

@@ -12,7 +12,7 @@ use Rattle.bm_base.proofs.EachLaws.{each_in-each}
 use Rattle.audit_lines.specs.Blocks.{BlockLineView, IsBlockLine}
 use Rattle.audit_lines.specs.Lines.{StartFrom, AscendApart}
 use Rattle.audit_lines.specs.declared.lines.MapLine.{MapLine}
-use Rattle.boot_audit.specs.declared.verdict.Verdict.TheVariants as verdicts
+use Rattle.boot_audit.specs.declared.judgement.Verdict.TheVariants as verdicts
 use Rattle.boot_audit.specs.Conserved.{LinesConserveMemory, IsTouchedOrInOne, count_blocks_of_frame}
 use Rattle.boot_audit.specs.Frames.{could_merge, frames_of_block, is_in_a_block, is_in_memory, is_aligned, is_in_zone, is_untouched, is_usable}
 use Rattle.boot_audit.specs.Verdicts.{verdict_of_faults, first_line, is_free, is_lost, is_not_free, least_below, least_frame, or_this, verdict_on}

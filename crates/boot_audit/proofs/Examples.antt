@@ -3,7 +3,7 @@ use Rattle.std.proofs.Common.{◌≡◌, ℕ, true, false, [], ◌∷◌, Some, 
 use Rattle.bm_base.specs.declared.zone.Zone.TheVariants as zones
 use Rattle.bm_base.specs.Each.{each_from, each_in}
 use Rattle.audit_lines.specs.Blocks.{BlockLineView}
-use Rattle.boot_audit.specs.declared.verdict.Verdict.TheVariants as verdicts
+use Rattle.boot_audit.specs.declared.judgement.Verdict.TheVariants as verdicts
 use Rattle.boot_audit.specs.Frames.{could_merge, is_aligned, is_in_zone, is_memory_type}
 use Rattle.boot_audit.specs.Sweep.{first_whole_frame}
 use Rattle.boot_audit.specs.Verdicts.{verdict_of_faults}

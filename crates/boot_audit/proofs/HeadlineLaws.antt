@@ -23,11 +23,11 @@ use Rattle.program_end.specs.Program.{FileContents}
 use Rattle.program_end.specs.declared.failure.Reason.TheVariants as reasons
 use Rattle.boot_audit.specs.declared.failure.SavedReport.{SavedReport}
 use Rattle.boot_audit.specs.declared.failure.SavedReport.TheVariants as reports
-use Rattle.boot_audit.specs.declared.verdict.Verdict.TheVariants as verdicts
+use Rattle.boot_audit.specs.declared.judgement.Verdict.TheVariants as verdicts
 use Rattle.boot_audit.specs.Headline.{FilesConserveMemory}
 use Rattle.boot_audit.specs.Outcome.{SavedView, lines_in_file, saved_in_files, audit_outcome, verdict_by}
 use Rattle.boot_audit.specs.Reason.{AuditReason}
-use Rattle.boot_audit.specs.Words.{AuditArgsView}
+use Rattle.boot_audit.specs.Args.{AuditArgsView}
 use Rattle.boot_audit.proofs.ConservedLaws.{conserved_says, reach_near, sound_says}
 use Rattle.boot_audit.proofs.OrderLaws.{frames_ascend}
 

@@ -9,13 +9,13 @@ use Rattle.program_end.specs.Program.{FileContents}
 use Rattle.program_end.specs.Status.{End, exit_status}
 use Rattle.program_end.proofs.EndLaws.{ends_complete}
 use Rattle.boot_audit.specs.declared.failure.SavedReport.{SavedReport}
-use Rattle.boot_audit.specs.declared.verdict.Verdict.{Verdict}
-use Rattle.boot_audit.specs.declared.verdict.Verdict.TheVariants as verdicts
+use Rattle.boot_audit.specs.declared.judgement.Verdict.{Verdict}
+use Rattle.boot_audit.specs.declared.judgement.Verdict.TheVariants as verdicts
 use Rattle.boot_audit.specs.Audit.{bootaudit}
 use Rattle.boot_audit.specs.Headline.{FilesConserveMemory}
 use Rattle.boot_audit.specs.Outcome.{audit_outcome}
 use Rattle.boot_audit.specs.Reason.{AuditReason}
-use Rattle.boot_audit.specs.Words.{AuditArgsView}
+use Rattle.boot_audit.specs.Args.{AuditArgsView}
 use Rattle.boot_audit.proofs.HeadlineLaws.{conserved_sound, sound_conserved}
 
 -- status 0 comes only with the verdict `Sound`

@@ -3,12 +3,12 @@ use Rattle.std.specs.Prelude.{◌≡◌, ◌≢◌, ℕ, Result, Ok, Some}
 use Rattle.program_end.specs.Program.{Program}
 use Rattle.boot_audit.specs.declared.failure.SavedReport.{SavedReport}
 use Rattle.boot_audit.specs.declared.failure.SavedReport.TheVariants as reports
-use Rattle.boot_audit.specs.declared.verdict.Verdict.{Verdict}
-use Rattle.boot_audit.specs.declared.verdict.Verdict.TheVariants as verdicts
+use Rattle.boot_audit.specs.declared.judgement.Verdict.{Verdict}
+use Rattle.boot_audit.specs.declared.judgement.Verdict.TheVariants as verdicts
 use Rattle.boot_audit.specs.Line.{verdict_text}
 use Rattle.boot_audit.specs.Reason.{AuditReason}
 use Rattle.boot_audit.specs.Status.{verdict_status, verdict_statuses}
-use Rattle.boot_audit.specs.Words.{AuditArgsView, report_file_name}
+use Rattle.boot_audit.specs.Args.{AuditArgsView, report_file_name}
 
 -- the position of each report in the order in which they are read
 abbrev pub report_position : SavedReport → ℕ

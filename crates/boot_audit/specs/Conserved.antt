@@ -6,7 +6,7 @@ use Rattle.bm_base.specs.Width.{reach_of}
 use Rattle.bm_base.specs.declared.width.Width.{Width}
 use Rattle.audit_lines.specs.Blocks.{BlockLineView}
 use Rattle.audit_lines.specs.declared.lines.MapLine.{MapLine}
-use Rattle.boot_audit.specs.declared.saved.Saved.{Saved}
+use Rattle.boot_audit.specs.declared.judgement.Saved.{Saved}
 use Rattle.boot_audit.specs.Frames.{could_merge, frames_of_block, is_aligned, is_in_zone, is_untouched, is_usable}
 
 -- how many of the blocks have the frame

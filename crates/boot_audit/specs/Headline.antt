@@ -4,7 +4,7 @@ use Rattle.bm_base.specs.Width.{reach_of}
 use Rattle.program_end.specs.Program.{FileContents}
 use Rattle.boot_audit.specs.Conserved.{LinesConserveMemory}
 use Rattle.boot_audit.specs.Outcome.{SavedView, saved_in_files}
-use Rattle.boot_audit.specs.Words.{AuditArgsView}
+use Rattle.boot_audit.specs.Args.{AuditArgsView}
 
 -- the command line is accepted, the three texts are well-formed, and memory was conserved by their
 -- lines

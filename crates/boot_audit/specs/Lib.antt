@@ -10,4 +10,4 @@ pub mod Sweep
 pub mod Verdicts
 pub mod View
 pub mod Walk
-pub mod Words
+pub mod Args

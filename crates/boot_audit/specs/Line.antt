@@ -11,10 +11,10 @@ use Rattle.boot_audit.specs.declared.failure.ReportFault.TheVariants as faults
 use Rattle.boot_audit.specs.declared.failure.NoCause.{NoCause}
 use Rattle.boot_audit.specs.declared.failure.SavedReport.{SavedReport}
 use Rattle.boot_audit.specs.declared.failure.SavedReport.TheVariants as reports
-use Rattle.boot_audit.specs.declared.verdict.Verdict.{Verdict}
-use Rattle.boot_audit.specs.declared.verdict.Verdict.TheVariants as verdicts
+use Rattle.boot_audit.specs.declared.judgement.Verdict.{Verdict}
+use Rattle.boot_audit.specs.declared.judgement.Verdict.TheVariants as verdicts
 use Rattle.boot_audit.specs.Reason.{AuditReason}
-use Rattle.boot_audit.specs.Words.{AuditArgsView, report_file_name}
+use Rattle.boot_audit.specs.Args.{AuditArgsView, report_file_name}
 
 -- a fault of a block, with its line in `blocks`, counted from 1
 abbrev pub block_fault_text : ℕ → List ℕ → List ℕ

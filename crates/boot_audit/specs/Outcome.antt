@@ -14,10 +14,10 @@ use Rattle.audit_lines.specs.declared.lines.MapLine.{MapLine}
 use Rattle.boot_audit.specs.declared.failure.ReportFault.TheVariants as faults
 use Rattle.boot_audit.specs.declared.failure.SavedReport.{SavedReport}
 use Rattle.boot_audit.specs.declared.failure.SavedReport.TheVariants as reports
-use Rattle.boot_audit.specs.declared.verdict.Verdict.{Verdict}
+use Rattle.boot_audit.specs.declared.judgement.Verdict.{Verdict}
 use Rattle.boot_audit.specs.Reason.{AuditReason}
 use Rattle.boot_audit.specs.Verdicts.{verdict_on}
-use Rattle.boot_audit.specs.Words.{AuditArgsView}
+use Rattle.boot_audit.specs.Args.{AuditArgsView}
 
 -- the lines of a report, from the bytes of its file (`None` if there is no such file), which may
 -- be at most 512 MiB

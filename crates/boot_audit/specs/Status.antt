@@ -1,8 +1,8 @@
 -- The exit status of a verdict.
 use Rattle.std.specs.Prelude.{◌≡◌, ℕ, ◌⊎◌}
 use Rattle.std.proofs.Common.{refl, inl, inr}
-use Rattle.boot_audit.specs.declared.verdict.Verdict.{Verdict}
-use Rattle.boot_audit.specs.declared.verdict.Verdict.TheVariants as verdicts
+use Rattle.boot_audit.specs.declared.judgement.Verdict.{Verdict}
+use Rattle.boot_audit.specs.declared.judgement.Verdict.TheVariants as verdicts
 
 abbrev pub verdict_status : Verdict → ℕ
 verdict_status verdicts.Sound = 0

@@ -5,9 +5,9 @@ use Rattle.bm_base.specs.Width.{reach_of}
 use Rattle.bm_base.specs.declared.width.Width.{Width}
 use Rattle.audit_lines.specs.Blocks.{BlockLineView}
 use Rattle.audit_lines.specs.declared.lines.MapLine.{MapLine}
-use Rattle.boot_audit.specs.declared.saved.Saved.{Saved}
-use Rattle.boot_audit.specs.declared.verdict.Verdict.{Verdict}
-use Rattle.boot_audit.specs.declared.verdict.Verdict.TheVariants as verdicts
+use Rattle.boot_audit.specs.declared.judgement.Saved.{Saved}
+use Rattle.boot_audit.specs.declared.judgement.Verdict.{Verdict}
+use Rattle.boot_audit.specs.declared.judgement.Verdict.TheVariants as verdicts
 use Rattle.boot_audit.specs.Frames.{could_merge, is_in_a_block, is_aligned, is_in_zone, is_untouched, is_usable}
 
 -- the number of the first line that passes the test; the first of these lines has number n

@@ -1,8 +1,8 @@
 -- What contracts see of the program's values.
-use Rattle.boot_audit.specs.declared.saved.Saved.{Saved}
-use Rattle.boot_audit.specs.declared.words.AuditArgs.{AuditArgs}
+use Rattle.boot_audit.specs.declared.judgement.Saved.{Saved}
+use Rattle.boot_audit.specs.declared.args.AuditArgs.{AuditArgs}
 use Rattle.boot_audit.specs.Outcome.{SavedView}
-use Rattle.boot_audit.specs.Words.{AuditArgsView}
+use Rattle.boot_audit.specs.Args.{AuditArgsView}
 
 -- what contracts see of an accepted command line
 abbrev pub audit_args_view : AuditArgs → AuditArgsView

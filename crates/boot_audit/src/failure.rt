@@ -4,7 +4,7 @@ ghost use Rattle.std.specs.Prelude.{◌≡◌};
 ghost use Rattle.boot_audit.specs.Line.{report_word};
 ghost use Rattle.boot_audit.specs.Status.{verdict_status};
 
-use crate::verdict::Verdict;
+use crate::judgement::Verdict;
 use audit_lines::LineFault;
 
 /// A saved report. The audit reads them in this order.

@@ -13,8 +13,8 @@ ghost use Rattle.boot_audit.specs.Outcome.{lines_in_file, saved_in_files};
 ghost use Rattle.boot_audit.specs.View.{saved_view, audit_args_view};
 
 use crate::failure::{ReportFault, NoVerdict, AuditReason, SavedReport};
-use crate::saved::Saved;
-use crate::words::AuditArgs;
+use crate::judgement::Saved;
+use crate::args::AuditArgs;
 use audit_lines::{BlockLine, MapLine, ReadError, ReportLine, read_report};
 use bm_base::Range;
 use bm_io::{Fetch, Files};

@@ -8,11 +8,42 @@ ghost use Rattle.boot_audit.specs.Conserved.{SavedConservesMemory};
 ghost use Rattle.boot_audit.specs.Verdicts.{HasFrameInSpace, verdict_of};
 
 use crate::blocks::{first_in_wrong_zone, first_misaligned};
-use crate::joins::first_mergeable;
-use crate::saved::Saved;
+use crate::merges::first_mergeable;
 use crate::sweep::sweep;
-use crate::verdict::Verdict;
-use bm_base::{Memory, Width};
+use bm_base::{Memory, Width, Range};
+use audit_lines::{BlockLine, MapLine};
+
+/// Whether memory was conserved, or the first fault. `line` is a line of `blocks`, counted from 1.
+/// `frame` is the number of a frame of 4096 bytes; frame n begins at address 4096 n.
+#[derive(Clone, Copy, Debug, PartialEq, Eq)]
+pub enum Verdict {
+    /// Memory was conserved. Each usable frame is either touched or in exactly one block, and each
+    /// frame of a block is usable and untouched. Each block is aligned, lies in its zone, and
+    /// couldn't merge with its buddy.
+    Sound,
+    /// The first line whose block isn't at a multiple of its size.
+    Misaligned { line: u32 },
+    /// The first line whose block has a frame outside its zone.
+    WrongZone { line: u32 },
+    /// The least frame in a block that isn't usable or is touched.
+    NotFree { frame: u64 },
+    /// The least frame that is usable, untouched and in no block.
+    Lost { frame: u64 },
+    /// The first line whose block could merge: its order is below 10, and blocks of its node and
+    /// zone cover its parent.
+    NotMaximal { line: u32 },
+}
+
+/// The lines of the three reports of one boot. In each report they are ascending and disjoint.
+#[derive(Debug, Drop)]
+pub struct Saved {
+    /// The map of memory after the boot has accepted it.
+    pub map: Vec<MapLine>,
+    /// The reserved memory that has an owner.
+    pub owners: Vec<Range>,
+    /// The free blocks of the page allocator.
+    pub blocks: Vec<BlockLine>,
+}
 
 /// Returns the verdict on saved reports, for physical addresses of this width: `Sound`, or the
 /// first fault, in the order of the other variants of [`Verdict`]. It allocates nothing, so it

@@ -25,19 +25,15 @@
 mod blocks;
 mod failure;
 mod fetching;
-mod joins;
+mod merges;
 mod judgement;
 mod program;
-mod saved;
 mod sweep;
-mod tell;
+mod lines;
 mod texts;
-mod verdict;
-mod words;
+mod args;
 
 pub use audit_lines::{BlockLine, MapLine};
 pub use failure::{Failure, ReportFault, NoCause, NoVerdict, AuditReason, SavedReport};
-pub use judgement::{judge, sound_verdict_conserves_memory};
+pub use judgement::{judge, sound_verdict_conserves_memory, Saved, Verdict};
 pub use program::audit;
-pub use saved::Saved;
-pub use verdict::Verdict;

@@ -13,7 +13,7 @@ ghost use Rattle.boot_audit.specs.Frames.{is_aligned};
 ghost use Rattle.boot_audit.specs.Sweep.{FirstEndsAbove, advance_lost_frame, first_whole_frame, is_in_relevant_line, byte_state_at, byte_state_by};
 ghost use Rattle.boot_audit.specs.Verdicts.{first_line, is_lost, is_not_free, least_frame};
 
-use crate::saved::Saved;
+use crate::judgement::Saved;
 use audit_lines::{BlockLine, MapLine};
 use bm_base::{FRAME_SIZE, Range};
 

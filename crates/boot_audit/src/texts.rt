@@ -4,7 +4,7 @@ ghost use Rattle.std.specs.Prelude.{◌≡◌, ◌<◌, ◌^◌, IfOk};
 ghost use Rattle.boot_audit.specs.Line.{block_fault_text, frame_fault_text, verdict_text};
 ghost use Rattle.boot_audit.specs.Verdicts.{HasFrameInSpace};
 
-use crate::verdict::Verdict;
+use crate::judgement::Verdict;
 use bm_base::{FRAME_SIZE, Memory, put_dec, put_hex, put_text};
 use std::alloc::Global;
 

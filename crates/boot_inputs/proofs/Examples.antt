@@ -17,7 +17,7 @@ use Rattle.srat_reader.specs.Entries.{is_whole_entry, srat_entry_at}
 use Rattle.srat_reader.specs.Table.{SratView, entry_offsets_from}
 use Rattle.script_reader.specs.declared.act.Act.TheVariants as acts
 use Rattle.script_reader.specs.declared.fault.ScriptFault.TheVariants as script
-use Rattle.page_alloc.specs.declared.fault.PageFault.TheVariants as pages
+use Rattle.page_alloc.specs.declared.reading.PageFault.TheVariants as pages
 use Rattle.slit_zonelists.specs.declared.table.SlitFault.TheVariants as slit
 use Rattle.efi_map.specs.declared.efi.EfiFault.TheVariants as efi
 use Rattle.efi_map.specs.Map.{descriptors_from}

@@ -1,7 +1,7 @@
 -- Scripts: a fault is one of a line. Out of memory is none.
 use Rattle.std.proofs.Common.{ℕ, List, arith}
 use Rattle.std.specs.Prelude.{IsErrOf}
-use Rattle.page_alloc.specs.declared.fault.PageFault.TheVariants as pages
+use Rattle.page_alloc.specs.declared.reading.PageFault.TheVariants as pages
 use Rattle.page_alloc.specs.Reading.{page_script_fault_at as page_fault, page_lines, page_lines_of}
 use Rattle.script_reader.specs.declared.fault.ScriptFault.TheVariants as script
 use Rattle.script_reader.specs.Lines.{lines_of}

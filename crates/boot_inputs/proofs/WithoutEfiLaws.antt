@@ -14,7 +14,7 @@ use Rattle.e820_table.specs.ZeroPage.{ZeroPageView}
 use Rattle.srat_reader.specs.Table.{SratView}
 use Rattle.script_reader.specs.declared.act.Line.{Line}
 use Rattle.page_alloc.specs.declared.act.PageLine.{PageLine}
-use Rattle.slit_zonelists.specs.Matrix.{SlitView}
+use Rattle.slit_zonelists.specs.SlitView.{SlitView}
 use Rattle.efi_map.specs.declared.efi.EfiFault.{EfiFault}
 use Rattle.efi_map.specs.Map.{EfiContent, descriptors_of, efi_of, far_descriptor_from, has_efi_header, has_efi_length, efi_unless_far}
 use Rattle.boot_model.specs.Boot.{EfiMapView, InputsView, added_entries, claims, efi_entries}

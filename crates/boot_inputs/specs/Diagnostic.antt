@@ -1,7 +1,7 @@
 -- What the line of a fault says after the word for its file.
 use Rattle.std.specs.Prelude.{ℕ, List}
-use Rattle.boot_inputs.specs.declared.diagnostic.Diagnostic.{Diagnostic as DiagnosticBy}
-use Rattle.boot_inputs.specs.declared.diagnostic.Diagnostic.TheVariants as told
+use Rattle.boot_inputs.specs.declared.fault.Diagnostic.{Diagnostic as DiagnosticBy}
+use Rattle.boot_inputs.specs.declared.fault.Diagnostic.TheVariants as told
 
 -- The fault is one of the whole file; or of an entry or a descriptor that ends too far, by its
 -- index, from 0; or of a word or a line, by its number, from 1; or it is at an offset, in bytes.

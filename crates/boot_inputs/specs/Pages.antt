@@ -2,8 +2,8 @@
 use Rattle.std.specs.Prelude.{ℕ, Bool, false, nat_lt, List, length, codes, Option, Some, None, Result, Ok, Err}
 use Rattle.bm_base.specs.ResultSteps.{with_error}
 use Rattle.page_alloc.specs.declared.act.PageLine.{PageLine}
-use Rattle.page_alloc.specs.declared.fault.PageFault.{PageFault}
-use Rattle.page_alloc.specs.declared.fault.PageFault.TheVariants as pages
+use Rattle.page_alloc.specs.declared.reading.PageFault.{PageFault}
+use Rattle.page_alloc.specs.declared.reading.PageFault.TheVariants as pages
 use Rattle.page_alloc.specs.Reading.{page_lines_of}
 use Rattle.boot_model.specs.Boot.{InputsView}
 use Rattle.boot_inputs.specs.declared.fault.Fault.{Fault}

@@ -3,7 +3,7 @@ use Rattle.std.specs.Prelude.{ℕ, Bool, false, nat_lt, List, codes, Option, Som
 use Rattle.bm_base.specs.ResultSteps.{with_error}
 use Rattle.slit_zonelists.specs.declared.table.SlitFault.{SlitFault}
 use Rattle.slit_zonelists.specs.declared.table.SlitFault.TheVariants as slit
-use Rattle.slit_zonelists.specs.Matrix.{SlitView}
+use Rattle.slit_zonelists.specs.SlitView.{SlitView}
 use Rattle.slit_zonelists.specs.Table.{slit_of}
 use Rattle.boot_model.specs.Boot.{InputsView}
 use Rattle.boot_inputs.specs.declared.fault.Fault.{Fault}

@@ -10,8 +10,7 @@ ghost use Rattle.boot_inputs.specs.Diagnostic.{diagnostic_view};
 ghost use Rattle.boot_inputs.specs.Efi.{efi_diagnostic, efi_file};
 ghost use Rattle.efi_map.specs.Map.{efi_of};
 
-use crate::diagnostic::Diagnostic;
-use crate::fault::{Fault, Misread};
+use crate::fault::{Diagnostic, Fault, Misread};
 use crate::input::Input;
 use crate::reader::Reader;
 use boot_model::{Inputs, mirrors_are_whole_frames};

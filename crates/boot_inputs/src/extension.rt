@@ -11,8 +11,7 @@ ghost use Rattle.boot_inputs.specs.Diagnostic.{diagnostic_view};
 ghost use Rattle.boot_inputs.specs.Extension.{extension_diagnostic, extension_file};
 ghost use Rattle.e820_table.specs.Extension.{ext_fault};
 
-use crate::diagnostic::Diagnostic;
-use crate::fault::{Fault, Misread};
+use crate::fault::{Diagnostic, Fault, Misread};
 use crate::input::Input;
 use crate::reader::Reader;
 use boot_model::Inputs;

@@ -8,7 +8,6 @@ ghost use Rattle.boot_inputs.specs.Diagnostic.{diagnostic_view};
 ghost use Rattle.boot_inputs.specs.Faults.{diagnostic_of};
 
 use crate::command_line::command_line_diagnostic;
-use crate::diagnostic::Diagnostic;
 use crate::efi::efi_diagnostic;
 use crate::extension::extension_diagnostic;
 use crate::pages::pages_diagnostic;
@@ -23,6 +22,29 @@ use page_alloc::PageFault;
 use script_reader::ScriptFault;
 use slit_zonelists::SlitFault;
 use srat_reader::SratFault;
+use crate::input::Input;
+use boot_model::Cause;
+
+/// Why words and files give no report.
+pub type InputsReason = program_end::Reason<Input, Fault, Cause>;
+
+/// Why there are no inputs: a reason, or out of memory.
+pub type NoInputs = program_end::NoResult<InputsReason>;
+
+/// What the line of a fault says after the word for its file.
+#[derive(Clone, Copy, Debug, PartialEq, Eq)]
+pub enum Diagnostic {
+    /// A fault of the whole file, and its text.
+    Whole(&'static str),
+    /// An entry or a descriptor that ends too far: its name, and its index, from 0.
+    Far(&'static str, u32),
+    /// The number of a word, from 1, and what the word is about.
+    Word(u32, &'static str),
+    /// The number of a line, from 1, and what is wrong with it.
+    Line(u32, &'static str),
+    /// What is wrong, and its offset in the file, in bytes.
+    Offset(&'static str, u32),
+}
 
 /// What is wrong with a file that could be read. A reader's `Memory` is never among these faults.
 #[derive(Clone, Copy, Debug, PartialEq, Eq)]

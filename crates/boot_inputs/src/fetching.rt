@@ -7,14 +7,24 @@ ghost use Rattle.program_end.specs.Fetches.{Fetches};
 ghost use Rattle.boot_inputs.specs.Input.{input_place};
 ghost use Rattle.boot_inputs.specs.declared.input.Input.{Input as AnyInput};
 ghost use Rattle.boot_inputs.specs.Inputs.{inputs_after_file, inputs_after_named_file, answer_or_faulty_file};
+ghost use Rattle.std.specs.Option.{option_copied};
 
-use crate::fault::{Fault, Misread};
-use crate::names::Names;
+use crate::fault::{Fault, Misread, NoInputs, InputsReason};
 use crate::reader::Reader;
-use crate::refusal::{NoInputs, InputsReason};
 use bm_io::{Fetch, Files};
 use boot_model::Inputs;
 use std::alloc::Global;
+use crate::input::Input;
+
+/// What knows the name of each input's file.
+pub trait Names {
+    // The name of the input's file, if there is one.
+    ghost named: { Self → AnyInput → Option (List ℕ) };
+
+    /// Returns the name of the input's file, if there is one.
+    fn of(&self, input: Input) -> Option<&str>
+        ensures { option_copied result ≡ named self.now input };
+}
 
 /// Puts the value of the reader's file into the inputs. If the file has no name, changes nothing
 /// and needs no memory.

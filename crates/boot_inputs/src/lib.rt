@@ -36,7 +36,6 @@
 #![tactic(auto)]
 
 mod command_line;
-mod diagnostic;
 mod efi;
 mod extension;
 mod fault;
@@ -45,29 +44,24 @@ mod input;
 mod inputs;
 mod laws;
 mod list;
-mod names;
 mod pages;
 mod reader;
-mod refusal;
 mod script;
 mod slit;
 mod srat;
 mod zero_page;
 
 pub use command_line::exhaustion_is_no_line_fault;
-pub use diagnostic::Diagnostic;
+pub use fault::{Diagnostic, Fault, Misread, NoInputs, InputsReason};
 pub use efi::exhaustion_is_no_efi_fault;
 pub use extension::exhaustion_is_no_ext_fault;
-pub use fault::{Fault, Misread};
-pub use fetching::add_file;
+pub use fetching::{add_file, Names};
 pub use input::Input;
 pub use inputs::read_inputs;
 pub use laws::{exhaustion_is_no_file_fault, efi_adds_what_is_asked};
 pub use list::Readers;
-pub use names::Names;
 pub use pages::exhaustion_is_no_page_script_fault;
 pub use reader::Reader;
-pub use refusal::{NoInputs, InputsReason};
 pub use script::exhaustion_is_no_script_fault;
 pub use slit::exhaustion_is_no_slit_fault;
 pub use srat::exhaustion_is_no_srat_fault;

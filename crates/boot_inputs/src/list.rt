@@ -7,10 +7,9 @@ ghost use Rattle.boot_inputs.specs.Faults.{FaultsAreOfBytes};
 ghost use Rattle.boot_inputs.specs.File.{File};
 ghost use Rattle.boot_inputs.specs.Reading.{AreRead, are_in_reading_order};
 
-use crate::fetching::add_file;
-use crate::names::Names;
+use crate::fetching::{add_file, Names};
 use crate::reader::Reader;
-use crate::refusal::NoInputs;
+use crate::fault::NoInputs;
 use bm_io::Files;
 use boot_model::Inputs;
 use std::alloc::Global;

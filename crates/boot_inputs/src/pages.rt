@@ -10,8 +10,7 @@ ghost use Rattle.boot_inputs.specs.Diagnostic.{diagnostic_view};
 ghost use Rattle.boot_inputs.specs.Pages.{pages_diagnostic, pages_file};
 ghost use Rattle.page_alloc.specs.Reading.{page_lines_of};
 
-use crate::diagnostic::Diagnostic;
-use crate::fault::{Fault, Misread};
+use crate::fault::{Diagnostic, Fault, Misread};
 use crate::input::Input;
 use crate::reader::Reader;
 use boot_model::Inputs;

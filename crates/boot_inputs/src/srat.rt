@@ -11,8 +11,7 @@ ghost use Rattle.boot_inputs.specs.Diagnostic.{diagnostic_view};
 ghost use Rattle.boot_inputs.specs.Srat.{srat_diagnostic, srat_file};
 ghost use Rattle.srat_reader.specs.Table.{srat_of};
 
-use crate::diagnostic::Diagnostic;
-use crate::fault::{Fault, Misread};
+use crate::fault::{Diagnostic, Fault, Misread};
 use crate::input::Input;
 use crate::reader::Reader;
 use boot_model::Inputs;

@@ -9,8 +9,7 @@ ghost use Rattle.boot_inputs.specs.Diagnostic.{diagnostic_view};
 ghost use Rattle.boot_inputs.specs.Faults.{FaultsAreOfBytes};
 ghost use Rattle.boot_inputs.specs.ZeroPage.{zero_page, zero_page_diagnostic};
 
-use crate::diagnostic::Diagnostic;
-use crate::fault::{Fault, Misread};
+use crate::fault::{Diagnostic, Fault, Misread};
 use crate::input::Input;
 use crate::reader::Reader;
 use boot_model::Inputs;

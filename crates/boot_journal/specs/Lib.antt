@@ -1,4 +1,4 @@
-pub mod Contents
+pub mod JournalView
 pub mod Bytes
 pub mod Mirrors
 pub mod RunList

@@ -36,7 +36,7 @@ impl Model for Journal {
     ghost use Rattle.address_runs.specs.Runs.{IsRunsOf};
     ghost use Rattle.address_runs.specs.Edits.{NothingFrom};
     ghost use Rattle.memblock_model.specs.Items.{ItemsHaveBytes, owner_of};
-    ghost use Rattle.boot_journal.specs.Contents.{JournalView};
+    ghost use Rattle.boot_journal.specs.JournalView.{JournalView};
     ghost use Rattle.boot_journal.specs.Mirrors.{has_mirrors};
 
     ghost Value = { JournalView };

@@ -14,16 +14,16 @@ use Rattle.bm_base.specs.Each.{each_in}
 use Rattle.bm_base.specs.Frames.{bytes_of_frame}
 use Rattle.bm_base.proofs.EachLaws.{each_in-same}
 use Rattle.e820_model.proofs.ClaimLaws.{tells_kinds}
-use Rattle.early_stages.specs.Wanted.{first_items}
+use Rattle.early_memory.specs.FirstItems.{first_items}
 use Rattle.e820_sanitise.specs.declared.stop.MapStop.{MapStop}
 use Rattle.e820_sanitise.specs.declared.stop.MapStop.TheVariants as reasons
 use Rattle.e820_sanitise.specs.Stop.{judge_frames}
 use Rattle.boot_model.specs.declared.stop.Cause.{Cause}
 use Rattle.script_reader.specs.declared.act.Line.{Line}
-use Rattle.early_script.specs.Stage.{script_after_lines, before_sections, lines_after_sections}
+use Rattle.early_script.specs.Lines.{script_after_lines, before_sections, lines_after_sections}
 use Rattle.boot_model.specs.Boot.{InputsView, BootSoFar, begin_boot, with_script_state, boot, claims, early_inputs, usable_frames_stage, memory_stage, map_size_stage, later_stages, lies_in_memory, judge_map, map_stages, reach, made_with_crash_area, result_with_nodes, made_with_sections, script_stage, script_state, types_in_reach, unless_stopped}
-use Rattle.numa_nodes.specs.Assigned.{assign_nodes}
-use Rattle.crash_kernel.specs.Reserved.{reserve_crash_area}
+use Rattle.numa_nodes.specs.Assignment.{assign_nodes}
+use Rattle.crash_kernel.specs.Reservation.{reserve_crash_area}
 use Rattle.boot_model.specs.First.{items_with_growths}
 use Rattle.boot_model.specs.Sections.{place_present_sections}
 use Rattle.boot_model.specs.Stop.{cause_of_growth, cause_of_stage}

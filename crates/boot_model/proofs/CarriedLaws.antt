@@ -3,12 +3,12 @@
 use Rattle.std.proofs.Common.{◌≡◌, List, [], ◌∷◌, ◌++◌, Option, Some, None, Result, Ok, Err, refl, sym, ◌∙◌, ap}
 use Rattle.bm_base.specs.ResultSteps.{◌>>=◌}
 use Rattle.memblock_model.specs.declared.item.Item.{Item}
-use Rattle.growth_model.specs.Outcome.{ChangeEffect, RefusedGrowth, items_of_steps}
-use Rattle.growth_model.specs.Carried.{carry_out_items, change_for, unless_refused}
-use Rattle.stage_model.specs.Doing.{StepEffect, items_after_step, append_groups, continue_if_ok}
-use Rattle.stage_model.specs.Requests.{fail_if_refused as answer_of}
-use Rattle.stage_model.proofs.DoingLaws.{append_groups-append, append_groups-joined}
-use Rattle.early_stages.specs.Wanted.{first_items}
+use Rattle.growth_model.specs.Change.{ChangeEffect, RefusedGrowth, items_of_steps}
+use Rattle.growth_model.specs.Requests.{carry_out_items, change_for, unless_refused}
+use Rattle.stage_steps.specs.Steps.{StepEffect, items_after_step, append_groups, continue_if_ok}
+use Rattle.stage_steps.specs.Requests.{fail_if_refused as answer_of}
+use Rattle.stage_steps.proofs.DoingLaws.{append_groups-append, append_groups-joined}
+use Rattle.early_memory.specs.FirstItems.{first_items}
 use Rattle.boot_model.specs.Boot.{InputsView, BootSoFar, early_inputs, memory_stage}
 use Rattle.boot_model.specs.First.{items_with_growths}
 use Rattle.boot_model.specs.Stop.{cause_of_growth}

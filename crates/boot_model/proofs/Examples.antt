@@ -16,9 +16,9 @@ use Rattle.memblock_model.specs.declared.item.Item.TheVariants as item
 use Rattle.boot_model.specs.declared.stop.Cause.TheVariants as causes
 use Rattle.script_reader.specs.declared.act.Act.TheVariants as acts
 use Rattle.early_script.specs.declared.outcome.Outcome.TheVariants as outcomes
-use Rattle.early_script.specs.Acted.{act_effect}
+use Rattle.early_script.specs.Effects.{act_effect}
 use Rattle.bm_base.specs.Each.{each_from, each_in}
-use Rattle.table_frames.specs.Frames.{free_node_in}
+use Rattle.memblock_frames.specs.Frames.{free_node_in}
 use Rattle.memblock_model.specs.declared.item.Item.{Item}
 use Rattle.memblock_model.specs.declared.owner.Owner.TheVariants as owner
 use Rattle.boot_model.specs.Boot.{InputsView, BootSoFar, begin_boot, begin_with_map, inputs_without_files, boot, claims, handover_frames, map_size_stage, lies_in_memory, no_options, reach, script_stage, finish_boot}

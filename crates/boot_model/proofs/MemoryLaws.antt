@@ -13,28 +13,28 @@ use Rattle.e820_model.specs.Usable.{is_usable_frame, types_below}
 use Rattle.memblock_model.specs.Labels.{LabelView, Labels, plain_label, with_mirror}
 use Rattle.memblock_model.specs.Items.{limit_of, memory_of}
 use Rattle.memblock_model.specs.declared.item.Item.{Item}
-use Rattle.growth_model.specs.Carried.{StepsKeepMemory, carry_out_items}
-use Rattle.growth_model.specs.Outcome.{ChangeEffect, items_after_change}
+use Rattle.growth_model.specs.Requests.{StepsKeepMemory, carry_out_items}
+use Rattle.growth_model.specs.Change.{ChangeEffect, items_after_change}
 use Rattle.growth_model.proofs.QuietLaws.{quiet-limit, quiet-memory}
 use Rattle.growth_model.specs.Bytes.{byte_from_history}
-use Rattle.early_stages.specs.Early.{FrameRange}
-use Rattle.early_stages.specs.Memory.{is_mirrored, memory_end, mirrored_memory, usable_memory}
-use Rattle.early_stages.specs.Wanted.{first_items}
-use Rattle.early_stages.proofs.MemoryLaws.{first_limit, first_memory}
-use Rattle.early_stages.proofs.EndLaws.{memory_end-same}
+use Rattle.early_memory.specs.EarlyInputs.{FrameRange}
+use Rattle.early_memory.specs.Memory.{is_mirrored, memory_end, mirrored_memory, usable_memory}
+use Rattle.early_memory.specs.FirstItems.{first_items}
+use Rattle.early_memory.proofs.MemoryLaws.{first_limit, first_memory}
+use Rattle.early_memory.proofs.EndLaws.{memory_end-same}
 use Rattle.script_reader.specs.declared.act.Line.{Line}
-use Rattle.early_script.specs.Acted.{script_outcome_at_line, state_after_line}
-use Rattle.early_script.specs.Stage.{ScriptSoFar as Script, script_after_line, script_after_lines, before_sections, lines_after_sections, line_effect}
+use Rattle.early_script.specs.Effects.{script_outcome_at_line, state_after_line}
+use Rattle.early_script.specs.Lines.{ScriptSoFar as Script, script_after_line, script_after_lines, before_sections, lines_after_sections, line_effect}
 use Rattle.early_script.proofs.QuietLaws.{acts-keep, act_effect-quiet}
 use Rattle.boot_model.specs.Boot.{InputsView, BootSoFar, Stage, boot, claims, early_inputs, crash_area_stage, memory_stage, nodes_stage, sections_stage, later_stages, judge_map, all_mirrors, made_with_crash_area, result_with_nodes, made_with_sections, reach, script_stage, script_state, types_in_reach}
 use Rattle.boot_model.specs.Sections.{place_present_sections}
 use Rattle.boot_model.specs.Stop.{cause_of_growth, cause_of_stage}
-use Rattle.numa_nodes.specs.Assigned.{assign_nodes}
+use Rattle.numa_nodes.specs.Assignment.{assign_nodes}
 use Rattle.numa_nodes.proofs.MemoryLaws.{keeps-limit, keeps-memory}
-use Rattle.crash_kernel.specs.Reserved.{reserve_crash_area}
+use Rattle.crash_kernel.specs.Reservation.{reserve_crash_area}
 use Rattle.crash_kernel.proofs.QuietLaws.{quiet-reserved}
-use Rattle.stage_model.specs.Quiet.{KeepsMemory}
-use Rattle.stage_model.proofs.QuietLaws.{quiet-appended_limit, quiet-appended_memory, quiet-bind, quiet-listed, quiet-returns}
+use Rattle.stage_steps.specs.KeepsMemory.{KeepsMemory}
+use Rattle.stage_steps.proofs.QuietLaws.{quiet-appended_limit, quiet-appended_memory, quiet-bind, quiet-listed, quiet-returns}
 use Rattle.sparse_sections.proofs.QuietLaws.{quiet-roots}
 use Rattle.section_maps.proofs.QuietLaws.{quiet-maps}
 use Rattle.boot_model.specs.Stages.{run_each_stage}

@@ -11,7 +11,7 @@ use Rattle.efi_map.specs.declared.efi.EfiFault.{EfiFault}
 use Rattle.efi_map.specs.declared.efi.EfiFault.TheVariants as faults
 use Rattle.efi_map.specs.Descriptors.{Descriptor, bytes_of_descriptor, entry_of_descriptor, has_attribute, mirror_of_descriptor}
 use Rattle.efi_map.specs.Map.{EfiContent, descriptors_of, efi_of, far_descriptor_from, has_efi_header, has_efi_length, prepend_mirror, mirrors_of_descriptors, efi_unless_far}
-use Rattle.early_stages.specs.Early.{bytes_of_frames}
+use Rattle.early_memory.specs.EarlyInputs.{bytes_of_frames}
 use Rattle.boot_model.specs.Mirrors.{IsMirror, frame_range_of}
 
 -- the bytes of its frames are the range

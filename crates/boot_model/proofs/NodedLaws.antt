@@ -10,15 +10,15 @@ use Rattle.e820_model.proofs.UsableLaws.{count_none}
 use Rattle.memblock_model.specs.declared.item.Item.{Item}
 use Rattle.memblock_model.specs.Labels.{LabelView, Labels, plain_label}
 use Rattle.memblock_model.specs.Items.{limit_of, memory_of}
-use Rattle.growth_model.specs.Carried.{carry_out_items}
-use Rattle.early_stages.specs.Early.{FrameRange}
-use Rattle.early_stages.specs.Memory.{memory_end, mirrored_memory, usable_memory}
-use Rattle.early_stages.specs.Wanted.{first_items}
-use Rattle.early_stages.proofs.MemoryLaws.{first_limit, first_memory}
-use Rattle.early_stages.proofs.EndLaws.{end_reached, memory_below, memory_end-is, mirrored_below}
-use Rattle.early_stages.proofs.MirrorLaws.{mirrored-alike}
-use Rattle.stage_model.specs.Noded.{IsSameInFrames, HasNodes}
-use Rattle.numa_nodes.specs.Assigned.{assign_nodes}
+use Rattle.growth_model.specs.Requests.{carry_out_items}
+use Rattle.early_memory.specs.EarlyInputs.{FrameRange}
+use Rattle.early_memory.specs.Memory.{memory_end, mirrored_memory, usable_memory}
+use Rattle.early_memory.specs.FirstItems.{first_items}
+use Rattle.early_memory.proofs.MemoryLaws.{first_limit, first_memory}
+use Rattle.early_memory.proofs.EndLaws.{end_reached, memory_below, memory_end-is, mirrored_below}
+use Rattle.early_memory.proofs.MirrorLaws.{mirrored-alike}
+use Rattle.stage_steps.specs.Nodes.{IsSameInFrames, HasNodes}
+use Rattle.numa_nodes.specs.Assignment.{assign_nodes}
 use Rattle.numa_nodes.proofs.NodedLaws.{answer-noded}
 use Rattle.boot_model.specs.Boot.{InputsView, BootSoFar, Stage, boot, claims, early_inputs, memory_stage, nodes_stage, later_stages, judge_map, all_mirrors, result_with_nodes, reach}
 use Rattle.boot_model.specs.First.{IsFirstMemory}

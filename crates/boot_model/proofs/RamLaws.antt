@@ -6,12 +6,12 @@ use Rattle.bm_base.specs.ResultSteps.{◌>>=◌}
 use Rattle.e820_model.specs.Usable.{usable_frames}
 use Rattle.e820_model.specs.declared.entry.TheConstants.{E820_MAX_ENTRIES}
 use Rattle.e820_sanitise.specs.declared.stop.MapStop.TheVariants as reasons
-use Rattle.growth_model.specs.Outcome.{RefusedGrowth}
-use Rattle.early_stages.specs.Wanted.{first_items}
-use Rattle.stage_model.specs.Causes.{StageCause, NoPlace, NoTablePlace}
-use Rattle.stage_model.specs.Doing.{StageStep, items_after_step}
-use Rattle.numa_nodes.specs.Assigned.{assign_nodes}
-use Rattle.crash_kernel.specs.Reserved.{reserve_crash_area}
+use Rattle.growth_model.specs.Change.{RefusedGrowth}
+use Rattle.early_memory.specs.FirstItems.{first_items}
+use Rattle.stage_steps.specs.Causes.{StageCause, NoPlace, NoTablePlace}
+use Rattle.stage_steps.specs.Steps.{StageStep, items_after_step}
+use Rattle.numa_nodes.specs.Assignment.{assign_nodes}
+use Rattle.crash_kernel.specs.Reservation.{reserve_crash_area}
 use Rattle.boot_model.specs.declared.stop.Cause.{Cause}
 use Rattle.boot_model.specs.declared.stop.Cause.TheVariants as causes
 use Rattle.boot_model.specs.Boot.{InputsView, BootSoFar, Stage, begin_boot, boot, stage_of_steps, early_inputs, later_stages, judge_map, map_stages, made_with_crash_area, result_with_nodes, made_with_sections, types_in_reach, unless_stopped, finish_stage}

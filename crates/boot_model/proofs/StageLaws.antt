@@ -2,7 +2,7 @@
 use Rattle.std.proofs.Common.{◌≡◌, List, [], ◌∷◌, Result, Ok, Err, refl, sym, ap, ◌∙◌}
 use Rattle.bm_base.specs.ResultSteps.{◌>>=◌}
 use Rattle.boot_model.specs.Stages.{run_each_stage}
-use Rattle.stage_model.specs.Doing.{StageStep, items_after_step}
+use Rattle.stage_steps.specs.Steps.{StageStep, items_after_step}
 use Rattle.boot_model.specs.declared.stop.Cause.{Cause}
 use Rattle.boot_model.specs.Boot.{BootSoFar, stage_of_steps, finish_stage}
 

@@ -19,28 +19,28 @@ use Rattle.memblock_model.specs.declared.owner.Which.TheVariants as which
 use Rattle.memblock_ranges.specs.declared.region.Heads.{Heads}
 use Rattle.memblock_ranges.specs.Tables.{head_of}
 use Rattle.growth_model.specs.Bytes.{Fill, table_for}
-use Rattle.early_stages.specs.Early.{EarlyInputs, FrameRange}
-use Rattle.early_stages.specs.Wanted.{first_items}
+use Rattle.early_memory.specs.EarlyInputs.{EarlyInputs, FrameRange}
+use Rattle.early_memory.specs.FirstItems.{first_items}
 use Rattle.script_reader.specs.declared.act.Line.{Line}
 use Rattle.early_script.specs.declared.outcome.Answer.{Answer}
-use Rattle.early_script.specs.Ids.{LiveView}
-use Rattle.early_script.specs.Stage.{ScriptSoFar as Script, script_after_lines, before_sections, lines_after_sections}
+use Rattle.early_script.specs.LiveView.{LiveView}
+use Rattle.early_script.specs.Lines.{ScriptSoFar as Script, script_after_lines, before_sections, lines_after_sections}
 use Rattle.bm_base.specs.ResultSteps.{◌>>=◌}
 use Rattle.memblock_model.specs.Items.{memory_of, owner_of}
 use Rattle.memblock_model.specs.Tables.{reserved_labels}
 use Rattle.srat_reader.specs.Table.{SratView}
-use Rattle.node_hulls.specs.declared.reasons.Why.TheVariants as why
-use Rattle.stage_model.specs.Doing.{StageStep, StepEffect, items_after_step}
-use Rattle.numa_nodes.specs.Assigned.{NodesView, assign_nodes}
+use Rattle.srat_nodes.specs.declared.reasons.Why.TheVariants as why
+use Rattle.stage_steps.specs.Steps.{StageStep, StepEffect, items_after_step}
+use Rattle.numa_nodes.specs.Assignment.{NodesView, assign_nodes}
 use Rattle.crash_kernel.specs.declared.crash.Crash.{Crash}
 use Rattle.crash_kernel.specs.declared.crash.Crash.TheVariants as crash
-use Rattle.crash_kernel.specs.Reserved.{reserve_crash_area}
-use Rattle.table_frames.specs.Frames.{free_node_in, node_of_frame}
-use Rattle.frame_blocks.specs.Frames.{Frames}
+use Rattle.crash_kernel.specs.Reservation.{reserve_crash_area}
+use Rattle.memblock_frames.specs.Frames.{free_node_in, node_of_frame}
+use Rattle.buddy_blocks.specs.Frames.{Frames}
 use Rattle.page_alloc.specs.declared.act.PageLine.{PageLine}
 use Rattle.page_alloc.specs.declared.outcome.PageAnswer.{PageAnswer}
 use Rattle.page_alloc.specs.Pages.{PageState as Pages, first_page_state as nothing_taken}
-use Rattle.slit_zonelists.specs.Matrix.{SlitView}
+use Rattle.slit_zonelists.specs.SlitView.{SlitView}
 use Rattle.slit_zonelists.specs.Lists.{ListsView, zonelists_from_slit}
 use Rattle.slit_zonelists.specs.Near.{page_state_after, page_answers_of}
 use Rattle.zone_spans.specs.declared.span.Span.{Span}

@@ -12,12 +12,12 @@ use Rattle.script_reader.specs.declared.act.Act.{Act}
 use Rattle.script_reader.specs.declared.act.Act.TheVariants as acts
 use Rattle.script_reader.specs.declared.act.Line.{Line}
 use Rattle.script_reader.specs.Forms.{HasBounds}
-use Rattle.early_script.specs.Acted.{CanBeRun}
+use Rattle.early_script.specs.Effects.{CanBeRun}
 use Rattle.page_alloc.specs.declared.act.PageAct.{PageAct}
 use Rattle.page_alloc.specs.declared.act.PageAct.TheVariants as pages
 use Rattle.page_alloc.specs.declared.act.PageLine.{PageLine}
 use Rattle.page_alloc.specs.Pages.{HasValidOrder, HaveValidOrders}
-use Rattle.early_script.specs.Stage.{PlacesSectionsOnce}
+use Rattle.early_script.specs.Lines.{PlacesSectionsOnce}
 
 pub EntriesFit-prop : (entries : List Entry) → IsProp (EntriesFit entries)
 EntriesFit-prop [] = Unit-prop

@@ -4,11 +4,11 @@ use Rattle.std.specs.Prelude.{ℕ, ◌<◌, List}
 use Rattle.address_runs.specs.Edits.{NothingFrom}
 use Rattle.memblock_model.specs.declared.item.Item.{Item}
 use Rattle.memblock_model.specs.Items.{limit_of, memory_of}
-use Rattle.growth_model.specs.Outcome.{RefusedGrowth}
-use Rattle.growth_model.specs.Carried.{change_for}
-use Rattle.stage_model.specs.Doing.{StageStep, fold_steps}
-use Rattle.stage_model.specs.Noded.{IsSameInFrames}
-use Rattle.stage_model.specs.Requests.{make_change}
+use Rattle.growth_model.specs.Change.{RefusedGrowth}
+use Rattle.growth_model.specs.Requests.{change_for}
+use Rattle.stage_steps.specs.Steps.{StageStep, fold_steps}
+use Rattle.stage_steps.specs.Nodes.{IsSameInFrames}
+use Rattle.stage_steps.specs.Requests.{make_change}
 
 -- the items, one after another, each after the growth that it needs
 unfoldable pub items_with_growths : List Item → StageStep RefusedGrowth (Unit {0})

@@ -2,7 +2,7 @@
 -- frames.
 use Rattle.std.specs.Prelude.{◌≡◌, ◌/◌, ◌%◌, ◌<◌}
 use Rattle.bm_base.specs.Range.{RangeView}
-use Rattle.early_stages.specs.Early.{FrameRange}
+use Rattle.early_memory.specs.EarlyInputs.{FrameRange}
 
 -- the range is whole frames, at least one
 pub record IsMirror (range : RangeView) : Type 0 where

@@ -2,9 +2,9 @@
 use Rattle.std.specs.Prelude.{List, []}
 use Rattle.bm_base.specs.declared.width.Width.{Width}
 use Rattle.memblock_model.specs.Items.{memory_of}
-use Rattle.memblock_grow.specs.declared.section.Section.{Section}
-use Rattle.stage_model.specs.Causes.{StageCause}
-use Rattle.stage_model.specs.Doing.{StageStep, ◌>>=◌, return_value, read_into_list}
+use Rattle.memblock_grow.specs.declared.stop.Section.{Section}
+use Rattle.stage_steps.specs.Causes.{StageCause}
+use Rattle.stage_steps.specs.Steps.{StageStep, ◌>>=◌, return_value, read_into_list}
 use Rattle.sparse_sections.specs.Present.{present}
 use Rattle.sparse_sections.specs.Roots.{RootsView, place_roots}
 use Rattle.section_maps.specs.declared.placed.Placed.{Placed}

@@ -1,9 +1,9 @@
 -- The causes of a stop. Out of memory is the one stop without a cause.
 use Rattle.std.specs.Prelude.{Option, Some, None}
 use Rattle.e820_sanitise.specs.declared.stop.MapStop.{MapStop}
-use Rattle.growth_model.specs.Outcome.{RefusedGrowth}
+use Rattle.growth_model.specs.Change.{RefusedGrowth}
 use Rattle.e820_sanitise.specs.declared.stop.MapStop.TheVariants as reasons
-use Rattle.stage_model.specs.Causes.{StageCause, NoPlace, NoTablePlace}
+use Rattle.stage_steps.specs.Causes.{StageCause, NoPlace, NoTablePlace}
 use Rattle.boot_model.specs.declared.stop.Cause.{Cause}
 use Rattle.boot_model.specs.declared.stop.Cause.TheVariants as causes
 use Rattle.boot_model.specs.declared.stop.Stop.{Stop}

@@ -5,13 +5,13 @@ use Rattle.std.specs.declared.alloc.Global.{Global}
 use Rattle.boot_options.specs.Options.{options_view}
 use Rattle.srat_reader.specs.Table.{srat_view}
 use Rattle.efi_map.specs.declared.efi.EfiMap.{EfiMap}
-use Rattle.numa_nodes.specs.Assigned.{nodes_view}
+use Rattle.numa_nodes.specs.Assignment.{nodes_view}
 use Rattle.sparse_sections.specs.Roots.{roots_view}
-use Rattle.sparse_sections.specs.declared.roots.Roots.{Roots}
+use Rattle.sparse_sections.specs.declared.places.Roots.{Roots}
 use Rattle.section_maps.specs.declared.placed.Placed.{Placed}
-use Rattle.buddy_handover.specs.Contents.{buddy_frames}
-use Rattle.page_alloc.specs.Book.{page_state_of}
-use Rattle.slit_zonelists.specs.Matrix.{slit_view}
+use Rattle.buddy_handover.specs.BuddyView.{buddy_frames}
+use Rattle.page_alloc.specs.PagesView.{page_state_of}
+use Rattle.slit_zonelists.specs.SlitView.{slit_view}
 use Rattle.boot_model.specs.declared.booted.Booted.{Booted}
 use Rattle.boot_model.specs.declared.inputs.Inputs.{Inputs}
 use Rattle.boot_model.specs.Boot.{EfiMapView, InputsView, BootedView}

@@ -1,20 +1,20 @@
 //! The inputs of a boot: one field for each input file, and the place of the kernel. The facts
 //! about the fields are facts of the type, so a function that has inputs has these facts.
 
-ghost use Rattle.std.specs.Prelude.{◌≡◌, ◌^◌, ◌<◌, IfSome, length};
+ghost use Rattle.std.specs.Prelude.{◌≡◌, ◌^◌, ◌<◌, IfSome, length, IsTrue};
 ghost use Rattle.std.specs.List.{All};
 ghost use Rattle.std.proofs.Props.{props};
 ghost use Rattle.e820_model.specs.Claims.{EntriesFit, HaveTypes};
 ghost use Rattle.e820_table.specs.Initrd.{IsInitrd};
-ghost use Rattle.early_script.specs.Stage.{PlacesSectionsOnce};
+ghost use Rattle.early_script.specs.Lines.{PlacesSectionsOnce};
 ghost use Rattle.page_alloc.specs.Pages.{HaveValidOrders};
-ghost use Rattle.slit_zonelists.specs.Matrix.{IsSquare, slit_view};
+ghost use Rattle.slit_zonelists.specs.SlitView.{IsSquare, slit_view};
 ghost use Rattle.boot_model.specs.Facts.{EntriesFit-prop, HaveBounds, HaveBounds-prop, HaveValidOrders-prop, HaveTypes-prop, PlacesSectionsOnce-prop, efi_ends-prop};
-ghost use Rattle.boot_model.specs.Kernel.{IsKernel};
+ghost use Rattle.boot_model.specs.Kernel.{IsKernel, is_kernel};
 ghost use Rattle.boot_model.specs.Mirrors.{IsMirror};
 
 use arrayvec::ArrayVec;
-use bm_base::{Range, Width};
+use bm_base::{Range, Width, FRAME_SIZE};
 use boot_options::{CrashOption, Options};
 use e820_table::{Entry, ZeroPage};
 use efi_map::EfiMap;
@@ -23,6 +23,27 @@ use script_reader::Line;
 use slit_zonelists::Slit;
 use srat_reader::Srat;
 use std::alloc::Global;
+
+/// The lowest address of a kernel's image, in bytes: the end of the first MiB, which real mode
+/// keeps.
+const LOWEST_KERNEL: u64 = 0x10_0000;
+
+/// The smallest size of a kernel's image, in bytes: two frames, for memblock's two tables at its
+/// end.
+const SMALLEST_KERNEL: u64 = 2 * FRAME_SIZE;
+
+/// Returns whether a kernel's image may lie at `range`: it begins at or above 1 MiB and ends at or
+/// below the limit of physical addresses. It is whole frames, at least two of them.
+pub fn is_kernel(range: &Range, width: Width) -> bool
+    ensures value { result ≡ is_kernel width range.now }
+    ensures facts { IsTrue result → IsKernel width range.now }
+{
+    range.base >= LOWEST_KERNEL
+        && range.size >= SMALLEST_KERNEL
+        && range.base % FRAME_SIZE == 0
+        && range.size % FRAME_SIZE == 0
+        && range.end() <= width.limit()
+}
 
 /// The inputs of a boot.
 #[derive(Drop)]

@@ -12,7 +12,7 @@ ghost use Rattle.efi_map.specs.Map.{efi_of};
 ghost use Rattle.e820_model.specs.Usable.{is_usable_frame, usable_frames};
 ghost use Rattle.e820_model.specs.declared.entry.TheConstants.{E820_MAX_ENTRIES};
 ghost use Rattle.memblock_model.specs.Items.{limit_of, memory_of};
-ghost use Rattle.early_stages.specs.Memory.{memory_end};
+ghost use Rattle.early_memory.specs.Memory.{memory_end};
 ghost use Rattle.memblock_model.specs.declared.item.Item.{Item};
 ghost use Rattle.boot_model.specs.declared.stop.Cause.TheVariants as causes;
 ghost use Rattle.boot_model.specs.Mirrors.{IsMirror};

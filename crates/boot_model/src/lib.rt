@@ -24,13 +24,11 @@
 
 mod booted;
 mod inputs;
-mod kernel;
 mod laws;
 mod stop;
 
 pub use booted::Booted;
-pub use inputs::Inputs;
-pub use kernel::is_kernel;
+pub use inputs::{Inputs, is_kernel};
 pub use laws::{
     efi_map_counts_only_if_asked, map_gives_frames, map_gives_memory, map_gives_types,
     mirrors_are_whole_frames, no_ram_means_no_usable_frame,

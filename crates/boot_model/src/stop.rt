@@ -89,7 +89,7 @@ impl From<Memory> for Stop {
 
 impl From<StageStop> for Stop {
     ghost use Rattle.std.specs.Prelude.{◌≡◌, Option};
-    ghost use Rattle.stage_model.specs.Causes.{StageCause, stage_stop};
+    ghost use Rattle.stage_steps.specs.Causes.{StageCause, stage_stop};
     ghost use Rattle.boot_model.specs.Stop.{cause_of_stage, stop_of_error};
 
     ghost from_gives = { λ stage stop. (why : Option StageCause) → stage ≡ stage_stop why → stop ≡ stop_of_error cause_of_stage why };
@@ -107,8 +107,8 @@ impl From<StageStop> for Stop {
 /// is out of memory.
 impl From<Refusal> for Stop {
     ghost use Rattle.std.specs.Prelude.{◌≡◌, Option};
-    ghost use Rattle.growth_model.specs.Outcome.{RefusedGrowth};
-    ghost use Rattle.stage_model.specs.Causes.{refusal_for};
+    ghost use Rattle.growth_model.specs.Change.{RefusedGrowth};
+    ghost use Rattle.stage_steps.specs.Causes.{refusal_for};
     ghost use Rattle.boot_model.specs.Stop.{cause_of_growth, stop_of_error};
 
     ghost from_gives = { λ refusal stop. (why : Option RefusedGrowth) → refusal ≡ refusal_for why → stop ≡ stop_of_error cause_of_growth why };

@@ -14,7 +14,7 @@ ghost use Rattle.boot_options.specs.Crash.{CrashFormView, comma, crash_range_of,
 ghost use Rattle.boot_options.specs.Kept.{KeepsItems, KeepsForm, KeepsRanges};
 ghost use Rattle.boot_options.specs.Spelling.{SpellsForm};
 
-use crate::kept::append_item;
+use crate::reading::append_item;
 use crate::map_option::read_whole_size;
 use bm_base::Memory;
 use std::alloc::Global;

@@ -35,7 +35,6 @@
 
 mod crash;
 mod fault;
-mod kept;
 mod map_option;
 mod options;
 mod reading;

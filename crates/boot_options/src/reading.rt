@@ -8,16 +8,17 @@
 //! Only this file and the values of `crashkernel=` allocate. If memory runs out, the rest of the
 //! line is still read, so that a fault anywhere in it is found. No function here returns `Memory`.
 
-ghost use Rattle.std.specs.Prelude.{◌≡◌, ℕ, ◌≤◌, ◌+◌, length, Result, Ok, Err};
+ghost use Rattle.std.specs.Prelude.{◌≡◌, ℕ, ◌≤◌, ◌+◌, length, Result, Ok, Err, List, [], ◌++◌};
 ghost use Rattle.std.specs.Option.{option_map, option_and_then};
 ghost use Rattle.boot_options.specs.declared.fault.OptionFault.TheVariants as faults;
 ghost use Rattle.boot_options.specs.declared.options.TheConstants.{LONGEST_LINE};
 ghost use Rattle.boot_options.specs.Options.{name_value_of, word_meaning, word_meanings_from, option_words, meaning_or_fault, crash_of, memmap_of};
 ghost use Rattle.boot_options.specs.Reading.{ReadingState, start_state, user_map_less_one as one_fewer_wanted, after_map_option, after_meaning, after_meanings, IsReadTo, ReadsAs};
+ghost use Rattle.std.specs.List.{cons_option};
+ghost use Rattle.boot_options.specs.Kept.{KeepsItems};
 
 use crate::crash::{CrashForm, PlainRead, read_crash_form};
 use crate::fault::OptionFault;
-use crate::kept::append_item;
 use crate::map_option::{MapOption, read_map_option, read_mem};
 use bm_base::Memory;
 use e820_model::Edit;
@@ -216,4 +217,17 @@ fn user_map_less_one(map: &Option<UserMap>) -> Option<UserMap>
         word: map.word,
         wanting: map.wanting.saturating_sub(1),
     })
+}
+
+/// Appends the item, if there is one, to the list. If the program runs out of memory, the list
+/// becomes `Err(Memory)`.
+pub fn append_item<T: Copy>(item: &Option<T>, items: &mut Result<Vec<T>, Memory>)
+    ensures { (before : List T) → KeepsItems items.old before →
+        KeepsItems items.new (before ++ cons_option item.now []) }
+{
+    if let (Some(item), Ok(kept)) = (item, &mut *items) {
+        if kept.push(*item).is_err() {
+            *items = Err(Memory);
+        }
+    }
 }

@@ -4,8 +4,8 @@ use Rattle.bm_base.specs.Range.{RangeView}
 use Rattle.phys_store.specs.Bytes.{byte_of}
 use Rattle.growth_model.specs.Bytes.{Fill, Follows, AreBytesFromHistory}
 use Rattle.growth_model.proofs.FillLaws.{holds-call}
-use Rattle.memblock_grow.specs.Contents.{MemblockView}
-use Rattle.memblock_grow.specs.Going.{ContinuesMemblock}
+use Rattle.memblock_grow.specs.MemblockView.{MemblockView}
+use Rattle.memblock_grow.specs.Continues.{ContinuesMemblock}
 use Rattle.boot_stages.specs.Boots.{HoldsFills}
 
 pub holds-on : (fills : List Fill) (old new : MemblockView) → new.kernel ≡ old.kernel

@@ -6,9 +6,9 @@ use Rattle.memblock_model.specs.declared.owner.Owner.TheVariants as owner
 use Rattle.memblock_model.specs.declared.item.Item.{Item}
 use Rattle.memblock_model.specs.declared.item.Item.TheVariants as item
 use Rattle.growth_model.specs.declared.refusal.Refusal.TheVariants as refusal
-use Rattle.stage_model.specs.Causes.{refusal_for}
-use Rattle.stage_model.specs.Doing.{EndsAsStage}
-use Rattle.early_stages.specs.Early.{EarlyInputs}
+use Rattle.stage_steps.specs.Causes.{refusal_for}
+use Rattle.stage_steps.specs.Steps.{EndsAsStage}
+use Rattle.early_memory.specs.EarlyInputs.{EarlyInputs}
 use Rattle.boot_model.specs.First.{items_with_growths}
 use Rattle.boot_stages.specs.Parts.{items_before_memory, limit_items, map_memory_items}
 

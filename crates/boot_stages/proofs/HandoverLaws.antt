@@ -7,8 +7,8 @@ use Rattle.memblock_model.specs.declared.item.Item.{Item}
 use Rattle.memblock_model.specs.declared.owner.Which.{Which}
 use Rattle.memblock_model.specs.declared.owner.Which.TheVariants as which
 use Rattle.bm_base.specs.Range.{RangeView}
-use Rattle.memblock_grow.specs.Kept.{TablesMatchItems}
-use Rattle.memblock_grow.specs.declared.aim.AllocSettings.{AllocSettings}
+use Rattle.memblock_grow.specs.Invariant.{TablesMatchItems}
+use Rattle.memblock_grow.specs.declared.places.AllocSettings.{AllocSettings}
 use Rattle.memblock_model.specs.Items.{memory_of, owner_of}
 use Rattle.memblock_model.specs.Labels.{Labels}
 use Rattle.memblock_model.specs.Tables.{records_of, reserved_labels}
@@ -16,20 +16,20 @@ use Rattle.memblock_model.proofs.TableLaws.{value_at-records}
 use Rattle.memblock_ranges.specs.declared.region.Head.{Head}
 use Rattle.memblock_ranges.specs.declared.region.Heads.{Heads}
 use Rattle.memblock_ranges.specs.Tables.{TablesView as Tables, table_in, IsInStore, TableView, head_of, records_of_head}
-use Rattle.memblock_grow.specs.Contents.{MemblockView as Memblock}
+use Rattle.memblock_grow.specs.MemblockView.{MemblockView as Memblock}
 use Rattle.sparse_sections.proofs.NodedLaws.{noded-told}
-use Rattle.stage_model.specs.Noded.{HasNodes}
-use Rattle.table_frames.specs.Frames.{free_node_in, node_of_frame}
-use Rattle.table_frames.specs.Tables.{AreWholeFrames, HasRecords}
-use Rattle.table_frames.proofs.StandLaws.{stands_ascending, stands_below, stands_free, stands_node, stands_whole}
+use Rattle.stage_steps.specs.Nodes.{HasNodes}
+use Rattle.memblock_frames.specs.Frames.{free_node_in, node_of_frame}
+use Rattle.memblock_frames.specs.HeadRecords.{AreWholeFrames, HasRecords}
+use Rattle.memblock_frames.proofs.StandLaws.{stands_ascending, stands_below, stands_free, stands_node, stands_whole}
 use Rattle.zone_spans.specs.Spans.{spans_of}
-use Rattle.frame_blocks.specs.Frames.{Frames}
+use Rattle.buddy_blocks.specs.Frames.{Frames}
 use Rattle.page_alloc.specs.declared.outcome.PageAnswer.{PageAnswer}
 use Rattle.page_alloc.specs.Pages.{PageState as Pages, first_page_state}
 use Rattle.slit_zonelists.specs.Lists.{ListsView, zonelists_from_slit}
 use Rattle.slit_zonelists.specs.Near.{page_state_after, page_answers_of}
-use Rattle.numa_nodes.specs.Assigned.{nodes_view}
-use Rattle.early_script.specs.Ids.{LiveView}
+use Rattle.numa_nodes.specs.Assignment.{nodes_view}
+use Rattle.early_script.specs.LiveView.{LiveView}
 use Rattle.growth_model.specs.Bytes.{Fill, table_for}
 use Rattle.zone_spans.specs.declared.span.Span.{Span}
 use Rattle.boot_model.specs.Boot.{InputsView, handover_frames, heads_of, spans_of_memory, finish_boot}

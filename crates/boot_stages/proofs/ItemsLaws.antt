@@ -9,17 +9,17 @@ use Rattle.memblock_model.specs.declared.item.Item.{Item}
 use Rattle.memblock_model.specs.declared.item.Item.TheVariants as item
 use Rattle.growth_model.specs.declared.refusal.Refusal.{Refusal}
 use Rattle.growth_model.specs.declared.refusal.Refusal.TheVariants as refusal
-use Rattle.growth_model.specs.Outcome.{RefusedGrowth, ChangeEffect, Change, items_after_change as behind, followed_by, items_of_steps, write_item}
+use Rattle.growth_model.specs.Change.{RefusedGrowth, ChangeEffect, Change, items_after_change as behind, followed_by, items_of_steps, write_item}
 use Rattle.growth_model.specs.Growth.{claim_range, make_table_room, count_uncovered_pieces, reserved_growth}
-use Rattle.growth_model.specs.Sound.{HasBegun}
+use Rattle.growth_model.specs.Tables.{HasBegun}
 use Rattle.growth_model.specs.Ends.{EndsAsChange, StopsBeforeStep}
-use Rattle.growth_model.specs.Carried.{carry_out_items, change_for}
+use Rattle.growth_model.specs.Requests.{carry_out_items, change_for}
 use Rattle.growth_model.proofs.EndLaws.{items_of_steps-append}
-use Rattle.stage_model.specs.Causes.{refusal_for}
-use Rattle.stage_model.specs.Doing.{StageStep, StepEffect, EndsAsStage, append_groups, continue_if_ok, fold_steps, ◌>>=◌}
-use Rattle.stage_model.specs.Requests.{make_change}
-use Rattle.stage_model.proofs.DoingLaws.{append_groups-append, ends-first, ends-returns, ends-second}
-use Rattle.stage_model.proofs.RequestLaws.{ends-change}
+use Rattle.stage_steps.specs.Causes.{refusal_for}
+use Rattle.stage_steps.specs.Steps.{StageStep, StepEffect, EndsAsStage, append_groups, continue_if_ok, fold_steps, ◌>>=◌}
+use Rattle.stage_steps.specs.Requests.{make_change}
+use Rattle.stage_steps.proofs.DoingLaws.{append_groups-append, ends-first, ends-returns, ends-second}
+use Rattle.stage_steps.proofs.RequestLaws.{ends-change}
 use Rattle.boot_model.specs.First.{items_with_growths}
 use Rattle.boot_model.proofs.CarriedLaws.{carried_said}
 

@@ -10,7 +10,7 @@ use Rattle.e820_model.specs.declared.entry.Entry.{Entry}
 use Rattle.e820_model.specs.declared.entry.Edit.{Edit}
 use Rattle.e820_model.specs.Map.{TypeAt, kinds, map_of}
 use Rattle.e820_model.specs.Usable.{types_below}
-use Rattle.e820_sanitise.specs.declared.fault.MapFault.TheVariants as faults
+use Rattle.e820_sanitise.specs.declared.table.MapFault.TheVariants as faults
 use Rattle.e820_sanitise.specs.Room.{map_if_room}
 use Rattle.e820_sanitise.specs.declared.stop.MapStop.{MapStop}
 use Rattle.e820_sanitise.specs.Stop.{judge_frames}

@@ -15,15 +15,15 @@ use Rattle.memblock_model.specs.Labels.{Labels}
 use Rattle.memblock_model.specs.Items.{memory_of}
 use Rattle.memblock_model.specs.Tables.{records_for, records_of}
 use Rattle.memblock_model.proofs.TableLaws.{records_for-runs}
-use Rattle.growth_model.specs.Carried.{carry_out_items}
+use Rattle.growth_model.specs.Requests.{carry_out_items}
 use Rattle.growth_model.proofs.MemoryItemLaws.{memory_of-same}
 use Rattle.growth_model.proofs.CarriedLaws.{carried-memory}
-use Rattle.early_stages.specs.declared.low.TheConstants.{ISA_END_ADDRESS}
-use Rattle.early_stages.specs.Early.{EarlyInputs, FrameRange, bytes_of_frames}
-use Rattle.early_stages.specs.Memory.{end_after_runs, end_of_runs, memory_end, mirrored_memory, usable_memory}
-use Rattle.early_stages.specs.Wanted.{direction_items, early_claims, first_items, items_of_map, items_of_run, mirror_items, part_below}
-use Rattle.early_stages.proofs.EndLaws.{runs_end_memory}
-use Rattle.early_stages.proofs.MemoryLaws.{mirrored-first}
+use Rattle.early_memory.specs.declared.low.TheConstants.{ISA_END_ADDRESS}
+use Rattle.early_memory.specs.EarlyInputs.{EarlyInputs, FrameRange, bytes_of_frames}
+use Rattle.early_memory.specs.Memory.{end_after_runs, end_of_runs, memory_end, mirrored_memory, usable_memory}
+use Rattle.early_memory.specs.FirstItems.{direction_items, early_claims, first_items, items_of_map, items_of_run, mirror_items, part_below}
+use Rattle.early_memory.proofs.EndLaws.{runs_end_memory}
+use Rattle.early_memory.proofs.MemoryLaws.{mirrored-first}
 use Rattle.boot_model.specs.Mirrors.{IsMirror, frame_range_of}
 use Rattle.boot_model.proofs.MirrorLaws.{mirror-frames}
 use Rattle.boot_stages.specs.Parts.{items_before_memory, limit_items, map_memory_items}

@@ -3,14 +3,14 @@ use Rattle.std.proofs.Common.{◌≡◌, List, Result, Ok, Err, Vec, Global, ref
 use Rattle.bm_base.specs.declared.width.Width.{Width}
 use Rattle.memblock_model.specs.declared.item.Item.{Item}
 use Rattle.memblock_model.specs.Items.{memory_of}
-use Rattle.memblock_grow.specs.declared.section.Section.{Section}
+use Rattle.memblock_grow.specs.declared.stop.Section.{Section}
 use Rattle.memblock_grow.specs.declared.stop.StageStop.{StageStop}
 use Rattle.memblock_grow.specs.declared.stop.StageStop.TheVariants as stage
-use Rattle.stage_model.specs.Causes.{StageCause, stage_stop}
-use Rattle.stage_model.specs.Doing.{StageStep, EndsAsStage, ◌>>=◌, view_of_result, return_value, read_into_list}
-use Rattle.stage_model.proofs.DoingLaws.{ends-first, ends-listed, ends-second, ends-wanting}
+use Rattle.stage_steps.specs.Causes.{StageCause, stage_stop}
+use Rattle.stage_steps.specs.Steps.{StageStep, EndsAsStage, ◌>>=◌, view_of_result, return_value, read_into_list}
+use Rattle.stage_steps.proofs.DoingLaws.{ends-first, ends-listed, ends-second, ends-wanting}
 use Rattle.sparse_sections.specs.Present.{present}
-use Rattle.sparse_sections.specs.declared.roots.Roots.{Roots}
+use Rattle.sparse_sections.specs.declared.places.Roots.{Roots}
 use Rattle.sparse_sections.specs.Roots.{RootsView, place_roots}
 use Rattle.section_maps.specs.declared.placed.Placed.{Placed}
 use Rattle.section_maps.specs.Maps.{place_maps}

@@ -8,14 +8,14 @@ use Rattle.address_runs.specs.Runs.{RunOf}
 use Rattle.memblock_model.specs.declared.item.Item.{Item}
 use Rattle.memblock_model.specs.Labels.{Labels}
 use Rattle.growth_model.specs.Bytes.{Fill}
-use Rattle.memblock_grow.specs.Contents.{MemblockView}
+use Rattle.memblock_grow.specs.MemblockView.{MemblockView}
 use Rattle.script_reader.specs.declared.act.Line.{Line}
-use Rattle.stage_model.specs.Doing.{StageStep, EndsAsStage}
-use Rattle.stage_model.specs.Noded.{HasNodes}
-use Rattle.memblock_grow.specs.Going.{ContinuesMemblock}
+use Rattle.stage_steps.specs.Steps.{StageStep, EndsAsStage}
+use Rattle.stage_steps.specs.Nodes.{HasNodes}
+use Rattle.memblock_grow.specs.Continues.{ContinuesMemblock}
 use Rattle.early_script.specs.declared.outcome.Answer.{Answer}
-use Rattle.early_script.specs.Ids.{LiveView}
-use Rattle.early_script.specs.Stage.{ScriptSoFar as Script, HasReached, script_after_lines, script_so_far}
+use Rattle.early_script.specs.LiveView.{LiveView}
+use Rattle.early_script.specs.Lines.{ScriptSoFar as Script, HasReached, script_after_lines, script_so_far}
 use Rattle.boot_model.specs.declared.stop.Cause.{Cause}
 use Rattle.boot_model.specs.declared.stop.Stop.{Stop}
 use Rattle.boot_model.specs.declared.stop.Stop.TheVariants as stops

@@ -2,8 +2,8 @@
 use Rattle.std.specs.Prelude.{◌≡◌, ◌≢◌, ℕ, List, Vec, Option, Some, None, Result, Ok, Err}
 use Rattle.std.specs.declared.alloc.Global.{Global}
 use Rattle.address_runs.specs.Runs.{RunOf, value_at}
-use Rattle.e820_sanitise.specs.declared.fault.MapFault.{MapFault}
-use Rattle.e820_sanitise.specs.declared.fault.MapFault.TheVariants as faults
+use Rattle.e820_sanitise.specs.declared.table.MapFault.{MapFault}
+use Rattle.e820_sanitise.specs.declared.table.MapFault.TheVariants as faults
 use Rattle.e820_sanitise.specs.declared.stop.MapStop.{MapStop}
 use Rattle.e820_sanitise.specs.Stop.{judge_frames}
 use Rattle.e820_model.specs.Usable.{types_below}
@@ -15,21 +15,21 @@ use Rattle.memblock_model.specs.Tables.{records_of}
 use Rattle.memblock_ranges.specs.declared.region.Head.{Head}
 use Rattle.memblock_ranges.specs.declared.region.Heads.{Heads}
 use Rattle.memblock_ranges.specs.Tables.{TableView, IsInStore, head_of, records_of_head}
-use Rattle.table_frames.specs.Frames.{free_node_in}
-use Rattle.buddy_handover.specs.Contents.{BuddyView as Buddy, buddy_frames}
+use Rattle.memblock_frames.specs.Frames.{free_node_in}
+use Rattle.buddy_handover.specs.BuddyView.{BuddyView as Buddy, buddy_frames}
 use Rattle.boot_model.specs.declared.stop.Cause.TheVariants as causes
 use Rattle.boot_model.specs.declared.stop.Stop.{Stop}
 use Rattle.boot_model.specs.declared.stop.Stop.TheVariants as stops
-use Rattle.numa_nodes.specs.Assigned.{nodes_view}
+use Rattle.numa_nodes.specs.Assignment.{nodes_view}
 use Rattle.boot_model.specs.Boot.{InputsView, BootSoFar, begin_with_map, usable_frames_stage, later_stages, judge_map}
 use Rattle.boot_stages.specs.declared.later.Later.{Later}
 use Rattle.boot_model.specs.Stages.{run_each_stage}
 use Rattle.boot_model.specs.Stop.{cause_of_map, stop_of}
 use Rattle.boot_model.specs.View.{sections_view}
 use Rattle.growth_model.specs.Bytes.{Fill, AreBytesFromHistory}
-use Rattle.memblock_grow.specs.Contents.{MemblockView}
+use Rattle.memblock_grow.specs.MemblockView.{MemblockView}
 use Rattle.early_script.specs.declared.outcome.Answer.{Answer}
-use Rattle.early_script.specs.Ids.{LiveView}
+use Rattle.early_script.specs.LiveView.{LiveView}
 
 -- what the table returns for its map (`Table::runs`)
 abbrev pub MapAnswer : Type 0

@@ -4,9 +4,9 @@ use Rattle.address_runs.specs.Runs.{RunOf}
 use Rattle.memblock_model.specs.declared.owner.Owner.TheVariants as owner
 use Rattle.memblock_model.specs.declared.item.Item.{Item}
 use Rattle.memblock_model.specs.declared.item.Item.TheVariants as item
-use Rattle.early_stages.specs.declared.low.TheConstants.{ISA_END_ADDRESS}
-use Rattle.early_stages.specs.Early.{EarlyInputs}
-use Rattle.early_stages.specs.Wanted.{direction_items, early_claims, items_of_map, mirror_items, range_up_to}
+use Rattle.early_memory.specs.declared.low.TheConstants.{ISA_END_ADDRESS}
+use Rattle.early_memory.specs.EarlyInputs.{EarlyInputs}
+use Rattle.early_memory.specs.FirstItems.{direction_items, early_claims, items_of_map, mirror_items, range_up_to}
 
 -- before memory is known: the first claims, the limit of the first MiB, and the direction of
 -- searches

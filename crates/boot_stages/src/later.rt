@@ -6,11 +6,11 @@
 ghost use Rattle.std.specs.Prelude.{◌≡◌, ◌^◌, [], Ok, IfOk, IfErr};
 ghost use Rattle.address_runs.specs.Runs.{AreRuns};
 ghost use Rattle.memblock_model.specs.Items.{memory_of};
-ghost use Rattle.growth_model.specs.Sound.{HasBegun};
-ghost use Rattle.stage_model.specs.Causes.{stage_stop};
-ghost use Rattle.stage_model.specs.Doing.{EndsAsStage, view_of_result};
-ghost use Rattle.stage_model.specs.Noded.{HasNodes};
-ghost use Rattle.memblock_grow.specs.Going.{ContinuesMemblock};
+ghost use Rattle.growth_model.specs.Tables.{HasBegun};
+ghost use Rattle.stage_steps.specs.Causes.{stage_stop};
+ghost use Rattle.stage_steps.specs.Steps.{EndsAsStage, view_of_result};
+ghost use Rattle.stage_steps.specs.Nodes.{HasNodes};
+ghost use Rattle.memblock_grow.specs.Continues.{ContinuesMemblock};
 ghost use Rattle.boot_model.specs.Boot.{begin_with_map, judge_map};
 ghost use Rattle.boot_model.specs.Sections.{place_present_sections};
 ghost use Rattle.boot_model.specs.View.{inputs_view, sections_view};
@@ -26,7 +26,7 @@ use memblock_grow::Memblock;
 use numa_nodes::{Nodes, assign};
 use section_maps::{Placed, place_maps};
 use sparse_sections::{Roots, place_roots, present};
-use stage_model::StageStop;
+use stage_steps::StageStop;
 use std::alloc::Global;
 
 /// The results of the stages, except for what memblock itself holds.

@@ -4,7 +4,7 @@
 
 ghost use Rattle.e820_model.specs.Map.{map_of};
 ghost use Rattle.bm_base.specs.Answers.{Answers};
-ghost use Rattle.e820_sanitise.specs.declared.fault.MapFault.TheVariants as faults;
+ghost use Rattle.e820_sanitise.specs.declared.table.MapFault.TheVariants as faults;
 ghost use Rattle.e820_sanitise.specs.Room.{map_if_room};
 ghost use Rattle.boot_model.specs.Boot.{InputsView, claims};
 ghost use Rattle.boot_stages.specs.Boots.{DecidesMapStages, MapAnswer};

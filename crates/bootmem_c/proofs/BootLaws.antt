@@ -18,7 +18,7 @@ use Rattle.program_run.specs.Bootmem.{bootmem}
 use Rattle.program_run.specs.Stops.{no_report, reason_by_cause}
 use Rattle.program_run.proofs.BootedLaws.{boot_stopped, told_is}
 use Rattle.program_run.proofs.RunLaws.{inputs_fit}
-use Rattle.program_words.specs.Words.{BootmemArgsView}
+use Rattle.program_args.specs.Args.{BootmemArgsView}
 use Rattle.bootmem_c.specs.Boots.{FailsAs, IsBoot}
 use Rattle.bootmem_c.specs.Fetches.{LentFilesView, faults_at}
 use Rattle.bootmem_c.proofs.ExactLaws.{fails_as}

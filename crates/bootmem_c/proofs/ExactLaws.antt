@@ -18,7 +18,7 @@ use Rattle.program_end.specs.Causes.{ErrorHasCause, IsErrorOfInput, FaultsRose, 
 use Rattle.program_end.specs.Fetches.{FitsError, ReachesFile}
 use Rattle.program_run.specs.Bootmem.{bootmem}
 use Rattle.program_run.specs.Outcome.{bootmem_outcome, reports_on_boot, with_made_table}
-use Rattle.program_words.specs.Words.{BootmemArgsView}
+use Rattle.program_args.specs.Args.{BootmemArgsView}
 use Rattle.bootmem_c.specs.Boots.{FailsAs}
 use Rattle.bootmem_c.specs.Fetches.{LentFilesView, faults_at}
 use Rattle.bootmem_c.proofs.FetchLaws.{rose_unheld}

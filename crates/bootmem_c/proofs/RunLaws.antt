@@ -28,10 +28,10 @@ use Rattle.program_run.specs.Bootmem.{bootmem}
 use Rattle.program_run.specs.Headline.{AppendsReports}
 use Rattle.program_run.specs.Line.{bootmem_failure_line}
 use Rattle.program_run.specs.Outcome.{read_boot_inputs, or_stopped, bootmem_outcome, reports_on_boot}
-use Rattle.program_words.specs.Words.{BootmemArgsView, read_args, bytes_of_words}
+use Rattle.program_args.specs.Args.{BootmemArgsView, read_args, bytes_of_words}
 use Rattle.bootmem_c.specs.Call.{are_utf8, read_lent_args, outcome_line, outcome_status}
 use Rattle.bootmem_c.specs.Fetches.{LentFilesView, faults_at}
-use Rattle.bootmem_c.specs.Taken.{CopiesText, TextSinkView, wants_of}
+use Rattle.bootmem_c.specs.Copies.{CopiesText, TextSinkView, wants_of}
 use Rattle.bootmem_c.specs.declared.crossing.Text.{Text}
 use Rattle.bootmem_c.specs.contracts.text_sink.TextSinkSink.TheImpl.{ghosts as text_sink}
 use Rattle.bootmem_c.proofs.ExactLaws.{fails_as}

@@ -5,7 +5,7 @@ use Rattle.phys_store.specs.Bytes.{ExtentView, byte_of, bytes_at}
 use Rattle.address_runs.specs.Runs.{RunOf}
 use Rattle.memblock_model.specs.Labels.{LabelView}
 use Rattle.memblock_ranges.specs.declared.region.Region.{Region}
-use Rattle.memblock_ranges.specs.Spelling.{decode_region, region_of}
+use Rattle.memblock_ranges.specs.Encoding.{decode_region, region_of}
 use Rattle.memblock_ranges.specs.Tables.{IsInStore, TableView}
 use Rattle.bootmem_c.specs.declared.values.MemoryRange.{MemoryRange}
 use Rattle.bootmem_c.specs.Values.{record_value, region_value, regions_at}

@@ -6,7 +6,7 @@ use Rattle.conservation.specs.Headline.{AllTouchedOrInOneBlock, BlocksAreMaximal
 use Rattle.boot_inputs.specs.Reason.{NoInputs, InputsReason}
 use Rattle.program_end.specs.declared.failure.NoResult.TheVariants as errors
 use Rattle.program_run.specs.Outcome.{read_boot_inputs}
-use Rattle.program_words.specs.Words.{BootmemArgsView}
+use Rattle.program_args.specs.Args.{BootmemArgsView}
 
 -- `told` is what the one boot made that the words and the files' bytes determine. In it each
 -- usable frame is touched by a claim with a recorded owner, or is in exactly one block (`each`).

@@ -9,7 +9,7 @@ use Rattle.program_end.specs.Line.{memory_line}
 use Rattle.program_run.specs.Line.{bootmem_failure_line, bootmem_name}
 use Rattle.program_run.specs.Outcome.{bootmem_outcome}
 use Rattle.program_end.specs.Status.{reason_status}
-use Rattle.program_words.specs.Words.{BootmemArgsView, read_args}
+use Rattle.program_args.specs.Args.{BootmemArgsView, read_args}
 use Rattle.bootmem_c.specs.declared.crossing.Bytes.{Bytes}
 use Rattle.bootmem_c.specs.declared.crossing.File.{File}
 use Rattle.bootmem_c.specs.Lent.{lent_files, lent_words}

@@ -2,5 +2,5 @@ pub mod Boots
 pub mod Call
 pub mod Fetches
 pub mod Lent
-pub mod Taken
+pub mod Copies
 pub mod Values

@@ -7,7 +7,7 @@ use Rattle.memblock_model.specs.Labels.{LabelView}
 use Rattle.memblock_model.specs.Tables.{records_of}
 use Rattle.memblock_model.specs.declared.owner.Which.TheVariants as which
 use Rattle.memblock_ranges.specs.declared.region.Region.{Region}
-use Rattle.memblock_ranges.specs.Spelling.{decode_region, region_of}
+use Rattle.memblock_ranges.specs.Encoding.{decode_region, region_of}
 use Rattle.bm_base.specs.Range.{RangeView}
 use Rattle.bm_base.specs.declared.zone.Zone.{Zone}
 use Rattle.bm_base.specs.declared.zone.Zone.TheVariants as zone
@@ -15,7 +15,7 @@ use Rattle.boot_model.specs.Boot.{BootedView}
 use Rattle.conservation.specs.Headline.{booted_blocks}
 use Rattle.crash_kernel.specs.declared.crash.Crash.{Crash}
 use Rattle.crash_kernel.specs.declared.crash.Crash.TheVariants as crash
-use Rattle.frame_blocks.specs.declared.block.Block.{Block}
+use Rattle.buddy_blocks.specs.declared.block.Block.{Block}
 use Rattle.zone_spans.specs.declared.span.Span.{Span}
 use Rattle.bootmem_c.specs.declared.values.CrashArea.{CrashArea}
 use Rattle.bootmem_c.specs.declared.values.FreeBlock.{FreeBlock}

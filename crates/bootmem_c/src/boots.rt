@@ -6,8 +6,8 @@ ghost use Rattle.boot_model.specs.View.{booted_view};
 ghost use Rattle.boot_stages.specs.Boots.{IsStoredTable};
 ghost use Rattle.memblock_model.specs.declared.owner.Which.TheVariants as which;
 ghost use Rattle.program_run.specs.Outcome.{bootmem_outcome};
-ghost use Rattle.program_words.specs.View.{bootmem_args_view};
-ghost use Rattle.program_words.specs.Words.{read_args, bytes_of_words};
+ghost use Rattle.program_args.specs.View.{bootmem_args_view};
+ghost use Rattle.program_args.specs.Args.{read_args, bytes_of_words};
 ghost use Rattle.bootmem_c.specs.Boots.{FailsAs, IsBoot};
 ghost use Rattle.bootmem_c.specs.Call.{read_lent_args, outcome_of};
 ghost use Rattle.bootmem_c.specs.Lent.{lent_files, lent_words};
@@ -18,7 +18,7 @@ use crate::words::{NoStrings, strings_of_words};
 use boot_model::Booted;
 use boot_stages::boot;
 use program_run::{NoReport, Reason, no_report, read_boot_inputs};
-use program_words::{BootmemArgs, ArgsError, read_args};
+use program_args::{BootmemArgs, ArgsError, read_args};
 use std::alloc::Global;
 
 /// Returns what the boot with these words and files made.

@@ -2,7 +2,7 @@
 //! pointer and a length.
 
 ghost use Rattle.std.specs.Prelude.{◌≤◌, length};
-ghost use Rattle.bootmem_c.specs.Taken.{IsFront, CopiesText};
+ghost use Rattle.bootmem_c.specs.Copies.{IsFront, CopiesText};
 
 /// The bytes of a word that the caller passes.
 #[repr(C)]

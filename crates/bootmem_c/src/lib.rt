@@ -4,10 +4,10 @@
 //!
 //! - [`run::bootmem_run`] is `run` of `program_run`, over words and files that the caller passes.
 //!   It writes the reports as text.
-//! - [`told::bootmem_map`], [`told::bootmem_crash`], [`told::bootmem_memory`],
-//!   [`told::bootmem_nodes`], [`told::bootmem_zones`] and [`told::bootmem_blocks`] return what the
+//! - [`boot_values::bootmem_map`], [`boot_values::bootmem_crash`], [`boot_values::bootmem_memory`],
+//!   [`boot_values::bootmem_nodes`], [`boot_values::bootmem_zones`] and [`boot_values::bootmem_blocks`] return what the
 //!   boot of these words and files made, as values.
-//! - [`version::bootmem_version`] returns the library's version.
+//! - [`run::bootmem_version`] returns the library's version.
 //!
 //! All but the last return the exit status of `bootmem`: that of the outcome, or 7 if out of
 //! memory. A file is *lent* if the caller passes it. Since the files (`LentFiles`) and the outputs
@@ -24,7 +24,6 @@ mod crossing;
 mod lent_files;
 mod run;
 mod text_sink;
-mod told;
+mod boot_values;
 mod values;
-mod version;
 mod words;

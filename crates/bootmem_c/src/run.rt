@@ -1,11 +1,11 @@
 //! The program as one call, over words and files that the caller passes.
 
-ghost use Rattle.std.specs.Prelude.{◌≡◌, ◌≢◌, ◌⊎◌, ℕ, IsOkAnd, List, [], false, true, Some};
+ghost use Rattle.std.specs.Prelude.{◌≡◌, ◌≢◌, ◌⊎◌, ℕ, IsOkAnd, List, [], false, true, Some, ◌*◌, ◌+◌};
 ghost use Rattle.bm_io.specs.MemFiles.{file_bytes};
 ghost use Rattle.program_run.specs.Headline.{AppendsReports};
 ghost use Rattle.bootmem_c.specs.Lent.{lent_files, lent_words};
 ghost use Rattle.bootmem_c.specs.Call.{read_lent_args, call_line, memory_said, outcome_of, outcome_status};
-ghost use Rattle.bootmem_c.specs.Taken.{CopiesText};
+ghost use Rattle.bootmem_c.specs.Copies.{CopiesText};
 
 use crate::crossing::{Bytes, File, Text, copy_text};
 use crate::lent_files::LentFiles;
@@ -107,4 +107,12 @@ fn line_after(status: u8, line: &TextSink) -> &[u8]
         7 => b"bootmem: out of memory\n",
         _ => line.text(),
     }
+}
+
+/// Returns the library's version, 0.1.0, as major * 1000000 + minor * 1000 + patch.
+#[unsafe(no_mangle)]
+pub extern "C" fn bootmem_version() -> u32
+    ensures { result ≡ 0 * 1000000 + 1 * 1000 + 0 }
+{
+    1_000
 }

@@ -1,7 +1,7 @@
 //! A text in memory that the program writes.
 
 ghost use Rattle.std.specs.Prelude.{◌≡◌, true, false, [], ◌++◌, Some, OnOk, OnErr, IsErrOf};
-ghost use Rattle.bootmem_c.specs.Taken.{wants_of};
+ghost use Rattle.bootmem_c.specs.Copies.{wants_of};
 
 use bm_io::{Put, Sink};
 use std::alloc::Global;
@@ -15,7 +15,7 @@ pub struct TextSink {
 }
 
 impl Model for TextSink {
-    ghost use Rattle.bootmem_c.specs.Taken.{TextSinkView};
+    ghost use Rattle.bootmem_c.specs.Copies.{TextSinkView};
 
     ghost Value = { TextSinkView };
 

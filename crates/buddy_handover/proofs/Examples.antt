@@ -1,9 +1,9 @@
 -- Free frames, and the handover in progress, computed.
 use Rattle.std.proofs.Common.{◌≡◌, Some, None, [], ◌∷◌, refl}
 use Rattle.memblock_model.specs.Labels.{Labels}
-use Rattle.frame_blocks.specs.Frames.{Frames}
-use Rattle.table_frames.proofs.ClaimLaws.{unclaimed_bare}
-use Rattle.buddy_handover.specs.Contents.{BuddyView, buddy_frames}
+use Rattle.buddy_blocks.specs.Frames.{Frames}
+use Rattle.memblock_frames.proofs.ClaimLaws.{unclaimed_bare}
+use Rattle.buddy_handover.specs.BuddyView.{BuddyView, buddy_frames}
 use Rattle.buddy_handover.specs.Handover.{free_unclaimed_frames, unclaimed_frames}
 
 abbrev some_frames : BuddyView

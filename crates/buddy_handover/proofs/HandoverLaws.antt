@@ -4,12 +4,12 @@ use Rattle.std.proofs.lemmas.Bool.Decides.{nat_tests}
 use Rattle.std.proofs.Math.Seq.{take-length}
 use Rattle.address_runs.specs.Runs.{RunOf, value_at}
 use Rattle.memblock_model.specs.Labels.{LabelView, Labels}
-use Rattle.frame_blocks.specs.Frames.{Frames}
-use Rattle.table_frames.specs.Frames.{free_node_in, frames_of_record}
-use Rattle.table_frames.specs.Tables.{AscendBelow, AreWholeFrames}
-use Rattle.table_frames.proofs.RecordLaws.{taken_none}
-use Rattle.table_frames.proofs.WholeLaws.{whole_at, free_by_first}
-use Rattle.table_frames.proofs.TakeLaws.{node_more}
+use Rattle.buddy_blocks.specs.Frames.{Frames}
+use Rattle.memblock_frames.specs.Frames.{free_node_in, frames_of_record}
+use Rattle.memblock_frames.specs.HeadRecords.{AscendBelow, AreWholeFrames}
+use Rattle.memblock_frames.proofs.RecordLaws.{taken_none}
+use Rattle.memblock_frames.proofs.WholeLaws.{whole_at, free_by_first}
+use Rattle.memblock_frames.proofs.TakeLaws.{node_more}
 use Rattle.buddy_handover.specs.Handover.{free_unclaimed_frames, unclaimed_frames}
 
 -- one more record of memory with a node frees its unclaimed frames

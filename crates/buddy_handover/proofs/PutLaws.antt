@@ -5,7 +5,7 @@ use Rattle.address_runs.specs.Runs.{RunOf, IsRunsOf, value_at}
 use Rattle.address_runs.specs.Edits.{replace_in_range, uncover_range, NothingFrom}
 use Rattle.std.proofs.lemmas.Bool.{cond_both}
 use Rattle.address_runs.proofs.EditLaws.{nothing-replaced}
-use Rattle.frame_blocks.specs.declared.run.TheConstants.{MAX_FRAMES}
+use Rattle.buddy_blocks.specs.declared.run.TheConstants.{MAX_FRAMES}
 
 pub low_put : (r : RangeView) (node : ℕ) (rs new : List (RunOf ℕ)) → r.base + r.size ≤ MAX_FRAMES → NothingFrom MAX_FRAMES (value_at rs)
     → IsRunsOf (replace_in_range r node (value_at rs)) new → NothingFrom MAX_FRAMES (value_at new)

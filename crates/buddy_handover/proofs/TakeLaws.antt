@@ -7,16 +7,16 @@ use Rattle.std.specs.Option.{option_map}
 use Rattle.bm_base.specs.declared.zone.Zone.{Zone}
 use Rattle.address_runs.specs.Runs.{RunOf, value_at, IsRunsOf}
 use Rattle.address_runs.specs.Edits.{NothingFrom}
-use Rattle.frame_blocks.specs.declared.block.Block.{Block}
-use Rattle.frame_blocks.specs.declared.run.TheConstants.{MAX_FRAMES}
-use Rattle.frame_blocks.specs.Frames.{Frames, IsInSet, AreFree, IsBlock, IsInBlock}
-use Rattle.frame_blocks.specs.Listed.{block_of, blocks_of, is_block_of, count_blocks}
-use Rattle.frame_blocks.specs.Picked.{IsPicked, NoneServes, picked_block_from, picked_block, picked_first_frame}
-use Rattle.frame_blocks.specs.Buddies.{without_set, with_set, RemovesFrameSet}
-use Rattle.frame_blocks.proofs.GoodLaws.{up_most}
-use Rattle.frame_blocks.proofs.BlockLaws.{block_found}
-use Rattle.frame_blocks.proofs.BuddyLaws.{set_covers, without_is, with_is}
-use Rattle.frame_blocks.proofs.PickLaws.{picked_is, picked_none}
+use Rattle.buddy_blocks.specs.declared.block.Block.{Block}
+use Rattle.buddy_blocks.specs.declared.run.TheConstants.{MAX_FRAMES}
+use Rattle.buddy_blocks.specs.Frames.{Frames, IsInSet, AreFree, IsBlock, IsInBlock}
+use Rattle.buddy_blocks.specs.BlockList.{block_of, blocks_of, is_block_of, count_blocks}
+use Rattle.buddy_blocks.specs.PickedBlock.{IsPicked, NoneServes, picked_block_from, picked_block, picked_first_frame}
+use Rattle.buddy_blocks.specs.Buddies.{without_set, with_set, RemovesFrameSet}
+use Rattle.buddy_blocks.proofs.GoodLaws.{up_most}
+use Rattle.buddy_blocks.proofs.BlockLaws.{block_found}
+use Rattle.buddy_blocks.proofs.BuddyLaws.{set_covers, without_is, with_is}
+use Rattle.buddy_blocks.proofs.PickLaws.{picked_is, picked_none}
 
 -- the block that the index returns is the one that is picked
 pub first_is : (f : Frames) (n : ℕ) (z : Zone) (o : ℕ) (b : Block) → NothingFrom MAX_FRAMES f → IsPicked f n z o b

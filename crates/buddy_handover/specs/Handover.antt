@@ -1,8 +1,8 @@
 -- The handover in progress: what is free while it goes over the memory records.
 use Rattle.std.specs.Prelude.{ℕ, ◌&&◌, nat_le, nat_lt, if◌then◌else◌, Some, None}
 use Rattle.memblock_model.specs.Labels.{Labels}
-use Rattle.frame_blocks.specs.Frames.{Frames}
-use Rattle.table_frames.specs.Frames.{node_of_frame, is_unclaimed}
+use Rattle.buddy_blocks.specs.Frames.{Frames}
+use Rattle.memblock_frames.specs.Frames.{node_of_frame, is_unclaimed}
 
 -- the frames from `first` to below `end` that are unclaimed get the node; the others stay as they
 -- are

@@ -9,22 +9,41 @@
 ghost use Rattle.std.specs.Prelude.{◌≡◌, ℕ, ◌+◌, ◌-◌, ◌%◌, ◌^◌, ◌<◌, ◌≤◌, max, is_some, Some, None, IsSome, [], IsOk, OnOk, OnErr, IfOk, IfErr, vec_len, vec_capacity};
 ghost use Rattle.address_runs.specs.Runs.{IsRunsOf};
 ghost use Rattle.address_runs.specs.Edits.{replace_in_range, NothingFrom};
-ghost use Rattle.frame_blocks.specs.Listed.{block_of, blocks_of, count_blocks};
-ghost use Rattle.frame_blocks.specs.Rows.{blocks_of_rows, AreRows};
-ghost use Rattle.frame_blocks.specs.Frames.{IsInSet};
-ghost use Rattle.frame_blocks.specs.Picked.{picked_first_frame};
-ghost use Rattle.frame_blocks.specs.Buddies.{without_set, with_set};
+ghost use Rattle.buddy_blocks.specs.BlockList.{block_of, blocks_of, count_blocks};
+ghost use Rattle.buddy_blocks.specs.Rows.{blocks_of_rows, AreRows};
+ghost use Rattle.buddy_blocks.specs.Frames.{IsInSet};
+ghost use Rattle.buddy_blocks.specs.PickedBlock.{picked_first_frame};
+ghost use Rattle.buddy_blocks.specs.Buddies.{without_set, with_set};
 ghost use Rattle.free_areas.specs.Areas.{IndexesFreeBlocks};
-ghost use Rattle.buddy_handover.specs.Contents.{buddy_frames};
+ghost use Rattle.buddy_handover.specs.BuddyView.{buddy_frames};
 
 use crate::cache::{index_after_free, index_after_alloc};
 use crate::runs::{remove_frames, insert_frames, set_around};
-use crate::taking::Take;
 use bm_base::{Memory, Range, Zone};
-use frame_blocks::{Block, BlockRow, FrameRun, MAX_FRAMES, MAX_ORDER};
+use buddy_blocks::{Block, BlockRow, FrameRun, MAX_FRAMES, MAX_ORDER};
 use free_areas::Areas;
 use std::alloc::Global;
 use std::marker::Model;
+
+/// Why [`crate::Buddy::take`] allocates nothing.
+#[derive(Clone, Copy, Debug, PartialEq, Eq)]
+pub enum Take {
+    /// The node and the zone have no block of the order or a greater one.
+    NoBlock,
+    /// This program is out of memory. It is returned only if there is such a block.
+    Memory,
+}
+
+impl From<Memory> for Take {
+    ghost use Rattle.std.specs.Prelude.{◌≡◌};
+    ghost use Rattle.buddy_handover.specs.declared.buddy.Take.TheVariants as takes;
+
+    ghost from_gives = { λ _ refusal. refusal ≡ takes.Memory };
+
+    fn from(_memory: Memory) -> Take {
+        Take::Memory
+    }
+}
 
 /// The greatest number of entries that one call adds to the list of runs.
 const ENTRIES: u64 = 2;
@@ -42,9 +61,9 @@ impl Model for Buddy {
     ghost use Rattle.std.specs.Prelude.{◌+◌, ◌≤◌, vec_len, vec_capacity, IfSome};
     ghost use Rattle.address_runs.specs.Runs.{AreRuns, value_at};
     ghost use Rattle.address_runs.specs.Edits.{NothingFrom};
-    ghost use Rattle.frame_blocks.specs.declared.run.TheConstants.{MAX_FRAMES};
+    ghost use Rattle.buddy_blocks.specs.declared.run.TheConstants.{MAX_FRAMES};
     ghost use Rattle.free_areas.specs.Areas.{IndexesFreeBlocks};
-    ghost use Rattle.buddy_handover.specs.Contents.{BuddyView};
+    ghost use Rattle.buddy_handover.specs.BuddyView.{BuddyView};
 
     ghost Value = { BuddyView };
 
@@ -224,7 +243,7 @@ impl Buddy {
         let areas = self.areas.take();
         insert_frames(&mut self.runs, &set_around(order, first), node);
         self.spare -= ENTRIES;
-        let block = frame_blocks::block_of(&self.runs, first);
+        let block = buddy_blocks::block_of(&self.runs, first);
         self.areas = index_after_free(areas, block, order, first);
         Ok(())
     }
@@ -250,7 +269,7 @@ impl Buddy {
         ensures list { IfOk result (λ blocks. blocks.items ≡ blocks_of (buddy_frames self.now)) }
         ensures low { NothingFrom MAX_FRAMES (buddy_frames self.now) }
     {
-        frame_blocks::blocks_of(*self.runs.allocator(), &self.runs)
+        buddy_blocks::blocks_of(*self.runs.allocator(), &self.runs)
     }
 
     /// Returns the same blocks as [`Buddy::blocks`], in rows: about twenty rows for each run of
@@ -264,7 +283,7 @@ impl Buddy {
         ensures blocks { IfOk result (λ rows. blocks_of_rows rows.items ≡ blocks_of (buddy_frames self.now)) }
         ensures longest { IfOk result (λ rows. AreRows rows.items) }
     {
-        frame_blocks::block_rows(*self.runs.allocator(), &self.runs)
+        buddy_blocks::block_rows(*self.runs.allocator(), &self.runs)
     }
 
     /// Returns the number of blocks of the node, the zone and the order (`nr_free` of `struct
@@ -272,13 +291,13 @@ impl Buddy {
     pub fn count(&self, node: u32, zone: Zone, order: u32) -> u64
         ensures { result ≡ count_blocks (buddy_frames self.now) node zone order }
     {
-        frame_blocks::count_blocks(&self.runs, node, zone, order)
+        buddy_blocks::count_blocks(&self.runs, node, zone, order)
     }
 
     /// Returns the block that has the frame, or `None` if the frame isn't free. Takes no memory.
     pub fn block_of(&self, frame: u64) -> Option<Block>
         ensures { result ≡ block_of (buddy_frames self.now) frame }
     {
-        frame_blocks::block_of(&self.runs, frame)
+        buddy_blocks::block_of(&self.runs, frame)
     }
 }

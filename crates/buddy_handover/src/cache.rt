@@ -1,12 +1,12 @@
 //! The index of blocks, kept as long as there is memory for it.
 
 ghost use Rattle.std.specs.Prelude.{◌≡◌, ℕ, ◌+◌, ◌^◌, ◌<◌, ◌≤◌, Some, IfSome};
-ghost use Rattle.frame_blocks.specs.Frames.{Frames, IsBlock, IsInBlock};
-ghost use Rattle.frame_blocks.specs.Listed.{block_of};
-ghost use Rattle.frame_blocks.specs.Buddies.{RemovesFrameSet};
+ghost use Rattle.buddy_blocks.specs.Frames.{Frames, IsBlock, IsInBlock};
+ghost use Rattle.buddy_blocks.specs.BlockList.{block_of};
+ghost use Rattle.buddy_blocks.specs.Buddies.{RemovesFrameSet};
 ghost use Rattle.free_areas.specs.Areas.{IndexesFreeBlocks};
 
-use frame_blocks::{Block, MAX_FRAMES};
+use buddy_blocks::{Block, MAX_FRAMES};
 use free_areas::Areas;
 
 /// Returns the index after the first `2^order` frames of `block` have left it, or `None` if there

@@ -6,18 +6,18 @@
 ghost use Rattle.std.specs.Prelude.{◌≡◌, ℕ, ◌+◌, ◌*◌, ◌^◌, ◌<◌, ◌≤◌, IfOk};
 ghost use Rattle.address_runs.specs.Runs.{value_at};
 ghost use Rattle.memblock_ranges.specs.Tables.{records_of_head};
-ghost use Rattle.table_frames.specs.Frames.{free_node_in, IsPassed};
-ghost use Rattle.table_frames.specs.Tables.{HasRecords, AreWholeFrames};
-ghost use Rattle.buddy_handover.specs.Contents.{buddy_frames};
+ghost use Rattle.memblock_frames.specs.Frames.{free_node_in, IsPassed};
+ghost use Rattle.memblock_frames.specs.HeadRecords.{HasRecords, AreWholeFrames};
+ghost use Rattle.buddy_handover.specs.BuddyView.{buddy_frames};
 ghost use Rattle.buddy_handover.specs.Handover.{free_unclaimed_frames};
 
 use crate::buddy::Buddy;
 use bm_base::{FRAME_SIZE, Memory};
-use frame_blocks::MAX_FRAMES;
+use buddy_blocks::MAX_FRAMES;
 use memblock_ranges::{Head, Heads};
 use phys_store::Store;
 use std::alloc::Global;
-use table_frames::{frames_of_record, next_claimed_frames};
+use memblock_frames::{frames_of_record, next_claimed_frames};
 
 /// Returns the free frames by the bytes of both tables: all frames that are memory and have no
 /// reserved byte, each with the node of its memory record. The memory records must be whole frames

@@ -4,7 +4,7 @@
 //! [`hand_over`] reads memblock's two tables from the bytes in which they lie, in one pass. It
 //! frees each frame that is memory, has a node, and has no reserved byte. The result is a
 //! [`Buddy`]: the free frames, each with its node. [`Buddy::blocks`], [`Buddy::block_rows`],
-//! [`Buddy::count`] and [`Buddy::block_of`] return its blocks (`frame_blocks`).
+//! [`Buddy::count`] and [`Buddy::block_of`] return its blocks (`buddy_blocks`).
 //!
 //! After the handover [`Buddy::free_frames`] frees more frames, [`Buddy::take`] allocates a block,
 //! and [`Buddy::put_back`] frees one.
@@ -14,9 +14,9 @@
 //! room for them beforehand. Blocks are computed on request. The first [`Buddy::take`] makes an
 //! index of them (`free_areas`).
 //!
-//! The layer above may rest on this: contracts see the runs (`specs/Contents.antt`), and `free` is
+//! The layer above may rest on this: contracts see the runs (`specs/BuddyView.antt`), and `free` is
 //! the node of each free frame. After a handover it is what both tables say of the frame
-//! (`free_node_in` of `table_frames`).
+//! (`free_node_in` of `memblock_frames`).
 //!
 //! A law is an empty function whose contract is a proven fact. In contracts, a name means the
 //! definition in `specs/`, here or in a crate below.
@@ -26,9 +26,7 @@ mod buddy;
 mod cache;
 mod handover;
 mod runs;
-mod taking;
 
-pub use buddy::Buddy;
-pub use frame_blocks::{Block, BlockRow, MAX_FRAMES, MAX_ORDER};
+pub use buddy::{Buddy, Take};
+pub use buddy_blocks::{Block, BlockRow, MAX_FRAMES, MAX_ORDER};
 pub use handover::hand_over;
-pub use taking::Take;

@@ -7,10 +7,10 @@
 ghost use Rattle.std.specs.Prelude.{◌≡◌, ◌+◌, ◌^◌, ◌<◌, ◌≤◌, vec_len, vec_capacity};
 ghost use Rattle.address_runs.specs.Runs.{AreRuns, IsRunsOf, value_at};
 ghost use Rattle.address_runs.specs.Edits.{replace_in_range, uncover_range, NothingFrom};
-ghost use Rattle.frame_blocks.specs.Listed.{set_around};
+ghost use Rattle.buddy_blocks.specs.BlockList.{set_around};
 
 use bm_base::Range;
-use frame_blocks::{FrameRun, MAX_FRAMES};
+use buddy_blocks::{FrameRun, MAX_FRAMES};
 use run_edits::{Replace, Uncover, amend};
 
 /// Makes the frames of the range free, for node `node`, whatever they were. An empty range changes

@@ -12,7 +12,7 @@ use Rattle.memblock_model.specs.Items.{Owners, no_owners, owner_of, owners_after
 use Rattle.memblock_model.specs.declared.owner.Owner.{Owner}
 use Rattle.memblock_model.specs.declared.item.Item.{Item}
 use Rattle.memblock_model.specs.declared.item.Item.TheVariants as item
-use Rattle.conservation.specs.Claimed.{decides_owner, IsRecorded, IsTouched, IsUntouched}
+use Rattle.conservation.specs.RecordedClaims.{decides_owner, IsRecorded, IsTouched, IsUntouched}
 
 -- where an owner comes from: it was there before the items and none of them decides, or one of
 -- them is the claim

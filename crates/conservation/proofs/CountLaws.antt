@@ -4,14 +4,14 @@ use Rattle.std.proofs.lemmas.Bool.{false_from_ne_true}
 use Rattle.std.proofs.lemmas.Nat.{pow_pos}
 use Rattle.std.proofs.lemmas.List.Sums.{sum_by-cons}
 use Rattle.address_runs.specs.Edits.{NothingFrom}
-use Rattle.frame_blocks.specs.declared.block.Block.{Block}
-use Rattle.frame_blocks.specs.declared.run.TheConstants.{MAX_FRAMES}
-use Rattle.frame_blocks.specs.Frames.{Frames, IsBlock, IsInBlock, IsInSet}
-use Rattle.frame_blocks.specs.Listed.{AscendFrom, ListsBlock, block_around, block_for, block_of, blocks_of, greatest_free_order}
-use Rattle.frame_blocks.proofs.BlockLaws.{block_found, found_block, listed_ascends, listed_complete, listed_sound}
-use Rattle.frame_blocks.proofs.SetLaws.{in_set, set_from, set_until}
-use Rattle.frame_blocks.proofs.PickLaws.{ascend_behind}
-use Rattle.table_frames.proofs.TakeLaws.{both_tests, tests_both}
+use Rattle.buddy_blocks.specs.declared.block.Block.{Block}
+use Rattle.buddy_blocks.specs.declared.run.TheConstants.{MAX_FRAMES}
+use Rattle.buddy_blocks.specs.Frames.{Frames, IsBlock, IsInBlock, IsInSet}
+use Rattle.buddy_blocks.specs.BlockList.{AscendFrom, ListsBlock, block_around, block_for, block_of, blocks_of, greatest_free_order}
+use Rattle.buddy_blocks.proofs.BlockLaws.{block_found, found_block, listed_ascends, listed_complete, listed_sound}
+use Rattle.buddy_blocks.proofs.SetLaws.{in_set, set_from, set_until}
+use Rattle.buddy_blocks.proofs.PickLaws.{ascend_behind}
+use Rattle.memblock_frames.proofs.TakeLaws.{both_tests, tests_both}
 use Rattle.conservation.specs.Headline.{has_frame, count_blocks_with, block_with_buddy}
 
 -- the frames of an aligned block are those of its set

@@ -10,17 +10,17 @@ use Rattle.address_runs.specs.Edits.{NothingFrom}
 use Rattle.memblock_model.specs.declared.owner.Owner.TheVariants as owner
 use Rattle.memblock_model.specs.declared.item.Item.{Item}
 use Rattle.memblock_model.specs.declared.item.Item.TheVariants as item
-use Rattle.frame_blocks.specs.declared.block.Block.{Block}
-use Rattle.frame_blocks.specs.declared.run.TheConstants.{MAX_FRAMES}
-use Rattle.frame_blocks.specs.Frames.{Frames}
-use Rattle.frame_blocks.specs.Listed.{ListsBlock, blocks_of}
-use Rattle.frame_blocks.proofs.BlockLaws.{listed_complete, listed_sound}
+use Rattle.buddy_blocks.specs.declared.block.Block.{Block}
+use Rattle.buddy_blocks.specs.declared.run.TheConstants.{MAX_FRAMES}
+use Rattle.buddy_blocks.specs.Frames.{Frames}
+use Rattle.buddy_blocks.specs.BlockList.{ListsBlock, blocks_of}
+use Rattle.buddy_blocks.proofs.BlockLaws.{listed_complete, listed_sound}
 use Rattle.page_alloc.specs.Pages.{PageState, first_page_state}
 use Rattle.boot_model.specs.Boot.{InputsView, BootedView}
 use Rattle.conservation.specs.ByMap.{IsUsableByMap}
-use Rattle.conservation.specs.Claimed.{IsRecorded, IsTouched, IsUntouched}
+use Rattle.conservation.specs.RecordedClaims.{IsRecorded, IsTouched, IsUntouched}
 use Rattle.conservation.specs.Headline.{AllTouchedOrInOneBlock, BlocksAreMaximal, BlocksAreWhole, IsFreeFor, IsMaximal, IsUsable, IsWhole, NoOtherInABlock, count_blocks_with, has_frame, block_with_buddy}
-use Rattle.conservation.specs.Paged.{AllInOneBlockOrHeld, NoOtherInABlockOrHeld}
+use Rattle.conservation.specs.FramePlacesAfterPages.{AllInOneBlockOrHeld, NoOtherInABlockOrHeld}
 use Rattle.conservation.proofs.CountLaws.{no_block_with, one_block_with}
 
 -- this and the next two: a byte of frame 4 and one of frame 5 are claimed, and the claim of frame

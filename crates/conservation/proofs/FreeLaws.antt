@@ -14,17 +14,17 @@ use Rattle.memblock_model.specs.Labels.{LabelView, tag_for, node_of_tag}
 use Rattle.memblock_model.specs.Items.{memory_of, owner_of}
 use Rattle.memblock_model.specs.Tables.{reserved_labels, without_owner}
 use Rattle.memblock_model.specs.declared.owner.Owner.{Owner}
-use Rattle.stage_model.specs.Noded.{HasNodes}
-use Rattle.table_frames.specs.Frames.{free_node_in, valid_node, node_of_frame, node_of_label}
-use Rattle.table_frames.specs.declared.frames.TheConstants.{MAX_NODES}
-use Rattle.frame_blocks.specs.declared.run.TheConstants.{MAX_FRAMES}
-use Rattle.frame_blocks.specs.declared.block.Block.{Block}
-use Rattle.frame_blocks.specs.Frames.{Frames}
+use Rattle.stage_steps.specs.Nodes.{HasNodes}
+use Rattle.memblock_frames.specs.Frames.{free_node_in, valid_node, node_of_frame, node_of_label}
+use Rattle.memblock_frames.specs.declared.frames.TheConstants.{MAX_NODES}
+use Rattle.buddy_blocks.specs.declared.run.TheConstants.{MAX_FRAMES}
+use Rattle.buddy_blocks.specs.declared.block.Block.{Block}
+use Rattle.buddy_blocks.specs.Frames.{Frames}
 use Rattle.page_alloc.specs.Pages.{first_page_state as nothing_taken}
 use Rattle.slit_zonelists.specs.Near.{page_state_after}
 use Rattle.boot_model.specs.Boot.{InputsView, BootedView, handover_frames, reach, types_in_reach}
 use Rattle.boot_model.proofs.ReachLaws.{reach-small}
-use Rattle.conservation.specs.Claimed.{IsUntouched}
+use Rattle.conservation.specs.RecordedClaims.{IsUntouched}
 use Rattle.conservation.specs.Headline.{IsFreeFor, IsUsable}
 use Rattle.conservation.proofs.ClaimedLaws.{covers_frame, frame_covers}
 

@@ -1,12 +1,12 @@
 -- The four facts: what a boot that isn't stopped makes of each frame.
 use Rattle.std.proofs.Common.{◌≡◌, ℕ, Option, Some, None, Ok, refl, subst, inl, inr}
 use Rattle.address_runs.specs.Edits.{NothingFrom}
-use Rattle.frame_blocks.specs.declared.run.TheConstants.{MAX_FRAMES}
-use Rattle.frame_blocks.proofs.BlockLaws.{listed_sound}
+use Rattle.buddy_blocks.specs.declared.run.TheConstants.{MAX_FRAMES}
+use Rattle.buddy_blocks.proofs.BlockLaws.{listed_sound}
 use Rattle.boot_model.specs.Boot.{InputsView, BootedView, whole_boot}
 use Rattle.boot_model.proofs.MemoryLaws.{memory_told}
 use Rattle.boot_model.proofs.NodedLaws.{noded_told}
-use Rattle.conservation.specs.Claimed.{IsTouched}
+use Rattle.conservation.specs.RecordedClaims.{IsTouched}
 use Rattle.conservation.specs.Headline.{BlocksAreMaximal, AllTouchedOrInOneBlock, BlocksAreWhole, IsTouchedOrInOneBlock, NoOtherInABlock, block_with_buddy}
 use Rattle.conservation.proofs.ClaimedLaws.{touched_apart, touched_or_not}
 use Rattle.conservation.proofs.CountLaws.{in_block, in_buddies, no_block_with, one_block_with, free_with_block}

@@ -4,7 +4,7 @@ use Rattle.page_alloc.specs.Pages.{HaveValidOrders, PageState, first_page_state}
 use Rattle.page_alloc.proofs.KeptLaws.{Goes, begun_goes, in_none, in_one}
 use Rattle.slit_zonelists.proofs.LineLaws.{after_goes}
 use Rattle.boot_model.specs.Boot.{InputsView, BootedView, whole_boot}
-use Rattle.conservation.specs.Paged.{AllInOneBlockOrHeld, NoOtherInABlockOrHeld}
+use Rattle.conservation.specs.FramePlacesAfterPages.{AllInOneBlockOrHeld, NoOtherInABlockOrHeld}
 use Rattle.conservation.proofs.HeadlineLaws.{below, is_told}
 
 goes : (given : InputsView) (t : BootedView) → whole_boot given ≡ Ok t → HaveValidOrders given.page_lines → Goes t.free t.after

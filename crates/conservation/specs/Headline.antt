@@ -11,11 +11,11 @@ use Rattle.e820_model.specs.Usable.{is_usable_frame}
 use Rattle.memblock_model.specs.Labels.{node_of_tag}
 use Rattle.memblock_model.specs.Items.{tag_of}
 use Rattle.memblock_model.specs.declared.item.Item.{Item}
-use Rattle.frame_blocks.specs.declared.block.Block.{Block}
-use Rattle.frame_blocks.specs.declared.block.TheConstants.{MAX_ORDER}
-use Rattle.frame_blocks.specs.Listed.{ListsBlock, blocks_of}
+use Rattle.buddy_blocks.specs.declared.block.Block.{Block}
+use Rattle.buddy_blocks.specs.declared.block.TheConstants.{MAX_ORDER}
+use Rattle.buddy_blocks.specs.BlockList.{ListsBlock, blocks_of}
 use Rattle.boot_model.specs.Boot.{InputsView, BootedView, types_in_reach}
-use Rattle.conservation.specs.Claimed.{IsTouched, IsUntouched}
+use Rattle.conservation.specs.RecordedClaims.{IsTouched, IsUntouched}
 
 -- each byte of the frame is RAM, or the kernel's own memory, in the finished map, and the frame
 -- lies below the limit of physical addresses (`e820__memblock_setup`, `memblock_trim_memory`)

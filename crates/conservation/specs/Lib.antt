@@ -1,4 +1,4 @@
 pub mod ByMap
-pub mod Claimed
+pub mod RecordedClaims
 pub mod Headline
-pub mod Paged
+pub mod FramePlacesAfterPages

@@ -7,7 +7,7 @@ ghost use Rattle.page_alloc.specs.Pages.{HaveValidOrders};
 ghost use Rattle.boot_model.specs.Boot.{InputsView, BootedView, booted_address_limit, whole_boot};
 ghost use Rattle.conservation.specs.Headline.{AllTouchedOrInOneBlock, BlocksAreMaximal, BlocksAreWhole, IsUsable, NoOtherInABlock};
 ghost use Rattle.conservation.specs.ByMap.{IsUsableByMap};
-ghost use Rattle.conservation.specs.Paged.{AllInOneBlockOrHeld, NoOtherInABlockOrHeld};
+ghost use Rattle.conservation.specs.FramePlacesAfterPages.{AllInOneBlockOrHeld, NoOtherInABlockOrHeld};
 
 /// Law: each usable frame is either touched by a claim with a recorded owner and in no block, or
 /// untouched and in exactly one block.

@@ -4,14 +4,14 @@
 //! one block of the buddy lists, and never both. No other frame lies in a block. Each block is
 //! aligned, in one node and one zone, and as great as it can be.
 //!
-//! - `specs/Claimed.antt`: the claims that are still in force at the end, and the frames they
+//! - `specs/RecordedClaims.antt`: the claims that are still in force at the end, and the frames they
 //!   touch.
 //! - `specs/Headline.antt`: the four facts, over the inputs of a boot and what it reports.
 //! - `specs/ByMap.antt`: usable frames, by the map that a boot reports.
-//! - `specs/Paged.antt`: the place of each frame that was handed over, after the page script.
+//! - `specs/FramePlacesAfterPages.antt`: the place of each frame that was handed over, after the page script.
 //!
 //! Usable frames are those of the finished map (`e820_model`). Owners are those of the journal
-//! (`memblock_model`), and blocks are those of the free frames (`frame_blocks`). The functions
+//! (`memblock_model`), and blocks are those of the free frames (`buddy_blocks`). The functions
 //! here are laws over the definition of the boot (`boot_model`). A law is an empty function whose
 //! contract is a proven fact. So they hold of every boot whose result is that of the definition,
 //! and the layer above cites the four facts for its own result. In contracts, a name means the

@@ -15,14 +15,14 @@ use Rattle.memblock_model.specs.Labels.{LabelView, plain_label, with_node}
 use Rattle.memblock_model.specs.Search.{fits, fits_in}
 use Rattle.boot_options.specs.declared.crash.CrashRange.{CrashRange}
 use Rattle.boot_options.specs.Crash.{CrashOptionView as Asked, no_crash, one_range}
-use Rattle.stage_model.specs.Doing.{return_value}
-use Rattle.crash_kernel.specs.declared.area.Placement.TheVariants as spot
+use Rattle.stage_steps.specs.Steps.{return_value}
+use Rattle.crash_kernel.specs.declared.request.Placement.TheVariants as spot
 use Rattle.crash_kernel.specs.declared.crash.Crash.TheVariants as crash
 use Rattle.crash_kernel.specs.Total.{memory_bytes}
-use Rattle.crash_kernel.specs.Area.{request_for, is_in_total_range, size_for_total}
+use Rattle.crash_kernel.specs.Request.{request_for, is_in_total_range, size_for_total}
 use Rattle.crash_kernel.specs.Places.{fixed_range, low_size, main_range, needs_low_part}
-use Rattle.crash_kernel.specs.Reserved.{reserve_crash_area}
-use Rattle.crash_kernel.specs.Told.{HasLowPartIfNeeded, IsCrashArea, IsFreeMemory}
+use Rattle.crash_kernel.specs.Reservation.{reserve_crash_area}
+use Rattle.crash_kernel.specs.ReservedArea.{HasLowPartIfNeeded, IsCrashArea, IsFreeMemory}
 use Rattle.crash_kernel.proofs.TotalLaws.{runs-bytes}
 
 -- 636 KiB and, of two nodes, 512 KiB and 512 KiB with 2 bytes more: not rounded

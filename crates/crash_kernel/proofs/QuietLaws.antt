@@ -4,18 +4,18 @@ use Rattle.bm_base.specs.Range.{RangeView}
 use Rattle.memblock_model.specs.declared.owner.Owner.TheVariants as owner
 use Rattle.memblock_model.specs.Items.{memory_of}
 use Rattle.growth_model.proofs.QuietLaws.{claim_range-quiet, free_range-quiet}
-use Rattle.growth_model.specs.Outcome.{RefusedGrowth}
-use Rattle.stage_model.specs.Doing.{StageStep}
-use Rattle.stage_model.specs.Quiet.{KeepsMemory}
-use Rattle.stage_model.proofs.QuietLaws.{quiet-bind, quiet-changes, quiet-returns, quiet-seen}
+use Rattle.growth_model.specs.Change.{RefusedGrowth}
+use Rattle.stage_steps.specs.Steps.{StageStep}
+use Rattle.stage_steps.specs.KeepsMemory.{KeepsMemory}
+use Rattle.stage_steps.proofs.QuietLaws.{quiet-bind, quiet-changes, quiet-returns, quiet-seen}
 use Rattle.boot_options.specs.Crash.{CrashOptionView as Asked}
-use Rattle.crash_kernel.specs.declared.area.AreaRequest.{AreaRequest}
+use Rattle.crash_kernel.specs.declared.request.AreaRequest.{AreaRequest}
 use Rattle.crash_kernel.specs.declared.crash.Crash.{Crash}
 use Rattle.crash_kernel.specs.declared.crash.Crash.TheVariants as crash
 use Rattle.crash_kernel.specs.Total.{memory_bytes}
-use Rattle.crash_kernel.specs.Area.{request_for}
+use Rattle.crash_kernel.specs.Request.{request_for}
 use Rattle.crash_kernel.specs.Places.{low_range, low_size, main_range, needs_low_part, search_failure}
-use Rattle.crash_kernel.specs.Reserved.{reserve_low_part, reserve_crash_area, reserve_request, claim_low_part, claim_area}
+use Rattle.crash_kernel.specs.Reservation.{reserve_low_part, reserve_crash_area, reserve_request, claim_low_part, claim_area}
 
 quiet_if : (b : Bool) (f g : StageStep RefusedGrowth Crash) → KeepsMemory f → KeepsMemory g → KeepsMemory (if b then f else g)
 quiet_if true f g first second = first

@@ -8,22 +8,22 @@ use Rattle.memblock_model.specs.declared.item.Item.{Item}
 use Rattle.memblock_model.specs.declared.item.Item.TheVariants as item
 use Rattle.memblock_model.specs.Items.{memory_of}
 use Rattle.growth_model.specs.declared.refusal.Refusal.{Refusal}
-use Rattle.growth_model.specs.Outcome.{Change, ChangeEffect, RefusedGrowth, followed_by, write_item}
+use Rattle.growth_model.specs.Change.{Change, ChangeEffect, RefusedGrowth, followed_by, write_item}
 use Rattle.growth_model.specs.Growth.{claim_range, make_table_room, count_uncovered_pieces, reserved_growth}
 use Rattle.growth_model.specs.Ends.{EndsAsChange}
-use Rattle.stage_model.specs.Causes.{refusal_for}
-use Rattle.stage_model.specs.Doing.{StageStep, StepEffect, ◌>>=◌, items_after_step, continue_if_ok, return_value, EndsAsStage}
-use Rattle.stage_model.specs.Requests.{make_change, fail_if_refused}
-use Rattle.stage_model.proofs.DoingLaws.{ends-second, ends-first, ends-returns}
-use Rattle.stage_model.proofs.RequestLaws.{ends-change}
+use Rattle.stage_steps.specs.Causes.{refusal_for}
+use Rattle.stage_steps.specs.Steps.{StageStep, StepEffect, ◌>>=◌, items_after_step, continue_if_ok, return_value, EndsAsStage}
+use Rattle.stage_steps.specs.Requests.{make_change, fail_if_refused}
+use Rattle.stage_steps.proofs.DoingLaws.{ends-second, ends-first, ends-returns}
+use Rattle.stage_steps.proofs.RequestLaws.{ends-change}
 use Rattle.boot_options.specs.Crash.{CrashOptionView as Asked}
-use Rattle.crash_kernel.specs.declared.area.AreaRequest.{AreaRequest}
+use Rattle.crash_kernel.specs.declared.request.AreaRequest.{AreaRequest}
 use Rattle.crash_kernel.specs.declared.crash.Crash.{Crash}
 use Rattle.crash_kernel.specs.declared.crash.Crash.TheVariants as crash
 use Rattle.crash_kernel.specs.Total.{memory_bytes}
-use Rattle.crash_kernel.specs.Area.{request_for}
+use Rattle.crash_kernel.specs.Request.{request_for}
 use Rattle.crash_kernel.specs.Places.{low_range, low_size, main_range, needs_low_part}
-use Rattle.crash_kernel.specs.Reserved.{reserve_low_part, reserve_crash_area, reserve_request, claim_low_part, claim_area}
+use Rattle.crash_kernel.specs.Reservation.{reserve_low_part, reserve_crash_area, reserve_request, claim_low_part, claim_area}
 
 -- a change and an outcome after it, and a change that was refused
 pub change-then : (a : Crash) (old new : List Item) (change : Change) → EndsAsChange {T = Unit {0}} (Ok tt) old new change

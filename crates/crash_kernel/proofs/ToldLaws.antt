@@ -14,24 +14,24 @@ use Rattle.memblock_model.specs.Labels.{LabelView}
 use Rattle.memblock_model.specs.Tables.{table_of}
 use Rattle.memblock_model.specs.Search.{best_place, fits}
 use Rattle.memblock_model.proofs.SearchLaws.{IsPlace, fits_in-parts}
-use Rattle.growth_model.specs.Outcome.{Change, RefusedGrowth}
+use Rattle.growth_model.specs.Change.{Change, RefusedGrowth}
 use Rattle.growth_model.specs.Growth.{claim_range, free_range}
-use Rattle.growth_model.specs.Sound.{IsUnclaimed}
+use Rattle.growth_model.specs.Tables.{IsUnclaimed}
 use Rattle.growth_model.proofs.FoundLaws.{found-fits, no_owner}
 use Rattle.growth_model.proofs.SeatLaws.{covers-from}
-use Rattle.stage_model.specs.Doing.{StageStep, ◌>>=◌, items_after_step, continue_if_ok, return_value}
-use Rattle.stage_model.specs.Requests.{make_change, fail_if_refused}
+use Rattle.stage_steps.specs.Steps.{StageStep, ◌>>=◌, items_after_step, continue_if_ok, return_value}
+use Rattle.stage_steps.specs.Requests.{make_change, fail_if_refused}
 use Rattle.boot_options.specs.Crash.{CrashOptionView as Asked}
-use Rattle.crash_kernel.specs.declared.area.AreaRequest.{AreaRequest}
-use Rattle.crash_kernel.specs.declared.area.Placement.{Placement}
-use Rattle.crash_kernel.specs.declared.area.Placement.TheVariants as spot
+use Rattle.crash_kernel.specs.declared.request.AreaRequest.{AreaRequest}
+use Rattle.crash_kernel.specs.declared.request.Placement.{Placement}
+use Rattle.crash_kernel.specs.declared.request.Placement.TheVariants as spot
 use Rattle.crash_kernel.specs.declared.crash.Crash.{Crash}
 use Rattle.crash_kernel.specs.declared.crash.Crash.TheVariants as crash
 use Rattle.crash_kernel.specs.Total.{memory_bytes}
-use Rattle.crash_kernel.specs.Area.{request_for}
+use Rattle.crash_kernel.specs.Request.{request_for}
 use Rattle.crash_kernel.specs.Places.{area_query, best_range, high_range, low_range, low_size, main_range, needs_low_part, search_failure}
-use Rattle.crash_kernel.specs.Reserved.{reserve_low_part, reserve_crash_area, reserve_request, claim_low_part, claim_area}
-use Rattle.crash_kernel.specs.Told.{HasLowPartIfNeeded, IsCrashArea, IsFreeMemory, items_after_claim}
+use Rattle.crash_kernel.specs.Reservation.{reserve_low_part, reserve_crash_area, reserve_request, claim_low_part, claim_area}
+use Rattle.crash_kernel.specs.ReservedArea.{HasLowPartIfNeeded, IsCrashArea, IsFreeMemory, items_after_claim}
 
 -- a range that fits is free
 free_by : (items : List Item) (r : RangeView) (o : Option LabelView) → is_some o ≡ true

@@ -1,5 +1,5 @@
 pub mod Total
-pub mod Area
+pub mod Request
 pub mod Places
-pub mod Reserved
-pub mod Told
+pub mod Reservation
+pub mod ReservedArea

@@ -7,8 +7,8 @@ use Rattle.memblock_model.specs.declared.query.Query.{Query}
 use Rattle.memblock_model.specs.declared.item.Item.{Item}
 use Rattle.memblock_model.specs.Search.{best_place, fits}
 use Rattle.boot_options.specs.Crash.{CrashOptionView as Asked}
-use Rattle.crash_kernel.specs.declared.area.Placement.{Placement}
-use Rattle.crash_kernel.specs.declared.area.Placement.TheVariants as spot
+use Rattle.crash_kernel.specs.declared.request.Placement.{Placement}
+use Rattle.crash_kernel.specs.declared.request.Placement.TheVariants as spot
 use Rattle.crash_kernel.specs.declared.crash.Crash.{Crash}
 use Rattle.crash_kernel.specs.declared.crash.Crash.TheVariants as crash
 

@@ -6,10 +6,10 @@ ghost use Rattle.bm_base.specs.Range.{RangeView};
 ghost use Rattle.memblock_model.specs.declared.item.Item.{Item as AnyItem};
 ghost use Rattle.memblock_model.specs.Items.{limit_of, memory_of};
 ghost use Rattle.boot_options.specs.Crash.{CrashOptionView as Asked};
-ghost use Rattle.stage_model.specs.Doing.{items_after_step};
+ghost use Rattle.stage_steps.specs.Steps.{items_after_step};
 ghost use Rattle.crash_kernel.specs.declared.crash.Crash.TheVariants as crash;
-ghost use Rattle.crash_kernel.specs.Reserved.{reserve_crash_area};
-ghost use Rattle.crash_kernel.specs.Told.{IsCrashArea};
+ghost use Rattle.crash_kernel.specs.Reservation.{reserve_crash_area};
+ghost use Rattle.crash_kernel.specs.ReservedArea.{IsCrashArea};
 
 /// Law: the stage changes neither memory nor the limit, whatever its outcome.
 pub fn reserve_keeps_memory_and_limit()

@@ -10,10 +10,10 @@
 //! The definitions follow the kernel function:
 //!
 //! - `specs/Total.antt`: total memory.
-//! - `specs/Area.antt`: the size and placement that are requested for that total.
+//! - `specs/Request.antt`: the size and placement that are requested for that total.
 //! - `specs/Places.antt`: the windows that are searched for the area and its low part.
-//! - `specs/Reserved.antt`: the whole stage, step by step.
-//! - `specs/Told.antt`: what is true of an area that was reserved.
+//! - `specs/Reservation.antt`: the whole stage, step by step.
+//! - `specs/ReservedArea.antt`: what is true of an area that was reserved.
 //!
 //! Later stages may rest on two laws. The stage changes neither memory nor the limit
 //! ([`reserve_keeps_memory_and_limit`]). An area that was reserved was free memory of the requested size
@@ -21,13 +21,12 @@
 //! contracts, a name means the definition in `specs/`.
 #![tactic(auto)]
 
-mod area;
+mod request;
 mod crash;
 mod laws;
 mod places;
-mod stage;
-mod total;
+mod reservation;
 
 pub use crash::Crash;
 pub use laws::{reserved_area_was_free, reserve_keeps_memory_and_limit};
-pub use stage::reserve;
+pub use reservation::reserve;

@@ -4,10 +4,10 @@
 
 ghost use Rattle.std.specs.Prelude.{◌≡◌, ℕ, ◌+◌, ◌^◌, ◌<◌, ◌≤◌, IfSome};
 ghost use Rattle.bm_base.specs.Range.{RangeView};
-ghost use Rattle.growth_model.specs.Sound.{HasBegun, TouchesNoTable};
+ghost use Rattle.growth_model.specs.Tables.{HasBegun, TouchesNoTable};
 ghost use Rattle.crash_kernel.specs.Places.{best_range, fixed_range, low_range, main_range, needs_low_part, search_failure};
 
-use crate::area::{AreaRequest, Placement};
+use crate::request::{AreaRequest, Placement};
 use crate::crash::Crash;
 use bm_base::Range;
 use memblock_grow::Memblock;

@@ -8,7 +8,7 @@ use Rattle.memblock_ranges.specs.declared.region.Heads.{Heads}
 use Rattle.memblock_model.specs.Labels.{LabelView, plain_label}
 use Rattle.early_script.specs.declared.outcome.Outcome.TheVariants as outcomes
 use Rattle.crash_kernel.specs.declared.crash.Crash.TheVariants as crash
-use Rattle.frame_blocks.specs.Frames.{Frames}
+use Rattle.buddy_blocks.specs.Frames.{Frames}
 use Rattle.bm_base.specs.declared.width.Width.TheVariants.{Bits46}
 use Rattle.page_alloc.specs.Pages.{first_page_state}
 use Rattle.slit_zonelists.specs.Lists.{ListsView, zonelists_from_slit}

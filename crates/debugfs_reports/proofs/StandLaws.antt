@@ -4,13 +4,13 @@ use Rattle.std.specs.List.{flat_map}
 use Rattle.memblock_ranges.specs.Tables.{IsInStore, TableView, head_of}
 use Rattle.boot_model.specs.Boot.{BootedView}
 use Rattle.boot_model.specs.declared.booted.Booted.{Booted}
-use Rattle.report_texts.specs.RecordsText.{records_text}
-use Rattle.report_texts.proofs.RecordLaws.{standing_text}
-use Rattle.table_frames.proofs.StandLaws.{stands_ascending}
+use Rattle.report_memory.specs.RecordsText.{records_text}
+use Rattle.report_memory.proofs.RecordLaws.{standing_text}
+use Rattle.memblock_frames.proofs.StandLaws.{stands_ascending}
 use Rattle.debugfs_reports.specs.declared.report.Report.{Report}
 use Rattle.debugfs_reports.specs.Report.{TableRecords, render}
 use Rattle.debugfs_reports.specs.ReportList.{render_list, render_part}
-use Rattle.debugfs_reports.specs.Stand.{HeadsHaveRecords, records_at_heads}
+use Rattle.debugfs_reports.specs.TableHeads.{HeadsHaveRecords, records_at_heads}
 
 -- both tables are stored where the heads of the boot point
 pub record HaveTables (b : Booted) (memory reserved : TableView) : Type 0 where

@@ -5,13 +5,13 @@ use Rattle.std.proofs.Math.Nat.{suc-mul}
 use Rattle.std.proofs.Math.Pow.{pow_mono}
 use Rattle.std.proofs.lemmas.List.Sums.{sum_by-append, sum_by-cons}
 use Rattle.bm_base.specs.declared.zone.Zone.{Zone}
-use Rattle.frame_blocks.specs.declared.block.Block.{Block}
-use Rattle.frame_blocks.specs.declared.block.BlockRow.{BlockRow}
-use Rattle.frame_blocks.specs.Frames.{Frames}
-use Rattle.frame_blocks.specs.Listed.{blocks_of}
-use Rattle.frame_blocks.specs.Rows.{blocks_of_row, blocks_of_rows, row_from}
-use Rattle.stage_texts.proofs.BlockLaws.{AreInBounds, listed_few, listed_in_bounds}
-use Rattle.stage_texts.proofs.RowLaws.{rows_left}
+use Rattle.buddy_blocks.specs.declared.block.Block.{Block}
+use Rattle.buddy_blocks.specs.declared.block.BlockRow.{BlockRow}
+use Rattle.buddy_blocks.specs.Frames.{Frames}
+use Rattle.buddy_blocks.specs.BlockList.{blocks_of}
+use Rattle.buddy_blocks.specs.Rows.{blocks_of_row, blocks_of_rows, row_from}
+use Rattle.report_stages.proofs.BlockLaws.{AreInBounds, listed_few, listed_in_bounds}
+use Rattle.report_stages.proofs.RowLaws.{rows_left}
 use Rattle.debugfs_reports.specs.Summary.{total_frames_of_blocks}
 
 few_in : (bs : List Block) → AreInBounds bs → total_frames_of_blocks bs ≤ 1024 * length bs

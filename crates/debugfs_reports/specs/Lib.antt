@@ -1,4 +1,4 @@
 pub mod Report
 pub mod ReportList
-pub mod Stand
+pub mod TableHeads
 pub mod Summary

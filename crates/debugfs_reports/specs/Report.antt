@@ -10,21 +10,21 @@ use Rattle.memblock_model.specs.declared.owner.Which.TheVariants as which
 use Rattle.memblock_model.specs.Items.{owner_runs_of}
 use Rattle.memblock_model.specs.Labels.{LabelView}
 use Rattle.memblock_model.specs.Tables.{records_of}
-use Rattle.report_texts.specs.JournalText.{journal_text}
-use Rattle.report_texts.specs.MapText.{map_text}
-use Rattle.report_texts.specs.OptionsText.{options_text}
-use Rattle.report_texts.specs.OwnersText.{owners_text}
-use Rattle.report_texts.specs.RecordsText.{records_text}
-use Rattle.report_texts.specs.TablesText.{tables_text}
-use Rattle.stage_texts.specs.BlocksText.{blocks_text}
-use Rattle.stage_texts.specs.CrashText.{crash_text}
-use Rattle.stage_texts.specs.NodesText.{nodes_text}
-use Rattle.stage_texts.specs.PagesText.{pages_text}
-use Rattle.stage_texts.specs.ScriptText.{script_text}
-use Rattle.stage_texts.specs.SectionsText.{sections_text}
-use Rattle.stage_texts.specs.SummaryText.{summary_text}
-use Rattle.stage_texts.specs.ListsText.{zonelists_text}
-use Rattle.stage_texts.specs.ZonesText.{buddyinfo_text, zones_text}
+use Rattle.report_memory.specs.JournalText.{journal_text}
+use Rattle.report_memory.specs.MapText.{map_text}
+use Rattle.report_memory.specs.OptionsText.{options_text}
+use Rattle.report_memory.specs.OwnersText.{owners_text}
+use Rattle.report_memory.specs.RecordsText.{records_text}
+use Rattle.report_memory.specs.TablesText.{tables_text}
+use Rattle.report_stages.specs.BlocksText.{blocks_text}
+use Rattle.report_stages.specs.CrashText.{crash_text}
+use Rattle.report_stages.specs.NodesText.{nodes_text}
+use Rattle.report_stages.specs.PagesText.{pages_text}
+use Rattle.report_stages.specs.ScriptText.{script_text}
+use Rattle.report_stages.specs.SectionsText.{sections_text}
+use Rattle.report_stages.specs.SummaryText.{summary_text}
+use Rattle.report_stages.specs.ListsText.{zonelists_text}
+use Rattle.report_stages.specs.ZonesText.{buddyinfo_text, zones_text}
 
 abbrev pub report_name : Report → List ℕ
 report_name reports.Map = codes "map"

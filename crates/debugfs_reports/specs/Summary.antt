@@ -3,11 +3,11 @@ use Rattle.std.specs.Prelude.{ℕ, ◌^◌, List, length}
 use Rattle.std.specs.List.{sum_by}
 use Rattle.address_runs.specs.Runs.{value_at}
 use Rattle.e820_model.specs.Usable.{types_below, usable_frames}
-use Rattle.frame_blocks.specs.declared.block.Block.{Block}
-use Rattle.frame_blocks.specs.Listed.{blocks_of}
+use Rattle.buddy_blocks.specs.declared.block.Block.{Block}
+use Rattle.buddy_blocks.specs.BlockList.{blocks_of}
 use Rattle.memblock_ranges.specs.declared.region.Head.{Head}
-use Rattle.stage_texts.specs.declared.summary.Fullness.{Fullness}
-use Rattle.stage_texts.specs.declared.summary.Summary.{Summary}
+use Rattle.report_stages.specs.declared.summary.Fullness.{Fullness}
+use Rattle.report_stages.specs.declared.summary.Summary.{Summary}
 use Rattle.boot_model.specs.Boot.{BootedView, booted_address_limit}
 
 -- the number of frames in these blocks; a block has 2^order

@@ -8,8 +8,8 @@
 //! `report_text`.
 //!
 //! Two conditions must hold. The bytes at both heads are ascending lists of records
-//! (`specs/Stand.antt`); their flags and nodes may be any. The runs of the map ascend. Records and
-//! runs may touch and have the same value. The lines come from `report_texts` and `stage_texts`,
+//! (`specs/TableHeads.antt`); their flags and nodes may be any. The runs of the map ascend. Records and
+//! runs may touch and have the same value. The lines come from `report_memory` and `report_stages`,
 //! so here a report is a name and one call. Only the summary is counted here ([`summary_of`],
 //! `specs/Summary.antt`).
 //!

@@ -5,7 +5,7 @@ ghost use Rattle.std.specs.List.{flat_map};
 ghost use Rattle.bm_base.specs.PutsText.{PutsText};
 ghost use Rattle.boot_model.specs.View.{booted_view};
 ghost use Rattle.debugfs_reports.specs.ReportList.{are_reports, reports_in, render_list, render_part, report_title};
-ghost use Rattle.debugfs_reports.specs.Stand.{HeadsHaveRecords, records_at_heads};
+ghost use Rattle.debugfs_reports.specs.TableHeads.{HeadsHaveRecords, records_at_heads};
 ghost use Rattle.address_runs.specs.Ascend.{Ascend};
 
 use crate::report::{Report, put_report, report_named};

@@ -5,14 +5,14 @@ ghost use Rattle.std.specs.Prelude.{◌≡◌, ◌++◌, IfOk, OnOk};
 ghost use Rattle.std.specs.Str.{bytes_eq};
 ghost use Rattle.boot_model.specs.View.{booted_view};
 ghost use Rattle.debugfs_reports.specs.Report.{report_name, report_named, report_text, render};
-ghost use Rattle.debugfs_reports.specs.Stand.{HeadsHaveRecords, records_at_heads};
+ghost use Rattle.debugfs_reports.specs.TableHeads.{HeadsHaveRecords, records_at_heads};
 ghost use Rattle.address_runs.specs.Ascend.{Ascend};
 
 use crate::summary::summary_of;
 use bm_base::Memory;
 use boot_model::Booted;
-use report_texts::{put_journal, put_map, put_options, put_owners, put_records, put_tables};
-use stage_texts::{
+use report_memory::{put_journal, put_map, put_options, put_owners, put_records, put_tables};
+use report_stages::{
     put_blocks, put_buddyinfo, put_crash, put_nodes, put_pages, put_script, put_sections,
     put_summary, put_zonelists, put_zones,
 };

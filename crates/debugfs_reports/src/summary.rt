@@ -13,7 +13,7 @@ use boot_model::Booted;
 use buddy_handover::BlockRow;
 use e820_sanitise::usable_frames;
 use memblock_ranges::Head;
-use stage_texts::{Fullness, Summary};
+use report_stages::{Fullness, Summary};
 
 /// Returns the totals at the end of a boot. The runs of its map must ascend; runs that touch may
 /// have the same type. Allocates the rows of free blocks.

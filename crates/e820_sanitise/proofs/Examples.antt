@@ -2,7 +2,7 @@
 use Rattle.std.proofs.Common.{◌≡◌, ℕ, true, false, Some, None, List, [], ◌∷◌, length, Ok, Err, refl}
 use Rattle.bm_base.specs.Range.{RangeView}
 use Rattle.address_runs.specs.Runs.{RunOf}
-use Rattle.e820_sanitise.specs.declared.fault.MapFault.TheVariants as faults
+use Rattle.e820_sanitise.specs.declared.table.MapFault.TheVariants as faults
 use Rattle.e820_sanitise.specs.Cuts.{claim_between, claim_between_if_typed, parts_of_claim, is_type_to_cut, type_inside, cut_out, type_claim_of_entry}
 use Rattle.e820_sanitise.specs.Room.{map_if_room}
 

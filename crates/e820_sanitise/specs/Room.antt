@@ -2,8 +2,8 @@
 use Rattle.std.specs.Prelude.{ℕ, List, length, nat_lt, if◌then◌else◌, Result, Ok, Err}
 use Rattle.address_runs.specs.Runs.{RunOf}
 use Rattle.e820_model.specs.declared.entry.TheConstants.{E820_MAX_ENTRIES}
-use Rattle.e820_sanitise.specs.declared.fault.MapFault.{MapFault}
-use Rattle.e820_sanitise.specs.declared.fault.MapFault.TheVariants as faults
+use Rattle.e820_sanitise.specs.declared.table.MapFault.{MapFault}
+use Rattle.e820_sanitise.specs.declared.table.MapFault.TheVariants as faults
 
 -- the map, or the fault with the number of its runs if they don't fit into the kernel's table
 -- (`E820_MAX_ENTRIES`)

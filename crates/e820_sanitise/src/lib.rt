@@ -40,14 +40,12 @@
 #![tactic(auto)]
 
 mod cuts;
-mod fault;
 mod frames;
 mod settle;
 mod stop;
 mod table;
 
 pub use e820_model::{E820_MAX_ENTRIES, Run};
-pub use fault::MapFault;
+pub use table::{MapFault, Table};
 pub use frames::{is_memory, usable_frames};
 pub use stop::{MapStop, judge_frames};
-pub use table::Table;

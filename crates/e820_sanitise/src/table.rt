@@ -10,12 +10,31 @@ ghost use Rattle.e820_model.specs.Map.{claims_of, kinds, map_of};
 ghost use Rattle.bm_base.specs.Answers.{Answers};
 ghost use Rattle.e820_sanitise.specs.Room.{map_if_room};
 
-use crate::fault::MapFault;
 use crate::{cuts, settle};
 use bm_base::Memory;
 use e820_model::{E820_MAX_ENTRIES, Edit, Entry, Run};
 use std::alloc::Global;
 use std::marker::Model;
+
+/// The reason why there is no map.
+#[derive(Clone, Copy, Debug, PartialEq, Eq)]
+pub enum MapFault {
+    /// The map has more than [`crate::E820_MAX_ENTRIES`] runs; `runs` is their number.
+    MapFull { runs: u64 },
+    /// The program ran out of memory.
+    Memory,
+}
+
+impl From<Memory> for MapFault {
+    ghost use Rattle.std.specs.Prelude.{◌≡◌};
+    ghost use Rattle.e820_sanitise.specs.declared.table.MapFault.TheVariants as faults;
+
+    ghost from_gives = { λ _ fault. fault ≡ faults.Memory };
+
+    fn from(_error: Memory) -> MapFault {
+        MapFault::Memory
+    }
+}
 
 /// The firmware's table (`struct e820_table`): the types that claim each address. Contracts see it
 /// as a list of ranges with types. They use only `claims_of` of it: the test whether a type claims

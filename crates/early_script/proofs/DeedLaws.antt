@@ -4,11 +4,11 @@ use Rattle.std.proofs.lemmas.List.{append-nil}
 use Rattle.bm_base.specs.declared.memory.Memory.{Memory}
 use Rattle.script_reader.specs.declared.act.Act.{Act}
 use Rattle.growth_model.specs.Bytes.{Fill, Follows, AreBytesFromHistory}
-use Rattle.memblock_grow.specs.Contents.{MemblockView}
+use Rattle.memblock_grow.specs.MemblockView.{MemblockView}
 use Rattle.early_script.specs.declared.outcome.Outcome.{Outcome}
-use Rattle.early_script.specs.Ids.{LiveView}
-use Rattle.early_script.specs.Acted.{ScriptState, LineEffect, OnlyAnswers, EndsAsLine, byte_after_line, fills_after_line, act_effect}
-use Rattle.early_script.specs.Found.{state_of_memblock, memblock_bytes}
+use Rattle.early_script.specs.LiveView.{LiveView}
+use Rattle.early_script.specs.Effects.{ScriptState, LineEffect, OnlyAnswers, EndsAsLine, byte_after_line, fills_after_line, act_effect}
+use Rattle.early_script.specs.FromMemblock.{state_of_memblock, memblock_bytes}
 use Rattle.early_script.proofs.RunLaws.{only-answers, bytes-quiet}
 use Rattle.early_script.proofs.HoldLaws.{holds-quiet}
 

@@ -10,16 +10,16 @@ use Rattle.memblock_model.specs.declared.item.Item.TheVariants as item
 use Rattle.memblock_model.specs.Items.{owner_of}
 use Rattle.script_reader.specs.declared.act.Act.TheVariants as acts
 use Rattle.script_reader.specs.declared.act.Line.{Line}
-use Rattle.growth_model.specs.Outcome.{RefusedGrowth}
+use Rattle.growth_model.specs.Change.{RefusedGrowth}
 use Rattle.growth_model.specs.Bytes.{Fill, AreBytesFromHistory}
-use Rattle.memblock_grow.specs.Contents.{MemblockView}
+use Rattle.memblock_grow.specs.MemblockView.{MemblockView}
 use Rattle.early_script.specs.declared.outcome.Answer.{Answer}
 use Rattle.early_script.specs.declared.outcome.Outcome.TheVariants as outcomes
-use Rattle.early_script.specs.Ids.{LiveView, range_of_id, is_live, with_range, without_id}
-use Rattle.early_script.specs.Owned.{is_owned_by, is_overlap, is_over_table}
-use Rattle.early_script.specs.Acted.{ScriptState, RunsOutDuringLine, answer_only, alloc_effect_at, reserve_effect, free_whole, free_effect, trim_effect, fill_whole, fill_effect, act_effect, outcome_unless_refused, ids_unless_refused}
-use Rattle.early_script.specs.Found.{state_of_memblock, memblock_bytes}
-use Rattle.early_script.specs.Stage.{ScriptSoFar, RunsOutDuringLines, line_effect, script_after_lines}
+use Rattle.early_script.specs.LiveView.{LiveView, range_of_id, is_live, with_range, without_id}
+use Rattle.early_script.specs.Overlaps.{is_owned_by, is_overlap, is_over_table}
+use Rattle.early_script.specs.Effects.{ScriptState, RunsOutDuringLine, answer_only, alloc_effect_at, reserve_effect, free_whole, free_effect, trim_effect, fill_whole, fill_effect, act_effect, outcome_unless_refused, ids_unless_refused}
+use Rattle.early_script.specs.FromMemblock.{state_of_memblock, memblock_bytes}
+use Rattle.early_script.specs.Lines.{ScriptSoFar, RunsOutDuringLines, line_effect, script_after_lines}
 
 abbrev at_base : ℕ → ℕ → RangeView
 at_base base size = record { base = base; size = size }

@@ -6,7 +6,7 @@ use Rattle.memblock_model.specs.declared.item.Item.{Item}
 use Rattle.growth_model.specs.Bytes.{Fill, Follows, AreBytesFromHistory}
 use Rattle.growth_model.proofs.FillLaws.{holds-call}
 use Rattle.early_script.specs.declared.outcome.Outcome.{Outcome}
-use Rattle.early_script.specs.Acted.{ScriptState, LineEffect, EndsAsLine, fills_after_line}
+use Rattle.early_script.specs.Effects.{ScriptState, LineEffect, EndsAsLine, fills_after_line}
 
 -- the same bytes, items and image by other names
 pub holds-as : (kernel other : RangeView) (items same : List Item) (fills : List Fill) (f g : ℕ → ℕ) → other ≡ kernel → same ≡ items →

@@ -4,7 +4,7 @@ use Rattle.std.specs.Ordering.{nat_cmp, match_ordering, is_eq}
 use Rattle.std.specs.declared.cmp.Ordering.{Ordering}
 use Rattle.std.specs.declared.cmp.Ordering.TheVariants.{Less, Equal, Greater}
 use Rattle.bm_base.specs.Range.{RangeView}
-use Rattle.early_script.specs.Ids.{LiveView, range_of_id, with_range, without_id, RangesHaveBytes}
+use Rattle.early_script.specs.LiveView.{LiveView, range_of_id, with_range, without_id, RangesHaveBytes}
 
 with_at : (o : Ordering) (id : ℕ) (range : RangeView) (e : ℕ × RangeView) (es more : LiveView) → 0 < range.size → RangesHaveBytes (e ∷ es) →
     RangesHaveBytes more → RangesHaveBytes (match_ordering o ((id, range) ∷ e ∷ es) ((e.0, range) ∷ es) (e ∷ more))

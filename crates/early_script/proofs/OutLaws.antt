@@ -4,17 +4,17 @@ use Rattle.std.proofs.Common.{◌≡◌, ℕ, ◌+◌, List, [], ◌∷◌, ◌+
 use Rattle.std.proofs.lemmas.List.{append-nil, take-append-drop}
 use Rattle.memblock_model.specs.declared.item.Item.{Item}
 use Rattle.script_reader.specs.declared.act.Line.{Line}
-use Rattle.growth_model.specs.Outcome as growth
-use Rattle.growth_model.specs.Outcome.{items_of_steps, items_after_change}
+use Rattle.growth_model.specs.Change as growth
+use Rattle.growth_model.specs.Change.{items_of_steps, items_after_change}
 use Rattle.growth_model.specs.Ends.{WritesFirstSteps}
 use Rattle.growth_model.specs.Bytes.{Fill, AreBytesFromHistory}
 use Rattle.growth_model.proofs.EndLaws.{items_of_steps-append}
-use Rattle.memblock_grow.specs.Contents.{MemblockView}
+use Rattle.memblock_grow.specs.MemblockView.{MemblockView}
 use Rattle.early_script.specs.declared.outcome.Answer.{Answer}
-use Rattle.early_script.specs.Ids.{LiveView}
-use Rattle.early_script.specs.Acted.{ScriptState, RunsOutDuringLine, act_effect}
-use Rattle.early_script.specs.Found.{state_of_memblock, memblock_bytes}
-use Rattle.early_script.specs.Stage.{ScriptSoFar, HasReached, RunsOutDuringLines, IsPrefixChain, line_effect, script_after_line, script_after_lines}
+use Rattle.early_script.specs.LiveView.{LiveView}
+use Rattle.early_script.specs.Effects.{ScriptState, RunsOutDuringLine, act_effect}
+use Rattle.early_script.specs.FromMemblock.{state_of_memblock, memblock_bytes}
+use Rattle.early_script.specs.Lines.{ScriptSoFar, HasReached, RunsOutDuringLines, IsPrefixChain, line_effect, script_after_line, script_after_lines}
 use Rattle.early_script.proofs.RunLaws.{ran-cut}
 use Rattle.early_script.proofs.StageLaws.{script_after_lines-append, act_effect-reached}
 

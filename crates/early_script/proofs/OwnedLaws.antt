@@ -15,7 +15,7 @@ use Rattle.memblock_model.specs.Items.{Owners}
 use Rattle.memblock_model.specs.Tables.{table_bytes}
 use Rattle.memblock_model.proofs.SameLaws.{owner_self, owner_tells}
 use Rattle.memblock_grow.specs.Touch.{TouchesTable}
-use Rattle.early_script.specs.Owned.{is_owned_by, is_overlap, is_over_table}
+use Rattle.early_script.specs.Overlaps.{is_owned_by, is_overlap, is_over_table}
 
 agrees : (o : Option Owner) (who : Owner) → o ≡ Some who → agree same_owner o (Some who) ≡ true
 agrees o who is = rw is (owner_self who)

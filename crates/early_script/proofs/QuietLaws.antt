@@ -7,13 +7,13 @@ use Rattle.memblock_model.specs.declared.item.Item.{Item}
 use Rattle.memblock_model.specs.Items.{memory_of, limit_of}
 use Rattle.script_reader.specs.declared.act.Act.{Act}
 use Rattle.script_reader.specs.declared.act.Act.TheVariants as acts
-use Rattle.growth_model.specs.Carried.{StepsKeepMemory}
-use Rattle.growth_model.specs.Outcome.{ChangeEffect as Steps, items_after_change, no_change}
+use Rattle.growth_model.specs.Requests.{StepsKeepMemory}
+use Rattle.growth_model.specs.Change.{ChangeEffect as Steps, items_after_change, no_change}
 use Rattle.growth_model.proofs.MemoryItemLaws.{quiet-take}
 use Rattle.growth_model.proofs.QuietLaws.{IsQuiet, claim_range-quiet, free_range-quiet, quiet-memory, quiet-limit}
 use Rattle.early_script.specs.declared.outcome.Outcome.{Outcome}
 use Rattle.early_script.specs.declared.outcome.Outcome.TheVariants as outcomes
-use Rattle.early_script.specs.Acted.{ScriptState, LineEffect, EndsAsLine, answer_only, alloc_effect_at, act_on_owned_range, act_effect}
+use Rattle.early_script.specs.Effects.{ScriptState, LineEffect, EndsAsLine, answer_only, alloc_effect_at, act_on_owned_range, act_effect}
 use Rattle.early_script.proofs.RunLaws.{ran-cut}
 
 pub record IsQuietDeed (d : LineEffect) : Type 0 where

@@ -7,12 +7,12 @@ use Rattle.bm_base.specs.declared.memory.Memory.{Memory}
 use Rattle.bm_base.specs.Range.{RangeView}
 use Rattle.memblock_model.specs.declared.item.Item.{Item}
 use Rattle.memblock_model.specs.declared.query.Request.{Request}
-use Rattle.growth_model.specs.Outcome as growth
+use Rattle.growth_model.specs.Change as growth
 use Rattle.growth_model.specs.Ends.{WritesFirstSteps}
 use Rattle.growth_model.proofs.EndLaws.{cut-short}
 use Rattle.growth_model.specs.Bytes.{Follows}
 use Rattle.early_script.specs.declared.outcome.Outcome.{Outcome}
-use Rattle.early_script.specs.Acted.{ScriptState, LineEffect, RunsOutDuringChange, OnlyAnswers, EndsAsLine, alloc_effect, reserve_effect, free_effect, trim_effect, byte_after_line}
+use Rattle.early_script.specs.Effects.{ScriptState, LineEffect, RunsOutDuringChange, OnlyAnswers, EndsAsLine, alloc_effect, reserve_effect, free_effect, trim_effect, byte_after_line}
 
 -- out of memory: some of the steps are written, or all
 pub ran-cut : (takes : Bool) (old new : List Item) (o : growth.ChangeEffect) → RunsOutDuringChange takes old new o → WritesFirstSteps old new o.steps

@@ -15,8 +15,8 @@ use Rattle.script_reader.specs.Forms.{act_by_name}
 use Rattle.script_reader.specs.Lines.{is_comment, act_by_forms, has_once_command, read_line, script_line_at, script_lines_from}
 use Rattle.script_reader.specs.Script.{is_sections, script_lines, script_of}
 use Rattle.script_reader.proofs.ScriptSpellingLaws.{script_read}
-use Rattle.early_script.specs.Acted.{CanBeRun}
-use Rattle.early_script.specs.Stage.{PlacesSectionsOnce}
+use Rattle.early_script.specs.Effects.{CanBeRun}
+use Rattle.early_script.specs.Lines.{PlacesSectionsOnce}
 use Rattle.early_script.proofs.StageLaws.{is_run}
 
 -- an act that was read doesn't place the sections

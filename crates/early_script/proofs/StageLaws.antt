@@ -10,16 +10,16 @@ use Rattle.script_reader.specs.declared.act.Act.{Act}
 use Rattle.script_reader.specs.declared.act.Act.TheVariants as acts
 use Rattle.script_reader.specs.declared.act.Line.{Line}
 use Rattle.script_reader.specs.Script.{is_sections}
-use Rattle.growth_model.specs.Sound.{HasBegun}
+use Rattle.growth_model.specs.Tables.{HasBegun}
 use Rattle.growth_model.specs.Bytes.{Fill, byte_from_history, AreBytesFromHistory}
 use Rattle.growth_model.proofs.SoundLaws.{more-begun}
-use Rattle.memblock_grow.specs.Contents.{MemblockView}
+use Rattle.memblock_grow.specs.MemblockView.{MemblockView}
 use Rattle.early_script.specs.declared.outcome.Outcome.{Outcome}
 use Rattle.early_script.specs.declared.outcome.Answer.{Answer}
-use Rattle.early_script.specs.Ids.{LiveView}
-use Rattle.early_script.specs.Acted.{ScriptState, CanBeRun, EndsAsLine, add_fill, act_effect}
-use Rattle.early_script.specs.Found.{state_of_memblock, memblock_bytes}
-use Rattle.early_script.specs.Stage.{ScriptSoFar, HasReached, line_effect, script_after_line, script_after_lines, before_sections, lines_after_sections}
+use Rattle.early_script.specs.LiveView.{LiveView}
+use Rattle.early_script.specs.Effects.{ScriptState, CanBeRun, EndsAsLine, add_fill, act_effect}
+use Rattle.early_script.specs.FromMemblock.{state_of_memblock, memblock_bytes}
+use Rattle.early_script.specs.Lines.{ScriptSoFar, HasReached, line_effect, script_after_line, script_after_lines, before_sections, lines_after_sections}
 
 pub script_after_lines-append : (s : ScriptSoFar) (lines : List Line) (line : Line) → script_after_lines s (lines ++ line ∷ []) ≡ script_after_line (script_after_lines s
     lines) line

@@ -3,11 +3,11 @@ use Rattle.std.proofs.Common.{◌≡◌, ℕ, ◌<◌, ◌≤◌, ◌↔◌, Boo
 use Rattle.bm_base.specs.Range.{RangeView, end_of}
 use Rattle.memblock_model.specs.declared.owner.Owner.TheVariants as owner
 use Rattle.memblock_model.specs.Items.{owner_of}
-use Rattle.boot_journal.specs.Contents.{JournalView}
+use Rattle.boot_journal.specs.JournalView.{JournalView}
 use Rattle.early_script.specs.declared.outcome.Outcome.TheVariants as outcomes
-use Rattle.early_script.specs.Ids.{range_of_id}
-use Rattle.early_script.specs.Owned.{is_owned_by}
-use Rattle.early_script.specs.Acted.{ScriptState, LineEffect, answer_only, on_range_of_id}
+use Rattle.early_script.specs.LiveView.{range_of_id}
+use Rattle.early_script.specs.Overlaps.{is_owned_by}
+use Rattle.early_script.specs.Effects.{ScriptState, LineEffect, answer_only, on_range_of_id}
 use Rattle.early_script.proofs.OwnedLaws.{owned-is}
 
 -- the result of the journal's look-up

@@ -1,5 +1,5 @@
-pub mod Ids
-pub mod Owned
-pub mod Acted
-pub mod Found
-pub mod Stage
+pub mod LiveView
+pub mod Overlaps
+pub mod Effects
+pub mod FromMemblock
+pub mod Lines

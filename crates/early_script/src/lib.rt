@@ -6,8 +6,8 @@
 //! is the outcome. Only if none holds does memory change. A refused line doesn't end the boot: its
 //! outcome is recorded, and the next line follows.
 //!
-//! - `specs/Acted.antt`: what each act does and returns (`deed`), as a change of the items.
-//!   `specs/Stage.antt`: lines, one after another.
+//! - `specs/Effects.antt`: what each act does and returns (`deed`), as a change of the items.
+//!   `specs/Lines.antt`: lines, one after another.
 //! - [`Live`]: the live IDs, each with its range. Contracts see it as a list of them.
 //! - An ID is whole as long as no one else claims or frees a byte of its range. The journal
 //!   decides that by one look-up.
@@ -27,14 +27,12 @@
 //! definition in `specs/`.
 #![tactic(auto)]
 
-mod laws;
 mod live;
 mod outcome;
-mod stage;
+mod lines;
 mod steps;
 
-pub use laws::{lines_leave_memory, scripts_place_once};
+pub use lines::{lines_leave_memory, scripts_place_once, run_script_lines, split_at_sections};
 pub use live::Live;
 pub use outcome::{Answer, Outcome};
 pub use script_reader::{Act, Line, ScriptFault, read_script};
-pub use stage::{run_script_lines, split_at_sections};

@@ -5,10 +5,10 @@
 ghost use Rattle.std.specs.Prelude.{◌≡◌, ℕ, ◌+◌, ◌-◌, ◌^◌, ◌<◌, ◌≤◌, List, [], OnOk, OnErr, IfOk, IfErr, IsOk};
 ghost use Rattle.bm_base.specs.Range.{RangeView};
 ghost use Rattle.script_reader.specs.Forms.{HasBounds};
-ghost use Rattle.growth_model.specs.Sound.{HasBegun, TouchesNoTable};
+ghost use Rattle.growth_model.specs.Tables.{HasBegun, TouchesNoTable};
 ghost use Rattle.growth_model.specs.Bytes.{Fill, AreBytesFromHistory};
-ghost use Rattle.memblock_grow.specs.Going.{ContinuesMemblock};
-ghost use Rattle.memblock_grow.specs.Kept.{StayPrepared};
+ghost use Rattle.memblock_grow.specs.Continues.{ContinuesMemblock};
+ghost use Rattle.memblock_grow.specs.Invariant.{StayPrepared};
 
 use crate::outcome::Outcome;
 use crate::steps::{read_bytes_at, outcome_of_refusal, split_range, is_over_table};
@@ -30,7 +30,7 @@ pub struct Live {
 }
 
 impl Model for Live {
-    ghost use Rattle.early_script.specs.Ids.{LiveView, RangesHaveBytes};
+    ghost use Rattle.early_script.specs.LiveView.{LiveView, RangesHaveBytes};
 
     ghost Value = { LiveView };
 
@@ -40,9 +40,9 @@ impl Model for Live {
 }
 
 impl Live {
-    ghost use Rattle.early_script.specs.Ids.{is_live as has_range, with_range};
-    ghost use Rattle.early_script.specs.Acted.{LineEffect as AnyDeed, EndsAsLine, CanBeRun, OnlyAnswers, byte_after_line, fills_after_line, answer_only, on_range_of_id, act_effect, alloc_effect, reserve_effect, free_effect, trim_effect, fill_effect};
-    ghost use Rattle.early_script.specs.Found.{state_of_memblock, memblock_bytes};
+    ghost use Rattle.early_script.specs.LiveView.{is_live as has_range, with_range};
+    ghost use Rattle.early_script.specs.Effects.{LineEffect as AnyDeed, EndsAsLine, CanBeRun, OnlyAnswers, byte_after_line, fills_after_line, answer_only, on_range_of_id, act_effect, alloc_effect, reserve_effect, free_effect, trim_effect, fill_effect};
+    ghost use Rattle.early_script.specs.FromMemblock.{state_of_memblock, memblock_bytes};
 
     /// Creates a map without a live ID.
     pub fn new(alloc: Global) -> Live

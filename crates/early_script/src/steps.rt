@@ -3,11 +3,11 @@
 
 ghost use Rattle.std.specs.Prelude.{◌≡◌, ℕ, ◌+◌, ◌-◌, ◌^◌, ◌<◌, ◌≤◌, false, length, MatchOption};
 ghost use Rattle.phys_store.specs.Bytes.{bytes_at};
-ghost use Rattle.growth_model.specs.Sound.{HasBegun, TouchesNoTable};
+ghost use Rattle.growth_model.specs.Tables.{HasBegun, TouchesNoTable};
 ghost use Rattle.growth_model.specs.Bytes.{Follows};
 ghost use Rattle.early_script.specs.declared.outcome.Outcome.TheVariants as outcomes;
-ghost use Rattle.early_script.specs.Owned.{is_over_table};
-ghost use Rattle.early_script.specs.Found.{memblock_bytes, AnswersRefusal};
+ghost use Rattle.early_script.specs.Overlaps.{is_over_table};
+ghost use Rattle.early_script.specs.FromMemblock.{memblock_bytes, AnswersRefusal};
 
 use crate::outcome::Outcome;
 use arrayvec::ArrayVec;

@@ -6,16 +6,16 @@ use Rattle.std.proofs.lemmas.List.{at_drop_all}
 use Rattle.std.proofs.lemmas.Nat.{pow_pos}
 use Rattle.bm_base.specs.declared.zone.Zone.{Zone}
 use Rattle.address_runs.specs.Edits.{NothingFrom}
-use Rattle.frame_blocks.specs.declared.block.Block.{Block}
-use Rattle.frame_blocks.specs.declared.block.BlockRow.{BlockRow}
-use Rattle.frame_blocks.specs.declared.run.TheConstants.{MAX_FRAMES}
-use Rattle.frame_blocks.specs.Frames.{Frames, IsBlock, IsInBlock}
-use Rattle.frame_blocks.specs.Listed.{block_of, blocks_of, ListsBlock}
-use Rattle.frame_blocks.specs.Rows.{row_from, blocks_of_row, blocks_of_rows, AreRows}
-use Rattle.frame_blocks.specs.Buddies.{RemovesFrameSet, IsBuddy}
-use Rattle.frame_blocks.proofs.SetLaws.{set_until}
-use Rattle.frame_blocks.proofs.BlockLaws.{found_block, block_found, listed_sound, listed_complete}
-use Rattle.frame_blocks.proofs.BuddyLaws.{in_set_or_not, others_stay, others_were, left_is_block, rest_is_left, buddy_inside, one_at}
+use Rattle.buddy_blocks.specs.declared.block.Block.{Block}
+use Rattle.buddy_blocks.specs.declared.block.BlockRow.{BlockRow}
+use Rattle.buddy_blocks.specs.declared.run.TheConstants.{MAX_FRAMES}
+use Rattle.buddy_blocks.specs.Frames.{Frames, IsBlock, IsInBlock}
+use Rattle.buddy_blocks.specs.BlockList.{block_of, blocks_of, ListsBlock}
+use Rattle.buddy_blocks.specs.Rows.{row_from, blocks_of_row, blocks_of_rows, AreRows}
+use Rattle.buddy_blocks.specs.Buddies.{RemovesFrameSet, IsBuddy}
+use Rattle.buddy_blocks.proofs.SetLaws.{set_until}
+use Rattle.buddy_blocks.proofs.BlockLaws.{found_block, block_found, listed_sound, listed_complete}
+use Rattle.buddy_blocks.proofs.BuddyLaws.{in_set_or_not, others_stay, others_were, left_is_block, rest_is_left, buddy_inside, one_at}
 use Rattle.free_areas.specs.Areas.{FollowsLargestBlock, IndexesFreeBlocks, lead_block, AreLargestAlike, AddsBuddies, RemovesBuddies}
 
 no_buddy : (b c : Block) (low x : ℕ) → IsBuddy b low low x c → ⊥

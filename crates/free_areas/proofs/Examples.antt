@@ -5,9 +5,9 @@ use Rattle.std.proofs.lemmas.Bool.{cases_Bool}
 use Rattle.std.proofs.Math.Nat.{div-one}
 use Rattle.bm_base.specs.declared.zone.Zone.TheVariants as zone
 use Rattle.bm_base.specs.Zones.{zone_of}
-use Rattle.frame_blocks.specs.declared.block.Block.{Block}
-use Rattle.frame_blocks.specs.Frames.{Frames, IsBlock}
-use Rattle.frame_blocks.proofs.BuddyLaws.{one_at}
+use Rattle.buddy_blocks.specs.declared.block.Block.{Block}
+use Rattle.buddy_blocks.specs.Frames.{Frames, IsBlock}
+use Rattle.buddy_blocks.proofs.BuddyLaws.{one_at}
 use Rattle.free_areas.specs.Areas.{FollowsLargestBlock, IndexesFreeBlocks, AreLargestAlike}
 
 -- frame 5 alone is free, on node 7

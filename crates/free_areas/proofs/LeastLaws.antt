@@ -3,9 +3,9 @@ use Rattle.std.proofs.Common.{◌≡◌, ℕ, ◌<◌, ◌≤◌, Option, Some, 
 use Rattle.std.specs.declared.ops.Bound.TheVariants.{Included, Excluded}
 use Rattle.std.specs.BTreeSet.{BTreeSet, IsKeyRangeOf}
 use Rattle.bm_base.specs.declared.zone.Zone.{Zone}
-use Rattle.frame_blocks.specs.declared.block.Block.{Block}
-use Rattle.frame_blocks.specs.Frames.{Frames}
-use Rattle.frame_blocks.specs.Picked.{IsPicked, NoneServes}
+use Rattle.buddy_blocks.specs.declared.block.Block.{Block}
+use Rattle.buddy_blocks.specs.Frames.{Frames}
+use Rattle.buddy_blocks.specs.PickedBlock.{IsPicked, NoneServes}
 use Rattle.free_areas.specs.Areas.{IndexesFreeBlocks}
 use Rattle.free_areas.proofs.AreaLaws.{led}
 use Rattle.free_areas.proofs.OrderLaws.{block_cmp, has_key, key_has, between, from_first, before_last, least_of}

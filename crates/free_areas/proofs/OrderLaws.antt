@@ -13,9 +13,9 @@ use Rattle.std.specs.BTreeSet.{BTreeSet, Updates, contains}
 use Rattle.bm_base.specs.declared.zone.Zone.{Zone}
 use Rattle.bm_base.specs.declared.zone.Zone.TheVariants as zone
 use Rattle.bm_base.specs.contracts.zone.ZoneOrd.TheImpl as zone_ord
-use Rattle.frame_blocks.specs.declared.block.Block.{Block}
-use Rattle.frame_blocks.specs.contracts.block.BlockOrd.TheImpl as block_ord
-use Rattle.frame_blocks.specs.Listed.{ListsBlock}
+use Rattle.buddy_blocks.specs.declared.block.Block.{Block}
+use Rattle.buddy_blocks.specs.contracts.block.BlockOrd.TheImpl as block_ord
+use Rattle.buddy_blocks.specs.BlockList.{ListsBlock}
 
 abbrev pub zone_cmp : Zone → Zone → Ordering
 zone_cmp = (zone_ord.ghosts).cmp

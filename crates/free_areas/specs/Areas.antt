@@ -2,11 +2,11 @@
 -- block, except those of the largest order that come right after another of the same node and
 -- zone.
 use Rattle.std.specs.Prelude.{◌≡◌, ◌⊎◌, ◌↔◌, ℕ, ◌-◌, ◌≤◌, List}
-use Rattle.frame_blocks.specs.declared.block.Block.{Block}
-use Rattle.frame_blocks.specs.declared.block.BlockRow.{BlockRow}
-use Rattle.frame_blocks.specs.Frames.{Frames, IsBlock}
-use Rattle.frame_blocks.specs.Listed.{ListsBlock}
-use Rattle.frame_blocks.specs.Buddies.{IsBuddy}
+use Rattle.buddy_blocks.specs.declared.block.Block.{Block}
+use Rattle.buddy_blocks.specs.declared.block.BlockRow.{BlockRow}
+use Rattle.buddy_blocks.specs.Frames.{Frames, IsBlock}
+use Rattle.buddy_blocks.specs.BlockList.{ListsBlock}
+use Rattle.buddy_blocks.specs.Buddies.{IsBuddy}
 
 -- the block is of the largest order, and begins where another block of its order, node and zone
 -- ends

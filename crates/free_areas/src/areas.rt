@@ -3,15 +3,15 @@
 ghost use Rattle.std.specs.Prelude.{◌≡◌, ℕ, ◌+◌, ◌^◌, ◌<◌, ◌≤◌, OnOk, IfOk, MatchOption};
 ghost use Rattle.address_runs.specs.Runs.{AreRuns, value_at};
 ghost use Rattle.address_runs.specs.Edits.{NothingFrom};
-ghost use Rattle.frame_blocks.specs.Frames.{Frames, IsBlock, IsInBlock};
-ghost use Rattle.frame_blocks.specs.Listed.{block_of};
-ghost use Rattle.frame_blocks.specs.Picked.{IsPicked, NoneServes};
-ghost use Rattle.frame_blocks.specs.Buddies.{RemovesFrameSet};
+ghost use Rattle.buddy_blocks.specs.Frames.{Frames, IsBlock, IsInBlock};
+ghost use Rattle.buddy_blocks.specs.BlockList.{block_of};
+ghost use Rattle.buddy_blocks.specs.PickedBlock.{IsPicked, NoneServes};
+ghost use Rattle.buddy_blocks.specs.Buddies.{RemovesFrameSet};
 ghost use Rattle.free_areas.specs.Areas.{IndexesFreeBlocks};
 
 use crate::index::{lead_block, insert_block, insert_buddies, remove_buddies, remove_and_expose_next};
 use bm_base::{Memory, Zone};
-use frame_blocks::{Block, FrameRun, MAX_FRAMES, MAX_ORDER, block_rows};
+use buddy_blocks::{Block, FrameRun, MAX_FRAMES, MAX_ORDER, block_rows};
 use std::alloc::Global;
 use std::collections::BTreeSet;
 use std::marker::Model;
@@ -25,7 +25,7 @@ pub struct Areas {
 
 impl Model for Areas {
     ghost use Rattle.std.specs.Prelude.{List};
-    ghost use Rattle.frame_blocks.specs.declared.block.Block.{Block as AnyBlock};
+    ghost use Rattle.buddy_blocks.specs.declared.block.Block.{Block as AnyBlock};
 
     ghost Value = { List AnyBlock };
 

@@ -1,13 +1,13 @@
 //! The keys of the index, and changes to them, one key at a time.
 
 ghost use Rattle.std.specs.Prelude.{◌≡◌, ◌≢◌, ◌⊎◌, ◌↔◌, ℕ, ◌+◌, ◌*◌, ◌/◌, ◌^◌, ◌<◌, ◌≤◌, Some, None, OnOk, IfSome, IfNone};
-ghost use Rattle.frame_blocks.specs.declared.block.Block.{Block as AnyBlock};
-ghost use Rattle.frame_blocks.specs.Listed.{ListsBlock};
-ghost use Rattle.frame_blocks.specs.Buddies.{other_half, buddy_first, buddy_of};
+ghost use Rattle.buddy_blocks.specs.declared.block.Block.{Block as AnyBlock};
+ghost use Rattle.buddy_blocks.specs.BlockList.{ListsBlock};
+ghost use Rattle.buddy_blocks.specs.Buddies.{other_half, buddy_first, buddy_of};
 ghost use Rattle.free_areas.specs.Areas.{lead_block, AreLargestAlike, AddsBuddies, RemovesBuddies};
 
 use bm_base::Memory;
-use frame_blocks::{Block, BlockRow, MAX_FRAMES, MAX_ORDER};
+use buddy_blocks::{Block, BlockRow, MAX_FRAMES, MAX_ORDER};
 use std::collections::BTreeSet;
 
 /// Returns the first block of a row.

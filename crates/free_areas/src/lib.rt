@@ -2,7 +2,7 @@
 //!
 //! The kernel keeps a list of blocks for each order of each zone (`struct free_area`), so that it
 //! can serve a request without searching memory. Here the free frames are kept as runs
-//! (`frame_blocks`), together with an index, [`Areas`]: an ordered set of blocks. The block for a
+//! (`buddy_blocks`), together with an index, [`Areas`]: an ordered set of blocks. The block for a
 //! request is the first one from a certain key on ([`Areas::find_picked_block`]). [`Areas::split_block`] updates the
 //! index when a set of frames is taken from a block (`expand`), and [`Areas::merge_block`] when one is
 //! freed (`__free_one_page`). Both look only at the blocks involved.
@@ -12,7 +12,7 @@
 //!
 //! `specs/Areas.antt` defines when a list of blocks is the index of a set of free frames. The
 //! layer above may rest on that definition alone. In contracts, a name means the definition in
-//! `specs/`, here or in `frame_blocks`.
+//! `specs/`, here or in `buddy_blocks`.
 #![tactic(auto)]
 
 mod areas;

@@ -8,7 +8,7 @@ use Rattle.memblock_model.specs.declared.owner.Owner.TheVariants as owner
 use Rattle.memblock_model.specs.declared.owner.Which.TheVariants as which
 use Rattle.memblock_model.specs.declared.item.Item.{Item}
 use Rattle.memblock_model.specs.declared.item.Item.TheVariants as item
-use Rattle.memblock_ranges.specs.Spelling.{encode_table, encode_fields}
+use Rattle.memblock_ranges.specs.Encoding.{encode_table, encode_fields}
 use Rattle.memblock_ranges.specs.Tables.{TableView}
 use Rattle.growth_model.specs.Bytes.{byte_with_tables, TablesAreEncoded, byte_after, Fill, byte_from_history, AreMadeBy}
 use Rattle.growth_model.proofs.BytesLaws.{byte_with_tables-again}

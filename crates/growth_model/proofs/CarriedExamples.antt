@@ -4,8 +4,8 @@ use Rattle.bm_base.specs.Range.{RangeView}
 use Rattle.memblock_model.specs.declared.owner.Which.TheVariants as which
 use Rattle.memblock_model.specs.declared.owner.Owner.TheVariants as owner
 use Rattle.memblock_model.specs.declared.item.Item.TheVariants as item
-use Rattle.growth_model.specs.Outcome.{RefusedGrowth}
-use Rattle.growth_model.specs.Carried.{StepsKeepMemory, carry_out_items, items_or_refusal, is_memory_item, memory_items}
+use Rattle.growth_model.specs.Change.{RefusedGrowth}
+use Rattle.growth_model.specs.Requests.{StepsKeepMemory, carry_out_items, items_or_refusal, is_memory_item, memory_items}
 
 abbrev page : RangeView
 page = record { base = 0x1000; size = 0x1000 }

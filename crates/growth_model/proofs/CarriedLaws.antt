@@ -5,9 +5,9 @@ use Rattle.bm_base.specs.ResultSteps.{◌>>=◌}
 use Rattle.memblock_model.specs.declared.owner.Which.TheVariants as which
 use Rattle.memblock_model.specs.declared.item.Item.{Item}
 use Rattle.memblock_model.specs.declared.item.Item.TheVariants as item
-use Rattle.growth_model.specs.Outcome.{RefusedGrowth, ChangeEffect, Change, ◌>>◌, followed_by, items_after_change, items_of_steps, write_item}
+use Rattle.growth_model.specs.Change.{RefusedGrowth, ChangeEffect, Change, ◌>>◌, followed_by, items_after_change, items_of_steps, write_item}
 use Rattle.growth_model.specs.Growth.{add_range, claim_range, free_range, set_range_mirror, set_range_node, count_uncovered_pieces, split_record_count}
-use Rattle.growth_model.specs.Carried.{StepsKeepMemory, carry_out_items, change_for, items_or_refusal, memory_items, unless_refused}
+use Rattle.growth_model.specs.Requests.{StepsKeepMemory, carry_out_items, change_for, items_or_refusal, memory_items, unless_refused}
 use Rattle.growth_model.proofs.EndLaws.{items_of_steps-append}
 use Rattle.growth_model.proofs.MemoryItemLaws.{memory_items-append, quiet-joined}
 use Rattle.growth_model.proofs.QuietLaws.{IsQuiet, quiet-grown, reserved_growth-quiet, memory_growth-quiet}

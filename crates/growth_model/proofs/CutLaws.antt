@@ -7,7 +7,7 @@ use Rattle.memblock_model.specs.declared.owner.Which.{Which}
 use Rattle.memblock_model.specs.declared.item.Item.{Item}
 use Rattle.growth_model.specs.declared.refusal.Refusal.{Refusal}
 use Rattle.growth_model.specs.declared.refusal.Refusal.TheVariants as refusal
-use Rattle.growth_model.specs.Outcome.{RefusedGrowth, ChangeEffect, Change, items_of_steps, items_after_change, followed_by, ◌>>◌, if_due}
+use Rattle.growth_model.specs.Change.{RefusedGrowth, ChangeEffect, Change, items_of_steps, items_after_change, followed_by, ◌>>◌, if_due}
 use Rattle.growth_model.specs.Growth.{is_full, make_table_room}
 use Rattle.growth_model.specs.Ends.{EndsAsEffect}
 use Rattle.growth_model.proofs.EndLaws.{items_after_change-both, followed}

@@ -6,7 +6,7 @@ use Rattle.memblock_model.specs.declared.owner.Which.{Which}
 use Rattle.memblock_model.specs.declared.item.Item.{Item}
 use Rattle.growth_model.specs.declared.refusal.Refusal.{Refusal}
 use Rattle.growth_model.specs.declared.refusal.Refusal.TheVariants as refusal
-use Rattle.growth_model.specs.Outcome.{RefusedGrowth, ChangeEffect, Change, items_of_steps, items_after_change, no_change, write_items, refuse_growth, followed_by, ◌>>◌, if_due}
+use Rattle.growth_model.specs.Change.{RefusedGrowth, ChangeEffect, Change, items_of_steps, items_after_change, no_change, write_items, refuse_growth, followed_by, ◌>>◌, if_due}
 use Rattle.growth_model.specs.Ends.{WritesFirstSteps, StopsBeforeStep, EndsAsEffect, EndsAsChange}
 
 pub items_of_steps-append : (a b : List (List Item)) → items_of_steps (a ++ b) ≡ items_of_steps a ++ items_of_steps b

@@ -6,7 +6,7 @@ use Rattle.bm_base.specs.Range.{RangeView, covers}
 use Rattle.memblock_model.specs.declared.owner.Which.TheVariants as which
 use Rattle.memblock_model.specs.declared.item.Item.{Item}
 use Rattle.memblock_ranges.specs.Tables.{TableView, bytes_of}
-use Rattle.growth_model.specs.Sound.{AreDisjoint, TouchesNoTable}
+use Rattle.growth_model.specs.Tables.{AreDisjoint, TouchesNoTable}
 use Rattle.growth_model.specs.Bytes.{table_for, table_byte_at, byte_with_tables, TablesAreEncoded, byte_with_item_tables, is_vacated_by, byte_after, Fill, byte_after_fill, byte_after_fills, byte_outside_tables, byte_from_history, AreMadeBy, Follows, AreBytesFromHistory}
 use Rattle.growth_model.proofs.BytesLaws.{AreMadeBy-more, after-byte}
 

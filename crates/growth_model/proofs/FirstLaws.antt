@@ -13,9 +13,9 @@ use Rattle.memblock_model.specs.Items.{no_owners}
 use Rattle.memblock_model.specs.Tables.{table_of, records_for, records_of, room_of, table_bytes}
 use Rattle.memblock_model.proofs.TableLaws.{records_for-is}
 use Rattle.memblock_ranges.proofs.CountLaws.{few-pieces}
-use Rattle.growth_model.specs.Outcome.{write_item}
+use Rattle.growth_model.specs.Change.{write_item}
 use Rattle.growth_model.specs.Growth.{record_count, is_full, count_uncovered_pieces, split_record_count, claim_range}
-use Rattle.growth_model.specs.Sound.{ShareNoFrame, TablesAreClaimed, IsKernelImage}
+use Rattle.growth_model.specs.Tables.{ShareNoFrame, TablesAreClaimed, IsKernelImage}
 use Rattle.growth_model.proofs.IdleLaws.{claim_range-idle}
 use Rattle.growth_model.proofs.SeatLaws.{IsTablePlace-new}
 

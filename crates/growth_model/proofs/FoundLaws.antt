@@ -16,7 +16,7 @@ use Rattle.memblock_ranges.specs.Tables.{TablesView, bytes_of, bytes_in, Overlap
 use Rattle.growth_model.specs.Growth.{round_up_to_frames, frames_for_bytes, table_query, place_beside_range}
 use Rattle.memblock_model.specs.declared.query.Request.{Request}
 use Rattle.growth_model.specs.Request.{Attempt, attempt, any_node_attempt, node_attempts, attempts_from, attempts, first_found_place, place_for}
-use Rattle.growth_model.specs.Sound.{AreDisjoint, IsUnclaimed, TablesAreClaimed, TouchesNoTable}
+use Rattle.growth_model.specs.Tables.{AreDisjoint, IsUnclaimed, TablesAreClaimed, TouchesNoTable}
 use Rattle.growth_model.specs.Bytes.{table_for}
 use Rattle.growth_model.proofs.SeatLaws.{covers-from, frames-more, unclaimed-clear}
 

@@ -22,7 +22,7 @@ use Rattle.memblock_model.proofs.TableLaws.{records_for-is}
 use Rattle.memblock_ranges.proofs.CountLaws.{few-pieces}
 use Rattle.growth_model.specs.declared.refusal.Refusal.TheVariants as refusal
 use Rattle.memblock_model.specs.declared.query.Request.{Request}
-use Rattle.growth_model.specs.Outcome.{ChangeEffect, Change, items_of_steps, write_items, write_item, refuse_growth, ◌>>◌}
+use Rattle.growth_model.specs.Change.{ChangeEffect, Change, items_of_steps, write_items, write_item, refuse_growth, ◌>>◌}
 use Rattle.growth_model.specs.Growth.{round_up_to_frames, frames_for_bytes, record_count, table_query, place_beside_range, reserved_growth_items, reserved_growth_at, reserved_growth, is_full, count_uncovered_pieces, split_record_count, make_table_room, claim_range, free_range, free_old_place, memory_growth_at, memory_growth}
 use Rattle.growth_model.specs.Request.{Attempt, attempt, attempts_from, attempts, first_found_place, place_for}
 use Rattle.growth_model.specs.Ends.{WritesFirstSteps, StopsBeforeStep, EndsAsEffect, EndsAsChange, Allocates}

@@ -6,7 +6,7 @@ use Rattle.memblock_model.specs.declared.owner.Which.TheVariants as which
 use Rattle.memblock_model.specs.declared.owner.Owner.{Owner}
 use Rattle.memblock_model.specs.declared.item.Item.{Item}
 use Rattle.memblock_model.specs.declared.item.Item.TheVariants as item
-use Rattle.growth_model.specs.Outcome.{write_item}
+use Rattle.growth_model.specs.Change.{write_item}
 use Rattle.growth_model.specs.Growth.{is_full, count_uncovered_pieces, split_record_count, claim_range, free_range, add_range, set_range_node, set_range_mirror}
 
 pub claim_range-idle : (items : List Item) (range : RangeView) (who : Owner) → is_full which.Reserved (count_uncovered_pieces which.Reserved range) items ≡ false

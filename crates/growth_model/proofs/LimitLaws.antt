@@ -12,7 +12,7 @@ use Rattle.memblock_model.specs.Items.{limit_of}
 use Rattle.memblock_model.specs.Tables.{room_of, moved_to}
 use Rattle.memblock_model.specs.Search.{best_place}
 use Rattle.growth_model.specs.declared.refusal.Refusal.{Refusal}
-use Rattle.growth_model.specs.Outcome.{Change, items_after_change, write_item, ◌>>◌}
+use Rattle.growth_model.specs.Change.{Change, items_after_change, write_item, ◌>>◌}
 use Rattle.growth_model.specs.Growth.{round_up_to_frames, frames_for_bytes, table_query, place_beside_range, reserved_growth_items, reserved_growth_at, reserved_growth, count_uncovered_pieces, split_record_count, make_table_room, claim_range, free_range, old_frames, free_old_place, memory_growth_at, memory_growth}
 use Rattle.growth_model.specs.Ends.{EndsAsChange}
 use Rattle.growth_model.proofs.CutLaws.{EachCut, cuts-last, cuts-ends, cuts-then, cuts-grown, cuts-map}

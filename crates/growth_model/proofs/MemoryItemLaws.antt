@@ -5,8 +5,8 @@ use Rattle.memblock_model.specs.declared.item.Item.{Item}
 use Rattle.memblock_model.specs.declared.item.Item.TheVariants as item
 use Rattle.memblock_model.specs.Labels.{Labels}
 use Rattle.memblock_model.specs.Items.{memory_after, no_memory, memory_of, limit_after, limit_of}
-use Rattle.growth_model.specs.Outcome.{items_of_steps}
-use Rattle.growth_model.specs.Carried.{memory_items, StepsKeepMemory}
+use Rattle.growth_model.specs.Change.{items_of_steps}
+use Rattle.growth_model.specs.Requests.{memory_items, StepsKeepMemory}
 
 pub fold-memory : (f : Labels) (is : List Item) → fold memory_after f is ≡ fold memory_after f (memory_items is)
 fold-memory f [] = refl

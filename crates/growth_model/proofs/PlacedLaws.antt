@@ -14,7 +14,7 @@ use Rattle.memblock_model.specs.declared.item.Item.TheVariants as item
 use Rattle.memblock_model.specs.Items.{Owners, owners_after, no_owners, owner_of, limit_after, limit_of}
 use Rattle.memblock_model.specs.Tables.{room_after, room_of, moved_after, moved_to, built_in_place, table_bytes}
 use Rattle.growth_model.specs.Growth.{frames_for_bytes}
-use Rattle.growth_model.specs.Sound.{may_hold_table, AreDisjoint, IsUnclaimed, AreTablePlaces, TablesAreClaimed, TouchesNoTable}
+use Rattle.growth_model.specs.Tables.{may_hold_table, AreDisjoint, IsUnclaimed, AreTablePlaces, TablesAreClaimed, TouchesNoTable}
 use Rattle.growth_model.proofs.SeatLaws.{frames, AreTablePlaces-claim, AreTablePlaces-clear, AreTablePlaces-free, AreTablePlaces-move, AreTablePlaces-leave}
 
 -- a table's bytes, from its newest place and its room

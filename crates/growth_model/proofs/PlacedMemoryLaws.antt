@@ -11,11 +11,11 @@ use Rattle.memblock_model.specs.Items.{owner_of, limit_of}
 use Rattle.memblock_model.specs.Tables.{room_of, moved_to, table_bytes}
 use Rattle.memblock_model.specs.Search.{best_place}
 use Rattle.memblock_model.specs.declared.query.Request.{Request}
-use Rattle.growth_model.specs.Outcome.{items_after_change, write_item, ◌>>◌}
+use Rattle.growth_model.specs.Change.{items_after_change, write_item, ◌>>◌}
 use Rattle.growth_model.specs.Growth.{frames_for_bytes, table_query, count_uncovered_pieces, split_record_count, make_table_room, claim_range, old_frames, free_old_place, memory_growth_at, memory_growth, add_range, set_range_node, set_range_mirror}
 use Rattle.growth_model.specs.Request.{place_for}
 use Rattle.growth_model.specs.Ends.{EndsAsChange}
-use Rattle.growth_model.specs.Sound.{AreDisjoint, IsUnclaimed, AreTablePlaces, TablesAreClaimed, TouchesNoTable}
+use Rattle.growth_model.specs.Tables.{AreDisjoint, IsUnclaimed, AreTablePlaces, TablesAreClaimed, TouchesNoTable}
 use Rattle.growth_model.proofs.CutLaws.{EachCut, cuts-last, cuts-then, cuts-grown}
 use Rattle.growth_model.proofs.SeatLaws.{frames, apart-clear, old-clear, AreTablePlaces-swap}
 use Rattle.growth_model.proofs.FoundLaws.{found-fits, found-unclaimed, place-unclaimed, unclaimed-away}

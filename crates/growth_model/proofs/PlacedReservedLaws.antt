@@ -11,9 +11,9 @@ use Rattle.memblock_model.specs.declared.item.Item.{Item}
 use Rattle.memblock_model.specs.declared.item.Item.TheVariants as item
 use Rattle.memblock_model.specs.Items.{Owners, owner_of, limit_of}
 use Rattle.memblock_model.specs.Tables.{room_after, room_of, moved_after, moved_to, table_bytes}
-use Rattle.growth_model.specs.Outcome.{items_after_change, write_item}
+use Rattle.growth_model.specs.Change.{items_after_change, write_item}
 use Rattle.growth_model.specs.Growth.{frames_for_bytes, place_beside_range, reserved_growth_items, reserved_growth_at, reserved_growth, count_uncovered_pieces, split_record_count, make_table_room, claim_range, free_range}
-use Rattle.growth_model.specs.Sound.{AreDisjoint, IsUnclaimed, AreTablePlaces, TablesAreClaimed, TouchesNoTable}
+use Rattle.growth_model.specs.Tables.{AreDisjoint, IsUnclaimed, AreTablePlaces, TablesAreClaimed, TouchesNoTable}
 use Rattle.growth_model.proofs.CutLaws.{EachCut, cuts-last, cuts-then, cuts-grown, cuts-map, items_after_change-then, then-unrefused}
 use Rattle.growth_model.proofs.FoundLaws.{IsNew, beside-new}
 use Rattle.growth_model.proofs.PlacedLaws.{live_by, table_bytes-is, table_bytes-same, placed-more, owners-of, moves-of, rooms-of, limits-of, MayTake, claim-placed, free-placed, Aside, aside-same, aside-on, Going, away-still, take-still, for_table, move-seats, leave-seats}

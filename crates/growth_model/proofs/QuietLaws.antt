@@ -12,9 +12,9 @@ use Rattle.memblock_model.specs.declared.item.Item.TheVariants as item
 use Rattle.memblock_model.specs.Items.{memory_of, limit_of}
 use Rattle.memblock_model.specs.Tables.{room_of, moved_to}
 use Rattle.memblock_model.specs.Search.{best_place}
-use Rattle.growth_model.specs.Outcome.{RefusedGrowth, ChangeEffect, Change, ◌>>◌, followed_by, items_after_change, items_of_steps, if_due, write_item}
+use Rattle.growth_model.specs.Change.{RefusedGrowth, ChangeEffect, Change, ◌>>◌, followed_by, items_after_change, items_of_steps, if_due, write_item}
 use Rattle.growth_model.specs.Growth.{claim_range, free_range, frames_for_bytes, make_table_room, is_full, free_old_place, memory_growth, memory_growth_at, count_uncovered_pieces, old_frames, place_beside_range, reserved_growth, reserved_growth_at, reserved_growth_items, table_query, split_record_count}
-use Rattle.growth_model.specs.Carried.{StepsKeepMemory, memory_items}
+use Rattle.growth_model.specs.Requests.{StepsKeepMemory, memory_items}
 use Rattle.growth_model.proofs.MemoryItemLaws.{quiet-append, quiet-joined, memory_items-append, memory_of-same, limit_of-same}
 
 -- a change that writes no item that changes memory

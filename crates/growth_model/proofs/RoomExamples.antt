@@ -5,7 +5,7 @@ use Rattle.std.proofs.lemmas.Bool.Decides.{nat_tests}
 use Rattle.memblock_model.specs.declared.owner.Which.TheVariants as which
 use Rattle.memblock_model.specs.declared.item.Item.TheVariants as item
 use Rattle.memblock_model.specs.Tables.{records_of}
-use Rattle.growth_model.specs.Outcome.{ChangeEffect, items_after_change, no_change}
+use Rattle.growth_model.specs.Change.{ChangeEffect, items_after_change, no_change}
 use Rattle.growth_model.specs.Growth.{is_full, make_table_room}
 use Rattle.growth_model.specs.Room.{IsInAddressSpace, DoublesRoom, HasRoomAfter}
 use Rattle.growth_model.proofs.FirstLaws.{nothing_said}

@@ -21,9 +21,9 @@ use Rattle.memblock_model.specs.Tables.{without_owner, reserved_labels, table_of
 use Rattle.memblock_model.proofs.ItemLaws.{reserved_labels-replaced, reserved_labels-uncovered}
 use Rattle.memblock_model.proofs.TableLaws.{room_of-least}
 use Rattle.memblock_ranges.proofs.CountLaws.{length-covered, length-uncovered, few-pieces, one-piece}
-use Rattle.growth_model.specs.Outcome.{Change, items_after_change, if_due, write_item, ◌>>◌}
+use Rattle.growth_model.specs.Change.{Change, items_after_change, if_due, write_item, ◌>>◌}
 use Rattle.growth_model.specs.Growth.{record_count, is_full, count_uncovered_pieces, split_record_count, frames_for_bytes, place_beside_range, table_query, reserved_growth_items, reserved_growth_at, reserved_growth, claim_range, old_frames, free_old_place, memory_growth_at, memory_growth}
-use Rattle.growth_model.specs.Sound.{IsUnclaimed, TablesAreClaimed, TablesHaveRoom}
+use Rattle.growth_model.specs.Tables.{IsUnclaimed, TablesAreClaimed, TablesHaveRoom}
 use Rattle.growth_model.specs.Room.{IsInAddressSpace, DoublesRoom, HasRoomAfter}
 use Rattle.growth_model.proofs.CutLaws.{cuts-last, items_after_change-then, then-unrefused}
 use Rattle.growth_model.proofs.SeatLaws.{covers-to}

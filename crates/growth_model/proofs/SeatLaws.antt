@@ -7,7 +7,7 @@ use Rattle.address_runs.specs.Edits.{uncover_range, replace_in_range}
 use Rattle.memblock_model.specs.declared.owner.Owner.{Owner}
 use Rattle.memblock_model.specs.Items.{Owners}
 use Rattle.growth_model.specs.Growth.{frames_for_bytes}
-use Rattle.growth_model.specs.Sound.{may_hold_table, IsTablePlace, ShareNoFrame, AreDisjoint, IsUnclaimed, AreTablePlaces}
+use Rattle.growth_model.specs.Tables.{may_hold_table, IsTablePlace, ShareNoFrame, AreDisjoint, IsUnclaimed, AreTablePlaces}
 
 -- the frames of a range that begins with a frame
 abbrev pub frames : RangeView → RangeView

@@ -8,7 +8,7 @@ use Rattle.memblock_model.specs.declared.item.Item.{Item}
 use Rattle.memblock_model.specs.declared.item.Item.TheVariants as item
 use Rattle.bm_base.specs.Range.{covers}
 use Rattle.memblock_model.specs.Items.{Owners, owner_of}
-use Rattle.growth_model.specs.Sound.{may_hold_table, IsTablePlace, ShareNoFrame, AreDisjoint, TablesAreClaimed, IsKernelImage, TouchesNoTable, MayClaim}
+use Rattle.growth_model.specs.Tables.{may_hold_table, IsTablePlace, ShareNoFrame, AreDisjoint, TablesAreClaimed, IsKernelImage, TouchesNoTable, MayClaim}
 use Rattle.growth_model.proofs.FirstLaws.{first-placed}
 use Rattle.growth_model.proofs.GrowthExamples.{image, frame}
 

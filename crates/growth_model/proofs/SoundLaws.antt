@@ -9,11 +9,11 @@ use Rattle.memblock_model.specs.declared.item.Item.TheVariants as item
 use Rattle.growth_model.specs.declared.refusal.Refusal.{Refusal}
 use Rattle.growth_model.specs.declared.refusal.Refusal.TheVariants as refusal
 use Rattle.memblock_model.specs.declared.query.Request.{Request}
-use Rattle.growth_model.specs.Outcome.{ChangeEffect, Change, items_of_steps, no_change, if_due}
+use Rattle.growth_model.specs.Change.{ChangeEffect, Change, items_of_steps, no_change, if_due}
 use Rattle.growth_model.specs.Growth.{is_full, count_uncovered_pieces, claim_range, free_range, reserved_growth, memory_growth, add_range, set_range_node, set_range_mirror}
 use Rattle.growth_model.specs.Request.{place_for}
 use Rattle.growth_model.specs.Ends.{EndsAsEffect, EndsAsChange, Allocates}
-use Rattle.growth_model.specs.Sound.{may_hold_table, TablesAreClaimed, IsKernelImage, HasBegun, TouchesNoTable, MayClaim}
+use Rattle.growth_model.specs.Tables.{may_hold_table, TablesAreClaimed, IsKernelImage, HasBegun, TouchesNoTable, MayClaim}
 use Rattle.growth_model.proofs.CutLaws.{EachCut, cuts-ends, cuts-map, cuts-due}
 use Rattle.growth_model.proofs.PlacedLaws.{aside-same, Going, trim-placed, limit-placed, upward-placed}
 use Rattle.growth_model.proofs.PlacedReservedLaws.{reserved-cuts, claim_range-cuts, free_range-cuts}

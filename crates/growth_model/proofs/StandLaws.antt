@@ -12,9 +12,9 @@ use Rattle.memblock_model.specs.declared.owner.Which.{Which}
 use Rattle.memblock_model.specs.declared.owner.Which.TheVariants as which
 use Rattle.memblock_model.specs.declared.item.Item.{Item}
 use Rattle.memblock_model.specs.Tables.{records_of, room_of, table_place, table_bytes}
-use Rattle.memblock_ranges.specs.Spelling.{encode_table, encode_record, flags_field, node_field}
+use Rattle.memblock_ranges.specs.Encoding.{encode_table, encode_record, flags_field, node_field}
 use Rattle.memblock_ranges.proofs.SpellLaws.{length-fields_of}
-use Rattle.growth_model.specs.Sound.{TablesAreClaimed, TablesHaveRoom, AreDisjoint}
+use Rattle.growth_model.specs.Tables.{TablesAreClaimed, TablesHaveRoom, AreDisjoint}
 use Rattle.growth_model.proofs.ToldLaws.{listed-told, chosen}
 use Rattle.growth_model.specs.Bytes.{table_for, table_byte_at, TablesAreEncoded}
 

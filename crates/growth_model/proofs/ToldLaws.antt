@@ -9,7 +9,7 @@ use Rattle.address_runs.specs.Runs.{RunOf}
 use Rattle.memblock_model.specs.Labels.{LabelView}
 use Rattle.memblock_model.specs.declared.owner.Which.{Which}
 use Rattle.memblock_model.specs.declared.owner.Which.TheVariants as which
-use Rattle.memblock_ranges.specs.Spelling.{encode_table}
+use Rattle.memblock_ranges.specs.Encoding.{encode_table}
 use Rattle.memblock_ranges.specs.Tables.{TableView, TablesView, table_in, bytes_of, bytes_in, IsInStore}
 use Rattle.growth_model.specs.Bytes.{table_byte_at, byte_with_tables, byte_without_table}
 

@@ -8,7 +8,7 @@ use Rattle.memblock_model.specs.declared.owner.Which.TheVariants as which
 use Rattle.memblock_model.specs.declared.item.Item.{Item}
 use Rattle.memblock_model.specs.declared.item.Item.TheVariants as item
 use Rattle.memblock_model.specs.Tables.{records_of, room_of, table_place, table_bytes}
-use Rattle.memblock_ranges.specs.Spelling.{encode_table}
+use Rattle.memblock_ranges.specs.Encoding.{encode_table}
 use Rattle.memblock_ranges.specs.Tables.{TableView, bytes_of}
 
 -- the table that the items define

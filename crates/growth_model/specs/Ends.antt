@@ -5,7 +5,7 @@ use Rattle.memblock_model.specs.declared.item.Item.{Item}
 use Rattle.memblock_model.specs.declared.owner.Owner.{Owner}
 use Rattle.growth_model.specs.declared.refusal.Refusal.{Refusal}
 use Rattle.growth_model.specs.declared.refusal.Refusal.TheVariants as refusal
-use Rattle.growth_model.specs.Outcome.{ChangeEffect, Change, items_of_steps, items_after_change}
+use Rattle.growth_model.specs.Change.{ChangeEffect, Change, items_of_steps, items_after_change}
 use Rattle.growth_model.specs.Growth.{claim_range}
 
 -- the new items are the old ones and those of the first `count` steps

@@ -15,7 +15,7 @@ use Rattle.memblock_model.specs.declared.item.Item.TheVariants as item
 use Rattle.memblock_model.specs.Items.{limit_of}
 use Rattle.memblock_model.specs.Tables.{table_of, records_of, room_of, moved_to, uncovered_run_count}
 use Rattle.memblock_model.specs.Search.{best_place}
-use Rattle.growth_model.specs.Outcome.{Change, ◌>>◌, no_change, write_items, write_item, refuse_growth, if_due, ignore_refusal}
+use Rattle.growth_model.specs.Change.{Change, ◌>>◌, no_change, write_items, write_item, refuse_growth, if_due, ignore_refusal}
 
 -- n bytes, rounded up to frames
 abbrev pub round_up_to_frames : ℕ → ℕ

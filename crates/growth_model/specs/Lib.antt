@@ -1,8 +1,8 @@
-pub mod Outcome
+pub mod Change
 pub mod Growth
 pub mod Request
 pub mod Ends
-pub mod Sound
+pub mod Tables
 pub mod Room
 pub mod Bytes
-pub mod Carried
+pub mod Requests

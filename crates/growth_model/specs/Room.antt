@@ -5,7 +5,7 @@ use Rattle.memblock_model.specs.declared.owner.Which.{Which}
 use Rattle.memblock_model.specs.declared.item.Item.{Item}
 use Rattle.memblock_model.specs.Items.{limit_of}
 use Rattle.memblock_model.specs.Tables.{table_of, room_of}
-use Rattle.growth_model.specs.Outcome.{Change, items_after_change}
+use Rattle.growth_model.specs.Change.{Change, items_after_change}
 use Rattle.growth_model.specs.Growth.{record_count, is_full, make_table_room}
 
 -- both tables end at or below 2^64, and so does the limit

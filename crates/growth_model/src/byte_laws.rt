@@ -16,9 +16,9 @@ ghost use Rattle.memblock_model.specs.declared.owner.Which.{Which};
 ghost use Rattle.memblock_model.specs.declared.owner.Which.TheVariants as which;
 ghost use Rattle.memblock_model.specs.declared.item.Item.{Item};
 ghost use Rattle.memblock_model.specs.Tables.{records_of, room_of, table_place, table_bytes};
-ghost use Rattle.memblock_ranges.specs.Spelling.{encode_table};
+ghost use Rattle.memblock_ranges.specs.Encoding.{encode_table};
 ghost use Rattle.memblock_ranges.specs.Tables.{TablesView, table_in, bytes_in, IsInStore};
-ghost use Rattle.growth_model.specs.Sound.{TablesAreClaimed, TablesHaveRoom, TouchesNoTable};
+ghost use Rattle.growth_model.specs.Tables.{TablesAreClaimed, TablesHaveRoom, TouchesNoTable};
 ghost use Rattle.growth_model.specs.Bytes.{table_for, table_byte_at, byte_with_tables, TablesAreEncoded, byte_without_table, byte_after, byte_from_history, Fill, byte_after_fill, AreMadeBy, Follows, AreBytesFromHistory};
 
 /// Law: the effect of items on a byte can be computed in two parts. Further items applied to the

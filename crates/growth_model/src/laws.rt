@@ -2,7 +2,7 @@
 //!
 //! A table is *seated* if it begins with a frame, and all its bytes are claimed, none of them by
 //! an allocation of the script. Both tables are seated if each is, they share no frame, and the
-//! kernel's image was claimed first (`TablesAreClaimed` in `specs/Sound.antt`). Each change keeps both
+//! kernel's image was claimed first (`TablesAreClaimed` in `specs/Tables.antt`). Each change keeps both
 //! tables seated wherever a call that makes it ends: after its last step, at a refusal, or before
 //! a step because this program is out of memory. These laws need neither the tables' bytes nor
 //! their records.
@@ -21,11 +21,11 @@ ghost use Rattle.memblock_model.specs.Tables.{room_of, moved_to};
 ghost use Rattle.memblock_model.specs.Search.{best_place};
 ghost use Rattle.growth_model.specs.declared.refusal.Refusal.{Refusal};
 ghost use Rattle.memblock_model.specs.declared.query.Request.{Request};
-ghost use Rattle.growth_model.specs.Outcome.{Change, ◌>>◌ as in_turn, items_after_change, write_item};
+ghost use Rattle.growth_model.specs.Change.{Change, ◌>>◌ as in_turn, items_after_change, write_item};
 ghost use Rattle.growth_model.specs.Growth.{round_up_to_frames, frames_for_bytes, is_full, count_uncovered_pieces, split_record_count, place_beside_range, reserved_growth, claim_range, free_range, memory_growth, add_range, set_range_node, set_range_mirror};
 ghost use Rattle.growth_model.specs.Request.{place_for};
 ghost use Rattle.growth_model.specs.Ends.{EndsAsChange, Allocates};
-ghost use Rattle.growth_model.specs.Sound.{AreDisjoint, IsUnclaimed, TablesAreClaimed, TablesHaveRoom, IsKernelImage, HasBegun, TouchesNoTable, MayClaim};
+ghost use Rattle.growth_model.specs.Tables.{AreDisjoint, IsUnclaimed, TablesAreClaimed, TablesHaveRoom, IsKernelImage, HasBegun, TouchesNoTable, MayClaim};
 ghost use Rattle.growth_model.specs.Room.{IsInAddressSpace, DoublesRoom, HasRoomAfter};
 
 /// Law: two calls in turn end as the two changes in turn: like the second if the first succeeds,

@@ -13,12 +13,12 @@
 //! - `specs/Request.antt`: the searches that an allocation tries, in order.
 //! - `specs/Ends.antt`: how a call that makes a change may end: as defined, or before one of its
 //!   steps because this program is out of memory.
-//! - `specs/Sound.antt`: what holds of the items after each call: both tables lie in claimed
+//! - `specs/Tables.antt`: what holds of the items after each call: both tables lie in claimed
 //!   memory, share no frame, and have room for their records.
 //! - `specs/Room.antt`: how much room a growth gives. Two growths in a row are always enough.
 //! - `specs/Bytes.antt`: the byte at each address, computed from the items and the fills, and how
 //!   a call changes it.
-//! - `specs/Carried.antt`: lists of items that are to be written, each with the growth that it
+//! - `specs/Requests.antt`: lists of items that are to be written, each with the growth that it
 //!   needs; and the items that change memory.
 //!
 //! [`Refusal`] is in this crate, below the calls that return it, because the definitions cite it.

@@ -8,9 +8,9 @@ ghost use Rattle.bm_base.specs.Range.{RangeView as AnyExtent};
 ghost use Rattle.memblock_model.specs.declared.item.Item.{Item as AnyItem};
 ghost use Rattle.memblock_model.specs.declared.owner.Owner.{Owner as AnyOwner};
 ghost use Rattle.memblock_model.specs.Items.{limit_of, memory_of};
-ghost use Rattle.growth_model.specs.Outcome.{items_after_change};
+ghost use Rattle.growth_model.specs.Change.{items_after_change};
 ghost use Rattle.growth_model.specs.Growth.{claim_range, free_range, memory_growth, reserved_growth};
-ghost use Rattle.growth_model.specs.Carried.{StepsKeepMemory, carry_out_items, memory_items};
+ghost use Rattle.growth_model.specs.Requests.{StepsKeepMemory, carry_out_items, memory_items};
 
 /// Law: memory and the limit depend only on the items that change memory.
 pub fn memory_items_decide()

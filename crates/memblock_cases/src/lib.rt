@@ -28,21 +28,21 @@ mod of_memblock_model;
 #[cfg(test)]
 mod of_memblock_ranges;
 #[cfg(test)]
-mod of_node_hulls;
+mod of_srat_nodes;
 #[cfg(test)]
 mod of_numa_nodes;
 #[cfg(test)]
 mod of_phys_store;
 #[cfg(test)]
-mod of_report_texts;
+mod of_report_memory;
 #[cfg(test)]
 mod of_section_maps;
 #[cfg(test)]
 mod of_sparse_sections;
 #[cfg(test)]
-mod of_stage_texts;
+mod of_report_stages;
 #[cfg(test)]
-mod of_table_frames;
+mod of_memblock_frames;
 #[cfg(test)]
 mod of_zone_spans;
 #[cfg(test)]

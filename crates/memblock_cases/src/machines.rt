@@ -1,7 +1,7 @@
 //! Builds machines on which something has happened: the kernel's image is claimed, and there is
 //! memory.
 ghost use Rattle.std.specs.Prelude.{◌<◌, IsTrue};
-ghost use Rattle.growth_model.specs.Sound.{HasBegun, IsKernelImage};
+ghost use Rattle.growth_model.specs.Tables.{HasBegun, IsKernelImage};
 
 use crate::ranges::{KERNEL, Part};
 use bm_base::Range;

@@ -1,7 +1,7 @@
 //! Handovers of whole machines, and frames that are freed in any order. All expected numbers are
 //! from outside.
 ghost use Rattle.std.specs.Prelude.{◌≡◌, ◌+◌, ◌^◌, ◌<◌, ◌≤◌, None, IsTrue};
-ghost use Rattle.buddy_handover.specs.Contents.{buddy_frames};
+ghost use Rattle.buddy_handover.specs.BuddyView.{buddy_frames};
 
 use crate::ranges::{IN_TURN, MACHINE};
 use crate::tables::{cover, tables_of};
@@ -13,7 +13,7 @@ use phys_store::Store;
 use std::alloc::Global;
 use std::process::Abort;
 use std::test::Fail;
-use table_frames::{has_records, has_whole_frames};
+use memblock_frames::{has_records, has_whole_frames};
 
 // Hands over, if the bytes are records.
 fn handed(alloc: Global, store: &Store, heads: &Heads) -> Result<Buddy, Fail> {

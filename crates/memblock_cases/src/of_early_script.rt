@@ -1,7 +1,7 @@
 //! Each outcome once, on a machine of 128 MiB with its kernel at 16 MiB. The expected addresses,
 //! the greatest that fit, were worked out by hand.
 ghost use Rattle.std.specs.Prelude.{◌≡◌, ◌+◌, ◌^◌, ◌<◌, ◌≤◌, length, IsTrue};
-ghost use Rattle.early_script.specs.Acted.{CanBeRun};
+ghost use Rattle.early_script.specs.Effects.{CanBeRun};
 
 use crate::machines::{bare, has_begun};
 use arrayvec::ArrayVec;

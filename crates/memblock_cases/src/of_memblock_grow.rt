@@ -2,7 +2,7 @@
 //! tables, and the bytes that are read back. The expected values are from an implementation of the
 //! same rules in another language.
 ghost use Rattle.std.specs.Prelude.{◌≡◌, ◌^◌, ◌<◌, ◌≤◌, IsTrue};
-ghost use Rattle.growth_model.specs.Sound.{HasBegun};
+ghost use Rattle.growth_model.specs.Tables.{HasBegun};
 
 use crate::machines::{has_begun, started};
 use crate::ranges::KERNEL;

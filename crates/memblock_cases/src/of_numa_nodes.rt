@@ -10,7 +10,7 @@ use boot_journal::{Item, Owner};
 use memblock_grow::Memblock;
 use numa_nodes::{Nodes, Why, assign};
 use srat_reader::SratBlock;
-use stage_model::{StageStop, What};
+use stage_steps::{StageStop, What};
 use std::alloc::Global;
 use std::process::Abort;
 use std::test::Fail;

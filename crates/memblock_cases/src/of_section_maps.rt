@@ -6,7 +6,7 @@ ghost use Rattle.std.specs.Prelude.{◌<◌, AllPairs};
 use crate::machines::{has_begun, limit, machine};
 use crate::ranges::{KERNEL, Part};
 use section_maps::{Placed, place_maps};
-use stage_model::Section;
+use stage_steps::Section;
 use std::test::Fail;
 
 // Sections 0 and 1, and the first 3 MiB of each of sections 2 and 3.

@@ -11,7 +11,7 @@ use memblock_grow::Memblock;
 use memblock_model::Which;
 use memblock_ranges::{Region, Tables};
 use sparse_sections::{RootPlace, Roots, place_roots, present};
-use stage_model::Section;
+use stage_steps::Section;
 use std::alloc::Global;
 use std::process::Abort;
 use std::test::Fail;

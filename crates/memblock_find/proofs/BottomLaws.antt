@@ -9,7 +9,7 @@ use Rattle.memblock_model.specs.Labels.{LabelView, Labels}
 use Rattle.memblock_model.specs.Search.{fits_in, top_place_in}
 use Rattle.memblock_model.specs.declared.query.Query.{Query}
 use Rattle.memblock_model.proofs.SearchLaws.{fits_in-parts, top_place_in-first, top_place_in-fails}
-use Rattle.memblock_find.specs.Free.{unclaimed_memory, ReachesUpTo}
+use Rattle.memblock_find.specs.Unclaimed.{unclaimed_memory, ReachesUpTo}
 use Rattle.memblock_find.specs.Places.{FitsBetween, is_allowed_label, NoPlaceBegins, IsBestFrom}
 use Rattle.memblock_find.proofs.PlaceLaws.{le_from_not_lt, label_of_place, held_somewhere, place_serves, place_of_bytes, some_align, mask_rest}
 

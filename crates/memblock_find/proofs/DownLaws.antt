@@ -5,7 +5,7 @@ use Rattle.address_runs.specs.Runs.{RunOf, run_end, value_at, AreRuns}
 use Rattle.address_runs.specs.Sweep.{Stays}
 use Rattle.memblock_model.specs.Labels.{LabelView, Labels}
 use Rattle.memblock_find.specs.declared.cursor.Cursor.{Cursor}
-use Rattle.memblock_find.specs.Free.{unclaimed_memory, ReachesDownTo}
+use Rattle.memblock_find.specs.Unclaimed.{unclaimed_memory, ReachesDownTo}
 use Rattle.memblock_find.specs.Walk.{nth_record, BeginAmong, BeginBelow, IsLookDown, IsWalkDownAt, unclaimed_label}
 use Rattle.memblock_find.proofs.SlotLaws.{ends_before, ends_ascend, bases_ascend, size_at, value_in, none_beside, other_under}
 

@@ -9,7 +9,7 @@ use Rattle.memblock_model.proofs.SearchLaws.{fits_in-whole}
 use Rattle.memblock_ranges.specs.Tables.{TablesView}
 use Rattle.memblock_find.specs.declared.cursor.Look.{Look}
 use Rattle.memblock_find.specs.declared.cursor.Cursor.{Cursor}
-use Rattle.memblock_find.specs.Free.{unclaimed_memory, unclaimed_in_tables, ReachesDownTo, ReachesUpTo, IsRunBelow, IsRunFrom}
+use Rattle.memblock_find.specs.Unclaimed.{unclaimed_memory, unclaimed_in_tables, ReachesDownTo, ReachesUpTo, IsRunBelow, IsRunFrom}
 use Rattle.memblock_find.specs.Places.{FitsBetween, IsBestBy, IsBestFrom}
 use Rattle.memblock_find.specs.Walk.{nth_record, BeginBelow, EndAtOrBelow, IsLookDown, IsLookUp, IsWalkDownAt, IsWalkUpAt}
 use Rattle.memblock_find.proofs.DownLaws.{look_gap, look_in, among_all, all_begun, begun_so_far, not_begun_from}

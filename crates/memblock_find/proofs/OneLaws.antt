@@ -14,7 +14,7 @@ use Rattle.memblock_model.specs.Tables.{table_of, records_of}
 use Rattle.memblock_model.specs.Search.{top_place_in, top_place, best_place_in, best_place}
 use Rattle.memblock_model.proofs.TableLaws.{value_at-records}
 use Rattle.memblock_ranges.specs.Tables.{TablesView}
-use Rattle.memblock_find.specs.Free.{unclaimed_memory, unclaimed_in_tables, IsRunBelow}
+use Rattle.memblock_find.specs.Unclaimed.{unclaimed_memory, unclaimed_in_tables, IsRunBelow}
 use Rattle.memblock_find.proofs.PlaceLaws.{le_from_not_lt}
 
 -- records that are those of the items give each address the items' label

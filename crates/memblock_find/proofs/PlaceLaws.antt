@@ -10,7 +10,7 @@ use Rattle.memblock_model.specs.Labels.{LabelView, Labels}
 use Rattle.memblock_model.specs.Search.{is_allowed_node, is_allowed_mirror, fits_in, top_place_in}
 use Rattle.memblock_model.specs.declared.query.Query.{Query}
 use Rattle.memblock_model.proofs.SearchLaws.{IsPlace, fits_in-parts, fits_in-whole, top_place_in-last, top_place_in-fails}
-use Rattle.memblock_find.specs.Free.{unclaimed_memory, ReachesDownTo}
+use Rattle.memblock_find.specs.Unclaimed.{unclaimed_memory, ReachesDownTo}
 use Rattle.memblock_find.specs.Places.{FitsBetween, is_allowed_label, NoPlaceEnds, IsBestBy}
 
 pub le_from_not_lt : (a b : ℕ) → (a < b → ⊥) → b ≤ a

@@ -8,7 +8,7 @@ use Rattle.address_runs.specs.Sweep.{StartAtOrPast}
 use Rattle.address_runs.proofs.RunsLaws.{inside, below, behind, none_below, rest_from, other_behind}
 use Rattle.memblock_model.specs.Labels.{LabelView}
 use Rattle.memblock_ranges.specs.declared.region.Region.{Region}
-use Rattle.memblock_ranges.specs.Spelling.{region_of}
+use Rattle.memblock_ranges.specs.Encoding.{region_of}
 use Rattle.memblock_find.specs.Walk.{nth_record}
 
 -- the base and size of a record

@@ -7,7 +7,7 @@ use Rattle.address_runs.specs.Sweep.{Stays}
 use Rattle.memblock_model.specs.Labels.{LabelView}
 use Rattle.memblock_find.specs.declared.cursor.Look.{Look}
 use Rattle.memblock_find.specs.declared.cursor.Cursor.{Cursor}
-use Rattle.memblock_find.specs.Free.{unclaimed_memory, ReachesUpTo}
+use Rattle.memblock_find.specs.Unclaimed.{unclaimed_memory, ReachesUpTo}
 use Rattle.memblock_find.specs.Walk.{nth_record, EndAtOrBelow, IsLookUp, IsWalkUpAt, unclaimed_label}
 use Rattle.memblock_find.proofs.DownLaws.{unclaimed_is, unclaimed_changes}
 use Rattle.memblock_find.proofs.SlotLaws.{ends_before, ends_ascend, bases_ascend, size_at, value_in, none_beside, other_past}

@@ -1,3 +1,3 @@
-pub mod Free
+pub mod Unclaimed
 pub mod Places
 pub mod Walk

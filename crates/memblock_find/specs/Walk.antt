@@ -5,7 +5,7 @@ use Rattle.address_runs.specs.Runs.{RunOf, run_end, value_at, AreRuns}
 use Rattle.address_runs.specs.Edits.{NothingFrom}
 use Rattle.address_runs.specs.Sweep.{Stays}
 use Rattle.memblock_model.specs.Labels.{LabelView, plain_label}
-use Rattle.memblock_find.specs.Free.{ReachesDownTo}
+use Rattle.memblock_find.specs.Unclaimed.{ReachesDownTo}
 use Rattle.memblock_find.specs.declared.cursor.Look.{Look}
 use Rattle.memblock_find.specs.declared.cursor.Cursor.{Cursor}
 

@@ -6,7 +6,7 @@ ghost use Rattle.address_runs.specs.Runs.{value_at};
 ghost use Rattle.address_runs.specs.Sweep.{Stays};
 ghost use Rattle.memblock_model.specs.Labels.{LabelView, Labels};
 ghost use Rattle.memblock_model.specs.Search.{top_place_in};
-ghost use Rattle.memblock_find.specs.Free.{unclaimed_memory, ReachesUpTo};
+ghost use Rattle.memblock_find.specs.Unclaimed.{unclaimed_memory, ReachesUpTo};
 ghost use Rattle.memblock_find.specs.Places.{FitsBetween, NoPlaceBegins, IsBestFrom};
 
 use crate::cursor::lists_of;

@@ -6,7 +6,7 @@ ghost use Rattle.address_runs.specs.Runs.{run_end, value_at};
 ghost use Rattle.address_runs.specs.Edits.{NothingFrom};
 ghost use Rattle.address_runs.specs.Sweep.{Stays};
 ghost use Rattle.memblock_find.specs.Walk.{IsWalkUpAt};
-ghost use Rattle.memblock_find.specs.Free.{unclaimed_in_walk, unclaimed_memory, unclaimed_in_tables, IsRunBelow, IsRunFrom};
+ghost use Rattle.memblock_find.specs.Unclaimed.{unclaimed_in_walk, unclaimed_memory, unclaimed_in_tables, IsRunBelow, IsRunFrom};
 
 use crate::cursor::{Cursor, Lists, lists_of};
 use crate::down::cursor_below;
@@ -31,7 +31,7 @@ impl Model for FreeRange {
     ghost use Rattle.std.specs.Prelude.{◌+◌, ◌^◌, ◌<◌, ◌≤◌};
     ghost use Rattle.address_runs.specs.Runs.{RunOf};
     ghost use Rattle.memblock_model.specs.Labels.{LabelView};
-    ghost use Rattle.memblock_ranges.specs.Spelling.{node_of_field, node_field};
+    ghost use Rattle.memblock_ranges.specs.Encoding.{node_of_field, node_field};
 
     ghost Value = { RunOf LabelView };
 
@@ -138,7 +138,7 @@ pub struct FreeRuns<'a> {
 }
 
 impl<'a> Model for FreeRuns<'a> {
-    ghost use Rattle.memblock_find.specs.Free.{FreeRunsView};
+    ghost use Rattle.memblock_find.specs.Unclaimed.{FreeRunsView};
     ghost use Rattle.memblock_find.specs.Walk.{IsWalkUpAt};
 
     ghost Value = { FreeRunsView };

@@ -10,7 +10,7 @@ ghost use Rattle.memblock_model.specs.Items.{upward_of};
 ghost use Rattle.memblock_model.specs.Tables.{table_of, records_of};
 ghost use Rattle.memblock_model.specs.Search.{top_place_in, top_place, best_place_in, best_place};
 ghost use Rattle.memblock_ranges.specs.Tables.{TablesView};
-ghost use Rattle.memblock_find.specs.Free.{unclaimed_memory, unclaimed_in_tables, IsRunBelow, IsRunFrom};
+ghost use Rattle.memblock_find.specs.Unclaimed.{unclaimed_memory, unclaimed_in_tables, IsRunBelow, IsRunFrom};
 
 /// Law: if two tables have the records of a list of items, a search over the tables finds what a
 /// search over the items finds. Unclaimed memory is then what the items say is memory and has no

@@ -5,13 +5,13 @@ use Rattle.memblock_model.specs.declared.item.Item.{Item}
 use Rattle.memblock_ranges.specs.Tables.{TablesView}
 use Rattle.growth_model.specs.declared.refusal.Refusal.{Refusal}
 use Rattle.growth_model.specs.declared.refusal.Refusal.TheVariants as refusal
-use Rattle.growth_model.specs.Outcome.{Change, ◌>>◌, write_item}
+use Rattle.growth_model.specs.Change.{Change, ◌>>◌, write_item}
 use Rattle.growth_model.specs.Ends.{EndsAsChange}
 use Rattle.growth_model.specs.Bytes.{is_vacated_by}
 use Rattle.growth_model.proofs.EndLaws.{EndsAsChange-second, EndsAsChange-first, EndsAsChange-step, EndsAsChange-wanting}
 use Rattle.growth_model.proofs.FollowLaws.{follows-item, follows-then}
-use Rattle.memblock_grow.specs.declared.aim.AllocSettings.{AllocSettings}
-use Rattle.memblock_grow.specs.Kept.{TablesMatchItems, ChangesOnlyTables, KeepsTables, KeepsBytes}
+use Rattle.memblock_grow.specs.declared.places.AllocSettings.{AllocSettings}
+use Rattle.memblock_grow.specs.Invariant.{TablesMatchItems, ChangesOnlyTables, KeepsTables, KeepsBytes}
 
 -- an error that is passed on
 pub handed : {T : Type 0} (r : Result T Refusal) (e : Refusal) → IsErrAnd r (λ (n : Refusal). n ≡ e) → r ≡ Err e

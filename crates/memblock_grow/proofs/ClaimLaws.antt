@@ -10,7 +10,7 @@ use Rattle.memblock_model.specs.declared.item.Item.{Item}
 use Rattle.memblock_model.specs.declared.item.Item.TheVariants as item
 use Rattle.growth_model.specs.declared.refusal.Refusal.{Refusal}
 use Rattle.growth_model.specs.declared.refusal.Refusal.TheVariants as refusal
-use Rattle.growth_model.specs.Outcome.{Change, items_after_change, if_due, write_item, ◌>>◌}
+use Rattle.growth_model.specs.Change.{Change, items_after_change, if_due, write_item, ◌>>◌}
 use Rattle.growth_model.specs.Growth.{is_full, count_uncovered_pieces, reserved_growth, make_table_room, claim_range}
 use Rattle.growth_model.specs.Ends.{EndsAsChange}
 use Rattle.growth_model.proofs.EndLaws.{followed, EndsAsChange-first, EndsAsChange-due}

@@ -20,12 +20,12 @@ use Rattle.growth_model.specs.declared.refusal.Refusal.TheVariants as refusal
 use Rattle.growth_model.specs.Growth.{table_query}
 use Rattle.growth_model.specs.Bytes.{table_for}
 use Rattle.growth_model.proofs.FirstLaws.{no_table_full, nothing_said}
-use Rattle.memblock_grow.specs.declared.aim.AllocSettings.{AllocSettings}
-use Rattle.memblock_grow.specs.declared.more.MaxNewRecords.TheVariants as more
-use Rattle.memblock_grow.specs.Kept.{TablesMatchItems, IsMemblock, alloc_settings}
+use Rattle.memblock_grow.specs.declared.places.AllocSettings.{AllocSettings}
+use Rattle.memblock_grow.specs.declared.new_records.MaxNewRecords.TheVariants as more
+use Rattle.memblock_grow.specs.Invariant.{TablesMatchItems, IsMemblock, alloc_settings}
 use Rattle.memblock_grow.specs.Prepared.{is_grown_over, Prepares, PreparesBy}
 use Rattle.memblock_grow.specs.Places.{MirrorsComeFromItems, best_place_in_tables, frames_beside}
-use Rattle.memblock_grow.specs.More.{HasRoomFor, RangeEndsInSpace}
+use Rattle.memblock_grow.specs.NewRecords.{HasRoomFor, RangeEndsInSpace}
 use Rattle.memblock_grow.proofs.PlaceLaws.{best_place_in-large}
 
 abbrev image : RangeView

@@ -14,14 +14,14 @@ use Rattle.memblock_model.specs.Tables.{table_bytes}
 use Rattle.growth_model.specs.declared.refusal.Refusal.{Refusal}
 use Rattle.growth_model.specs.Growth.{claim_range, count_uncovered_pieces}
 use Rattle.growth_model.specs.Ends.{EndsAsChange}
-use Rattle.growth_model.specs.Sound.{AreDisjoint, TablesAreClaimed, TouchesNoTable}
+use Rattle.growth_model.specs.Tables.{AreDisjoint, TablesAreClaimed, TouchesNoTable}
 use Rattle.growth_model.specs.Bytes.{table_for, TablesAreEncoded}
 use Rattle.growth_model.proofs.FollowLaws.{follows-next, follows-none}
 use Rattle.growth_model.proofs.FoundLaws.{found-away}
 use Rattle.growth_model.proofs.PlacedLaws.{table_bytes-same, moves-of, rooms-of, away-still}
 use Rattle.growth_model.proofs.PlacedReservedLaws.{roomy, room-going, claim_range-after}
-use Rattle.memblock_grow.specs.Contents.{MemblockView}
-use Rattle.memblock_grow.specs.Going.{ContinuesMemblock}
+use Rattle.memblock_grow.specs.MemblockView.{MemblockView}
+use Rattle.memblock_grow.specs.Continues.{ContinuesMemblock}
 
 pub goes-then : (old mid new : MemblockView) → ContinuesMemblock old mid → ContinuesMemblock mid new → ContinuesMemblock old new
 goes-then old mid new first second = record {

@@ -19,10 +19,10 @@ use Rattle.memblock_ranges.specs.Tables.{TableView, TablesView, table_in, other_
 use Rattle.memblock_ranges.proofs.CountLaws.{length-covered, length-uncovered, length-relabelled, length-trimmed}
 use Rattle.memblock_ranges.proofs.StepLaws.{items-within}
 use Rattle.growth_model.specs.Growth.{round_up_to_frames}
-use Rattle.growth_model.specs.Sound.{TablesHaveRoom}
+use Rattle.growth_model.specs.Tables.{TablesHaveRoom}
 use Rattle.growth_model.specs.Bytes.{table_for}
-use Rattle.memblock_grow.specs.declared.aim.AllocSettings.{AllocSettings}
-use Rattle.memblock_grow.specs.Kept.{TablesMatchItems, alloc_settings}
+use Rattle.memblock_grow.specs.declared.places.AllocSettings.{AllocSettings}
+use Rattle.memblock_grow.specs.Invariant.{TablesMatchItems, alloc_settings}
 
 -- each table has room for its records
 fits-by : (kernel : RangeView) (items : List Item) (m r : TableView) → m ≡ table_for which.Memory kernel items

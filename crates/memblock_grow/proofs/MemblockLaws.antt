@@ -9,16 +9,16 @@ use Rattle.memblock_model.specs.declared.owner.Which.TheVariants as which
 use Rattle.memblock_model.specs.declared.item.Item.{Item}
 use Rattle.memblock_model.specs.Tables.{records_of, table_of, built_in_place}
 use Rattle.memblock_model.proofs.TableLaws.{records_for-is}
-use Rattle.memblock_ranges.specs.Spelling.{encode_table}
+use Rattle.memblock_ranges.specs.Encoding.{encode_table}
 use Rattle.memblock_ranges.specs.Tables.{TableView, TablesView, bytes_of}
-use Rattle.growth_model.specs.Sound.{IsKernelImage, TouchesNoTable, AreDisjoint}
+use Rattle.growth_model.specs.Tables.{IsKernelImage, TouchesNoTable, AreDisjoint}
 use Rattle.growth_model.specs.Bytes.{table_for, table_byte_at, byte_with_tables, TablesAreEncoded, is_vacated_by, byte_from_history, Fill, byte_after_fill, Follows}
 use Rattle.growth_model.proofs.FirstLaws.{no_table_full, nothing_said}
 use Rattle.growth_model.proofs.SoundLaws.{Stands}
 use Rattle.growth_model.proofs.FollowLaws.{follows-item, follows-stands}
 use Rattle.growth_model.proofs.FillLaws.{fill-spelled}
-use Rattle.memblock_grow.specs.declared.aim.AllocSettings.{AllocSettings}
-use Rattle.memblock_grow.specs.Kept.{TablesMatchItems, IsMemblock, ChangesOnlyTables, alloc_settings}
+use Rattle.memblock_grow.specs.declared.places.AllocSettings.{AllocSettings}
+use Rattle.memblock_grow.specs.Invariant.{TablesMatchItems, IsMemblock, ChangesOnlyTables, alloc_settings}
 use Rattle.memblock_grow.proofs.KeptLaws.{kept-same}
 
 -- a table without records is all zeros

@@ -15,18 +15,18 @@ use Rattle.memblock_ranges.specs.declared.region.Head.{Head}
 use Rattle.memblock_ranges.specs.Tables.{TableView, TablesView, room_in, head_of, OverlapsTable}
 use Rattle.growth_model.specs.declared.refusal.Refusal.{Refusal}
 use Rattle.growth_model.specs.declared.refusal.Refusal.TheVariants as refusal
-use Rattle.growth_model.specs.Outcome.{ChangeEffect, Change, ◌>>◌, write_item}
+use Rattle.growth_model.specs.Change.{ChangeEffect, Change, ◌>>◌, write_item}
 use Rattle.growth_model.specs.Growth.{round_up_to_frames, frames_for_bytes, table_query, old_frames, claim_range, free_old_place, memory_growth_at, memory_growth}
 use Rattle.growth_model.specs.Ends.{EndsAsEffect, EndsAsChange}
-use Rattle.growth_model.specs.Sound.{IsUnclaimed, TablesAreClaimed, TouchesNoTable}
+use Rattle.growth_model.specs.Tables.{IsUnclaimed, TablesAreClaimed, TouchesNoTable}
 use Rattle.growth_model.specs.Bytes.{byte_with_tables, byte_without_table, TablesAreEncoded, Follows}
 use Rattle.growth_model.proofs.EndLaws.{EndsAsChange-second, EndsAsChange-first, EndsAsChange-step, EndsAsChange-wanting, EndsAsChange-refused}
 use Rattle.growth_model.proofs.SeatLaws.{frames-more}
 use Rattle.growth_model.proofs.FoundLaws.{found-unclaimed, away-within, away-apart}
 use Rattle.growth_model.proofs.PlacedMemoryLaws.{IsTaken, claim_range-taken}
 use Rattle.growth_model.proofs.FollowLaws.{follows-grown, follows-then, follows-stands}
-use Rattle.memblock_grow.specs.declared.aim.AllocSettings.{AllocSettings}
-use Rattle.memblock_grow.specs.Kept.{TablesMatchItems, IsMemblock, AllowsFree, KeepsTables, KeepsBytes}
+use Rattle.memblock_grow.specs.declared.places.AllocSettings.{AllocSettings}
+use Rattle.memblock_grow.specs.Invariant.{TablesMatchItems, IsMemblock, AllowsFree, KeepsTables, KeepsBytes}
 use Rattle.memblock_grow.specs.Places.{frames_between}
 use Rattle.memblock_grow.proofs.KeptLaws.{room-is, kept-grown}
 use Rattle.memblock_grow.proofs.ChangeLaws.{handed}

@@ -10,18 +10,18 @@ use Rattle.memblock_model.specs.Tables.{table_of, records_of, uncovered_run_coun
 use Rattle.memblock_ranges.specs.Tables.{TablesView, table_in, records_in, room_in}
 use Rattle.memblock_ranges.proofs.CountLaws.{few-pieces}
 use Rattle.growth_model.specs.declared.refusal.Refusal.{Refusal}
-use Rattle.growth_model.specs.Outcome.{Change}
+use Rattle.growth_model.specs.Change.{Change}
 use Rattle.growth_model.specs.Growth.{is_full, record_count, make_table_room, reserved_growth, memory_growth}
 use Rattle.growth_model.specs.Ends.{EndsAsChange}
-use Rattle.growth_model.specs.Sound.{HasBegun}
+use Rattle.growth_model.specs.Tables.{HasBegun}
 use Rattle.growth_model.specs.Room.{IsInAddressSpace, HasRoomAfter}
 use Rattle.growth_model.proofs.FirstLaws.{no_records}
 use Rattle.growth_model.proofs.RoomLaws.{enough-claimed, enough-freed, enough-added, enough-labelled}
-use Rattle.memblock_grow.specs.declared.aim.AllocSettings.{AllocSettings}
-use Rattle.memblock_grow.specs.declared.more.MaxNewRecords.{MaxNewRecords}
-use Rattle.memblock_grow.specs.declared.more.MaxNewRecords.TheVariants as more
-use Rattle.memblock_grow.specs.Kept.{TablesMatchItems}
-use Rattle.memblock_grow.specs.More.{new_records_by_items, new_records_in_table, HasRoomFor, RangeEndsInSpace}
+use Rattle.memblock_grow.specs.declared.places.AllocSettings.{AllocSettings}
+use Rattle.memblock_grow.specs.declared.new_records.MaxNewRecords.{MaxNewRecords}
+use Rattle.memblock_grow.specs.declared.new_records.MaxNewRecords.TheVariants as more
+use Rattle.memblock_grow.specs.Invariant.{TablesMatchItems}
+use Rattle.memblock_grow.specs.NewRecords.{new_records_by_items, new_records_in_table, HasRoomFor, RangeEndsInSpace}
 use Rattle.memblock_grow.proofs.KeptLaws.{records-are, room-is, values-are}
 
 module _ {kernel : RangeView} {items : List Item} {t : TablesView} {at : AllocSettings} (kept : TablesMatchItems kernel items t at) where

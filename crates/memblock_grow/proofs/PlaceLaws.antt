@@ -22,8 +22,8 @@ use Rattle.boot_journal.specs.Mirrors.{has_mirrors}
 use Rattle.boot_journal.proofs.MirrorLaws.{unmirrored}
 use Rattle.growth_model.specs.Request.{Attempt}
 use Rattle.growth_model.specs.Growth.{round_up_to_frames, frames_for_bytes, table_query, place_beside_range, old_frames}
-use Rattle.memblock_grow.specs.declared.aim.AllocSettings.{AllocSettings}
-use Rattle.memblock_grow.specs.Kept.{TablesMatchItems}
+use Rattle.memblock_grow.specs.declared.places.AllocSettings.{AllocSettings}
+use Rattle.memblock_grow.specs.Invariant.{TablesMatchItems}
 use Rattle.memblock_grow.specs.Places.{MirrorsComeFromItems, top_place_in_tables, mirrored_place_in_tables, best_place_in_tables, frames_between, frames_beside, old_place_frames}
 use Rattle.memblock_grow.proofs.KeptLaws.{values-are, room-is, place-is}
 

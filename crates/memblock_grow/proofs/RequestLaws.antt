@@ -12,12 +12,12 @@ use Rattle.memblock_model.specs.declared.query.Request.{Request}
 use Rattle.growth_model.specs.Growth.{claim_range}
 use Rattle.growth_model.specs.Request.{Attempt, attempt, any_node_attempt, node_attempts, attempts, first_found_place, place_for}
 use Rattle.growth_model.specs.Ends.{EndsAsChange, Allocates}
-use Rattle.growth_model.specs.Sound.{HasBegun}
+use Rattle.growth_model.specs.Tables.{HasBegun}
 use Rattle.growth_model.proofs.EndLaws.{EndsAsChange-error}
 use Rattle.growth_model.proofs.FoundLaws.{place-unclaimed, place-within, unclaimed-away}
 use Rattle.growth_model.proofs.SoundLaws.{may-away}
-use Rattle.memblock_grow.specs.declared.aim.AllocSettings.{AllocSettings}
-use Rattle.memblock_grow.specs.Kept.{TablesMatchItems, IsMemblock, AllowsClaim}
+use Rattle.memblock_grow.specs.declared.places.AllocSettings.{AllocSettings}
+use Rattle.memblock_grow.specs.Invariant.{TablesMatchItems, IsMemblock, AllowsClaim}
 use Rattle.memblock_grow.specs.Places.{MirrorsComeFromItems, first_place_in_tables}
 use Rattle.memblock_grow.proofs.PlaceLaws.{top_place-is, top_place-mirrorless}
 use Rattle.memblock_grow.proofs.ChangeLaws.{handed}

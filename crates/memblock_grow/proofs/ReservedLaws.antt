@@ -20,17 +20,17 @@ use Rattle.memblock_ranges.specs.Tables.{TablesView, table_in, room_in, head_of,
 use Rattle.memblock_ranges.proofs.CountLaws.{one-piece}
 use Rattle.growth_model.specs.declared.refusal.Refusal.{Refusal}
 use Rattle.growth_model.specs.declared.refusal.Refusal.TheVariants as refusal
-use Rattle.growth_model.specs.Outcome.{write_items}
+use Rattle.growth_model.specs.Change.{write_items}
 use Rattle.growth_model.specs.Growth.{round_up_to_frames, frames_for_bytes, place_beside_range, items_freeing_old_place, old_frames, reserved_growth_items, reserved_growth_at, reserved_growth}
 use Rattle.growth_model.specs.Ends.{EndsAsChange}
-use Rattle.growth_model.specs.Sound.{IsUnclaimed, TablesAreClaimed}
+use Rattle.growth_model.specs.Tables.{IsUnclaimed, TablesAreClaimed}
 use Rattle.growth_model.specs.Bytes.{byte_with_tables, byte_without_table, Follows}
 use Rattle.growth_model.proofs.EndLaws.{EndsAsChange-step, EndsAsChange-refused, EndsAsChange-wanting}
 use Rattle.growth_model.proofs.SeatLaws.{covers-to}
 use Rattle.growth_model.proofs.FoundLaws.{beside-new, found-apart}
 use Rattle.growth_model.proofs.FollowLaws.{follows-still, follows-item, follows-grown, follows-then}
-use Rattle.memblock_grow.specs.declared.aim.AllocSettings.{AllocSettings}
-use Rattle.memblock_grow.specs.Kept.{TablesMatchItems, ChangesOnlyTables, KeepsTables, KeepsBytes}
+use Rattle.memblock_grow.specs.declared.places.AllocSettings.{AllocSettings}
+use Rattle.memblock_grow.specs.Invariant.{TablesMatchItems, ChangesOnlyTables, KeepsTables, KeepsBytes}
 use Rattle.memblock_grow.specs.Prepared.{Prepares}
 use Rattle.memblock_grow.specs.Places.{frames_beside, old_place_frames}
 use Rattle.memblock_grow.proofs.KeptLaws.{values-are, room-is, few-kept, few-covered, kept-same, kept-claim, kept-free, kept-grown}

@@ -5,8 +5,8 @@ use Rattle.memblock_model.specs.declared.item.Item.{Item}
 use Rattle.memblock_ranges.specs.Tables.{TablesView}
 use Rattle.growth_model.proofs.SoundLaws.{Stands}
 use Rattle.growth_model.proofs.FollowLaws.{follows-stands, follows-then}
-use Rattle.memblock_grow.specs.declared.aim.AllocSettings.{AllocSettings}
-use Rattle.memblock_grow.specs.Kept.{IsMemblock, KeepsTables, KeepsBytes}
+use Rattle.memblock_grow.specs.declared.places.AllocSettings.{AllocSettings}
+use Rattle.memblock_grow.specs.Invariant.{IsMemblock, KeepsTables, KeepsBytes}
 
 pub whole-on : {kernel : RangeView} {items longer : List Item} {t u : TablesView} {at : AllocSettings} → IsMemblock kernel items t at
     → KeepsTables items t longer u at → KeepsBytes items t longer u at → Stands kernel longer → IsMemblock kernel longer u at

@@ -1,7 +1,7 @@
-pub mod Contents
-pub mod Kept
-pub mod Going
+pub mod MemblockView
+pub mod Invariant
+pub mod Continues
 pub mod Prepared
 pub mod Places
-pub mod More
+pub mod NewRecords
 pub mod Touch

@@ -10,7 +10,7 @@ use Rattle.boot_journal.specs.Mirrors.{has_mirrors}
 use Rattle.memblock_ranges.specs.Tables.{TablesView}
 use Rattle.growth_model.specs.Growth.{frames_for_bytes, table_query}
 use Rattle.growth_model.specs.Request.{Attempt}
-use Rattle.memblock_grow.specs.declared.aim.AllocSettings.{AllocSettings}
+use Rattle.memblock_grow.specs.declared.places.AllocSettings.{AllocSettings}
 
 -- if no item mirrors memory, the table has no mirrored memory
 abbrev pub MirrorsComeFromItems : List Item → TablesView → Type 0

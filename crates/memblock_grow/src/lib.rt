@@ -10,10 +10,10 @@
 //!
 //! [`Memblock`] is the one value that the layers above use. They may rest on this:
 //!
-//! - Each call that changes memory keeps `GoesOn` (`specs/Going.antt`). The kernel's image stays
+//! - Each call that changes memory keeps `GoesOn` (`specs/Continues.antt`). The kernel's image stays
 //!   where it is, each byte is what the items say, and prepared addresses stay prepared.
 //! - After each call both tables are those of the items and are encoded in their bytes. They lie
-//!   in claimed memory, apart from each other (`IsMemblock` in `specs/Kept.antt`).
+//!   in claimed memory, apart from each other (`IsMemblock` in `specs/Invariant.antt`).
 //! - A call prepares the frames that tables grew into, and no other address. Only `new` prepares
 //!   both tables, and `fill` its range. If this program is out of memory, one place may be
 //!   prepared that the memory table was to move to (`specs/Prepared.antt`).
@@ -27,20 +27,15 @@
 //! contract is a proven fact.
 #![tactic(auto)]
 
-mod aim;
-mod laws;
 mod memblock;
 mod memory;
-mod more;
+mod new_records;
 mod places;
 mod request;
 mod reserved;
-mod section;
 mod stop;
 mod table_laws;
 
 pub use growth_model::{Refusal, Request};
-pub use laws::no_items_no_change;
-pub use memblock::Memblock;
-pub use section::Section;
-pub use stop::{StageStop, What};
+pub use memblock::{no_items_no_change, Memblock};
+pub use stop::{Section, StageStop, What};

@@ -8,6 +8,7 @@
 //!
 //! A call that allocates memory of this program may run out of memory at any step. It then stops
 //! before that step, with the invariant intact.
+
 ghost use Rattle.std.specs.Prelude.{◌≡◌, ℕ, ◌+◌, ◌-◌, ◌*◌, ◌^◌, ◌<◌, ◌≤◌, ◌↔◌, ◌||◌, Bool, false, max, Some, [], ◌++◌, length, OnOk, OnErr, IfOk, IfSome, IsOk, IsTrue};
 ghost use Rattle.bm_base.specs.Range.{covers};
 ghost use Rattle.address_runs.specs.Edits.{NothingFrom};
@@ -18,19 +19,19 @@ ghost use Rattle.memblock_model.specs.declared.item.Item.TheVariants as item;
 ghost use Rattle.memblock_model.specs.Items.{memory_of};
 ghost use Rattle.memblock_model.specs.Tables.{records_of, room_of, table_place, table_bytes};
 ghost use Rattle.memblock_model.specs.Search.{best_place};
-ghost use Rattle.memblock_ranges.specs.Spelling.{encode_table};
+ghost use Rattle.memblock_ranges.specs.Encoding.{encode_table};
 ghost use Rattle.memblock_ranges.specs.Tables.{head_of, IsInStore, HaveNoNode};
 ghost use Rattle.growth_model.specs.Growth.{claim_range, free_range, add_range, set_range_node, set_range_mirror, count_uncovered_pieces, split_record_count, is_full as is_full_by};
 ghost use Rattle.growth_model.specs.Ends.{EndsAsChange, Allocates};
 ghost use Rattle.growth_model.specs.Request.{place_for};
-ghost use Rattle.growth_model.specs.Sound.{TablesAreSound, IsKernelImage, HasBegun, TouchesNoTable, MayClaim};
+ghost use Rattle.growth_model.specs.Tables.{TablesAreSound, IsKernelImage, HasBegun, TouchesNoTable, MayClaim};
 ghost use Rattle.growth_model.specs.Bytes.{table_for, TablesAreEncoded, byte_from_history as byte_by, byte_after_fill, Follows};
-ghost use Rattle.memblock_grow.specs.Going.{AppendsItem, ContinuesMemblock};
-ghost use Rattle.memblock_grow.specs.Kept.{StayPrepared};
+ghost use Rattle.memblock_grow.specs.Continues.{AppendsItem, ContinuesMemblock};
+ghost use Rattle.memblock_grow.specs.Invariant.{StayPrepared};
 ghost use Rattle.memblock_grow.specs.Prepared.{Prepares, PreparesBy};
 ghost use Rattle.memblock_grow.specs.Touch.{TouchesTable};
 
-use crate::aim::AllocSettings;
+use crate::places::AllocSettings;
 use crate::table_laws::tables_are_in_store;
 use crate::{memory, places, request, reserved};
 use bm_base::{Memory, Range};
@@ -58,8 +59,8 @@ pub struct Memblock {
 }
 
 impl Model for Memblock {
-    ghost use Rattle.memblock_grow.specs.Contents.{MemblockView};
-    ghost use Rattle.memblock_grow.specs.Kept.{IsMemblock};
+    ghost use Rattle.memblock_grow.specs.MemblockView.{MemblockView};
+    ghost use Rattle.memblock_grow.specs.Invariant.{IsMemblock};
 
     ghost Value = { MemblockView };
 
@@ -423,4 +424,11 @@ fn memblock_is_four_parts(rt: HostRuntime) -> Result<(), std::test::Fail> {
     } = Memblock::new(rt.alloc(), image)?;
     let _parts: (Range, Journal, Tables, AllocSettings) = (kernel, journal, tables, aim);
     Ok(())
+}
+
+/// Law: `ContinuesMemblock` holds from a memblock to itself, since without new items no byte changes.
+pub fn no_items_no_change(memblock: &Memblock)
+    ensures { ContinuesMemblock memblock.now memblock.now }
+{
+    memblock.tables();
 }

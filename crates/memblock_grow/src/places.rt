@@ -1,15 +1,25 @@
 //! Searches for the best place: in mirrored memory first, and then in any
 //! (`choose_memblock_flags`). Also the frames of a table that grows (`memblock_double_array`):
 //! those of its new place and of its old one.
+
 ghost use Rattle.std.specs.Prelude.{◌≡◌, ◌≢◌, ℕ, ◌+◌, ◌*◌, ◌^◌, ◌<◌, ◌≤◌, SomeIff};
 ghost use Rattle.growth_model.specs.Growth.{round_up_to_frames};
 ghost use Rattle.memblock_grow.specs.Places.{MirrorsComeFromItems, best_place_in_tables, mirrored_place_in_tables, frames_between, frames_beside, old_place_frames};
 
-use crate::aim::AllocSettings;
 use bm_base::{FRAME_SIZE, Range};
 use boot_journal::Journal;
 use memblock_find::{Mode, Query, find};
 use memblock_ranges::{FIRST_ROOM, Head, Tables};
+
+/// The limit of allocations, and the direction of searches (`memblock.current_limit`,
+/// `memblock.bottom_up`).
+#[derive(Clone, Copy, Debug, PartialEq, Eq)]
+pub struct AllocSettings {
+    /// The address at or below which each allocation ends.
+    pub limit: u64,
+    /// Whether searches go from the lowest address up, instead of from the highest down.
+    pub upward: bool,
+}
 
 /// Rounds a number of bytes up to frames, or returns `None` if it would exceed 2^64 - 1.
 fn round_up_to_frames(bytes: u64) -> Option<u64>

@@ -11,12 +11,12 @@ ghost use Rattle.memblock_model.specs.declared.owner.Which.TheVariants as tables
 ghost use Rattle.growth_model.specs.Growth.{count_uncovered_pieces, is_full as is_full_by};
 ghost use Rattle.growth_model.specs.Request.{attempt as attempt_by, node_attempts, attempts_from, attempts, place_for as place_by};
 ghost use Rattle.growth_model.specs.Ends.{Allocates};
-ghost use Rattle.growth_model.specs.Sound.{HasBegun};
-ghost use Rattle.memblock_grow.specs.Kept.{IsSomeMemblock, KeepsTables, KeepsBytes};
+ghost use Rattle.growth_model.specs.Tables.{HasBegun};
+ghost use Rattle.memblock_grow.specs.Invariant.{IsSomeMemblock, KeepsTables, KeepsBytes};
 ghost use Rattle.memblock_grow.specs.Prepared.{Prepares};
 ghost use Rattle.memblock_grow.specs.Places.{MirrorsComeFromItems, top_place_in_tables, first_place_in_tables};
 
-use crate::aim::AllocSettings;
+use crate::places::AllocSettings;
 use crate::reserved::claim;
 use bm_base::Range;
 use boot_journal::{Journal, Owner};

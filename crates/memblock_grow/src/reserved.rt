@@ -8,17 +8,16 @@ ghost use Rattle.memblock_model.specs.declared.owner.Owner.{Owner as ModelOwner}
 ghost use Rattle.memblock_model.specs.Items.{owner_of};
 ghost use Rattle.memblock_model.specs.declared.owner.Which.TheVariants as tables_of;
 ghost use Rattle.growth_model.specs.declared.refusal.Refusal.TheVariants as refusals;
-ghost use Rattle.growth_model.specs.Outcome.{if_due};
+ghost use Rattle.growth_model.specs.Change.{if_due};
 ghost use Rattle.growth_model.specs.Growth.{reserved_growth, make_table_room, claim_range, free_range, count_uncovered_pieces, split_record_count, is_full as is_full_by};
 ghost use Rattle.growth_model.specs.Ends.{EndsAsChange};
-ghost use Rattle.growth_model.specs.Sound.{HasBegun, IsUnclaimed};
-ghost use Rattle.memblock_grow.specs.Kept.{IsSomeMemblock, AllowsClaim, AllowsFree, KeepsTables, KeepsBytes};
+ghost use Rattle.growth_model.specs.Tables.{HasBegun, IsUnclaimed};
+ghost use Rattle.memblock_grow.specs.Invariant.{IsSomeMemblock, AllowsClaim, AllowsFree, KeepsTables, KeepsBytes};
 ghost use Rattle.memblock_grow.specs.Prepared.{Prepares};
-ghost use Rattle.memblock_grow.specs.More.{new_records_by_items, HasRoomFor, RangeEndsInSpace};
+ghost use Rattle.memblock_grow.specs.NewRecords.{new_records_by_items, HasRoomFor, RangeEndsInSpace};
 
-use crate::aim::AllocSettings;
-use crate::more::{MaxNewRecords, lacks_room};
-use crate::places::{old_place_frames, table_frames_beside};
+use crate::places::{AllocSettings, old_place_frames, table_frames_beside};
+use crate::new_records::{MaxNewRecords, lacks_room};
 use crate::table_laws::tables_are_in_store;
 use bm_base::Range;
 use boot_journal::{Item, Journal, Owner, Which};

@@ -4,6 +4,15 @@
 use bm_base::Memory;
 use memblock_model::Which;
 
+/// A range of 128 MiB that has memory, with the node of its lowest frame of memory.
+#[derive(Clone, Copy, Debug, PartialEq, Eq)]
+pub struct Section {
+    /// The section's number, counted from 0: its address divided by 128 MiB.
+    pub number: u32,
+    /// The node, below 1,024.
+    pub node: u32,
+}
+
 /// What a stage allocates and a boot can't do without.
 #[derive(Clone, Copy, Debug, PartialEq, Eq)]
 pub enum What {

@@ -9,7 +9,7 @@ use Rattle.phys_store.proofs.ByteLists.{told_bytes}
 use Rattle.address_runs.specs.Runs.{RunOf}
 use Rattle.memblock_model.specs.Labels.{LabelView}
 use Rattle.memblock_ranges.specs.declared.region.Head.{Head}
-use Rattle.memblock_ranges.specs.Spelling.{decode_record, encode_record, records_at, FitsRecord, IsRecord}
+use Rattle.memblock_ranges.specs.Encoding.{decode_record, encode_record, records_at, FitsRecord, IsRecord}
 use Rattle.memblock_ranges.specs.Tables.{IsTable, bytes_outside_table, unedited_part}
 use Rattle.memblock_ranges.proofs.SpellLaws.{same_bytes, same_records, split_records, length-records_at, length-fields_of, run_back, is_record}
 

@@ -8,9 +8,9 @@ use Rattle.memblock_model.specs.declared.owner.Which.TheVariants as which
 use Rattle.memblock_model.specs.declared.owner.Owner.TheVariants as owner
 use Rattle.memblock_model.specs.declared.item.Item.TheVariants as item
 use Rattle.memblock_ranges.specs.declared.region.Head.{Head}
-use Rattle.memblock_ranges.specs.Spelling.{base_in, size_in, flags_in, node_in, decode_region, encode_fields, node_of_field, label_of, node_field, decode_record, region_of, encode_record, records_at, encode_table, FitsRecord, IsRecord}
+use Rattle.memblock_ranges.specs.Encoding.{base_in, size_in, flags_in, node_in, decode_region, encode_fields, node_of_field, label_of, node_field, decode_record, region_of, encode_record, records_at, encode_table, FitsRecord, IsRecord}
 use Rattle.memblock_ranges.specs.Tables.{bytes_outside_table, HasTable, AreRecords, TableView, TablesView, bytes_of, bytes_in, OverlapsTable, IsNodeOf, HaveNoNode, bytes_of_head}
-use Rattle.memblock_ranges.specs.Lent.{AreRecordBytes}
+use Rattle.memblock_ranges.specs.RecordBytes.{AreRecordBytes}
 use Rattle.memblock_ranges.specs.Steps.{EndsInSpace}
 use Rattle.memblock_ranges.proofs.NewLaws.{first_head}
 

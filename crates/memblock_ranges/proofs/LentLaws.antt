@@ -8,9 +8,9 @@ use Rattle.phys_store.proofs.ByteLists.{length-bytes_at, get-bytes_at, told_byte
 use Rattle.address_runs.specs.Runs.{RunOf}
 use Rattle.memblock_model.specs.Labels.{LabelView}
 use Rattle.memblock_ranges.specs.declared.region.Head.{Head}
-use Rattle.memblock_ranges.specs.Spelling.{flags_in, node_in, label_of, decode_region, region_of, decode_record, records_at, node_field, FitsRecord, IsRecord}
+use Rattle.memblock_ranges.specs.Encoding.{flags_in, node_in, label_of, decode_region, region_of, decode_record, records_at, node_field, FitsRecord, IsRecord}
 use Rattle.memblock_ranges.specs.Tables.{HasTable, AreRecords, records_of_head}
-use Rattle.memblock_ranges.specs.Lent.{records_in_bytes, AreRecordBytes}
+use Rattle.memblock_ranges.specs.RecordBytes.{records_in_bytes, AreRecordBytes}
 use Rattle.memblock_ranges.proofs.SpellLaws.{length-records_at, get-records_at}
 use Rattle.memblock_ranges.proofs.TableSpelling.{node_field-label_of, region_back}
 

@@ -7,7 +7,7 @@ use Rattle.phys_store.specs.Bytes.{ExtentView, byte_of, is_prepared_at}
 use Rattle.address_runs.specs.Runs.{RunOf}
 use Rattle.memblock_model.specs.Labels.{LabelView}
 use Rattle.memblock_ranges.specs.declared.region.Head.{Head}
-use Rattle.memblock_ranges.specs.Spelling.{records_at}
+use Rattle.memblock_ranges.specs.Encoding.{records_at}
 use Rattle.memblock_ranges.specs.Tables.{HasTable, records_of_head, TableView, table_of_head, bytes_of_head, AreRecords, AreTables, HaveNoNode}
 
 -- the head of a table at this address without records

@@ -10,7 +10,7 @@ use Rattle.phys_store.proofs.ByteLists.{length-bytes_at, get-bytes_at, told_byte
 use Rattle.address_runs.specs.Runs.{RunOf}
 use Rattle.memblock_model.specs.Labels.{LabelView}
 use Rattle.memblock_ranges.specs.declared.region.Region.{Region}
-use Rattle.memblock_ranges.specs.Spelling.{base_in, size_in, flags_in, node_in, decode_region, encode_fields, label_of, flags_field, node_field, decode_record, region_of, encode_record, records_at, FitsRecord, IsRecord}
+use Rattle.memblock_ranges.specs.Encoding.{base_in, size_in, flags_in, node_in, decode_region, encode_fields, label_of, flags_field, node_field, decode_record, region_of, encode_record, records_at, FitsRecord, IsRecord}
 
 -- the same bytes at two places
 pub same_bytes : (f g : ℕ → ℕ) (a b n : ℕ) → ((k : ℕ) → k < n → g (b + k) ≡ f (a + k)) → bytes_at g b n ≡ bytes_at f a n

@@ -5,7 +5,7 @@ use Rattle.std.proofs.lemmas.List.{get_or-replicate, length-replicate}
 use Rattle.phys_store.specs.Bytes.{ExtentView, byte_of, bytes_at}
 use Rattle.phys_store.proofs.ByteLists.{told_bytes}
 use Rattle.memblock_ranges.specs.declared.region.Head.{Head}
-use Rattle.memblock_ranges.specs.Spelling.{base_in, size_in, flags_in, node_in, decode_region, region_of, encode_fields, label_of, node_field, decode_record, encode_record, records_at, encode_table, IsRecord}
+use Rattle.memblock_ranges.specs.Encoding.{base_in, size_in, flags_in, node_in, decode_region, region_of, encode_fields, label_of, node_field, decode_record, encode_record, records_at, encode_table, IsRecord}
 use Rattle.memblock_ranges.specs.Tables.{HasTable, AreRecords, records_of_head, table_of_head, head_of, IsInStore}
 use Rattle.memblock_ranges.proofs.SpellLaws.{length-records_at, get-records_at}
 

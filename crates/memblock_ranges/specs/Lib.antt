@@ -1,4 +1,4 @@
-pub mod Spelling
+pub mod Encoding
 pub mod Tables
 pub mod Steps
-pub mod Lent
+pub mod RecordBytes

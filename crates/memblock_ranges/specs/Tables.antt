@@ -7,7 +7,7 @@ use Rattle.address_runs.specs.Edits.{NothingFrom}
 use Rattle.memblock_model.specs.Labels.{LabelView, plain_label}
 use Rattle.memblock_model.specs.declared.owner.Which.{Which}
 use Rattle.memblock_model.specs.declared.owner.Which.TheVariants as which
-use Rattle.memblock_ranges.specs.Spelling.{IsRecord, decode_region, region_of, records_at, encode_table}
+use Rattle.memblock_ranges.specs.Encoding.{IsRecord, decode_region, region_of, records_at, encode_table}
 use Rattle.memblock_ranges.specs.declared.region.Head.{Head}
 
 -- a table at `place` with `room` slots, of which the first `count` have records (`struct

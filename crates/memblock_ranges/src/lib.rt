@@ -18,7 +18,7 @@
 //!
 //! Contracts see two lists of runs of labels, with their addresses and rooms, and the store
 //! (`specs/Tables.antt`). `StandsIn` connects a list with the bytes: they are the records in
-//! memblock's format (`specs/Spelling.antt`), then zeros. The layer above may rest on three
+//! memblock's format (`specs/Encoding.antt`), then zeros. The layer above may rest on three
 //! promises of each edit. The table's records are those of the changed labels. The other table and
 //! the edited table's address and room are unchanged. No byte outside the edited table changes,
 //! even if the other table lies in the next frame.
@@ -30,8 +30,8 @@
 
 mod changes;
 mod laws;
-mod lent;
-mod live;
+mod head_table;
+mod borrowed_table;
 mod pieces;
 mod record;
 mod records;

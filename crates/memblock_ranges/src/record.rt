@@ -1,7 +1,7 @@
 //! Records as edits see them (runs of addresses with one label), and their conversion from and to
 //! bytes. No other file of this crate converts a label.
 ghost use Rattle.std.specs.Prelude.{◌≡◌, ◌+◌, ◌^◌, ◌<◌, ◌≤◌, length};
-ghost use Rattle.memblock_ranges.specs.Spelling.{encode_fields, node_of_field, label_of, flags_field, node_field, decode_record, encode_record, region_of, FitsRecord, IsRecord};
+ghost use Rattle.memblock_ranges.specs.Encoding.{encode_fields, node_of_field, label_of, flags_field, node_field, decode_record, encode_record, region_of, FitsRecord, IsRecord};
 
 use crate::region::{RECORD_SIZE, Region, decode_region};
 use address_runs::RunOf;
@@ -60,7 +60,7 @@ pub fn decode_record(bytes: &[u8]) -> Record
 }
 
 /// Encodes the four numbers, little-endian.
-#[tactic(auto, unfolding(crate::specs::Spelling::encode_fields))]
+#[tactic(auto, unfolding(crate::specs::Encoding::encode_fields))]
 fn encode_fields(base: u64, size: u64, flags: u32, node: u32) -> [u8; 24]
     ensures { result ≡ encode_fields base size flags node }
 {

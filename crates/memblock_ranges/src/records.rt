@@ -3,7 +3,7 @@
 ghost use Rattle.std.specs.Prelude.{◌≡◌, ◌<◌, length, get_or};
 ghost use Rattle.address_runs.specs.Runs.{RunOf};
 ghost use Rattle.memblock_model.specs.Labels.{LabelView};
-ghost use Rattle.memblock_ranges.specs.Spelling.{region_of, FitsRecord};
+ghost use Rattle.memblock_ranges.specs.Encoding.{region_of, FitsRecord};
 ghost use Rattle.memblock_ranges.specs.Tables.{AreRecords};
 
 use crate::record::label_of;
@@ -22,7 +22,7 @@ impl<'a> Model for Records<'a> {
     ghost use Rattle.std.specs.Prelude.{List};
     ghost use Rattle.address_runs.specs.Runs.{RunOf};
     ghost use Rattle.memblock_model.specs.Labels.{LabelView};
-    ghost use Rattle.memblock_ranges.specs.Lent.{records_in_bytes, AreRecordBytes};
+    ghost use Rattle.memblock_ranges.specs.RecordBytes.{records_in_bytes, AreRecordBytes};
 
     ghost Value = { List (RunOf LabelView) };
 
@@ -32,7 +32,7 @@ impl<'a> Model for Records<'a> {
 }
 
 impl<'a> Records<'a> {
-    ghost use Rattle.memblock_ranges.specs.Lent.{records_in_bytes, AreRecordBytes};
+    ghost use Rattle.memblock_ranges.specs.RecordBytes.{records_in_bytes, AreRecordBytes};
 
     /// Wraps the bytes of `count` records.
     pub(crate) fn of(bytes: &'a [u8], count: u64) -> Records<'a>

@@ -2,7 +2,7 @@
 //! invariant. It also reads a table's record if only the store and the head are at hand.
 ghost use Rattle.std.specs.Prelude.{◌≡◌, ◌+◌, ◌*◌, ◌^◌, ◌<◌, ◌≤◌, length};
 ghost use Rattle.phys_store.specs.Bytes.{byte_of, bytes_at};
-ghost use Rattle.memblock_ranges.specs.Spelling.{decode_region};
+ghost use Rattle.memblock_ranges.specs.Encoding.{decode_region};
 
 use byteorder::{ByteOrder, LittleEndian};
 use phys_store::Store;
@@ -42,7 +42,7 @@ pub struct Heads {
 }
 
 /// Decodes a record from any 24 bytes, without a check.
-#[tactic(auto, unfolding(crate::specs::Spelling::base_in, crate::specs::Spelling::size_in, crate::specs::Spelling::flags_in, crate::specs::Spelling::node_in))]
+#[tactic(auto, unfolding(crate::specs::Encoding::base_in, crate::specs::Encoding::size_in, crate::specs::Encoding::flags_in, crate::specs::Encoding::node_in))]
 pub fn decode_region(bytes: &[u8]) -> Region
     requires { length bytes.now ≡ 24 }
     ensures { result ≡ decode_region bytes.now }

@@ -11,12 +11,12 @@ ghost use Rattle.memblock_model.specs.declared.owner.Which.TheVariants as which;
 ghost use Rattle.memblock_model.specs.Labels.{LabelView, with_node, with_mirror};
 ghost use Rattle.memblock_model.specs.Items.{trim_frames};
 ghost use Rattle.memblock_model.specs.Tables.{records_for, uncovered_run_count, built_in_place};
-ghost use Rattle.memblock_ranges.specs.Spelling.{label_of, region_of, FitsRecord};
+ghost use Rattle.memblock_ranges.specs.Encoding.{label_of, region_of, FitsRecord};
 ghost use Rattle.memblock_ranges.specs.Tables.{table_in, other_in, records_in, place_in, room_in, bytes_of, bytes_in, head_of, OverlapsTable, IsInStore, IsNodeOf, HaveNoNode};
 
 use crate::changes::{SetMirror, SetNode};
-use crate::lent;
-use crate::live::{TableMut, TableRef};
+use crate::head_table;
+use crate::borrowed_table::{TableMut, TableRef};
 use crate::pieces::count_pieces;
 use crate::record::label_of;
 use crate::records::Records;
@@ -74,8 +74,8 @@ impl Tables {
             reserved: built_in(kernel, 1),
         };
         let mut store = Store::new(alloc);
-        store.prepare(lent::bytes(&heads.memory))?;
-        store.prepare(lent::bytes(&heads.reserved))?;
+        store.prepare(head_table::bytes(&heads.memory))?;
+        store.prepare(head_table::bytes(&heads.reserved))?;
         Ok(Tables { store, heads })
     }
 
@@ -101,8 +101,8 @@ impl Tables {
         ensures fits { (r : RunOf LabelView) → FitsRecord (get_or (records_in which self.now) i r) }
     {
         match which {
-            Which::Memory => lent::region(&self.store, &self.heads.memory, i),
-            Which::Reserved => lent::region(&self.store, &self.heads.reserved, i),
+            Which::Memory => head_table::region(&self.store, &self.heads.memory, i),
+            Which::Reserved => head_table::region(&self.store, &self.heads.reserved, i),
         }
     }
 
@@ -112,8 +112,8 @@ impl Tables {
         ensures { result ≡ records_in which self.now }
     {
         match which {
-            Which::Memory => lent::records(&self.store, &self.heads.memory),
-            Which::Reserved => lent::records(&self.store, &self.heads.reserved),
+            Which::Memory => head_table::records(&self.store, &self.heads.memory),
+            Which::Reserved => head_table::records(&self.store, &self.heads.reserved),
         }
     }
 
@@ -305,10 +305,10 @@ impl Tables {
     {
         match which {
             Which::Memory => {
-                lent::relocate(&mut self.store, &mut self.heads.memory, place);
+                head_table::relocate(&mut self.store, &mut self.heads.memory, place);
             }
             Which::Reserved => {
-                lent::relocate(&mut self.store, &mut self.heads.reserved, place);
+                head_table::relocate(&mut self.store, &mut self.heads.reserved, place);
             }
         }
     }
@@ -317,8 +317,8 @@ impl Tables {
     pub fn overlaps_table(&self, range: Range) -> bool
         ensures { IsTrue result ↔ OverlapsTable self.now range }
     {
-        lent::bytes(&self.heads.memory).overlaps(&range)
-            || lent::bytes(&self.heads.reserved).overlaps(&range)
+        head_table::bytes(&self.heads.memory).overlaps(&range)
+            || head_table::bytes(&self.heads.reserved).overlaps(&range)
     }
 
     /// Writes the byte to each address of the range, which must be prepared and must not overlap a

@@ -13,18 +13,18 @@ use Rattle.memblock_model.proofs.TableLaws.{value_at-records}
 use Rattle.memblock_ranges.specs.Tables.{TableView}
 use Rattle.growth_model.specs.Bytes.{table_for}
 use Rattle.srat_reader.specs.Table.{SratView}
-use Rattle.node_hulls.specs.declared.reasons.Why.{Why}
-use Rattle.node_hulls.specs.declared.reasons.Why.TheVariants as why
-use Rattle.node_hulls.specs.Hulls.{NumaBlock}
-use Rattle.node_hulls.specs.Judgement.{SratNodesView, judge_srat}
-use Rattle.node_hulls.specs.Kept.{is_in_any_range}
-use Rattle.node_hulls.proofs.GivenLaws.{given-small}
+use Rattle.srat_nodes.specs.declared.reasons.Why.{Why}
+use Rattle.srat_nodes.specs.declared.reasons.Why.TheVariants as why
+use Rattle.srat_nodes.specs.NodeAt.{NumaBlock}
+use Rattle.srat_nodes.specs.SratNodesView.{SratNodesView, judge_srat}
+use Rattle.srat_nodes.specs.Kept.{is_in_any_range}
+use Rattle.srat_nodes.proofs.GivenLaws.{given-small}
 use Rattle.memblock_grow.specs.declared.stop.StageStop.{StageStop}
 use Rattle.memblock_grow.specs.declared.stop.StageStop.TheVariants as stop
-use Rattle.stage_model.specs.Causes.{StageCause, stage_stop}
-use Rattle.stage_model.specs.Doing.{StageStep, EndsAsStage, fold_steps, view_of_result, return_value, read_into_list, ◌>>=◌}
-use Rattle.stage_model.proofs.DoingLaws.{ends-first, ends-listed, ends-second, ends-wanting}
-use Rattle.numa_nodes.specs.Assigned.{NodesView, assign_nodes, assign_nodes_by, place_node_data, set_block_node, is_memory_byte, nodes_by_judgement, nodes_with_memory, node_ranges_by, node_ranges, place_data_of_nodes}
+use Rattle.stage_steps.specs.Causes.{StageCause, stage_stop}
+use Rattle.stage_steps.specs.Steps.{StageStep, EndsAsStage, fold_steps, view_of_result, return_value, read_into_list, ◌>>=◌}
+use Rattle.stage_steps.proofs.DoingLaws.{ends-first, ends-listed, ends-second, ends-wanting}
+use Rattle.numa_nodes.specs.Assignment.{NodesView, assign_nodes, assign_nodes_by, place_node_data, set_block_node, is_memory_byte, nodes_by_judgement, nodes_with_memory, node_ranges_by, node_ranges, place_data_of_nodes}
 use Rattle.numa_nodes.specs.Steps.{CanGetNodes}
 
 -- the list of ranges, what follows them, and what follows the nodes that have memory

@@ -5,10 +5,10 @@ use Rattle.std.specs.List.{Contains}
 use Rattle.memblock_model.specs.declared.item.Item.TheVariants as item
 use Rattle.memblock_model.specs.Labels.{LabelView, Labels, plain_label, with_node}
 use Rattle.memblock_model.specs.Items.{memory_of}
-use Rattle.node_hulls.specs.declared.reasons.Why.TheVariants as why
-use Rattle.node_hulls.specs.Hulls.{NumaBlock}
-use Rattle.node_hulls.specs.Judgement.{SratNodesView, unused_srat}
-use Rattle.numa_nodes.specs.Assigned.{has_node, is_of_node, node_data_request, nodes_from, nodes_with_memory, node_ranges}
+use Rattle.srat_nodes.specs.declared.reasons.Why.TheVariants as why
+use Rattle.srat_nodes.specs.NodeAt.{NumaBlock}
+use Rattle.srat_nodes.specs.SratNodesView.{SratNodesView, unused_srat}
+use Rattle.numa_nodes.specs.Assignment.{has_node, is_of_node, node_data_request, nodes_from, nodes_with_memory, node_ranges}
 use Rattle.numa_nodes.proofs.ListedLaws.{nodes-listed, nodes-lists}
 use Rattle.numa_nodes.proofs.MemoryLaws.{noded_all}
 

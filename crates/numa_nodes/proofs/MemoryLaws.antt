@@ -14,21 +14,21 @@ use Rattle.memblock_model.specs.declared.item.Item.TheVariants as item
 use Rattle.memblock_model.specs.declared.owner.Owner.TheVariants as owner
 use Rattle.memblock_model.specs.Items.{limit_after, limit_of, memory_after, memory_of, no_memory}
 use Rattle.memblock_model.specs.Labels.{LabelView, Labels, with_node}
-use Rattle.growth_model.specs.Carried.{StepsKeepMemory}
+use Rattle.growth_model.specs.Requests.{StepsKeepMemory}
 use Rattle.growth_model.specs.Growth.{make_table_room, memory_growth, set_range_node, split_record_count}
-use Rattle.growth_model.specs.Outcome.{ChangeEffect, RefusedGrowth, followed_by, write_item}
-use Rattle.growth_model.specs.Outcome.{items_after_change as after_change}
+use Rattle.growth_model.specs.Change.{ChangeEffect, RefusedGrowth, followed_by, write_item}
+use Rattle.growth_model.specs.Change.{items_after_change as after_change}
 use Rattle.growth_model.proofs.QuietLaws.{memory_growth-quiet, quiet-grown}
 use Rattle.memblock_grow.specs.declared.stop.What.TheVariants as what
-use Rattle.stage_model.specs.Causes.{StageCause}
-use Rattle.stage_model.specs.Doing.{StepEffect, ◌>>=◌, items_after_step, append_groups, continue_if_ok, fold_steps, return_value}
-use Rattle.stage_model.specs.Requests.{stop_if_refused}
-use Rattle.stage_model.specs.Quiet.{KeepsMemory}
-use Rattle.stage_model.proofs.DoingLaws.{append_groups-append}
-use Rattle.stage_model.proofs.QuietLaws.{quiet-appended_limit, quiet-appended_memory, quiet-bind, quiet-placed, quiet-returns, quiet-listed, quiet-turn}
-use Rattle.node_hulls.specs.Hulls.{NumaBlock}
-use Rattle.node_hulls.specs.Judgement.{SratNodesView, judge_srat}
-use Rattle.numa_nodes.specs.Assigned.{NodesView, assign_nodes, assign_nodes_by, place_node_data, set_block_node, is_memory_byte, node_data_request, nodes_by_judgement, nodes_with_memory, node_ranges, place_data_of_nodes}
+use Rattle.stage_steps.specs.Causes.{StageCause}
+use Rattle.stage_steps.specs.Steps.{StepEffect, ◌>>=◌, items_after_step, append_groups, continue_if_ok, fold_steps, return_value}
+use Rattle.stage_steps.specs.Requests.{stop_if_refused}
+use Rattle.stage_steps.specs.KeepsMemory.{KeepsMemory}
+use Rattle.stage_steps.proofs.DoingLaws.{append_groups-append}
+use Rattle.stage_steps.proofs.QuietLaws.{quiet-appended_limit, quiet-appended_memory, quiet-bind, quiet-placed, quiet-returns, quiet-listed, quiet-turn}
+use Rattle.srat_nodes.specs.NodeAt.{NumaBlock}
+use Rattle.srat_nodes.specs.SratNodesView.{SratNodesView, judge_srat}
+use Rattle.numa_nodes.specs.Assignment.{NodesView, assign_nodes, assign_nodes_by, place_node_data, set_block_node, is_memory_byte, node_data_request, nodes_by_judgement, nodes_with_memory, node_ranges, place_data_of_nodes}
 use Rattle.numa_nodes.proofs.AssignLaws.{behind}
 
 -- the growth that may come before

@@ -15,14 +15,14 @@ use Rattle.srat_reader.specs.Table.{SratView}
 use Rattle.memblock_model.specs.declared.item.Item.{Item}
 use Rattle.memblock_model.specs.Items.{limit_of, memory_of}
 use Rattle.memblock_model.specs.Labels.{LabelView, Labels, with_node}
-use Rattle.node_hulls.specs.declared.reasons.Why.TheVariants as why
-use Rattle.node_hulls.specs.Hulls.{NumaBlock}
-use Rattle.node_hulls.specs.Judgement.{SratNodesView, judge_srat}
-use Rattle.node_hulls.specs.Kept.{frame_base}
-use Rattle.node_hulls.proofs.GivenLaws.{given-covers, given-frames, given-runs, given-small}
-use Rattle.stage_model.specs.Doing.{items_after_step}
-use Rattle.stage_model.specs.Noded.{IsSameInFrames, HasNodes}
-use Rattle.numa_nodes.specs.Assigned.{NodesView, assign_nodes, node_ranges}
+use Rattle.srat_nodes.specs.declared.reasons.Why.TheVariants as why
+use Rattle.srat_nodes.specs.NodeAt.{NumaBlock}
+use Rattle.srat_nodes.specs.SratNodesView.{SratNodesView, judge_srat}
+use Rattle.srat_nodes.specs.Kept.{frame_base}
+use Rattle.srat_nodes.proofs.GivenLaws.{given-covers, given-frames, given-runs, given-small}
+use Rattle.stage_steps.specs.Steps.{items_after_step}
+use Rattle.stage_steps.specs.Nodes.{IsSameInFrames, HasNodes}
+use Rattle.numa_nodes.specs.Assignment.{NodesView, assign_nodes, node_ranges}
 use Rattle.numa_nodes.specs.Steps.{CanGetNodes}
 use Rattle.numa_nodes.proofs.AssignLaws.{ranges-cases}
 use Rattle.numa_nodes.proofs.MemoryLaws.{behind-answer, noded_all}

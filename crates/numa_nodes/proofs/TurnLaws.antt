@@ -6,11 +6,11 @@ use Rattle.memblock_model.specs.declared.item.Item.{Item}
 use Rattle.memblock_model.specs.declared.query.Request.{Request}
 use Rattle.memblock_grow.specs.declared.stop.What.TheVariants as what
 use Rattle.memblock_grow.specs.declared.stop.StageStop.{StageStop}
-use Rattle.stage_model.specs.Causes.{StageCause, stage_stop}
-use Rattle.stage_model.specs.Doing.{StageStep, EndsAsStage, fold_steps, view_of_result, return_value}
-use Rattle.stage_model.specs.Requests.{place_or_stop}
-use Rattle.stage_model.proofs.DoingLaws.{ends-first, ends-second}
-use Rattle.numa_nodes.specs.Assigned.{place_node_data, node_data_request}
+use Rattle.stage_steps.specs.Causes.{StageCause, stage_stop}
+use Rattle.stage_steps.specs.Steps.{StageStep, EndsAsStage, fold_steps, view_of_result, return_value}
+use Rattle.stage_steps.specs.Requests.{place_or_stop}
+use Rattle.stage_steps.proofs.DoingLaws.{ends-first, ends-second}
+use Rattle.numa_nodes.specs.Assignment.{place_node_data, node_data_request}
 
 -- all steps end as those from index i on
 pub record Turns {X : Type 0} (step : Unit {0} → X → StageStep StageCause (Unit {0})) (xs : List X) (i : ℕ) (old here : List Item) : Type 0 where

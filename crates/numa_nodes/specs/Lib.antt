@@ -1,2 +1,2 @@
-pub mod Assigned
+pub mod Assignment
 pub mod Steps

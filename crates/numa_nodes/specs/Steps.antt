@@ -4,9 +4,9 @@ use Rattle.std.specs.List.{list_any, All}
 use Rattle.address_runs.specs.Runs.{RunOf}
 use Rattle.memblock_model.specs.Labels.{LabelView}
 use Rattle.memblock_model.specs.Same.{same_node_or_none}
-use Rattle.memblock_grow.specs.Contents.{MemblockView}
-use Rattle.memblock_grow.specs.Going.{ContinuesMemblock}
-use Rattle.node_hulls.specs.Hulls.{NumaBlock}
+use Rattle.memblock_grow.specs.MemblockView.{MemblockView}
+use Rattle.memblock_grow.specs.Continues.{ContinuesMemblock}
+use Rattle.srat_nodes.specs.NodeAt.{NumaBlock}
 
 -- a record of the table has the node
 abbrev pub has_record : List (RunOf LabelView) → ℕ → Bool

@@ -7,9 +7,9 @@ ghost use Rattle.srat_reader.specs.Table.{SratView};
 ghost use Rattle.memblock_model.specs.declared.item.Item.{Item as AnyItem};
 ghost use Rattle.memblock_model.specs.Items.{memory_of, limit_of};
 ghost use Rattle.memblock_model.specs.Labels.{Labels};
-ghost use Rattle.stage_model.specs.Doing.{items_after_step};
-ghost use Rattle.stage_model.specs.Noded.{IsSameInFrames, HasNodes};
-ghost use Rattle.numa_nodes.specs.Assigned.{NodesView, assign_nodes, is_of_node, nodes_with_memory};
+ghost use Rattle.stage_steps.specs.Steps.{items_after_step};
+ghost use Rattle.stage_steps.specs.Nodes.{IsSameInFrames, HasNodes};
+ghost use Rattle.numa_nodes.specs.Assignment.{NodesView, assign_nodes, is_of_node, nodes_with_memory};
 
 /// Law: no byte becomes memory or stops being memory, and the limit is unchanged, whatever the
 /// stage returns.

@@ -3,7 +3,7 @@
 //!
 //! The stage judges the firmware's table of domains (the SRAT) against the machine's memory
 //! (`numa_init`). It gives each byte of memory its node (`numa_register_memblks`), and allocates
-//! the data of each node that has memory (`alloc_node_data`). `specs/Assigned.antt` defines it as
+//! the data of each node that has memory (`alloc_node_data`). `specs/Assignment.antt` defines it as
 //! steps. There is one Node item for each run of addresses of one node, then one for each run of
 //! memory that no block of the table covers. If the table isn't used, there is one Node item that
 //! gives node 0 to all addresses below the limit. The allocations follow.
@@ -23,12 +23,9 @@
 #![tactic(auto)]
 
 mod laws;
-mod limit;
 mod memory;
-mod nodes;
 mod stage;
 
 pub use laws::{listed_nodes_have_memory, assign_keeps_memory_and_limit, all_memory_gets_nodes};
-pub use node_hulls::Why;
-pub use nodes::Nodes;
-pub use stage::assign;
+pub use srat_nodes::Why;
+pub use stage::{Nodes, assign};

@@ -1,29 +1,42 @@
 //! Nodes for memory, and data for nodes: the Node items and then the allocations. They are one
 //! stage, since the data of a node should lie on the node. So it is allocated after memory has its
 //! nodes, and only for nodes that have memory.
+
 ghost use Rattle.std.specs.Prelude.{◌≡◌, ◌^◌, ◌<◌, length, IfOk};
 ghost use Rattle.std.specs.Option.{ForSome, option_map, option_copied};
 ghost use Rattle.memblock_model.specs.Items.{limit_of};
 ghost use Rattle.srat_reader.specs.Table.{srat_view};
-ghost use Rattle.growth_model.specs.Sound.{HasBegun};
-ghost use Rattle.stage_model.specs.Causes.{stage_stop};
-ghost use Rattle.stage_model.specs.Doing.{EndsAsStage, fold_steps, view_of_result};
-ghost use Rattle.memblock_grow.specs.Going.{ContinuesMemblock};
-ghost use Rattle.node_hulls.specs.Judgement.{srat_nodes_view};
-ghost use Rattle.numa_nodes.specs.Assigned.{assign_nodes, assign_nodes_by, place_node_data, set_block_node, node_data_request, nodes_view, node_ranges};
+ghost use Rattle.growth_model.specs.Tables.{HasBegun};
+ghost use Rattle.stage_steps.specs.Causes.{stage_stop};
+ghost use Rattle.stage_steps.specs.Steps.{EndsAsStage, fold_steps, view_of_result};
+ghost use Rattle.memblock_grow.specs.Continues.{ContinuesMemblock};
+ghost use Rattle.srat_nodes.specs.SratNodesView.{srat_nodes_view};
+ghost use Rattle.numa_nodes.specs.Assignment.{assign_nodes, assign_nodes_by, place_node_data, set_block_node, node_data_request, nodes_view, node_ranges};
 ghost use Rattle.numa_nodes.specs.Steps.{CanGetNodes, GoesFurther};
 
-use crate::limit::limit_of;
-use crate::memory::{memory_ranges, nodes_with_memory};
-use crate::nodes::Nodes;
+use crate::memory::{limit_of, memory_ranges, nodes_with_memory};
 use bm_base::{Memory, Range};
 use boot_journal::{Owner, Which};
 use growth_model::Request;
 use memblock_grow::Memblock;
-use node_hulls::{SratNodes, NodeRange, Why, judge_srat};
+use srat_nodes::{SratNodes, NodeRange, Why, judge_srat};
 use srat_reader::Srat;
-use stage_model::{StageStop, What, place_or_stop, set_node_or_stop};
+use stage_steps::{StageStop, What, place_or_stop, set_node_or_stop};
 use std::alloc::Global;
+
+/// The nodes of a boot.
+#[derive(Debug, Drop)]
+pub struct Nodes {
+    /// Whether the firmware's table of domains is used and, if not, why.
+    pub why: Why,
+    /// The domain of each node if the table is used, else empty.
+    pub domains: Vec<u32>,
+    /// The number of frames of memory that no block covers and that got the lowest node; 0 if the
+    /// table isn't used.
+    pub uncovered: u64,
+    /// The nodes that have memory, in ascending order.
+    pub with_memory: Vec<u32>,
+}
 
 /// The size in bytes of a node's data (`pg_data_t` of x86-64, in whole pages).
 const NODE_DATA_SIZE: u64 = 0x2B000;

@@ -9,17 +9,17 @@ use Rattle.std.specs.BTreeMap.{is_at, insert_entry}
 use Rattle.bm_base.specs.declared.range.TheConstants.{FRAME_SIZE}
 use Rattle.bm_base.specs.declared.zone.Zone.{Zone}
 use Rattle.address_runs.specs.Runs.{IsRunsOf}
-use Rattle.buddy_handover.specs.Contents.{buddy_frames}
-use Rattle.frame_blocks.specs.Frames.{Frames}
-use Rattle.frame_blocks.specs.Picked.{picked_first_frame}
-use Rattle.frame_blocks.specs.Buddies.{without_set}
+use Rattle.buddy_handover.specs.BuddyView.{buddy_frames}
+use Rattle.buddy_blocks.specs.Frames.{Frames}
+use Rattle.buddy_blocks.specs.PickedBlock.{picked_first_frame}
+use Rattle.buddy_blocks.specs.Buddies.{without_set}
 use Rattle.page_alloc.specs.declared.act.PageAct.{PageAct}
 use Rattle.page_alloc.specs.declared.act.PageAct.TheVariants as acts
 use Rattle.page_alloc.specs.declared.outcome.Held.{Held}
 use Rattle.page_alloc.specs.declared.outcome.PageOutcome.{PageOutcome}
 use Rattle.page_alloc.specs.declared.outcome.PageOutcome.TheVariants as outcomes
-use Rattle.page_alloc.specs.Book.{PagesView, held_in, page_state_of}
-use Rattle.page_alloc.specs.Kept.{AreHeldApart}
+use Rattle.page_alloc.specs.PagesView.{PagesView, held_in, page_state_of}
+use Rattle.page_alloc.specs.FramePlaces.{AreHeldApart}
 use Rattle.page_alloc.specs.Pages.{PageState, with_held, allocate_frames, allocate_unless_taken, page_step, HasValidOrder, NeedsMemory}
 use Rattle.page_alloc.proofs.KeptLaws.{step_kept}
 use Rattle.free_areas.proofs.OrderLaws.{number_equal}

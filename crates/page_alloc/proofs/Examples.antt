@@ -9,26 +9,26 @@ use Rattle.bm_base.specs.declared.zone.Zone.TheVariants as zones
 use Rattle.bm_base.specs.Zones.{zone_of}
 use Rattle.text_words.specs.Words.{words_in}
 use Rattle.text_words.specs.declared.separators.Separators.TheVariants as separators
-use Rattle.frame_blocks.specs.declared.block.Block.{Block}
-use Rattle.frame_blocks.specs.declared.run.TheConstants.{MAX_FRAMES}
-use Rattle.frame_blocks.specs.Frames.{Frames, IsBlock}
-use Rattle.frame_blocks.specs.Picked.{IsPicked, picked_first_frame}
-use Rattle.frame_blocks.specs.Buddies.{without_set}
-use Rattle.frame_blocks.proofs.BuddyLaws.{one_at, without_is, in_set_or_not}
-use Rattle.frame_blocks.proofs.PickLaws.{picked_is, picked_none}
+use Rattle.buddy_blocks.specs.declared.block.Block.{Block}
+use Rattle.buddy_blocks.specs.declared.run.TheConstants.{MAX_FRAMES}
+use Rattle.buddy_blocks.specs.Frames.{Frames, IsBlock}
+use Rattle.buddy_blocks.specs.PickedBlock.{IsPicked, picked_first_frame}
+use Rattle.buddy_blocks.specs.Buddies.{without_set}
+use Rattle.buddy_blocks.proofs.BuddyLaws.{one_at, without_is, in_set_or_not}
+use Rattle.buddy_blocks.proofs.PickLaws.{picked_is, picked_none}
 use Rattle.script_reader.specs.declared.fault.Wrong.TheVariants as wrong
 use Rattle.script_reader.specs.Numbers.{Words}
 use Rattle.script_reader.specs.Lines.{read_line}
 use Rattle.script_reader.specs.Grammar.{HasLineForm, SpellsNumbers, NeverFails, HasWordsFault}
 use Rattle.page_alloc.specs.declared.act.PageAct.TheVariants as acts
 use Rattle.page_alloc.specs.declared.act.PageLine.{PageLine}
-use Rattle.page_alloc.specs.declared.fault.PageFault.TheVariants as faults
+use Rattle.page_alloc.specs.declared.reading.PageFault.TheVariants as faults
 use Rattle.page_alloc.specs.declared.outcome.Held.{Held}
 use Rattle.page_alloc.specs.declared.outcome.PageOutcome.{PageOutcome}
 use Rattle.page_alloc.specs.declared.outcome.PageOutcome.TheVariants as outcomes
 use Rattle.page_alloc.specs.Forms.{zone_named, pages_line, give_line}
 use Rattle.page_alloc.specs.Spelling.{pages as pages_form, give as give_form, zone_word, page_words_of, HasPageScriptNumbers, page_grammar}
-use Rattle.page_alloc.specs.Kept.{HoldsFrame, IsInOneBlockOrHeld, IsInNoBlockNorHeld, AreHeldApart}
+use Rattle.page_alloc.specs.FramePlaces.{HoldsFrame, IsInOneBlockOrHeld, IsInNoBlockNorHeld, AreHeldApart}
 use Rattle.page_alloc.specs.Pages.{PageState, first_page_state, with_held, allocate_frames, free_held_frames, page_step, HasValidOrder, HaveValidOrders}
 use Rattle.page_alloc.specs.Reading.{page_lines, page_lines_of}
 use Rattle.page_alloc.proofs.KeptLaws.{Goes, in_one, in_none, begun_goes, begun_kept, step_goes, step_kept}

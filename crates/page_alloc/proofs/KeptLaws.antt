@@ -5,20 +5,20 @@ use Rattle.std.proofs.lemmas.Nat.{pow_pos}
 use Rattle.std.specs.Option.{option_map}
 use Rattle.bm_base.specs.declared.zone.Zone.{Zone}
 use Rattle.address_runs.specs.Edits.{NothingFrom}
-use Rattle.frame_blocks.specs.declared.block.Block.{Block}
-use Rattle.frame_blocks.specs.declared.run.TheConstants.{MAX_FRAMES}
-use Rattle.frame_blocks.specs.Frames.{Frames, IsInSet, IsInBlock}
-use Rattle.frame_blocks.specs.Picked.{picked_block, picked_first_frame}
-use Rattle.frame_blocks.specs.Buddies.{without_set, with_set}
-use Rattle.frame_blocks.proofs.SetLaws.{in_set, set_until, wider, multiple}
-use Rattle.frame_blocks.proofs.BlockLaws.{found_block}
-use Rattle.frame_blocks.proofs.BuddyLaws.{set_covers, covers_set, in_set_or_not, without_is, was_there, block_or_none, found_or_none}
-use Rattle.frame_blocks.proofs.PickLaws.{picked_tells}
+use Rattle.buddy_blocks.specs.declared.block.Block.{Block}
+use Rattle.buddy_blocks.specs.declared.run.TheConstants.{MAX_FRAMES}
+use Rattle.buddy_blocks.specs.Frames.{Frames, IsInSet, IsInBlock}
+use Rattle.buddy_blocks.specs.PickedBlock.{picked_block, picked_first_frame}
+use Rattle.buddy_blocks.specs.Buddies.{without_set, with_set}
+use Rattle.buddy_blocks.proofs.SetLaws.{in_set, set_until, wider, multiple}
+use Rattle.buddy_blocks.proofs.BlockLaws.{found_block}
+use Rattle.buddy_blocks.proofs.BuddyLaws.{set_covers, covers_set, in_set_or_not, without_is, was_there, block_or_none, found_or_none}
+use Rattle.buddy_blocks.proofs.PickLaws.{picked_tells}
 use Rattle.page_alloc.specs.declared.act.PageAct.{PageAct}
 use Rattle.page_alloc.specs.declared.act.PageAct.TheVariants as acts
 use Rattle.page_alloc.specs.declared.outcome.Held.{Held}
 use Rattle.page_alloc.specs.Pages.{PageState, first_page_state, with_held, allocate_frames, allocate_unless_taken, free_held_frames, page_step, HasValidOrder}
-use Rattle.page_alloc.specs.Kept.{HoldsFrame, IsInOneBlockOrHeld, IsInNoBlockNorHeld, IsAlignedAndTaken, AreHeldApart}
+use Rattle.page_alloc.specs.FramePlaces.{HoldsFrame, IsInOneBlockOrHeld, IsInNoBlockNorHeld, IsAlignedAndTaken, AreHeldApart}
 
 -- the free and held frames of the state were free in f, on the same nodes; and each free frame of
 -- f is free or held in the state

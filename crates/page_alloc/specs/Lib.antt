@@ -1,6 +1,6 @@
-pub mod Book
+pub mod PagesView
 pub mod Forms
-pub mod Kept
+pub mod FramePlaces
 pub mod Pages
 pub mod Reading
 pub mod Spelling

@@ -3,9 +3,9 @@
 use Rattle.std.specs.Prelude.{ℕ, ◌*◌, ◌≤◌, ◌==◌, if◌then◌else◌, Option, Some, None, List, [], ◌∷◌}
 use Rattle.bm_base.specs.declared.range.TheConstants.{FRAME_SIZE}
 use Rattle.bm_base.specs.declared.zone.Zone.{Zone}
-use Rattle.frame_blocks.specs.Frames.{Frames}
-use Rattle.frame_blocks.specs.Picked.{picked_first_frame}
-use Rattle.frame_blocks.specs.Buddies.{without_set, with_set}
+use Rattle.buddy_blocks.specs.Frames.{Frames}
+use Rattle.buddy_blocks.specs.PickedBlock.{picked_first_frame}
+use Rattle.buddy_blocks.specs.Buddies.{without_set, with_set}
 use Rattle.page_alloc.specs.declared.act.PageAct.{PageAct}
 use Rattle.page_alloc.specs.declared.act.PageAct.TheVariants as acts
 use Rattle.page_alloc.specs.declared.act.PageLine.{PageLine}

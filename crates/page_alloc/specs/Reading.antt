@@ -6,8 +6,8 @@ use Rattle.script_reader.specs.declared.fault.Wrong.TheVariants as wrong
 use Rattle.script_reader.specs.Lines.{ScriptKind, lines_of}
 use Rattle.page_alloc.specs.declared.act.PageAct.{PageAct}
 use Rattle.page_alloc.specs.declared.act.PageLine.{PageLine}
-use Rattle.page_alloc.specs.declared.fault.PageFault.{PageFault}
-use Rattle.page_alloc.specs.declared.fault.PageFault.TheVariants as faults
+use Rattle.page_alloc.specs.declared.reading.PageFault.{PageFault}
+use Rattle.page_alloc.specs.declared.reading.PageFault.TheVariants as faults
 use Rattle.page_alloc.specs.Forms.{page_act_by_name}
 
 -- the fault of a script for what is wrong with the line of this number: its form, or else a number

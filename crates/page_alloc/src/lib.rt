@@ -18,16 +18,15 @@
 //! - `Reading.antt`: the lines of a page script
 //! - `Spelling.antt`: the same forms as a user writes them
 //! - `Pages.antt`: what each line does to the free frames and to what the IDs hold
-//! - `Kept.antt`: what stays true of that state
+//! - `FramePlaces.antt`: what stays true of that state
 //!
 //! A law is an empty function whose contract is a proven fact. By [`page_lines_of_spelling`] a
-//! line is read exactly as what its words spell. The layer above proves, with `Kept.antt`, that no
+//! line is read exactly as what its words spell. The layer above proves, with `FramePlaces.antt`, that no
 //! line loses a frame. Each frame that was free at first is in exactly one block, or held by
 //! exactly one ID, and no other frame is.
 #![tactic(auto)]
 
 mod act;
-mod fault;
 mod forms;
 mod laws;
 mod outcome;
@@ -35,8 +34,7 @@ mod pages;
 mod reading;
 
 pub use act::{PageAct, PageLine};
-pub use fault::PageFault;
+pub use reading::{PageFault, read_pages};
 pub use laws::page_lines_of_spelling;
 pub use outcome::{Held, PageAnswer, PageOutcome};
 pub use pages::Pages;
-pub use reading::read_pages;

@@ -1,9 +1,9 @@
 //! The buddy lists, and which ID holds which frames from them.
 
 ghost use Rattle.std.specs.Prelude.{◌≡◌, ◌⊎◌, ◌+◌, ◌*◌, ◌^◌, ◌<◌, ◌≤◌, IfOk, OnErr};
-ghost use Rattle.buddy_handover.specs.Contents.{buddy_frames};
+ghost use Rattle.buddy_handover.specs.BuddyView.{buddy_frames};
 ghost use Rattle.page_alloc.specs.declared.act.PageAct.TheVariants as act;
-ghost use Rattle.page_alloc.specs.Book.{held_in, page_state_of};
+ghost use Rattle.page_alloc.specs.PagesView.{held_in, page_state_of};
 ghost use Rattle.page_alloc.specs.Pages.{first_page_state, page_step, HasValidOrder, IsPagesOrGive, NeedsMemory};
 
 use crate::act::{PageAct, PageLine};
@@ -24,8 +24,8 @@ pub struct Pages {
 }
 
 impl Model for Pages {
-    ghost use Rattle.page_alloc.specs.Book.{PagesView, page_state_of};
-    ghost use Rattle.page_alloc.specs.Kept.{AreHeldApart};
+    ghost use Rattle.page_alloc.specs.PagesView.{PagesView, page_state_of};
+    ghost use Rattle.page_alloc.specs.FramePlaces.{AreHeldApart};
 
     ghost Value = { PagesView };
 

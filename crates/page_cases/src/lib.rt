@@ -12,4 +12,4 @@ mod of_page_alloc;
 #[cfg(test)]
 mod of_slit_zonelists;
 #[cfg(test)]
-mod of_stage_texts;
+mod of_report_stages;

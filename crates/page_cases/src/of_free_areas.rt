@@ -2,7 +2,7 @@
 //! values were worked out by hand from `expand` and `__free_one_page`.
 
 use bm_base::{Memory, Zone};
-use frame_blocks::{Block, FrameRun};
+use buddy_blocks::{Block, FrameRun};
 use free_areas::Areas;
 use std::alloc::Global;
 use std::test::Fail;

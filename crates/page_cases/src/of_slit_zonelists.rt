@@ -2,7 +2,7 @@
 //! lists of zones of the machine's nodes; and requests near a node.
 
 ghost use Rattle.std.specs.Prelude.{◌≡◌, IfOk, length};
-ghost use Rattle.slit_zonelists.specs.Matrix.{slit_view, IsSquare};
+ghost use Rattle.slit_zonelists.specs.SlitView.{slit_view, IsSquare};
 
 use bm_base::{Memory, Zone};
 use buddy_handover::Buddy;

@@ -3,7 +3,7 @@
 
 ghost use Rattle.std.specs.Prelude.{◌≡◌, ◌+◌, ◌^◌, ◌<◌, ◌≤◌, length, IfOk, string_bytes};
 ghost use Rattle.e820_model.specs.Claims.{EntriesFit, HaveTypes};
-ghost use Rattle.debugfs_reports.specs.Stand.{HeadsHaveRecords};
+ghost use Rattle.debugfs_reports.specs.TableHeads.{HeadsHaveRecords};
 
 use bm_base::{Range, Width};
 use bm_io::MemFile;

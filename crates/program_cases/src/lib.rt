@@ -34,7 +34,7 @@ mod of_efi_map;
 #[cfg(test)]
 mod of_program_run;
 #[cfg(test)]
-mod of_program_words;
+mod of_program_args;
 #[cfg(test)]
 mod of_run_edits;
 #[cfg(test)]

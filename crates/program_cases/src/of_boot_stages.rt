@@ -13,7 +13,7 @@ use boot_model::{Inputs, Stop};
 use boot_stages::boot;
 use e820_model::Run;
 use e820_table::Entry;
-use report_texts::put_journal;
+use report_memory::put_journal;
 use std::alloc::Global;
 use std::process::Abort;
 use std::test::Fail;

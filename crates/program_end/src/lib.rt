@@ -20,7 +20,7 @@
 #![tactic(auto)]
 
 mod failure;
-mod telling;
+mod lines;
 
 pub use failure::{Failure, NoResult, Reason, exit_status};
-pub use telling::{Lines, put_line, put_end_line};
+pub use lines::{Lines, put_line, put_end_line};

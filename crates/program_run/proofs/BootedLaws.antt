@@ -12,7 +12,7 @@ use Rattle.boot_model.specs.declared.booted.Booted.{Booted}
 use Rattle.boot_stages.specs.Boots.{IsStoredTable}
 use Rattle.debugfs_reports.specs.declared.report.Report.{Report}
 use Rattle.debugfs_reports.specs.ReportList.{render_list, report_list_text}
-use Rattle.debugfs_reports.specs.Stand.{HeadsHaveRecords, records_at_heads}
+use Rattle.debugfs_reports.specs.TableHeads.{HeadsHaveRecords, records_at_heads}
 use Rattle.debugfs_reports.proofs.StandLaws.{HaveTables, tables_shown, tables_stand}
 use Rattle.memblock_model.specs.declared.owner.Which.TheVariants as which
 use Rattle.program_end.specs.Fetches.{FitsError}

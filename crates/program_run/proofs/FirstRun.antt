@@ -19,17 +19,17 @@ use Rattle.bm_base.proofs.EachLaws.{each_in-same}
 use Rattle.e820_table.specs.Entries.{entry_at}
 use Rattle.e820_table.specs.Initrd.{initrd_of, is_initrd_far}
 use Rattle.memblock_model.specs.declared.item.Item.{Item}
-use Rattle.growth_model.specs.Carried.{carry_out_items}
-use Rattle.early_stages.specs.Wanted.{first_items}
-use Rattle.early_stages.proofs.FewLaws.{NeedNone, few_from_nothing}
+use Rattle.growth_model.specs.Requests.{carry_out_items}
+use Rattle.early_memory.specs.FirstItems.{first_items}
+use Rattle.early_memory.proofs.FewLaws.{NeedNone, few_from_nothing}
 use Rattle.bm_base.specs.ResultSteps.{◌>>=◌}
 use Rattle.boot_model.specs.Boot.{InputsView, BootSoFar, begin_with_map, inputs_without_files, boot, claims, early_inputs, memory_stage, judge_map, no_options, reach}
 use Rattle.boot_model.proofs.BootLaws.{goes_on}
 use Rattle.boot_model.proofs.CarriedLaws.{memory_made_by}
-use Rattle.program_words.specs.Kernel.{default_kernel}
-use Rattle.program_words.specs.Spelling.{AreSpellings, Spelling, two_word_option, spelled_values, named}
-use Rattle.program_words.specs.Words.{BootmemArgsView, read_args, file_name_in}
-use Rattle.program_words.proofs.MatchedLaws.{accepted_as_given}
+use Rattle.program_args.specs.Kernel.{default_kernel}
+use Rattle.program_args.specs.Spelling.{AreSpellings, Spelling, two_word_option, spelled_values, named}
+use Rattle.program_args.specs.Args.{BootmemArgsView, read_args, file_name_in}
+use Rattle.program_args.proofs.MatchedLaws.{accepted_as_given}
 use Rattle.program_end.specs.Program.{FileContents}
 use Rattle.debugfs_reports.specs.declared.report.Report.TheVariants as reports
 use Rattle.program_run.specs.Outcome.{bootmem_outcome}

@@ -9,7 +9,7 @@ use Rattle.boot_inputs.specs.Reason.{NoInputs, InputsReason}
 use Rattle.boot_model.specs.Boot.{InputsView}
 use Rattle.program_end.specs.Fetches.{Fetches, FitsError}
 use Rattle.program_end.specs.Program.{FileContents}
-use Rattle.program_words.specs.Words.{BootmemArgsView}
+use Rattle.program_args.specs.Args.{BootmemArgsView}
 use Rattle.program_run.specs.Outcome.{read_boot_inputs, with_made_table}
 
 fits_after : {X : Type 0} (view : X → InputsView) (r : Result X NoInputs) (error : NoInputs) (said : Result InputsView InputsReason)

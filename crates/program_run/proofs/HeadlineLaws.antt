@@ -15,7 +15,7 @@ use Rattle.debugfs_reports.specs.ReportList.{report_list_text}
 use Rattle.program_run.specs.Bootmem.{bootmem}
 use Rattle.program_run.specs.Headline.{AppendsReports}
 use Rattle.program_run.specs.Outcome.{read_boot_inputs, or_stopped, bootmem_outcome, reports_on_boot}
-use Rattle.program_words.specs.Words.{BootmemArgsView}
+use Rattle.program_args.specs.Args.{BootmemArgsView}
 
 -- if two steps in a row succeed, the first returned a value, and the second succeeds from it
 text_after : {A E : Type 0} (answer : Result A E) (next : A → Result (List ℕ) E) (P : List ℕ → Type 0)

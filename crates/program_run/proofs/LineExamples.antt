@@ -14,7 +14,7 @@ use Rattle.bm_io.specs.declared.writing.Put.TheVariants as put
 use Rattle.program_end.specs.declared.failure.Failure.TheVariants as failures
 use Rattle.program_end.specs.declared.failure.NoResult.TheVariants as errors
 use Rattle.program_end.specs.declared.failure.Reason.TheVariants as reasons
-use Rattle.program_words.specs.declared.error.ArgsError.TheVariants as words
+use Rattle.program_args.specs.declared.reader.ArgsError.TheVariants as words
 use Rattle.program_run.specs.Stops.{no_report, reason_by_args_error}
 use Rattle.program_run.specs.Line.{diagnostic_line, named_input_fault_line, no_numbered_place_line, no_place_line, stop_cause_line, input_fault_line, bootmem_failure_line}
 use Rattle.program_run.proofs.OutcomeExamples.{wanting}

@@ -14,7 +14,7 @@ use Rattle.bm_base.specs.declared.width.Width.TheVariants.{Bits46}
 use Rattle.boot_model.specs.Boot.{InputsView, inputs_without_files, boot}
 use Rattle.debugfs_reports.specs.declared.report.Report.TheVariants as reports
 use Rattle.program_run.specs.Outcome.{read_boot_inputs, bootmem_outcome, reports_on_boot, with_made_table}
-use Rattle.program_words.specs.Words.{BootmemArgsView}
+use Rattle.program_args.specs.Args.{BootmemArgsView}
 
 abbrev pub naming : List ℕ → Input → Option (List ℕ)
 naming zero_page inputs.ZeroPage = Some zero_page

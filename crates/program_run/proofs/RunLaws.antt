@@ -9,10 +9,10 @@ use Rattle.debugfs_reports.specs.declared.report.Report.{Report}
 use Rattle.program_end.specs.Causes.{ErrorHasCause}
 use Rattle.program_end.specs.Fetches.{Fetches, FitsError}
 use Rattle.program_end.specs.Program.{FileContents}
-use Rattle.program_words.specs.declared.error.ArgsError.{ArgsError}
-use Rattle.program_words.specs.declared.error.ArgsError.TheVariants as words
-use Rattle.program_words.specs.Answers.{or_refused}
-use Rattle.program_words.specs.Words.{BootmemArgsView}
+use Rattle.program_args.specs.declared.reader.ArgsError.{ArgsError}
+use Rattle.program_args.specs.declared.reader.ArgsError.TheVariants as words
+use Rattle.program_args.specs.Answers.{or_refused}
+use Rattle.program_args.specs.Args.{BootmemArgsView}
 use Rattle.program_run.specs.Bootmem.{bootmem}
 use Rattle.program_run.specs.Outcome.{read_boot_inputs, bootmem_outcome, reports_on_boot}
 use Rattle.program_run.specs.Stops.{reason_by_args_error}

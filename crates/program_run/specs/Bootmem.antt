@@ -4,7 +4,7 @@ use Rattle.std.proofs.Common.{refl, inl}
 use Rattle.boot_inputs.specs.declared.input.Input.{Input}
 use Rattle.boot_inputs.specs.Input.{input_place}
 use Rattle.program_end.specs.Program.{Program}
-use Rattle.program_words.specs.Words.{BootmemArgsView}
+use Rattle.program_args.specs.Args.{BootmemArgsView}
 
 abbrev pub bootmem : Program BootmemArgsView Input (List ℕ)
 bootmem = record {

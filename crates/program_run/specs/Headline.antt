@@ -6,7 +6,7 @@ use Rattle.boot_model.specs.Boot.{InputsView, BootedView, whole_boot}
 use Rattle.conservation.specs.Headline.{AllTouchedOrInOneBlock, BlocksAreMaximal, BlocksAreWhole, NoOtherInABlock}
 use Rattle.debugfs_reports.specs.ReportList.{report_list_text}
 use Rattle.program_run.specs.Outcome.{read_boot_inputs}
-use Rattle.program_words.specs.Words.{BootmemArgsView}
+use Rattle.program_args.specs.Args.{BootmemArgsView}
 
 -- the requested reports were appended whole, made of the one boot that the command line and the
 -- files' bytes determine. In it each usable frame is touched by a claim with a recorded owner, or

@@ -14,7 +14,7 @@ use Rattle.memblock_grow.specs.declared.stop.What.{What}
 use Rattle.memblock_grow.specs.declared.stop.What.TheVariants as what
 use Rattle.boot_model.specs.declared.stop.Cause.{Cause}
 use Rattle.boot_model.specs.declared.stop.Cause.TheVariants as causes
-use Rattle.program_words.specs.Words.{BootmemArgsView}
+use Rattle.program_args.specs.Args.{BootmemArgsView}
 
 -- the line of a diagnostic of the input `name`. A fault of a file's bytes always has a diagnostic
 -- (`IsOfBytes`).

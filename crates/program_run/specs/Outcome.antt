@@ -12,7 +12,7 @@ use Rattle.debugfs_reports.specs.declared.report.Report.{Report}
 use Rattle.debugfs_reports.specs.ReportList.{report_list_text}
 use Rattle.program_end.specs.declared.failure.Reason.TheVariants as reasons
 use Rattle.program_end.specs.Fetches.{or_usage}
-use Rattle.program_words.specs.Words.{BootmemArgsView}
+use Rattle.program_args.specs.Args.{BootmemArgsView}
 
 -- the value, or the cause of the stop as a reason
 abbrev pub or_stopped : {A : Type 0} → Result A Cause → Result A InputsReason

@@ -6,8 +6,8 @@ use Rattle.boot_model.specs.declared.stop.Stop.{Stop}
 use Rattle.boot_model.specs.Stop.{cause_of}
 use Rattle.program_end.specs.declared.failure.NoResult.TheVariants as errors
 use Rattle.program_end.specs.declared.failure.Reason.TheVariants as reasons
-use Rattle.program_words.specs.declared.error.ArgsError.{ArgsError}
-use Rattle.program_words.specs.declared.error.ArgsError.TheVariants as words
+use Rattle.program_args.specs.declared.reader.ArgsError.{ArgsError}
+use Rattle.program_args.specs.declared.reader.ArgsError.TheVariants as words
 
 -- a stop without a cause is out of memory
 abbrev pub reason_by_cause : Option Cause → NoInputs

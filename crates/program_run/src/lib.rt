@@ -2,7 +2,7 @@
 //!
 //! [`run`] reads the words after the program's name (the command line) and the files that they
 //! name, boots with them, and writes the reports. The definition `outcome` (`specs/Outcome.antt`)
-//! says what it writes, in four steps. The command line gives what is asked for (`program_words`),
+//! says what it writes, in four steps. The command line gives what is asked for (`program_args`),
 //! and the files' bytes give the inputs (`boot_inputs`). The inputs give the memory after the boot
 //! (`boot_model`), and that gives the text of the reports (`debugfs_reports`). The kernel's
 //! command line is one of the input files.
@@ -19,12 +19,10 @@
 //! In contracts, a name means the definition in `specs/`.
 #![tactic(auto)]
 
-mod failure;
-mod given;
+mod inputs;
 mod program;
-mod tell;
+mod lines;
 
 pub use boot_inputs::InputsReason;
-pub use failure::{Failure, NoReport, no_report};
-pub use given::read_boot_inputs;
-pub use program::run;
+pub use program::{Failure, NoReport, no_report, run};
+pub use inputs::read_boot_inputs;

@@ -16,28 +16,43 @@ ghost use Rattle.program_end.specs.Ends.{FitsFailure, IsFaulty, IsStopped, PutsE
 ghost use Rattle.program_end.specs.Fetches.{Fetches};
 ghost use Rattle.program_end.specs.Line.{PutsLine};
 ghost use Rattle.program_end.specs.Status.{failure_status};
-ghost use Rattle.program_words.specs.View.{bootmem_args_view};
-ghost use Rattle.program_words.specs.Words.{BootmemArgs as Asked, read_args, bytes_of_words};
+ghost use Rattle.program_args.specs.View.{bootmem_args_view};
+ghost use Rattle.program_args.specs.Args.{BootmemArgs as Asked, read_args, bytes_of_words};
 ghost use Rattle.program_run.specs.Bootmem.{bootmem};
 ghost use Rattle.program_run.specs.Headline.{AppendsReports};
 ghost use Rattle.program_run.specs.Line.{bootmem_failure_line};
 ghost use Rattle.program_run.specs.Outcome.{bootmem_outcome, reports_on_boot};
-ghost use Rattle.program_run.specs.Stops.{reason_by_args_error};
+ghost use Rattle.program_run.specs.Stops.{reason_by_args_error, no_report};
 
-use crate::failure::{Failure, NoReport, no_report};
-use crate::given::read_boot_inputs;
-use crate::tell::BootmemLines;
+use crate::inputs::read_boot_inputs;
+use crate::lines::BootmemLines;
 use bm_io::{Files, Sink, put_all};
-use boot_inputs::InputsReason;
-use boot_model::Inputs;
+use boot_inputs::{InputsReason, NoInputs};
+use boot_model::{Inputs, Stop};
 use boot_stages::boot;
 use debugfs_reports::{render_all, reports_in};
 use program_end::{exit_status, put_end_line};
-use program_words::{BootmemArgs, ArgsError, read_args};
+use program_args::{BootmemArgs, ArgsError, read_args};
 use std::alloc::Global;
 
+/// Why there is no report: a reason, or out of memory.
+pub type NoReport = NoInputs;
+
+/// Why the program didn't write its reports whole.
+pub type Failure = program_end::Failure<InputsReason>;
+
+/// Returns why a boot that stops gives no report: the cause of the stop, or out of memory.
+pub fn no_report(stop: Stop) -> NoReport
+    ensures { result ≡ no_report stop }
+{
+    match stop.cause() {
+        Some(cause) => NoReport::Reason(InputsReason::Stopped(cause)),
+        None => NoReport::Memory,
+    }
+}
+
 /// Reads the files that the command line names, boots with them, and writes the reports to `out`.
-/// `words` are the words after the program's name; [`program_words::read_args`] says which are
+/// `words` are the words after the program's name; [`program_args::read_args`] says which are
 /// accepted. Returns the exit status:
 ///
 /// - 0: the reports were written whole.

@@ -1,7 +1,7 @@
 -- Worked examples: sections in groups, the addresses within a group, and requests.
 use Rattle.std.proofs.Common.{◌≡◌, ℕ, true, false, Some, None, List, [], ◌∷◌, refl, arith}
 use Rattle.std.proofs.lemmas.List.Elements.{All-head, All-tail}
-use Rattle.memblock_grow.specs.declared.section.Section.{Section}
+use Rattle.memblock_grow.specs.declared.stop.Section.{Section}
 use Rattle.section_maps.specs.Maps.{SectionGroup, groups_of, usage_request, map_request, consecutive_places}
 use Rattle.section_maps.specs.Stretches.{AreMaximalStretches, HasOneNode}
 use Rattle.section_maps.proofs.StretchLaws.{maximal}

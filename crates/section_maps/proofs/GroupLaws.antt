@@ -3,12 +3,12 @@ use Rattle.std.proofs.Common.{◌≡◌, ℕ, suc, ◌+◌, ◌<◌, ◌==◌, B
 use Rattle.std.specs.List.{prefix_len}
 use Rattle.std.proofs.lemmas.Bool.{cases_Bool, eqb-true, false_from_ne_true}
 use Rattle.memblock_model.specs.declared.item.Item.{Item}
-use Rattle.memblock_grow.specs.declared.section.Section.{Section}
+use Rattle.memblock_grow.specs.declared.stop.Section.{Section}
 use Rattle.memblock_grow.specs.declared.stop.StageStop.{StageStop}
 use Rattle.memblock_grow.specs.declared.stop.StageStop.TheVariants as stop
-use Rattle.stage_model.specs.Causes.{stage_stop}
-use Rattle.stage_model.specs.Doing.{EndsAsStage, read_into_list, fold_steps}
-use Rattle.stage_model.proofs.DoingLaws.{ends-second, ends-first, ends-listed, ends-wanting, ends-returns}
+use Rattle.stage_steps.specs.Causes.{stage_stop}
+use Rattle.stage_steps.specs.Steps.{EndsAsStage, read_into_list, fold_steps}
+use Rattle.stage_steps.proofs.DoingLaws.{ends-second, ends-first, ends-listed, ends-wanting, ends-returns}
 use Rattle.section_maps.specs.declared.placed.Placed.{Placed}
 use Rattle.section_maps.specs.Maps.{SectionGroup, prepend_section, groups_of, place_group, place_section_group, place_maps}
 

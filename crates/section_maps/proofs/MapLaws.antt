@@ -4,16 +4,16 @@ use Rattle.std.proofs.lemmas.List.{drop_all, drop_more, take_more, length-take-l
 use Rattle.memblock_model.specs.declared.item.Item.{Item}
 use Rattle.memblock_model.specs.declared.owner.Owner.TheVariants as owner
 use Rattle.memblock_model.specs.declared.query.Request.{Request}
-use Rattle.memblock_grow.specs.declared.section.Section.{Section}
+use Rattle.memblock_grow.specs.declared.stop.Section.{Section}
 use Rattle.memblock_grow.specs.declared.stop.What.{What}
 use Rattle.memblock_grow.specs.declared.stop.What.TheVariants as what
 use Rattle.memblock_grow.specs.declared.stop.StageStop.{StageStop}
 use Rattle.memblock_grow.specs.declared.stop.StageStop.TheVariants as stop
-use Rattle.stage_model.specs.Causes.{StageCause, stage_stop}
-use Rattle.stage_model.specs.Doing.{StageStep, EndsAsStage, return_value}
-use Rattle.stage_model.specs.Requests.{place_or_stop, or_else}
-use Rattle.stage_model.proofs.DoingLaws.{ends-second, ends-first, ends-returns}
-use Rattle.stage_model.proofs.RequestLaws.{else-first, else-stops, else-second}
+use Rattle.stage_steps.specs.Causes.{StageCause, stage_stop}
+use Rattle.stage_steps.specs.Steps.{StageStep, EndsAsStage, return_value}
+use Rattle.stage_steps.specs.Requests.{place_or_stop, or_else}
+use Rattle.stage_steps.proofs.DoingLaws.{ends-second, ends-first, ends-returns}
+use Rattle.stage_steps.proofs.RequestLaws.{else-first, else-stops, else-second}
 use Rattle.section_maps.specs.declared.placed.Placed.{Placed}
 use Rattle.section_maps.specs.Maps.{usage_request, map_request, consecutive_places, place_each_map, place_map_buffer, place_group}
 

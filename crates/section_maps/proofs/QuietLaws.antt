@@ -3,11 +3,11 @@ use Rattle.std.proofs.Common.{◌≡◌, ℕ, ◌+◌, true, false, List, [], �
 use Rattle.memblock_model.specs.declared.owner.Owner.TheVariants as owner
 use Rattle.memblock_model.specs.declared.item.Item.{Item}
 use Rattle.memblock_model.specs.Items.{memory_of, limit_of}
-use Rattle.memblock_grow.specs.declared.section.Section.{Section}
+use Rattle.memblock_grow.specs.declared.stop.Section.{Section}
 use Rattle.memblock_grow.specs.declared.stop.What.TheVariants as what
-use Rattle.stage_model.specs.Doing.{items_after_step}
-use Rattle.stage_model.specs.Quiet.{KeepsMemory}
-use Rattle.stage_model.proofs.QuietLaws.{quiet-returns, quiet-listed, quiet-bind, quiet-turn, quiet-placed, quiet-else, quiet-appended_memory, quiet-appended_limit}
+use Rattle.stage_steps.specs.Steps.{items_after_step}
+use Rattle.stage_steps.specs.KeepsMemory.{KeepsMemory}
+use Rattle.stage_steps.proofs.QuietLaws.{quiet-returns, quiet-listed, quiet-bind, quiet-turn, quiet-placed, quiet-else, quiet-appended_memory, quiet-appended_limit}
 use Rattle.section_maps.specs.declared.placed.Placed.{Placed}
 use Rattle.section_maps.specs.Maps.{SectionGroup, sections_in, groups_of, usage_request, map_request, consecutive_places, place_each_map, place_map_buffer, place_section_group, place_maps}
 

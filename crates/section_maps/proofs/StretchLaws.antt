@@ -4,7 +4,7 @@ use Rattle.std.specs.Prelude.{All}
 use Rattle.std.specs.List.{AllAdjacentBelow}
 use Rattle.std.proofs.lemmas.Bool.{cases_Bool, eqb-true, eqb-false}
 use Rattle.std.proofs.lemmas.List.Elements.{All-cons, All-head, All-nil, All-tail}
-use Rattle.memblock_grow.specs.declared.section.Section.{Section}
+use Rattle.memblock_grow.specs.declared.stop.Section.{Section}
 use Rattle.section_maps.specs.Maps.{SectionGroup, groups_of, prepend_section, sections_in}
 use Rattle.section_maps.specs.Stretches.{AreMaximalStretches, HasOneNode}
 

@@ -4,11 +4,11 @@ use Rattle.std.specs.Prelude.{ℕ, ◌+◌, ◌*◌, ◌==◌, Bool, true, false
 use Rattle.memblock_model.specs.declared.owner.Owner.TheVariants as owner
 use Rattle.growth_model.specs.declared.refusal.Refusal.{Refusal}
 use Rattle.memblock_model.specs.declared.query.Request.{Request}
-use Rattle.memblock_grow.specs.declared.section.Section.{Section}
+use Rattle.memblock_grow.specs.declared.stop.Section.{Section}
 use Rattle.memblock_grow.specs.declared.stop.What.TheVariants as what
-use Rattle.stage_model.specs.Causes.{StageCause}
-use Rattle.stage_model.specs.Doing.{StageStep, ◌>>=◌, return_value, read_into_list, fold_steps}
-use Rattle.stage_model.specs.Requests.{place_or_stop, or_else}
+use Rattle.stage_steps.specs.Causes.{StageCause}
+use Rattle.stage_steps.specs.Steps.{StageStep, ◌>>=◌, return_value, read_into_list, fold_steps}
+use Rattle.stage_steps.specs.Requests.{place_or_stop, or_else}
 use Rattle.section_maps.specs.declared.placed.Placed.{Placed}
 
 -- consecutive sections of one node: the first, and the others

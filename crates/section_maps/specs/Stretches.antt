@@ -2,7 +2,7 @@
 -- group where the node changes).
 use Rattle.std.specs.Prelude.{◌≡◌, ◌≢◌, ◌<◌, List, length, All}
 use Rattle.std.specs.List.{AllAdjacentBelow, flat_map}
-use Rattle.memblock_grow.specs.declared.section.Section.{Section}
+use Rattle.memblock_grow.specs.declared.stop.Section.{Section}
 use Rattle.section_maps.specs.Maps.{SectionGroup, sections_in}
 
 -- all sections of the group are of one node

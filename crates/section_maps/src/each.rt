@@ -3,19 +3,19 @@
 
 ghost use Rattle.std.specs.Prelude.{◌≡◌, ◌+◌, ◌*◌, ◌^◌, ◌<◌, ◌≤◌, false, length, vec_len, vec_capacity};
 ghost use Rattle.memblock_model.specs.declared.owner.Owner.TheVariants as owner;
-ghost use Rattle.growth_model.specs.Sound.{HasBegun};
+ghost use Rattle.growth_model.specs.Tables.{HasBegun};
 ghost use Rattle.memblock_grow.specs.declared.stop.What.TheVariants as what;
-ghost use Rattle.stage_model.specs.Causes.{stage_stop};
-ghost use Rattle.stage_model.specs.Doing.{EndsAsStage, view_of_result};
-ghost use Rattle.stage_model.specs.Requests.{place_or_stop};
-ghost use Rattle.memblock_grow.specs.Going.{ContinuesMemblock};
+ghost use Rattle.stage_steps.specs.Causes.{stage_stop};
+ghost use Rattle.stage_steps.specs.Steps.{EndsAsStage, view_of_result};
+ghost use Rattle.stage_steps.specs.Requests.{place_or_stop};
+ghost use Rattle.memblock_grow.specs.Continues.{ContinuesMemblock};
 ghost use Rattle.section_maps.specs.Maps.{map_request, place_each_map};
 
 use crate::placed::{Placed, push_placed};
 use crate::requests::{USAGE_SIZE, map_request};
 use boot_journal::Owner;
 use memblock_grow::{Memblock, no_items_no_change};
-use stage_model::{Section, StageStop, What, place_or_stop};
+use stage_steps::{Section, StageStop, What, place_or_stop};
 
 /// Allocates the map of one section, and returns its address.
 fn place_map(memblock: &mut Memblock, section: &Section) -> Result<u64, StageStop>

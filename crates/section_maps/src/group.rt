@@ -2,11 +2,11 @@
 
 ghost use Rattle.std.specs.Prelude.{◌≡◌, ℕ, ◌+◌, ◌*◌, ◌^◌, ◌<◌, ◌≤◌, ◌==◌, length, vec_len, vec_capacity};
 ghost use Rattle.std.specs.List.{prefix_len};
-ghost use Rattle.growth_model.specs.Sound.{HasBegun};
-ghost use Rattle.stage_model.specs.Causes.{stage_stop};
-ghost use Rattle.stage_model.specs.Doing.{EndsAsStage, view_of_result};
-ghost use Rattle.stage_model.specs.Requests.{or_else};
-ghost use Rattle.memblock_grow.specs.Going.{ContinuesMemblock};
+ghost use Rattle.growth_model.specs.Tables.{HasBegun};
+ghost use Rattle.stage_steps.specs.Causes.{stage_stop};
+ghost use Rattle.stage_steps.specs.Steps.{EndsAsStage, view_of_result};
+ghost use Rattle.stage_steps.specs.Requests.{or_else};
+ghost use Rattle.memblock_grow.specs.Continues.{ContinuesMemblock};
 ghost use Rattle.section_maps.specs.Maps.{place_map_buffer, place_each_map, place_group};
 
 use crate::each::place_each_map;
@@ -14,7 +14,7 @@ use crate::placed::{Placed, push_consecutive_places};
 use crate::requests::{map_request, usage_request};
 use boot_journal::Owner;
 use memblock_grow::Memblock;
-use stage_model::{Section, StageStop, What, place_or_stop};
+use stage_steps::{Section, StageStop, What, place_or_stop};
 
 /// Counts the sections from the first on that have this node.
 pub fn count_same_node(sections: &[Section], node: u32) -> usize

@@ -4,8 +4,8 @@
 ghost use Rattle.std.specs.Prelude.{◌≡◌, List};
 ghost use Rattle.memblock_model.specs.declared.item.Item.{Item as AnyItem};
 ghost use Rattle.memblock_model.specs.Items.{memory_of, limit_of};
-ghost use Rattle.memblock_grow.specs.declared.section.Section.{Section as AnySection};
-ghost use Rattle.stage_model.specs.Doing.{items_after_step};
+ghost use Rattle.memblock_grow.specs.declared.stop.Section.{Section as AnySection};
+ghost use Rattle.stage_steps.specs.Steps.{items_after_step};
 ghost use Rattle.section_maps.specs.Maps.{groups_of, place_maps};
 ghost use Rattle.section_maps.specs.Stretches.{AreMaximalStretches};
 

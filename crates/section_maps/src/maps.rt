@@ -3,16 +3,16 @@
 //! memory of this program.
 
 ghost use Rattle.std.specs.Prelude.{◌≡◌, ◌^◌, ◌<◌, ◌≤◌, AllPairs, length};
-ghost use Rattle.growth_model.specs.Sound.{HasBegun};
-ghost use Rattle.stage_model.specs.Causes.{stage_stop};
-ghost use Rattle.stage_model.specs.Doing.{EndsAsStage, view_of_result};
-ghost use Rattle.memblock_grow.specs.Going.{ContinuesMemblock};
+ghost use Rattle.growth_model.specs.Tables.{HasBegun};
+ghost use Rattle.stage_steps.specs.Causes.{stage_stop};
+ghost use Rattle.stage_steps.specs.Steps.{EndsAsStage, view_of_result};
+ghost use Rattle.memblock_grow.specs.Continues.{ContinuesMemblock};
 ghost use Rattle.section_maps.specs.Maps.{place_maps};
 
 use crate::group::{count_same_node, place_group};
 use crate::placed::{Placed, empty_section_list};
 use memblock_grow::{Memblock, no_items_no_change};
-use stage_model::{Section, StageStop};
+use stage_steps::{Section, StageStop};
 use std::alloc::Global;
 
 /// Law: the number of a section is below 2^32.

@@ -6,7 +6,7 @@ ghost use Rattle.section_maps.specs.Maps.{consecutive_places};
 
 use crate::requests::{MAP_SIZE, USAGE_SIZE};
 use bm_base::Memory;
-use stage_model::Section;
+use stage_steps::Section;
 use std::alloc::Global;
 
 /// A section, with the addresses of its map and its usage data.

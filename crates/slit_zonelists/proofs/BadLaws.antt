@@ -4,7 +4,7 @@ use Rattle.std.proofs.lemmas.Bool.{cases_Bool, cases_lt}
 use Rattle.std.proofs.lemmas.Bool.Decides.{nat_tests}
 use Rattle.std.specs.List.{find, cons_option, filter_map, range_with_len}
 use Rattle.std.specs.Option.{option_map}
-use Rattle.slit_zonelists.specs.Matrix.{SlitView}
+use Rattle.slit_zonelists.specs.SlitView.{SlitView}
 use Rattle.slit_zonelists.specs.Uses.{is_bad_cell, first_bad_column, first_bad_in_row, first_bad_cell, first_member, IsLeastBad}
 
 -- the remaining numbers and the first of them

@@ -10,11 +10,11 @@ use Rattle.page_alloc.specs.declared.outcome.PageAnswer.{PageAnswer}
 use Rattle.page_alloc.specs.declared.outcome.PageOutcome.{PageOutcome}
 use Rattle.page_alloc.specs.declared.outcome.PageOutcome.TheVariants as outcomes
 use Rattle.page_alloc.specs.Pages.{PageState, first_page_state, NeedsMemory}
-use Rattle.slit_zonelists.specs.declared.entry.ListZone.{ListZone}
+use Rattle.slit_zonelists.specs.declared.order.ListZone.{ListZone}
 use Rattle.slit_zonelists.specs.declared.table.SlitFault.TheVariants as faults
 use Rattle.slit_zonelists.specs.declared.uses.SlitUse.TheVariants as uses
 use Rattle.slit_zonelists.specs.Lists.{ListsView, distance_in, zonelists_from_slit, zones_at_distance, zones_of}
-use Rattle.slit_zonelists.specs.Matrix.{SlitView, slit_cell, IsSquare}
+use Rattle.slit_zonelists.specs.SlitView.{SlitView, slit_cell, IsSquare}
 use Rattle.slit_zonelists.specs.Near.{first_zone, take_from_zone, take_from_nearest, page_step_by_distance, page_answers_of, page_state_after, StopsAtLine}
 use Rattle.slit_zonelists.specs.Table.{locality_count, first_slit_fault, slit_of}
 use Rattle.slit_zonelists.specs.Uses.{is_bad_cell, first_bad_cell, slit_use}

@@ -3,7 +3,7 @@
 use Rattle.std.proofs.Common.{◌≡◌, ℕ, ◌≤◌, true, false, Option, Some, None, IsSome, Result, Ok, Err, OnErr, List, [], ◌∷◌, ◌++◌, refl, sym, ◌∙◌, ap, subst, append_assoc, arith}
 use Rattle.std.specs.List.{All}
 use Rattle.std.proofs.lemmas.List.Elements.{All-tail}
-use Rattle.frame_blocks.specs.Frames.{Frames}
+use Rattle.buddy_blocks.specs.Frames.{Frames}
 use Rattle.page_alloc.specs.declared.act.PageAct.{PageAct}
 use Rattle.page_alloc.specs.declared.act.PageAct.TheVariants as acts
 use Rattle.page_alloc.specs.declared.act.PageLine.{PageLine}
@@ -13,7 +13,7 @@ use Rattle.page_alloc.specs.declared.outcome.PageAnswer.{PageAnswer}
 use Rattle.page_alloc.specs.Pages.{PageState, HasValidOrder, HaveValidOrders, NeedsMemory}
 use Rattle.page_alloc.proofs.BookLaws.{served_takes}
 use Rattle.page_alloc.proofs.KeptLaws.{Goes, step_goes}
-use Rattle.slit_zonelists.specs.declared.entry.ListZone.{ListZone}
+use Rattle.slit_zonelists.specs.declared.order.ListZone.{ListZone}
 use Rattle.slit_zonelists.specs.Lists.{ListsView, zones_of}
 use Rattle.slit_zonelists.specs.Near.{has_block, first_zone, take_from_zone, take_from_nearest, page_step_by_distance, page_answers_of, page_state_after}
 use Rattle.slit_zonelists.proofs.ListLaws.{found_passes}

@@ -1,7 +1,7 @@
 pub mod Buckets
 pub mod Lists
-pub mod Made
-pub mod Matrix
+pub mod MadeLists
+pub mod SlitView
 pub mod Near
 pub mod Order
 pub mod Table

@@ -1,7 +1,7 @@
 -- The effect of a line that requests frames near a node, and of all lines of a page script.
 use Rattle.std.specs.Prelude.{◌≡◌, ◌⊎◌, ℕ, ◌<◌, Bool, true, false, is_some, Option, Some, None, List, [], ◌∷◌, ◌++◌, length}
 use Rattle.std.specs.List.{find, All}
-use Rattle.frame_blocks.specs.Picked.{picked_first_frame}
+use Rattle.buddy_blocks.specs.PickedBlock.{picked_first_frame}
 use Rattle.page_alloc.specs.declared.act.PageAct.{PageAct}
 use Rattle.page_alloc.specs.declared.act.PageAct.TheVariants as acts
 use Rattle.page_alloc.specs.declared.act.PageLine.{PageLine}
@@ -9,9 +9,9 @@ use Rattle.page_alloc.specs.declared.outcome.Held.{Held}
 use Rattle.page_alloc.specs.declared.outcome.PageOutcome.{PageOutcome}
 use Rattle.page_alloc.specs.declared.outcome.PageOutcome.TheVariants as outcomes
 use Rattle.page_alloc.specs.declared.outcome.PageAnswer.{PageAnswer}
-use Rattle.page_alloc.specs.Book.{PagesView, page_state_of}
+use Rattle.page_alloc.specs.PagesView.{PagesView, page_state_of}
 use Rattle.page_alloc.specs.Pages.{PageState, page_step, NeedsMemory}
-use Rattle.slit_zonelists.specs.declared.entry.ListZone.{ListZone}
+use Rattle.slit_zonelists.specs.declared.order.ListZone.{ListZone}
 use Rattle.slit_zonelists.specs.Lists.{ListsView, zones_of}
 
 -- the zone has a block of the order or a greater one

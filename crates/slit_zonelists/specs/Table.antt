@@ -5,7 +5,7 @@ use Rattle.std.specs.List.{sum, starts_with}
 use Rattle.byteorder.specs.Endian.{little_number}
 use Rattle.slit_zonelists.specs.declared.table.SlitFault.{SlitFault}
 use Rattle.slit_zonelists.specs.declared.table.SlitFault.TheVariants as faults
-use Rattle.slit_zonelists.specs.Matrix.{SlitView}
+use Rattle.slit_zonelists.specs.SlitView.{SlitView}
 
 -- the number of localities (`locality_count`): the u64 at offset 36
 abbrev pub locality_count : List ℕ → ℕ

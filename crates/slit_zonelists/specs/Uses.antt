@@ -4,7 +4,7 @@ use Rattle.std.specs.List.{find, filter_map, range_with_len}
 use Rattle.std.specs.Option.{option_map}
 use Rattle.slit_zonelists.specs.declared.uses.SlitUse.{SlitUse}
 use Rattle.slit_zonelists.specs.declared.uses.SlitUse.TheVariants as uses
-use Rattle.slit_zonelists.specs.Matrix.{SlitView, slit_cell}
+use Rattle.slit_zonelists.specs.SlitView.{SlitView, slit_cell}
 
 -- a cell from a domain to itself is bad if it isn't 10, and any other is bad if it is 10 or less
 abbrev pub is_bad_cell : SlitView → ℕ → ℕ → Bool

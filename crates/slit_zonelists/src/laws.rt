@@ -4,21 +4,21 @@ ghost use Rattle.std.specs.Prelude.{◌≡◌, ℕ, ◌<◌, true, false, List, 
 ghost use Rattle.std.specs.List.{All};
 ghost use Rattle.std.specs.List.Sorted.{IsPermutation};
 ghost use Rattle.address_runs.specs.Edits.{NothingFrom};
-ghost use Rattle.frame_blocks.specs.Frames.{Frames};
+ghost use Rattle.buddy_blocks.specs.Frames.{Frames};
 ghost use Rattle.zone_spans.specs.declared.span.Span.{Span as AnySpan};
 ghost use Rattle.page_alloc.specs.declared.act.PageAct.TheVariants as act;
 ghost use Rattle.page_alloc.specs.declared.act.PageLine.{PageLine as AnyLine};
 ghost use Rattle.page_alloc.specs.declared.outcome.PageOutcome.TheVariants as outcomes;
 ghost use Rattle.page_alloc.specs.Pages.{PageState, first_page_state, page_step, HaveValidOrders};
-ghost use Rattle.page_alloc.specs.Kept.{IsInOneBlockOrHeld, IsInNoBlockNorHeld};
-ghost use Rattle.slit_zonelists.specs.declared.entry.ListZone.{ListZone as AnyZone};
-ghost use Rattle.slit_zonelists.specs.Matrix.{SlitView, HasBytes};
+ghost use Rattle.page_alloc.specs.FramePlaces.{IsInOneBlockOrHeld, IsInNoBlockNorHeld};
+ghost use Rattle.slit_zonelists.specs.declared.order.ListZone.{ListZone as AnyZone};
+ghost use Rattle.slit_zonelists.specs.SlitView.{SlitView, HasBytes};
 ghost use Rattle.slit_zonelists.specs.Uses.{is_bad_cell, first_bad_cell, IsLeastBad};
 ghost use Rattle.slit_zonelists.specs.Lists.{ListsView, zonelists_from_slit, zone_of_span, zones_of};
 ghost use Rattle.slit_zonelists.specs.Order.{IsByDistance};
 ghost use Rattle.slit_zonelists.specs.Near.{has_block, page_step_by_distance, page_state_after, IsFirstZone};
 
-use frame_blocks::MAX_FRAMES;
+use buddy_blocks::MAX_FRAMES;
 
 /// Law: the reported bad cell is the first one, by row and then by column. If none is reported, no
 /// cell is bad.

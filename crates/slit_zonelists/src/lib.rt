@@ -22,9 +22,8 @@
 //! `specs/`, here or in a crate below.
 #![tactic(auto)]
 
-mod asking;
+mod near_request;
 mod buckets;
-mod entry;
 mod laws;
 mod lists;
 mod order;
@@ -32,8 +31,8 @@ mod run;
 mod table;
 mod uses;
 
-pub use asking::near;
-pub use entry::ListZone;
+pub use near_request::near;
+pub use order::ListZone;
 pub use laws::{
     bad_cells_are_the_least, frames_stay_in_one_block_or_held, lists_have_each_zone_in_order,
     near_takes_from_the_first_zone,

@@ -4,13 +4,13 @@
 ghost use Rattle.std.specs.Prelude.{◌≡◌, ◌+◌, ◌<◌, ◌≤◌, [], ◌∷◌, ◌++◌, IfOk, OnOk, OnErr, IsSome, vec_len, vec_capacity};
 ghost use Rattle.std.specs.BTreeMap.{get};
 ghost use Rattle.std.specs.Ordering.{nat_cmp};
-ghost use Rattle.page_alloc.specs.Book.{page_state_of};
+ghost use Rattle.page_alloc.specs.PagesView.{page_state_of};
 ghost use Rattle.page_alloc.specs.Pages.{HasValidOrder, HaveValidOrders, NeedsMemory};
 ghost use Rattle.slit_zonelists.specs.Near.{page_step_by_distance, page_answers_of, page_state_after, RunsOutInPageScript};
-ghost use Rattle.slit_zonelists.specs.Made.{AreListsOfNodes};
+ghost use Rattle.slit_zonelists.specs.MadeLists.{AreListsOfNodes};
 
-use crate::asking::{take_from_first_zone, outcome_without_list};
-use crate::entry::ListZone;
+use crate::near_request::{take_from_first_zone, outcome_without_list};
+use crate::order::ListZone;
 use crate::lists::Lists;
 use bm_base::{Memory, push_within_capacity};
 use page_alloc::{PageAct, PageAnswer, PageLine, PageOutcome, Pages};

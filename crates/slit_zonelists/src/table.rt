@@ -3,7 +3,7 @@
 ghost use Rattle.std.specs.Prelude.{◌≡◌, ◌-◌, ◌*◌, ◌%◌, ◌^◌, ◌<◌, ◌≤◌, None, drop, length, IfOk, IfErr, IfNone, IsErr};
 ghost use Rattle.std.specs.List.{sum};
 ghost use Rattle.bm_base.specs.Answers.{Answers};
-ghost use Rattle.slit_zonelists.specs.Matrix.{slit_view, IsSquare};
+ghost use Rattle.slit_zonelists.specs.SlitView.{slit_view, IsSquare};
 ghost use Rattle.slit_zonelists.specs.Table.{locality_count, is_square_of, first_slit_fault, slit_of};
 
 use bm_base::Memory;

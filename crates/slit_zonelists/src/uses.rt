@@ -2,7 +2,7 @@
 
 ghost use Rattle.std.specs.Prelude.{◌≡◌, ◌<◌};
 ghost use Rattle.std.specs.Option.{ForSome, option_map, option_copied};
-ghost use Rattle.slit_zonelists.specs.Matrix.{slit_view, slit_cell, IsSquare};
+ghost use Rattle.slit_zonelists.specs.SlitView.{slit_view, slit_cell, IsSquare};
 ghost use Rattle.slit_zonelists.specs.Uses.{is_bad_cell, first_bad_column, first_bad_cell, slit_use};
 
 use crate::table::Slit;

@@ -5,8 +5,8 @@ use Rattle.std.proofs.lemmas.Bool.{cases_lt}
 use Rattle.std.proofs.lemmas.List.{append-nil, get_or_append_left, get_or_push}
 use Rattle.std.proofs.lemmas.List.Elements.{All-append, All-cons, All-nil}
 use Rattle.memblock_model.specs.Labels.{LabelView, Labels}
-use Rattle.memblock_grow.specs.declared.section.Section.{Section}
-use Rattle.stage_model.specs.Noded.{HasNodes}
+use Rattle.memblock_grow.specs.declared.stop.Section.{Section}
+use Rattle.stage_steps.specs.Nodes.{HasNodes}
 use Rattle.sparse_sections.specs.Present.{section_label, section_on_node, section_with_label, sections_below, present, AreSectionsInOrder}
 use Rattle.sparse_sections.proofs.LowestLaws.{present-lowest}
 

@@ -6,8 +6,8 @@ use Rattle.std.proofs.lemmas.Bool.{cases_lt}
 use Rattle.std.proofs.lemmas.List.{get_or_append_left, get_or_push}
 use Rattle.std.proofs.lemmas.List.Elements.{All-append, All-cons, All-nil}
 use Rattle.memblock_model.specs.Labels.{LabelView, Labels}
-use Rattle.memblock_grow.specs.declared.section.Section.{Section}
-use Rattle.stage_model.specs.Noded.{IsSameInFrames, HasNodes}
+use Rattle.memblock_grow.specs.declared.stop.Section.{Section}
+use Rattle.stage_steps.specs.Nodes.{IsSameInFrames, HasNodes}
 use Rattle.sparse_sections.specs.Present.{first_label, section_label, section_on_node, section_with_label, sections_below, present, HasNodeOfLowestByte, IsSectionAt}
 
 -- the frame whose label is found: the first one that is memory

@@ -11,9 +11,9 @@ use Rattle.memblock_model.specs.Labels.{LabelView, Labels}
 use Rattle.memblock_model.specs.Items.{memory_of}
 use Rattle.memblock_model.specs.Tables.{records_of}
 use Rattle.memblock_model.proofs.TableLaws.{records_for-runs, value_at-records}
-use Rattle.table_frames.specs.Tables.{AreWholeFrames}
-use Rattle.table_frames.proofs.WholeLaws.{whole_at, whole_by_value}
-use Rattle.stage_model.specs.Noded.{HasNodes}
+use Rattle.memblock_frames.specs.HeadRecords.{AreWholeFrames}
+use Rattle.memblock_frames.proofs.WholeLaws.{whole_at, whole_by_value}
+use Rattle.stage_steps.specs.Nodes.{HasNodes}
 use Rattle.sparse_sections.specs.Present.{IsWholeWithNode}
 use Rattle.std.proofs.lemmas.Bool.{cases_lt}
 use Rattle.address_runs.specs.Sweep.{StartAtOrPast}

@@ -7,8 +7,8 @@ use Rattle.address_runs.specs.Sweep.{StartAtOrPast}
 use Rattle.address_runs.proofs.RunsLaws.{inside, behind, none_below, rest_from}
 use Rattle.memblock_model.specs.Labels.{LabelView, Labels, plain_label}
 use Rattle.memblock_ranges.specs.declared.region.Region.{Region}
-use Rattle.memblock_ranges.specs.Spelling.{region_of}
-use Rattle.memblock_grow.specs.declared.section.Section.{Section}
+use Rattle.memblock_ranges.specs.Encoding.{region_of}
+use Rattle.memblock_grow.specs.declared.stop.Section.{Section}
 use Rattle.sparse_sections.specs.Present.{section_label, sections_below, present, sections_from, IsWholeWithNode}
 use Rattle.sparse_sections.proofs.LabelLaws.{section-none, section-found}
 

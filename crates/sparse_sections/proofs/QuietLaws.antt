@@ -3,11 +3,11 @@ use Rattle.std.proofs.Common.{◌≡◌, List}
 use Rattle.bm_base.specs.declared.width.Width.{Width}
 use Rattle.memblock_model.specs.declared.item.Item.{Item}
 use Rattle.memblock_model.specs.Items.{memory_of, limit_of}
-use Rattle.memblock_grow.specs.declared.section.Section.{Section}
-use Rattle.stage_model.specs.Doing.{items_after_step}
-use Rattle.stage_model.specs.Quiet.{KeepsMemory}
-use Rattle.stage_model.proofs.QuietLaws.{quiet-returns, quiet-listed, quiet-bind, quiet-turn, quiet-placed, quiet-appended_memory, quiet-appended_limit}
-use Rattle.sparse_sections.specs.declared.roots.RootPlace.{RootPlace}
+use Rattle.memblock_grow.specs.declared.stop.Section.{Section}
+use Rattle.stage_steps.specs.Steps.{items_after_step}
+use Rattle.stage_steps.specs.KeepsMemory.{KeepsMemory}
+use Rattle.stage_steps.proofs.QuietLaws.{quiet-returns, quiet-listed, quiet-bind, quiet-turn, quiet-placed, quiet-appended_memory, quiet-appended_limit}
+use Rattle.sparse_sections.specs.declared.places.RootPlace.{RootPlace}
 use Rattle.sparse_sections.specs.Roots.{place_root, place_roots}
 
 quiet-root : (before : List RootPlace) (s : Section) → KeepsMemory (place_root before s)

@@ -6,14 +6,14 @@ use Rattle.bm_base.specs.Width.{root_table_of}
 use Rattle.memblock_model.specs.declared.item.Item.{Item}
 use Rattle.memblock_model.specs.declared.owner.Owner.TheVariants as owner
 use Rattle.memblock_model.specs.declared.query.Request.{Request}
-use Rattle.memblock_grow.specs.declared.section.Section.{Section}
+use Rattle.memblock_grow.specs.declared.stop.Section.{Section}
 use Rattle.memblock_grow.specs.declared.stop.What.TheVariants as what
 use Rattle.memblock_grow.specs.declared.stop.StageStop.{StageStop}
-use Rattle.stage_model.specs.Causes.{stage_stop}
-use Rattle.stage_model.specs.Doing.{EndsAsStage, return_value, read_into_list, fold_steps, ◌>>=◌}
-use Rattle.stage_model.specs.Requests.{place_or_stop}
-use Rattle.stage_model.proofs.DoingLaws.{ends-second, ends-first, ends-listed, ends-returns}
-use Rattle.sparse_sections.specs.declared.roots.RootPlace.{RootPlace}
+use Rattle.stage_steps.specs.Causes.{stage_stop}
+use Rattle.stage_steps.specs.Steps.{EndsAsStage, return_value, read_into_list, fold_steps, ◌>>=◌}
+use Rattle.stage_steps.specs.Requests.{place_or_stop}
+use Rattle.stage_steps.proofs.DoingLaws.{ends-second, ends-first, ends-listed, ends-returns}
+use Rattle.sparse_sections.specs.declared.places.RootPlace.{RootPlace}
 use Rattle.sparse_sections.specs.Roots.{root_of, is_last_root, first_of_each_root, small_request, place_root, place_each_root, RootsView, place_roots}
 
 abbrev pub no_section : Section

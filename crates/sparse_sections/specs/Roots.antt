@@ -5,13 +5,13 @@ use Rattle.bm_base.specs.declared.width.Width.{Width}
 use Rattle.bm_base.specs.Width.{root_table_of}
 use Rattle.memblock_model.specs.declared.owner.Owner.TheVariants as owner
 use Rattle.memblock_model.specs.declared.query.Request.{Request}
-use Rattle.memblock_grow.specs.declared.section.Section.{Section}
+use Rattle.memblock_grow.specs.declared.stop.Section.{Section}
 use Rattle.memblock_grow.specs.declared.stop.What.TheVariants as what
-use Rattle.stage_model.specs.Causes.{StageCause}
-use Rattle.stage_model.specs.Doing.{StageStep, ◌>>=◌, return_value, read_into_list, fold_steps}
-use Rattle.stage_model.specs.Requests.{place_or_stop}
-use Rattle.sparse_sections.specs.declared.roots.RootPlace.{RootPlace}
-use Rattle.sparse_sections.specs.declared.roots.Roots.{Roots}
+use Rattle.stage_steps.specs.Causes.{StageCause}
+use Rattle.stage_steps.specs.Steps.{StageStep, ◌>>=◌, return_value, read_into_list, fold_steps}
+use Rattle.stage_steps.specs.Requests.{place_or_stop}
+use Rattle.sparse_sections.specs.declared.places.RootPlace.{RootPlace}
+use Rattle.sparse_sections.specs.declared.places.Roots.{Roots}
 
 -- the root of a section: each root has 256 (`SECTIONS_PER_ROOT`)
 abbrev pub root_of : Section → ℕ

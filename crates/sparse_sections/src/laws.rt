@@ -11,10 +11,10 @@ ghost use Rattle.memblock_model.specs.declared.owner.Which.TheVariants as which;
 ghost use Rattle.memblock_model.specs.Labels.{LabelView, Labels};
 ghost use Rattle.memblock_model.specs.Items.{memory_of, limit_of};
 ghost use Rattle.memblock_model.specs.Tables.{records_of};
-ghost use Rattle.table_frames.specs.Tables.{AreWholeFrames};
-ghost use Rattle.memblock_grow.specs.declared.section.Section.{Section as AnySection};
-ghost use Rattle.stage_model.specs.Doing.{items_after_step};
-ghost use Rattle.stage_model.specs.Noded.{HasNodes};
+ghost use Rattle.memblock_frames.specs.HeadRecords.{AreWholeFrames};
+ghost use Rattle.memblock_grow.specs.declared.stop.Section.{Section as AnySection};
+ghost use Rattle.stage_steps.specs.Steps.{items_after_step};
+ghost use Rattle.stage_steps.specs.Nodes.{HasNodes};
 ghost use Rattle.sparse_sections.specs.Present.{present, IsWholeWithNode, HasNodeOfLowestByte, IsSectionAt, AreSectionsInOrder};
 ghost use Rattle.sparse_sections.specs.Roots.{root_of, first_of_each_root, place_roots};
 

@@ -19,13 +19,11 @@
 
 mod laws;
 mod places;
-mod roots;
 mod sections;
 
 pub use laws::{
     memory_with_nodes_is_whole, present_sections_are_memory, present_sections_ascend, roots_ascend,
     place_roots_keeps_memory_and_limit,
 };
-pub use places::place_roots;
-pub use roots::{RootPlace, Roots};
+pub use places::{place_roots, RootPlace, Roots};
 pub use sections::present;

@@ -4,19 +4,36 @@
 
 ghost use Rattle.std.specs.Prelude.{◌≡◌, ◌≤◌, ◌<◌, ◌+◌, ℕ, None, [], List, IfOk, length, vec_len, vec_capacity};
 ghost use Rattle.bm_base.specs.Width.{root_table_of};
-ghost use Rattle.growth_model.specs.Sound.{HasBegun};
-ghost use Rattle.stage_model.specs.Causes.{stage_stop};
-ghost use Rattle.stage_model.specs.Doing.{EndsAsStage, view_of_result};
-ghost use Rattle.memblock_grow.specs.Going.{ContinuesMemblock};
+ghost use Rattle.growth_model.specs.Tables.{HasBegun};
+ghost use Rattle.stage_steps.specs.Causes.{stage_stop};
+ghost use Rattle.stage_steps.specs.Steps.{EndsAsStage, view_of_result};
+ghost use Rattle.memblock_grow.specs.Continues.{ContinuesMemblock};
 ghost use Rattle.sparse_sections.specs.Roots.{root_of, is_last_root, small_request, place_root, place_roots, place_each_root, roots_view};
 
-use crate::roots::{RootPlace, Roots};
 use bm_base::{FRAME_SIZE, Memory, Width};
 use boot_journal::Owner;
 use growth_model::Request;
 use memblock_grow::{Memblock, no_items_no_change};
-use stage_model::{Section, StageStop, What, place_or_stop};
+use stage_steps::{Section, StageStop, What, place_or_stop};
 use std::alloc::Global;
+
+/// A root: a page with entries for 256 sections.
+#[derive(Clone, Copy, Debug, PartialEq, Eq)]
+pub struct RootPlace {
+    /// The root's number, counted from 0: the number of its first section divided by 256.
+    pub number: u32,
+    /// The address of the root's first byte.
+    pub place: u64,
+}
+
+/// The table of roots and the roots.
+#[derive(Debug, Drop)]
+pub struct Roots {
+    /// The address of the table's first byte.
+    pub table: u64,
+    /// The roots that have a section with memory, in ascending order.
+    pub roots: Vec<RootPlace>,
+}
 
 /// The size of a root in bytes: a page.
 const ROOT_SIZE: u64 = FRAME_SIZE;

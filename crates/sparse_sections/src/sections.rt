@@ -12,7 +12,7 @@ ghost use Rattle.sparse_sections.specs.Present.{present, sections_from, IsWholeW
 use bm_base::Memory;
 use memblock_model::Which;
 use memblock_ranges::{Region, Tables};
-use stage_model::Section;
+use stage_steps::Section;
 use std::alloc::Global;
 
 /// The size of a section in bytes (`SECTION_SIZE_BITS`).

@@ -1,7 +1,7 @@
 -- Worked examples with a few frames.
 use Rattle.std.proofs.Common.{◌≡◌, nat_le, nat_lt, ◌&&◌, true, false, Some, None, if◌then◌else◌, refl}
 use Rattle.bm_base.specs.declared.zone.Zone.TheVariants as zone
-use Rattle.frame_blocks.specs.Frames.{Frames}
+use Rattle.buddy_blocks.specs.Frames.{Frames}
 use Rattle.zone_spans.specs.declared.span.Span.{Span}
 use Rattle.zone_spans.specs.Spans.{is_in_node_zone, with_frames, span_below, count_below_in_zone}
 use Rattle.zone_spans.specs.Slots.{zone_index, frames_with_node_run, slot_after}

@@ -8,9 +8,9 @@ use Rattle.bm_base.specs.declared.zone.Zone.{Zone}
 use Rattle.bm_base.specs.declared.zone.Zone.TheVariants as zone
 use Rattle.bm_base.specs.Zones.{zone_of}
 use Rattle.address_runs.specs.Edits.{NothingFrom}
-use Rattle.frame_blocks.specs.Frames.{Frames}
-use Rattle.frame_blocks.proofs.CountLaws.{zone_self, zone_is}
-use Rattle.table_frames.specs.declared.frames.TheConstants.{MAX_NODES}
+use Rattle.buddy_blocks.specs.Frames.{Frames}
+use Rattle.buddy_blocks.proofs.CountLaws.{zone_self, zone_is}
+use Rattle.memblock_frames.specs.declared.frames.TheConstants.{MAX_NODES}
 use Rattle.zone_spans.specs.declared.span.Span.{Span}
 use Rattle.zone_spans.specs.Spans.{with_frames, span_below, span_of, spans_from, spans_of}
 use Rattle.zone_spans.specs.Slots.{zone_index, AreSpans, AreSpansBounded, frames_with_node_run, slot_after, spans_in_slots}

@@ -2,7 +2,7 @@
 use Rattle.std.proofs.Common.{◌≡◌, ◌^◌, ℕ, zero, suc, ◌+◌, ◌<◌, ◌≤◌, Bool, true, false, if◌then◌else◌, Option, Some, None, refl, ap, add-one, add-suc, add-zero, arith}
 use Rattle.std.specs.Option.{MatchOption}
 use Rattle.bm_base.specs.declared.zone.Zone.{Zone}
-use Rattle.frame_blocks.specs.Frames.{Frames}
+use Rattle.buddy_blocks.specs.Frames.{Frames}
 use Rattle.zone_spans.specs.declared.span.Span.{Span}
 use Rattle.zone_spans.specs.Spans.{is_in_node_zone, with_frames, span_below, span_of, count_below_in_zone, IsSpan}
 

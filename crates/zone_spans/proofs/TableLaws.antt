@@ -5,11 +5,11 @@ use Rattle.std.proofs.Math.Seq.{take-length}
 use Rattle.address_runs.specs.Runs.{RunOf, value_at}
 use Rattle.address_runs.specs.Edits.{NothingFrom}
 use Rattle.memblock_model.specs.Labels.{LabelView}
-use Rattle.table_frames.specs.Frames.{valid_node, node_of_label, node_of_frame, frames_of_record}
-use Rattle.table_frames.specs.Tables.{AscendBelow, AreWholeFrames}
-use Rattle.table_frames.proofs.RecordLaws.{taken_none}
-use Rattle.table_frames.proofs.WholeLaws.{whole_at}
-use Rattle.table_frames.proofs.TakeLaws.{node_more}
+use Rattle.memblock_frames.specs.Frames.{valid_node, node_of_label, node_of_frame, frames_of_record}
+use Rattle.memblock_frames.specs.HeadRecords.{AscendBelow, AreWholeFrames}
+use Rattle.memblock_frames.proofs.RecordLaws.{taken_none}
+use Rattle.memblock_frames.proofs.WholeLaws.{whole_at}
+use Rattle.memblock_frames.proofs.TakeLaws.{node_more}
 use Rattle.zone_spans.specs.Slots.{frames_with_node_run}
 
 -- the node of a record is below 1,024

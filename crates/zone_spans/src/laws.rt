@@ -3,7 +3,7 @@
 
 ghost use Rattle.std.specs.Prelude.{◌≡◌, ◌^◌, ℕ, ◌<◌, true, false, Some, None};
 ghost use Rattle.bm_base.specs.declared.zone.Zone.{Zone as AnyZone};
-ghost use Rattle.frame_blocks.specs.Frames.{Frames};
+ghost use Rattle.buddy_blocks.specs.Frames.{Frames};
 ghost use Rattle.zone_spans.specs.declared.span.Span.{Span as AnySpan};
 ghost use Rattle.zone_spans.specs.Spans.{is_in_node_zone, span_of, IsSpan};
 

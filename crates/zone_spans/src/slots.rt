@@ -4,13 +4,13 @@
 ghost use Rattle.std.specs.Prelude.{◌≡◌, ◌^◌, ℕ, ◌+◌, ◌*◌, ◌<◌, ◌≤◌, None, get_or, max, OnOk, IfOk, vec_len};
 ghost use Rattle.bm_base.specs.Zones.{zone_of};
 ghost use Rattle.address_runs.specs.Edits.{NothingFrom};
-ghost use Rattle.frame_blocks.specs.Frames.{Frames};
+ghost use Rattle.buddy_blocks.specs.Frames.{Frames};
 ghost use Rattle.zone_spans.specs.Spans.{spans_of};
 ghost use Rattle.zone_spans.specs.Slots.{zone_index, AreSpans, AreSpansBounded, frames_with_node_run, slot_after, spans_in_slots};
 
 use crate::span::Span;
 use bm_base::{Memory, Zone, zone_of};
-use frame_blocks::zone_until;
+use buddy_blocks::zone_until;
 use std::alloc::Global;
 
 /// Returns the index of a zone among the three slots of a node.

@@ -5,8 +5,8 @@
 ghost use Rattle.std.specs.Prelude.{◌≡◌, ◌^◌, ◌*◌, IfOk};
 ghost use Rattle.address_runs.specs.Runs.{value_at};
 ghost use Rattle.memblock_ranges.specs.Tables.{records_of_head};
-ghost use Rattle.table_frames.specs.Frames.{node_of_frame};
-ghost use Rattle.table_frames.specs.Tables.{HasRecords, AreWholeFrames};
+ghost use Rattle.memblock_frames.specs.Frames.{node_of_frame};
+ghost use Rattle.memblock_frames.specs.HeadRecords.{HasRecords, AreWholeFrames};
 ghost use Rattle.zone_spans.specs.Spans.{spans_of};
 
 use crate::slots::{spans_in_slots, add_frames};
@@ -14,7 +14,7 @@ use bm_base::{Memory, Zone};
 use memblock_ranges::Heads;
 use phys_store::Store;
 use std::alloc::Global;
-use table_frames::frames_of_record;
+use memblock_frames::frames_of_record;
 
 /// The frames that the memory of a node spans in a zone. All numbers are of frames.
 #[derive(Clone, Copy, Debug, PartialEq, Eq)]

@@ -1,19 +1,19 @@
 -- Both tables lie in the bytes. After the nodes are assigned, the memory table covers whole
 -- frames.
 use Rattle.std.proofs.Common.{◌≡◌, ◌∙◌, ℕ, List, ap, sym, arith}
-use Rattle.boot_journal.specs.Contents.{JournalView as Journal}
+use Rattle.boot_journal.specs.JournalView.{JournalView as Journal}
 use Rattle.memblock_model.specs.declared.owner.Which.TheVariants as which
 use Rattle.memblock_model.specs.Tables.{records_of}
 use Rattle.memblock_ranges.specs.declared.region.Heads.{Heads}
 use Rattle.memblock_ranges.specs.Tables.{head_of}
 use Rattle.growth_model.specs.Bytes.{table_for}
-use Rattle.memblock_grow.specs.Contents.{MemblockView as Memblock}
+use Rattle.memblock_grow.specs.MemblockView.{MemblockView as Memblock}
 use Rattle.address_runs.specs.Runs.{RunOf, value_at}
-use Rattle.buddy_handover.specs.Contents.{buddy_frames}
-use Rattle.page_alloc.specs.Book.{page_state_of}
+use Rattle.buddy_handover.specs.BuddyView.{buddy_frames}
+use Rattle.page_alloc.specs.PagesView.{page_state_of}
 use Rattle.page_alloc.specs.Pages.{first_page_state}
 use Rattle.boot_model.specs.View.{inputs_view}
-use Rattle.table_frames.proofs.RecordLaws.{records_higher}
+use Rattle.memblock_frames.proofs.RecordLaws.{records_higher}
 use Rattle.boot_stages.proofs.HandoverLaws.{Stand, free-told, memory-records, memory-whole, reserved-records, spans-told, stand-by, finish_boot-by}
 use Rattle.boot_stages.proofs.handover.hand_over_memory.Goals as goal
 use Rattle.boot_stages.proofs.handover.hand_over_memory.Goals.{After-into_parts-store}

@@ -2,18 +2,18 @@
 use Rattle.std.proofs.Common.{◌≡◌, ◌∙◌, ℕ, ◌^◌, List, [], ◌∷◌, Ok, ap, drop, take}
 use Rattle.address_runs.specs.Runs.{RunOf}
 use Rattle.memblock_model.specs.declared.item.Item.{Item}
-use Rattle.memblock_grow.specs.Contents.{MemblockView}
-use Rattle.growth_model.specs.Carried.{carry_out_items}
-use Rattle.stage_model.specs.Causes.{refusal_for, stage_stop}
-use Rattle.stage_model.proofs.DoingLaws.{ends-begun}
-use Rattle.early_stages.specs.Wanted.{first_items}
+use Rattle.memblock_grow.specs.MemblockView.{MemblockView}
+use Rattle.growth_model.specs.Requests.{carry_out_items}
+use Rattle.stage_steps.specs.Causes.{refusal_for, stage_stop}
+use Rattle.stage_steps.proofs.DoingLaws.{ends-begun}
+use Rattle.early_memory.specs.FirstItems.{first_items}
 use Rattle.early_script.specs.declared.outcome.Answer.{Answer}
-use Rattle.early_script.specs.Ids.{LiveView}
-use Rattle.early_script.specs.Stage.{before_sections, lines_after_sections}
-use Rattle.numa_nodes.specs.declared.nodes.Nodes.{Nodes}
-use Rattle.numa_nodes.specs.Assigned.{assign_nodes, nodes_view}
+use Rattle.early_script.specs.LiveView.{LiveView}
+use Rattle.early_script.specs.Lines.{before_sections, lines_after_sections}
+use Rattle.numa_nodes.specs.declared.stage.Nodes.{Nodes}
+use Rattle.numa_nodes.specs.Assignment.{assign_nodes, nodes_view}
 use Rattle.crash_kernel.specs.declared.crash.Crash.{Crash}
-use Rattle.crash_kernel.specs.Reserved.{reserve_crash_area}
+use Rattle.crash_kernel.specs.Reservation.{reserve_crash_area}
 use Rattle.boot_model.specs.Boot.{InputsView, BootSoFar, begin_with_map, early_inputs, crash_area_stage, memory_stage, nodes_stage, sections_stage, later_stages, made_with_crash_area, result_with_nodes, made_with_sections, reach, script_stage}
 use Rattle.boot_model.specs.First.{items_with_growths}
 use Rattle.boot_model.specs.Sections.{place_present_sections}

@@ -2,7 +2,7 @@
 use Rattle.std.proofs.Common.{Ok, arith}
 use Rattle.std.proofs.lemmas.List.{at_drop_all}
 use Rattle.memblock_grow.proofs.GoingLaws.{goes-then}
-use Rattle.early_stages.specs.Wanted.{items_of_map}
+use Rattle.early_memory.specs.FirstItems.{items_of_map}
 use Rattle.boot_stages.proofs.ItemsLaws.{carries-exit, carries-nothing, leaves-all, leaves-next}
 use Rattle.boot_stages.proofs.ExitLaws.{exit}
 use Rattle.boot_stages.proofs.MemoryLaws.{map_next, runs_next}

@@ -2,9 +2,9 @@
 -- runs.
 use Rattle.std.proofs.Common.{drop}
 use Rattle.address_runs.specs.Runs.{AreRuns}
-use Rattle.growth_model.specs.Sound.{HasBegun}
-use Rattle.early_stages.specs.Wanted.{items_of_map}
-use Rattle.memblock_grow.specs.Going.{ContinuesMemblock}
+use Rattle.growth_model.specs.Tables.{HasBegun}
+use Rattle.early_memory.specs.FirstItems.{items_of_map}
+use Rattle.memblock_grow.specs.Continues.{ContinuesMemblock}
 use Rattle.boot_stages.proofs.ItemsLaws.{Leaves}
 use Rattle.boot_stages.proofs.memory.add_map.Given as goal
 

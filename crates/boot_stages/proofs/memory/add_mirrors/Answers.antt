@@ -6,7 +6,7 @@ use Rattle.memblock_model.specs.declared.item.Item.TheVariants as item
 use Rattle.growth_model.specs.Growth.{set_range_mirror}
 use Rattle.growth_model.proofs.SoundLaws.{ends-begun}
 use Rattle.memblock_grow.proofs.GoingLaws.{goes-then}
-use Rattle.early_stages.specs.Wanted.{mirror_items}
+use Rattle.early_memory.specs.FirstItems.{mirror_items}
 use Rattle.boot_model.specs.Mirrors.{frame_range_of}
 use Rattle.boot_stages.proofs.ItemsLaws.{carries-change, carries-nothing, change_for-exit, leaves-all, leaves-next}
 use Rattle.boot_stages.proofs.ExitLaws.{exit}

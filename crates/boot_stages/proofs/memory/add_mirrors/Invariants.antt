@@ -1,9 +1,9 @@
 -- Of the mirrors' items those before this one were carried out. The rest are those of the
 -- remaining ranges.
 use Rattle.std.proofs.Common.{drop, map}
-use Rattle.growth_model.specs.Sound.{HasBegun}
-use Rattle.early_stages.specs.Wanted.{mirror_items}
-use Rattle.memblock_grow.specs.Going.{ContinuesMemblock}
+use Rattle.growth_model.specs.Tables.{HasBegun}
+use Rattle.early_memory.specs.FirstItems.{mirror_items}
+use Rattle.memblock_grow.specs.Continues.{ContinuesMemblock}
 use Rattle.boot_model.specs.Mirrors.{frame_range_of}
 use Rattle.boot_stages.proofs.ItemsLaws.{Leaves}
 use Rattle.boot_stages.proofs.memory.add_mirrors.Given as goal

@@ -5,9 +5,9 @@ use Rattle.address_runs.specs.Runs.{RunOf}
 use Rattle.e820_model.specs.Usable.{is_memory}
 use Rattle.memblock_model.specs.declared.owner.Owner.TheVariants as owner
 use Rattle.memblock_model.specs.declared.item.Item.TheVariants as item
-use Rattle.stage_model.specs.Causes.{refusal_for}
-use Rattle.stage_model.specs.Doing.{EndsAsStage}
-use Rattle.early_stages.specs.Wanted.{items_of_run}
+use Rattle.stage_steps.specs.Causes.{refusal_for}
+use Rattle.stage_steps.specs.Steps.{EndsAsStage}
+use Rattle.early_memory.specs.FirstItems.{items_of_run}
 use Rattle.boot_model.specs.First.{items_with_growths}
 use Rattle.boot_stages.proofs.ItemsLaws.{carries-change, carries-nothing}
 use Rattle.boot_stages.proofs.MemoryLaws.{high_run, memory_run, other_run, soft_run}

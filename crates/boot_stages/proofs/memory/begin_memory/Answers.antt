@@ -1,11 +1,11 @@
 -- The claims, the limit and the direction: the items before an error were carried out.
 use Rattle.std.proofs.Common.{◌∷◌, refl, ap, arith}
 use Rattle.memblock_model.specs.declared.item.Item.TheVariants as item
-use Rattle.early_stages.specs.declared.low.TheConstants.{ISA_END_ADDRESS}
-use Rattle.early_stages.specs.Early.{EarlyInputs}
-use Rattle.early_stages.specs.Wanted.{direction_items, early_claims}
-use Rattle.memblock_grow.specs.Contents.{MemblockView as Memblock}
-use Rattle.memblock_grow.specs.Going.{ContinuesMemblock}
+use Rattle.early_memory.specs.declared.low.TheConstants.{ISA_END_ADDRESS}
+use Rattle.early_memory.specs.EarlyInputs.{EarlyInputs}
+use Rattle.early_memory.specs.FirstItems.{direction_items, early_claims}
+use Rattle.memblock_grow.specs.MemblockView.{MemblockView as Memblock}
+use Rattle.memblock_grow.specs.Continues.{ContinuesMemblock}
 use Rattle.memblock_grow.proofs.GoingLaws.{goes-then}
 use Rattle.boot_model.specs.Boot.{early_inputs}
 use Rattle.boot_model.specs.View.{inputs_view}

@@ -3,8 +3,8 @@ use Rattle.std.proofs.Common.{Ok, refl}
 use Rattle.memblock_model.specs.declared.owner.Owner.TheVariants as owner
 use Rattle.memblock_model.specs.declared.item.Item.TheVariants as item
 use Rattle.growth_model.specs.Growth.{claim_range}
-use Rattle.growth_model.specs.Sound.{HasBegun}
-use Rattle.memblock_grow.specs.Going.{ContinuesMemblock}
+use Rattle.growth_model.specs.Tables.{HasBegun}
+use Rattle.memblock_grow.specs.Continues.{ContinuesMemblock}
 use Rattle.growth_model.proofs.SoundLaws.{ends-begun, may-keep}
 use Rattle.memblock_grow.proofs.GoingLaws.{goes-then}
 use Rattle.boot_stages.proofs.ItemsLaws.{carries-change, change_for-exit, change_for-second, claim-begun, on_ok}

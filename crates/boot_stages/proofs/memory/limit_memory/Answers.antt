@@ -2,7 +2,7 @@
 use Rattle.std.proofs.Common.{[], ◌∷◌, refl, ap, arith}
 use Rattle.memblock_model.specs.declared.owner.Owner.TheVariants as owner
 use Rattle.memblock_model.specs.declared.item.Item.TheVariants as item
-use Rattle.memblock_grow.specs.Contents.{MemblockView as Memblock}
+use Rattle.memblock_grow.specs.MemblockView.{MemblockView as Memblock}
 use Rattle.memblock_grow.proofs.GoingLaws.{goes-then}
 use Rattle.boot_stages.proofs.ItemsLaws.{carries-change, carries-wanting, change_for-second}
 use Rattle.boot_stages.proofs.ExitLaws.{exit}

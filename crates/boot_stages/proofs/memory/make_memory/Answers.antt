@@ -2,10 +2,10 @@
 use Rattle.std.proofs.Common.{◌≡◌, [], ◌++◌, Ok, ap, sym, ◌∙◌}
 use Rattle.address_runs.specs.Runs.{value_at}
 use Rattle.memblock_ranges.specs.Tables.{TableView}
-use Rattle.growth_model.specs.Carried.{carry_out_items}
+use Rattle.growth_model.specs.Requests.{carry_out_items}
 use Rattle.memblock_grow.proofs.GoingLaws.{goes-then}
-use Rattle.early_stages.specs.Early.{EarlyInputs}
-use Rattle.early_stages.specs.Memory.{end_of_runs, memory_end}
+use Rattle.early_memory.specs.EarlyInputs.{EarlyInputs}
+use Rattle.early_memory.specs.Memory.{end_of_runs, memory_end}
 use Rattle.boot_model.specs.Boot.{early_inputs}
 use Rattle.boot_model.specs.View.{inputs_view}
 use Rattle.boot_stages.specs.Parts.{items_before_memory, map_memory_items}

@@ -1,11 +1,11 @@
 -- The runs of the map, a trim, and the mirrors: the items before an error were carried out.
 use Rattle.std.proofs.Common.{◌∷◌, refl, ap, arith}
 use Rattle.memblock_model.specs.declared.item.Item.TheVariants as item
-use Rattle.memblock_grow.specs.Contents.{MemblockView as Memblock}
-use Rattle.memblock_grow.specs.Going.{ContinuesMemblock}
+use Rattle.memblock_grow.specs.MemblockView.{MemblockView as Memblock}
+use Rattle.memblock_grow.specs.Continues.{ContinuesMemblock}
 use Rattle.memblock_grow.proofs.GoingLaws.{goes-then}
-use Rattle.early_stages.specs.Early.{EarlyInputs}
-use Rattle.early_stages.specs.Wanted.{items_of_map, mirror_items}
+use Rattle.early_memory.specs.EarlyInputs.{EarlyInputs}
+use Rattle.early_memory.specs.FirstItems.{items_of_map, mirror_items}
 use Rattle.boot_model.specs.Boot.{early_inputs}
 use Rattle.boot_model.specs.View.{inputs_view}
 use Rattle.boot_stages.proofs.ItemsLaws.{carries-exit, carries-second, carries-wanting, change_for-second}

@@ -2,10 +2,10 @@
 use Rattle.std.proofs.Common.{◌++◌, List, Result, Ok, map, sym, subst}
 use Rattle.memblock_model.specs.declared.item.Item.{Item}
 use Rattle.growth_model.specs.declared.refusal.Refusal.{Refusal}
-use Rattle.early_stages.specs.Early.{FrameRange}
-use Rattle.early_stages.specs.Wanted.{mirror_items}
-use Rattle.stage_model.specs.Causes.{refusal_for}
-use Rattle.stage_model.specs.Doing.{EndsAsStage}
+use Rattle.early_memory.specs.EarlyInputs.{FrameRange}
+use Rattle.early_memory.specs.FirstItems.{mirror_items}
+use Rattle.stage_steps.specs.Causes.{refusal_for}
+use Rattle.stage_steps.specs.Steps.{EndsAsStage}
 use Rattle.memblock_grow.proofs.GoingLaws.{goes-then}
 use Rattle.boot_model.specs.Boot.{efi_mirrors}
 use Rattle.boot_model.specs.First.{items_with_growths}

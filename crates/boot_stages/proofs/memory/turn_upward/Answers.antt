@@ -1,7 +1,7 @@
 -- The direction is one item or none.
 use Rattle.std.proofs.Common.{true, Ok, refl, ap, arith}
 use Rattle.memblock_model.specs.declared.item.Item.TheVariants as item
-use Rattle.memblock_grow.specs.Contents.{MemblockView as Memblock}
+use Rattle.memblock_grow.specs.MemblockView.{MemblockView as Memblock}
 use Rattle.boot_stages.proofs.ExitLaws.{exit}
 use Rattle.boot_stages.proofs.ItemsLaws.{carries-change, carries-nothing, carries-wanting}
 use Rattle.boot_stages.proofs.memory.turn_upward.Goals as goal

@@ -2,7 +2,7 @@
 -- which are proved for each frame of the definition, hold for the result.
 use Rattle.std.proofs.Common.{◌≡◌, ℕ, List, [], ◌^◌, Ok, ap, subst, sym, ◌∙◌}
 use Rattle.address_runs.specs.Runs.{RunOf}
-use Rattle.boot_journal.specs.Contents.{JournalView}
+use Rattle.boot_journal.specs.JournalView.{JournalView}
 use Rattle.bm_base.specs.Range.{RangeView}
 use Rattle.address_runs.specs.Edits.{NothingFrom}
 use Rattle.memblock_model.specs.declared.owner.Which.TheVariants as which
@@ -11,9 +11,9 @@ use Rattle.memblock_model.specs.Tables.{reserved_labels}
 use Rattle.memblock_ranges.specs.Tables.{table_in}
 use Rattle.growth_model.specs.Bytes.{byte_from_history, table_for}
 use Rattle.phys_store.specs.Bytes.{ExtentView, byte_of}
-use Rattle.memblock_grow.specs.Contents.{MemblockView as Memblock}
+use Rattle.memblock_grow.specs.MemblockView.{MemblockView as Memblock}
 use Rattle.bm_base.specs.ResultSteps.{with_error}
-use Rattle.stage_model.specs.Noded.{HasNodes}
+use Rattle.stage_steps.specs.Nodes.{HasNodes}
 use Rattle.boot_model.specs.Boot.{InputsView, BootSoFar, BootedView, boot, judge_map, reach}
 use Rattle.boot_model.specs.Stop.{stop_of}
 use Rattle.boot_model.specs.View.{inputs_view}

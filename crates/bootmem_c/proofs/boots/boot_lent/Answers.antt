@@ -4,7 +4,7 @@ use Rattle.std.specs.Prelude.{IfErr, IfOk}
 use Rattle.bm_io.specs.MemFiles.{file_bytes}
 use Rattle.boot_model.specs.View.{booted_view}
 use Rattle.program_run.specs.Outcome.{bootmem_outcome}
-use Rattle.program_words.specs.Words.{BootmemArgsView, read_args, bytes_of_words}
+use Rattle.program_args.specs.Args.{BootmemArgsView, read_args, bytes_of_words}
 use Rattle.bootmem_c.specs.declared.words.NoStrings.{NoStrings}
 use Rattle.bootmem_c.specs.Boots.{FailsAs, IsBoot}
 use Rattle.bootmem_c.specs.Call.{read_lent_args}

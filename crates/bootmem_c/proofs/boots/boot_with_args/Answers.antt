@@ -4,7 +4,7 @@ use Rattle.std.proofs.Common.{◌∙◌, Err, ap}
 use Rattle.std.proofs.lemmas.Result.{err_from_is_err_and}
 use Rattle.boot_inputs.specs.Reason.{NoInputs}
 use Rattle.boot_model.specs.View.{booted_view, inputs_view}
-use Rattle.program_words.specs.View.{bootmem_args_view}
+use Rattle.program_args.specs.View.{bootmem_args_view}
 use Rattle.bootmem_c.proofs.BootLaws.{boot_failed, inputs_failed, is_boot}
 use Rattle.bootmem_c.proofs.boots.boot_with_args.Goals as goal
 

@@ -1,7 +1,7 @@
 -- Accepted words boot as what they ask for; others are refused.
 use Rattle.std.specs.Prelude.{Some}
 use Rattle.bm_io.specs.MemFiles.{file_bytes}
-use Rattle.program_words.specs.declared.error.ArgsError.TheVariants as words
+use Rattle.program_args.specs.declared.reader.ArgsError.TheVariants as words
 use Rattle.program_run.proofs.RunLaws.{are_accepted, words_fit}
 use Rattle.bootmem_c.specs.Lent.{lent_files}
 use Rattle.bootmem_c.proofs.boots.boot_with_strings.Goals as goal

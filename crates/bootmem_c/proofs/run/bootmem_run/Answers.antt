@@ -1,7 +1,7 @@
 -- With a status other than 7 memory didn't run out for the line, and the outputs are the run's.
 use Rattle.std.proofs.Common.{◌∙◌, ℕ, List, arith, subst, sym}
 use Rattle.bootmem_c.specs.Call.{outcome_of}
-use Rattle.bootmem_c.specs.Taken.{CopiesText}
+use Rattle.bootmem_c.specs.Copies.{CopiesText}
 use Rattle.bootmem_c.proofs.RunLaws.{taken_by, whole_run}
 use Rattle.bootmem_c.proofs.run.bootmem_run.Goals as goal
 

@@ -5,7 +5,7 @@ use Rattle.bm_io.specs.MemFiles.{MemFileView, file_bytes}
 use Rattle.boot_inputs.specs.Reason.{InputsReason}
 use Rattle.program_run.specs.Headline.{AppendsReports}
 use Rattle.program_run.specs.Outcome.{bootmem_outcome}
-use Rattle.program_words.specs.Words.{BootmemArgsView, read_args, bytes_of_words}
+use Rattle.program_args.specs.Args.{BootmemArgsView, read_args, bytes_of_words}
 use Rattle.bootmem_c.specs.declared.words.NoStrings.{NoStrings}
 use Rattle.bootmem_c.specs.Lent.{lent_files, lent_words}
 use Rattle.bootmem_c.specs.Call.{read_lent_args, outcome_line, call_line, outcome_of, outcome_status}

@@ -1,8 +1,8 @@
 use Rattle.std.proofs.Common.{◌≡◌, ◌≤◌, ◌-◌, ℕ}
 use Rattle.address_runs.specs.Runs.{value_at}
 use Rattle.memblock_ranges.specs.Tables.{records_of_head}
-use Rattle.table_frames.specs.Frames.{IsPassed}
-use Rattle.buddy_handover.specs.Contents.{buddy_frames}
+use Rattle.memblock_frames.specs.Frames.{IsPassed}
+use Rattle.buddy_handover.specs.BuddyView.{buddy_frames}
 use Rattle.buddy_handover.specs.Handover.{free_unclaimed_frames}
 use Rattle.buddy_handover.proofs.handover.free_unclaimed.Given as goal
 

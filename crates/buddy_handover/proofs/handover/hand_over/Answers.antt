@@ -3,10 +3,10 @@ use Rattle.address_runs.specs.Runs.{RunOf, value_at}
 use Rattle.memblock_model.specs.Labels.{LabelView, plain_label}
 use Rattle.memblock_ranges.specs.Tables.{records_of_head}
 use Rattle.memblock_ranges.proofs.LentLaws.{count_is}
-use Rattle.table_frames.proofs.RecordLaws.{records_higher}
-use Rattle.table_frames.proofs.ClaimLaws.{passed_later}
-use Rattle.table_frames.proofs.TakeLaws.{frames_below, frames_in_order, frames_some}
-use Rattle.buddy_handover.specs.Contents.{buddy_frames}
+use Rattle.memblock_frames.proofs.RecordLaws.{records_higher}
+use Rattle.memblock_frames.proofs.ClaimLaws.{passed_later}
+use Rattle.memblock_frames.proofs.TakeLaws.{frames_below, frames_in_order, frames_some}
+use Rattle.buddy_handover.specs.BuddyView.{buddy_frames}
 use Rattle.buddy_handover.proofs.HandoverLaws.{record_freed, record_left, all_handed}
 use Rattle.buddy_handover.proofs.handover.hand_over.Goals as goal
 use Rattle.buddy_handover.proofs.handover.hand_over.Goals.{in-Some+in_ok-next, in_default}

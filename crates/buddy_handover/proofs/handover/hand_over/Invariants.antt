@@ -2,8 +2,8 @@ use Rattle.std.proofs.Common.{◌≡◌, ◌≤◌, ◌<◌, ℕ, get_or, take}
 use Rattle.address_runs.specs.Runs.{RunOf, value_at}
 use Rattle.memblock_model.specs.Labels.{LabelView}
 use Rattle.memblock_ranges.specs.Tables.{records_of_head}
-use Rattle.table_frames.specs.Frames.{IsPassed, frames_of_record}
-use Rattle.buddy_handover.specs.Contents.{buddy_frames}
+use Rattle.memblock_frames.specs.Frames.{IsPassed, frames_of_record}
+use Rattle.buddy_handover.specs.BuddyView.{buddy_frames}
 use Rattle.buddy_handover.specs.Handover.{unclaimed_frames}
 use Rattle.buddy_handover.proofs.handover.hand_over.Given as goal
 

@@ -1,5 +1,5 @@
-use Rattle.stage_model.proofs.QuietLaws.{quiet-appended_memory, quiet-appended_limit}
-use Rattle.crash_kernel.specs.Reserved.{reserve_crash_area}
+use Rattle.stage_steps.proofs.QuietLaws.{quiet-appended_memory, quiet-appended_limit}
+use Rattle.crash_kernel.specs.Reservation.{reserve_crash_area}
 use Rattle.crash_kernel.proofs.QuietLaws.{quiet-reserved}
 use Rattle.crash_kernel.proofs.laws.reserve_keeps_memory_and_limit.Goals as goal
 

@@ -3,7 +3,7 @@ use Rattle.std.proofs.Common.{◌≡◌, map, take}
 use Rattle.std.specs.List.{flat_map}
 use Rattle.boot_model.specs.View.{booted_view}
 use Rattle.debugfs_reports.specs.ReportList.{render_part}
-use Rattle.debugfs_reports.specs.Stand.{records_at_heads}
+use Rattle.debugfs_reports.specs.TableHeads.{records_at_heads}
 use Rattle.debugfs_reports.proofs.list.render_all.Given as goal
 
 abbrev pub invariant-loop-report : goal.invariant-loop-report

@@ -2,8 +2,8 @@
 -- the last row all are counted.
 use Rattle.std.proofs.Common.{arith}
 use Rattle.bm_base.specs.declared.zone.Zone.TheVariants as zone
-use Rattle.frame_blocks.specs.declared.block.BlockRow.{BlockRow}
-use Rattle.buddy_handover.specs.Contents.{buddy_frames}
+use Rattle.buddy_blocks.specs.declared.block.BlockRow.{BlockRow}
+use Rattle.buddy_handover.specs.BuddyView.{buddy_frames}
 use Rattle.debugfs_reports.proofs.SummaryLaws.{counted_few, row_left, row_more}
 use Rattle.debugfs_reports.proofs.summary.summary_of.Goals as goal
 

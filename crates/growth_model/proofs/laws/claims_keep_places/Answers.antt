@@ -1,5 +1,5 @@
 use Rattle.growth_model.specs.Growth.{free_range}
-use Rattle.growth_model.specs.Sound.{TablesAreClaimed}
+use Rattle.growth_model.specs.Tables.{TablesAreClaimed}
 use Rattle.growth_model.proofs.CutLaws.{cuts-ends}
 use Rattle.growth_model.proofs.PlacedReservedLaws.{free_range-cuts}
 use Rattle.growth_model.proofs.SoundLaws.{claim-stands}

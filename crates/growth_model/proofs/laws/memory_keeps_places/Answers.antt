@@ -1,5 +1,5 @@
 use Rattle.growth_model.specs.Growth.{add_range, set_range_node, set_range_mirror}
-use Rattle.growth_model.specs.Sound.{TablesAreClaimed}
+use Rattle.growth_model.specs.Tables.{TablesAreClaimed}
 use Rattle.growth_model.proofs.CutLaws.{cuts-ends}
 use Rattle.growth_model.proofs.PlacedMemoryLaws.{add_range-cuts, set_range_node-cuts, set_range_mirror-cuts}
 use Rattle.growth_model.proofs.laws.memory_keeps_places.Goals as goal

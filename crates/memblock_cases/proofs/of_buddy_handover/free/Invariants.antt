@@ -1,5 +1,5 @@
 use Rattle.std.proofs.Common.{◌≡◌, ◌≤◌, ◌<◌, ℕ, None}
-use Rattle.buddy_handover.specs.Contents.{buddy_frames}
+use Rattle.buddy_handover.specs.BuddyView.{buddy_frames}
 use Rattle.memblock_cases.proofs.of_buddy_handover.free.Given as goal
 
 abbrev pub invariant-loop-frame : goal.invariant-loop-frame

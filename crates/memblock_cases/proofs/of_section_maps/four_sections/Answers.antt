@@ -3,7 +3,7 @@ use Rattle.std.proofs.Common.{◌<◌, List, [], ◌∷◌, AllPairs, arith}
 use Rattle.std.specs.List.{AllByRecursion}
 use Rattle.std.proofs.lemmas.List.Elements.{All-from_recursion}
 use Rattle.std.proofs.lemmas.List.Kept.{AllPairs-cons}
-use Rattle.memblock_grow.specs.declared.section.Section.{Section}
+use Rattle.memblock_grow.specs.declared.stop.Section.{Section}
 use Rattle.memblock_cases.proofs.of_section_maps.four_sections.Goals as goal
 
 before_all : (s : Section) (ss : List Section) → AllByRecursion (λ t. s.number < t.number) ss → AllPairs (λ s t. s.number < t.number) ss

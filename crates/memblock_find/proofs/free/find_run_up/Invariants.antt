@@ -1,7 +1,7 @@
 use Rattle.std.proofs.Common.{◌-◌, ◌^◌, ◌≤◌, None}
 use Rattle.address_runs.specs.Runs.{value_at}
 use Rattle.address_runs.specs.Sweep.{Stays}
-use Rattle.memblock_find.specs.Free.{unclaimed_memory}
+use Rattle.memblock_find.specs.Unclaimed.{unclaimed_memory}
 use Rattle.memblock_find.specs.Walk.{IsWalkUpAt}
 use Rattle.memblock_find.proofs.free.find_run_up.Given as goal
 

@@ -4,7 +4,7 @@ use Rattle.memblock_model.specs.declared.owner.Which.TheVariants as which
 use Rattle.memblock_model.specs.Tables.{room_of, moved_to}
 use Rattle.growth_model.specs.Growth.{old_frames}
 use Rattle.growth_model.proofs.PlacedMemoryLaws.{IsTaken}
-use Rattle.memblock_grow.specs.Kept.{KeepsTables, KeepsBytes}
+use Rattle.memblock_grow.specs.Invariant.{KeepsTables, KeepsBytes}
 use Rattle.memblock_grow.specs.Prepared.{Prepares}
 use Rattle.growth_model.proofs.ToldLaws.{move-told}
 use Rattle.memblock_grow.proofs.WholeLaws.{keeps-then, bytes-then}

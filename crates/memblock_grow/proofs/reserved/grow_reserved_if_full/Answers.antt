@@ -2,7 +2,7 @@ use Rattle.std.proofs.Common.{refl, sym, ◌∙◌}
 use Rattle.memblock_model.specs.declared.owner.Which.TheVariants as which
 use Rattle.growth_model.specs.Growth.{is_full, reserved_growth}
 use Rattle.growth_model.proofs.EndLaws.{EndsAsChange-due, EndsAsChange-idle}
-use Rattle.memblock_grow.specs.More.{new_records_by_items}
+use Rattle.memblock_grow.specs.NewRecords.{new_records_by_items}
 use Rattle.memblock_grow.proofs.MoreLaws.{full-is, full-begun}
 use Rattle.memblock_grow.proofs.ReservedLaws.{still-bytes}
 use Rattle.memblock_grow.proofs.reserved.grow_reserved_if_full.Goals as goal

@@ -1,10 +1,10 @@
 use Rattle.std.proofs.Common.{arith}
 use Rattle.memblock_model.specs.declared.owner.Which.TheVariants as which
-use Rattle.growth_model.specs.Outcome.{if_due}
+use Rattle.growth_model.specs.Change.{if_due}
 use Rattle.growth_model.specs.Growth.{is_full, reserved_growth}
 use Rattle.growth_model.proofs.EndLaws.{EndsAsChange-second}
 use Rattle.growth_model.proofs.SoundLaws.{once-stands}
-use Rattle.memblock_grow.specs.More.{new_records_by_items}
+use Rattle.memblock_grow.specs.NewRecords.{new_records_by_items}
 use Rattle.memblock_grow.proofs.MoreLaws.{full-begun, reserved-enough, room-behind}
 use Rattle.memblock_grow.proofs.PreparedLaws.{prepares-then}
 use Rattle.memblock_grow.proofs.WholeLaws.{whole-on, keeps-then, bytes-then}

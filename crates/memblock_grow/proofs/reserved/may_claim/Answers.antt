@@ -6,7 +6,7 @@ use Rattle.memblock_model.specs.Tables.{room_of}
 use Rattle.growth_model.specs.declared.refusal.Refusal.TheVariants as refusal
 use Rattle.growth_model.specs.Growth.{is_full, count_uncovered_pieces, place_beside_range, claim_range}
 use Rattle.growth_model.proofs.RoomLaws.{free-claimed}
-use Rattle.memblock_grow.specs.declared.more.MaxNewRecords.TheVariants as more
+use Rattle.memblock_grow.specs.declared.new_records.MaxNewRecords.TheVariants as more
 use Rattle.memblock_grow.proofs.PlaceLaws.{knows-mirrors}
 use Rattle.memblock_grow.proofs.MoreLaws.{full-is, space-of}
 use Rattle.memblock_grow.proofs.ReservedLaws.{room-some, beside-found, growth-none}

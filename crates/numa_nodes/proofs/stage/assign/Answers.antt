@@ -3,9 +3,9 @@ use Rattle.std.proofs.lemmas.Result.{err_from_is_err_and}
 use Rattle.std.specs.Option.{option_map, option_copied}
 use Rattle.memblock_model.specs.Items.{limit_of}
 use Rattle.srat_reader.specs.Table.{srat_view}
-use Rattle.node_hulls.specs.Judgement.{judge_srat, srat_nodes_view}
-use Rattle.node_hulls.specs.Kept.{is_in_any_range}
-use Rattle.numa_nodes.specs.Assigned.{is_memory_byte}
+use Rattle.srat_nodes.specs.SratNodesView.{judge_srat, srat_nodes_view}
+use Rattle.srat_nodes.specs.Kept.{is_in_any_range}
+use Rattle.numa_nodes.specs.Assignment.{is_memory_byte}
 use Rattle.numa_nodes.proofs.AssignLaws.{assign_nodes-is, by-wanting, can-get, ranges-tell, records-tell}
 use Rattle.numa_nodes.proofs.stage.assign.Goals as goal
 

@@ -2,11 +2,11 @@
 use Rattle.std.proofs.Common.{◌≡◌, Ok, Err, refl}
 use Rattle.std.proofs.lemmas.Result.{err_from_is_err_and}
 use Rattle.memblock_model.specs.Items.{limit_of, memory_of}
-use Rattle.node_hulls.specs.Judgement.{srat_nodes_view}
-use Rattle.stage_model.specs.Causes.{stage_stop}
-use Rattle.stage_model.specs.Doing.{fold_steps}
-use Rattle.stage_model.proofs.DoingLaws.{ends-begun}
-use Rattle.numa_nodes.specs.Assigned.{set_block_node, nodes_with_memory, node_ranges}
+use Rattle.srat_nodes.specs.SratNodesView.{srat_nodes_view}
+use Rattle.stage_steps.specs.Causes.{stage_stop}
+use Rattle.stage_steps.specs.Steps.{fold_steps}
+use Rattle.stage_steps.proofs.DoingLaws.{ends-begun}
+use Rattle.numa_nodes.specs.Assignment.{set_block_node, nodes_with_memory, node_ranges}
 use Rattle.numa_nodes.proofs.AssignLaws.{by-ranges, by-wanting, data-told, data-wanting, records-tell}
 use Rattle.numa_nodes.proofs.stage.assign_nodes_by.Goals as goal
 use Rattle.numa_nodes.proofs.stage.assign_nodes_by.Goals.{After-deref, After-deref-2}

@@ -1,12 +1,12 @@
 -- Each range is one change of memory.
 use Rattle.std.proofs.Common.{Ok, Err, subst}
 use Rattle.std.proofs.lemmas.Result.{err_from_is_err_and}
-use Rattle.stage_model.specs.Causes.{stage_stop}
-use Rattle.stage_model.specs.Doing.{EndsAsStage}
-use Rattle.stage_model.proofs.DoingLaws.{ends-begun}
+use Rattle.stage_steps.specs.Causes.{stage_stop}
+use Rattle.stage_steps.specs.Steps.{EndsAsStage}
+use Rattle.stage_steps.proofs.DoingLaws.{ends-begun}
 use Rattle.memblock_grow.proofs.GoingLaws.{goes-then}
-use Rattle.node_hulls.specs.Hulls.{NumaBlock}
-use Rattle.numa_nodes.specs.Assigned.{set_block_node}
+use Rattle.srat_nodes.specs.NodeAt.{NumaBlock}
+use Rattle.numa_nodes.specs.Assignment.{set_block_node}
 use Rattle.numa_nodes.proofs.TurnLaws.{turn-next, turn-stops, turn-done}
 use Rattle.numa_nodes.proofs.stage.give_nodes.Goals as goal
 

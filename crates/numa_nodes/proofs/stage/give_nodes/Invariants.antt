@@ -1,6 +1,6 @@
 -- The stage ends as its remaining steps end.
-use Rattle.growth_model.specs.Sound.{HasBegun}
-use Rattle.numa_nodes.specs.Assigned.{set_block_node}
+use Rattle.growth_model.specs.Tables.{HasBegun}
+use Rattle.numa_nodes.specs.Assignment.{set_block_node}
 use Rattle.numa_nodes.specs.Steps.{GoesFurther}
 use Rattle.numa_nodes.proofs.TurnLaws.{Turns}
 use Rattle.numa_nodes.proofs.stage.give_nodes.Given as goal

@@ -2,10 +2,10 @@
 use Rattle.std.proofs.Common.{Ok, Err, get_or, refl, ap}
 use Rattle.std.proofs.lemmas.Result.{err_from_is_err_and}
 use Rattle.memblock_model.specs.declared.query.Request.{Request}
-use Rattle.stage_model.specs.Causes.{stage_stop}
-use Rattle.stage_model.proofs.DoingLaws.{ends-begun}
+use Rattle.stage_steps.specs.Causes.{stage_stop}
+use Rattle.stage_steps.proofs.DoingLaws.{ends-begun}
 use Rattle.memblock_grow.proofs.GoingLaws.{goes-then}
-use Rattle.numa_nodes.specs.Assigned.{place_node_data}
+use Rattle.numa_nodes.specs.Assignment.{place_node_data}
 use Rattle.numa_nodes.proofs.TurnLaws.{turn-next, turn-stops, turn-done, data-placed}
 use Rattle.numa_nodes.proofs.stage.place_each_node_data.Goals as goal
 

@@ -1,6 +1,6 @@
 -- The stage ends as its remaining steps end.
-use Rattle.growth_model.specs.Sound.{HasBegun}
-use Rattle.numa_nodes.specs.Assigned.{place_node_data}
+use Rattle.growth_model.specs.Tables.{HasBegun}
+use Rattle.numa_nodes.specs.Assignment.{place_node_data}
 use Rattle.numa_nodes.specs.Steps.{GoesFurther}
 use Rattle.numa_nodes.proofs.TurnLaws.{Turns}
 use Rattle.numa_nodes.proofs.stage.place_each_node_data.Given as goal

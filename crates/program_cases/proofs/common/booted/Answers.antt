@@ -5,7 +5,7 @@ use Rattle.memblock_model.specs.declared.owner.Which.TheVariants as which
 use Rattle.boot_model.specs.declared.booted.Booted.{Booted}
 use Rattle.boot_model.specs.declared.stop.Stop.{Stop}
 use Rattle.boot_stages.specs.Boots.{IsStoredTable}
-use Rattle.debugfs_reports.specs.Stand.{HeadsHaveRecords}
+use Rattle.debugfs_reports.specs.TableHeads.{HeadsHaveRecords}
 use Rattle.program_run.proofs.BootedLaws.{items_stand}
 use Rattle.program_cases.proofs.common.booted.Goals as goal
 

@@ -3,7 +3,7 @@ use Rattle.std.proofs.Common.{◌≡◌, Result, Ok, subst}
 use Rattle.std.specs.Prelude.{IfOk}
 use Rattle.boot_model.specs.declared.booted.Booted.{Booted}
 use Rattle.boot_model.specs.declared.stop.Stop.{Stop}
-use Rattle.debugfs_reports.specs.Stand.{HeadsHaveRecords}
+use Rattle.debugfs_reports.specs.TableHeads.{HeadsHaveRecords}
 use Rattle.program_cases.proofs.of_debugfs_reports.runs_that_touch.Goals as goal
 
 stand : (answer : Result Booted Stop) (b : Booted) → answer ≡ Ok b → IfOk answer (λ b. HeadsHaveRecords b) → HeadsHaveRecords b

@@ -1,6 +1,6 @@
 -- An error of the inputs is the reason for no report; otherwise the reports are on a boot with
 -- these inputs.
-use Rattle.program_words.specs.View.{bootmem_args_view}
+use Rattle.program_args.specs.View.{bootmem_args_view}
 use Rattle.program_run.proofs.RunLaws.{fetches_none}
 use Rattle.program_run.proofs.program.make_texts.Goals as goal
 

@@ -1,6 +1,6 @@
 -- The clauses of `run` follow from how its end fits the outcome.
 use Rattle.program_end.proofs.EndLaws.{ends_told}
-use Rattle.program_words.specs.Words.{read_args, bytes_of_words}
+use Rattle.program_args.specs.Args.{read_args, bytes_of_words}
 use Rattle.program_run.specs.Bootmem.{bootmem}
 use Rattle.program_run.specs.Line.{bootmem_failure_line}
 use Rattle.program_run.specs.Outcome.{bootmem_outcome}

@@ -1,8 +1,8 @@
 -- The next section's map is the next step.
 use Rattle.std.proofs.Common.{Ok, get_or, arith}
 use Rattle.std.proofs.lemmas.Result.{err_from_is_err_and}
-use Rattle.stage_model.specs.Causes.{stage_stop}
-use Rattle.stage_model.proofs.DoingLaws.{ends-begun}
+use Rattle.stage_steps.specs.Causes.{stage_stop}
+use Rattle.stage_steps.proofs.DoingLaws.{ends-begun}
 use Rattle.memblock_grow.proofs.GoingLaws.{goes-then}
 use Rattle.section_maps.proofs.MapLaws.{no_section, one_map, goes-next, goes-stops, goes-all}
 use Rattle.section_maps.proofs.each.place_each_map.Goals as goal

@@ -1,7 +1,7 @@
 -- The sequence ends as the maps that remain end.
 use Rattle.std.proofs.Common.{◌≡◌, ◌≤◌, ◌+◌, ◌*◌, drop, vec_len, vec_capacity}
-use Rattle.growth_model.specs.Sound.{HasBegun}
-use Rattle.memblock_grow.specs.Going.{ContinuesMemblock}
+use Rattle.growth_model.specs.Tables.{HasBegun}
+use Rattle.memblock_grow.specs.Continues.{ContinuesMemblock}
 use Rattle.section_maps.proofs.MapLaws.{Goes}
 use Rattle.section_maps.proofs.each.place_each_map.Given as goal
 

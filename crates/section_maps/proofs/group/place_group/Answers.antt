@@ -2,7 +2,7 @@
 use Rattle.std.proofs.Common.{ap}
 use Rattle.std.proofs.lemmas.Result.{err_from_is_err_and}
 use Rattle.memblock_model.specs.declared.query.Request.{Request}
-use Rattle.stage_model.specs.Doing.{view_of_result}
+use Rattle.stage_steps.specs.Steps.{view_of_result}
 use Rattle.memblock_grow.proofs.GoingLaws.{goes-then}
 use Rattle.section_maps.proofs.MapLaws.{group-first, group-second}
 use Rattle.section_maps.proofs.group.place_group.Goals as goal

@@ -1,7 +1,7 @@
 -- The maps in one buffer, or one by one.
 use Rattle.std.proofs.Common.{ap}
 use Rattle.memblock_model.specs.declared.query.Request.{Request}
-use Rattle.stage_model.specs.Doing.{view_of_result}
+use Rattle.stage_steps.specs.Steps.{view_of_result}
 use Rattle.memblock_grow.proofs.GoingLaws.{goes-then}
 use Rattle.section_maps.proofs.MapLaws.{buffer-placed, buffer-stops, buffer-each}
 use Rattle.section_maps.proofs.group.place_group_maps.Goals as goal

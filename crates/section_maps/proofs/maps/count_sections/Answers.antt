@@ -1,6 +1,6 @@
 -- Each number is at least the index, and the last one is below 2^32.
 use Rattle.std.proofs.Common.{ℕ, zero, suc, ◌-◌, ◌<◌, ◌≤◌, AllPairs, List, length, get_or, arith}
-use Rattle.memblock_grow.specs.declared.section.Section.{Section}
+use Rattle.memblock_grow.specs.declared.stop.Section.{Section}
 use Rattle.section_maps.proofs.MapLaws.{no_section}
 use Rattle.section_maps.proofs.maps.count_sections.Goals as goal
 

@@ -2,8 +2,8 @@
 use Rattle.std.proofs.Common.{Ok, take, get_or, arith}
 use Rattle.std.proofs.lemmas.List.Sums.{prefix_len-le-length}
 use Rattle.std.proofs.lemmas.Result.{err_from_is_err_and}
-use Rattle.stage_model.specs.Causes.{stage_stop}
-use Rattle.stage_model.proofs.DoingLaws.{ends-begun}
+use Rattle.stage_steps.specs.Causes.{stage_stop}
+use Rattle.stage_steps.proofs.DoingLaws.{ends-begun}
 use Rattle.memblock_grow.proofs.GoingLaws.{goes-then}
 use Rattle.section_maps.specs.Maps.{place_group}
 use Rattle.section_maps.proofs.MapLaws.{no_section}

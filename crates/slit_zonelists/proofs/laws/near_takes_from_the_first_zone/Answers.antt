@@ -1,5 +1,5 @@
 use Rattle.std.proofs.Common.{◌∙◌, ap, List}
-use Rattle.slit_zonelists.specs.declared.entry.ListZone.{ListZone}
+use Rattle.slit_zonelists.specs.declared.order.ListZone.{ListZone}
 use Rattle.slit_zonelists.specs.Lists.{zones_of}
 use Rattle.slit_zonelists.specs.Near.{first_zone, take_from_zone, take_from_nearest}
 use Rattle.slit_zonelists.proofs.LineLaws.{first_is, first_none}

@@ -1,9 +1,9 @@
 -- A zone in the list serves, so the line isn't refused.
 use Rattle.std.proofs.Common.{◌≡◌, None, IsSome, OnErr, List, sym, subst, rules}
 use Rattle.page_alloc.specs.declared.act.PageAct.{PageAct}
-use Rattle.page_alloc.specs.Book.{held_in, page_state_of}
+use Rattle.page_alloc.specs.PagesView.{held_in, page_state_of}
 use Rattle.page_alloc.specs.Pages.{NeedsMemory}
-use Rattle.slit_zonelists.specs.declared.entry.ListZone.{ListZone}
+use Rattle.slit_zonelists.specs.declared.order.ListZone.{ListZone}
 use Rattle.slit_zonelists.specs.Lists.{zones_of}
 use Rattle.slit_zonelists.specs.Near.{first_zone, page_step_by_distance}
 use Rattle.slit_zonelists.proofs.LineLaws.{near_takes, err_then}

@@ -7,7 +7,7 @@ use Rattle.page_alloc.specs.declared.act.PageAct.TheVariants as acts
 use Rattle.page_alloc.specs.declared.act.PageLine.{PageLine}
 use Rattle.page_alloc.specs.declared.outcome.PageAnswer.{PageAnswer}
 use Rattle.page_alloc.specs.declared.outcome.PageOutcome.{PageOutcome}
-use Rattle.page_alloc.specs.Book.{page_state_of}
+use Rattle.page_alloc.specs.PagesView.{page_state_of}
 use Rattle.page_alloc.specs.Pages.{PageState, HaveValidOrders, NeedsMemory}
 use Rattle.slit_zonelists.specs.Near.{page_step_by_distance, page_answers_of, page_state_after}
 use Rattle.slit_zonelists.proofs.LineLaws.{answers_on, after_more}

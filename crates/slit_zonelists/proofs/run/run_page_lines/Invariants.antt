@@ -1,10 +1,10 @@
 -- The lines so far have been carried out, the remaining lines answer as they would have from the
 -- start, and there is room for all answers.
 use Rattle.std.proofs.Common.{◌≡◌, ◌+◌, ◌≤◌, ◌++◌, length, take, drop, vec_len, vec_capacity}
-use Rattle.page_alloc.specs.Book.{page_state_of}
+use Rattle.page_alloc.specs.PagesView.{page_state_of}
 use Rattle.page_alloc.specs.Pages.{HaveValidOrders}
 use Rattle.slit_zonelists.specs.Near.{page_answers_of, page_state_after}
-use Rattle.slit_zonelists.specs.Made.{AreListsOfNodes}
+use Rattle.slit_zonelists.specs.MadeLists.{AreListsOfNodes}
 use Rattle.slit_zonelists.proofs.run.run_page_lines.Given as goal
 
 abbrev pub invariant-loop-line : goal.invariant-loop-line

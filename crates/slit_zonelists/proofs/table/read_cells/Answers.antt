@@ -2,7 +2,7 @@
 use Rattle.std.proofs.Common.{◌≡◌, ◌∙◌, ℕ, zero, suc, ◌-◌, ◌*◌, ◌≤◌, length, arith, subst, ap}
 use Rattle.std.proofs.Math.Nat.{le-mul_of_pos_right}
 use Rattle.std.proofs.lemmas.List.{take_rest}
-use Rattle.slit_zonelists.specs.Matrix.{SlitView}
+use Rattle.slit_zonelists.specs.SlitView.{SlitView}
 use Rattle.slit_zonelists.specs.Table.{locality_count}
 use Rattle.slit_zonelists.proofs.table.read_cells.Goals as goal
 

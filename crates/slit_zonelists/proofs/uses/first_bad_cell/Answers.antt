@@ -1,6 +1,6 @@
 -- A row without a bad cell is passed over.
 use Rattle.std.proofs.Common.{sym, ◌∙◌}
-use Rattle.slit_zonelists.specs.Matrix.{slit_view}
+use Rattle.slit_zonelists.specs.SlitView.{slit_view}
 use Rattle.slit_zonelists.proofs.BadLaws.{row_skipped}
 use Rattle.slit_zonelists.proofs.uses.first_bad_cell.Goals as goal
 

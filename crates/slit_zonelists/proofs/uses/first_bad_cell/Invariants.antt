@@ -1,7 +1,7 @@
 -- The first bad cell is in none of the rows so far.
 use Rattle.std.proofs.Common.{◌≡◌, ◌-◌}
 use Rattle.std.specs.List.{filter_map, range_with_len}
-use Rattle.slit_zonelists.specs.Matrix.{slit_view}
+use Rattle.slit_zonelists.specs.SlitView.{slit_view}
 use Rattle.slit_zonelists.specs.Uses.{first_bad_in_row, first_bad_cell, first_member}
 use Rattle.slit_zonelists.proofs.uses.first_bad_cell.Given as goal
 

@@ -1,6 +1,6 @@
 -- A cell that isn't bad is passed over.
 use Rattle.std.proofs.Common.{sym, ◌∙◌}
-use Rattle.slit_zonelists.specs.Matrix.{slit_view}
+use Rattle.slit_zonelists.specs.SlitView.{slit_view}
 use Rattle.slit_zonelists.specs.Uses.{is_bad_cell}
 use Rattle.slit_zonelists.proofs.BadLaws.{skipped}
 use Rattle.slit_zonelists.proofs.uses.first_bad_column.Goals as goal

@@ -1,7 +1,7 @@
 -- The first bad column is none of those so far.
 use Rattle.std.proofs.Common.{◌≡◌, ◌-◌}
 use Rattle.std.specs.List.{find, range_with_len}
-use Rattle.slit_zonelists.specs.Matrix.{slit_view}
+use Rattle.slit_zonelists.specs.SlitView.{slit_view}
 use Rattle.slit_zonelists.specs.Uses.{is_bad_cell, first_bad_column}
 use Rattle.slit_zonelists.proofs.uses.first_bad_column.Given as goal
 

@@ -1,9 +1,9 @@
 -- A section whose root isn't placed yet is the next step.
 use Rattle.std.proofs.Common.{◌≡◌, ℕ, false, Some, Ok, get_or, sym, ◌∙◌, ap, arith}
 use Rattle.std.proofs.lemmas.Result.{err_from_is_err_and}
-use Rattle.memblock_grow.specs.declared.section.Section.{Section}
-use Rattle.stage_model.specs.Causes.{stage_stop}
-use Rattle.stage_model.proofs.DoingLaws.{ends-begun}
+use Rattle.memblock_grow.specs.declared.stop.Section.{Section}
+use Rattle.stage_steps.specs.Causes.{stage_stop}
+use Rattle.stage_steps.proofs.DoingLaws.{ends-begun}
 use Rattle.memblock_grow.proofs.GoingLaws.{goes-then}
 use Rattle.sparse_sections.specs.Roots.{root_of, is_last_root, place_root}
 use Rattle.sparse_sections.proofs.RootLaws.{no_section, goes-first, goes-same, goes-next, goes-fails, goes-all}

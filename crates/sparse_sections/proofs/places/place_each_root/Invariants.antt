@@ -1,7 +1,7 @@
 -- The sequence ends as the roots of the remaining sections end.
 use Rattle.std.proofs.Common.{◌≤◌, ◌+◌, drop, length, vec_len, vec_capacity}
-use Rattle.growth_model.specs.Sound.{HasBegun}
-use Rattle.memblock_grow.specs.Going.{ContinuesMemblock}
+use Rattle.growth_model.specs.Tables.{HasBegun}
+use Rattle.memblock_grow.specs.Continues.{ContinuesMemblock}
 use Rattle.sparse_sections.proofs.RootLaws.{Goes}
 use Rattle.sparse_sections.proofs.places.place_each_root.Given as goal
 

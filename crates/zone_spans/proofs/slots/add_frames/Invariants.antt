@@ -1,6 +1,6 @@
 use Rattle.std.proofs.Common.{◌≤◌, ◌-◌, vec_len}
 use Rattle.address_runs.specs.Edits.{NothingFrom}
-use Rattle.frame_blocks.specs.Frames.{Frames}
+use Rattle.buddy_blocks.specs.Frames.{Frames}
 use Rattle.zone_spans.specs.Slots.{AreSpans, AreSpansBounded, frames_with_node_run}
 use Rattle.zone_spans.proofs.slots.add_frames.Given as goal
 

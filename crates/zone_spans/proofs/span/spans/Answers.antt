@@ -4,8 +4,8 @@ use Rattle.address_runs.specs.Runs.{RunOf, value_at}
 use Rattle.memblock_model.specs.Labels.{LabelView, plain_label}
 use Rattle.memblock_ranges.specs.Tables.{records_of_head}
 use Rattle.memblock_ranges.proofs.LentLaws.{count_is}
-use Rattle.table_frames.specs.Frames.{node_of_frame}
-use Rattle.table_frames.proofs.TakeLaws.{frames_below, frames_in_order, frames_some}
+use Rattle.memblock_frames.specs.Frames.{node_of_frame}
+use Rattle.memblock_frames.proofs.TakeLaws.{frames_below, frames_in_order, frames_some}
 use Rattle.zone_spans.specs.Slots.{AreSpans}
 use Rattle.zone_spans.proofs.SlotLaws.{told_none, bounded_higher, listed}
 use Rattle.zone_spans.proofs.TableLaws.{low_node, nothing_taken, taken_run, taken_left, taken_all}

@@ -2,7 +2,7 @@ use Rattle.std.proofs.Common.{◌≤◌, ◌<◌, ℕ, get_or, take, vec_len}
 use Rattle.address_runs.specs.Runs.{RunOf, value_at}
 use Rattle.memblock_model.specs.Labels.{LabelView}
 use Rattle.memblock_ranges.specs.Tables.{records_of_head}
-use Rattle.table_frames.specs.Frames.{node_of_frame, frames_of_record}
+use Rattle.memblock_frames.specs.Frames.{node_of_frame, frames_of_record}
 use Rattle.zone_spans.specs.Slots.{AreSpans, AreSpansBounded}
 use Rattle.zone_spans.proofs.span.spans.Given as goal
 

@@ -1,6 +1,6 @@
 use Rattle.std.proofs.Common.{◌∙◌, ap}
 use Rattle.memblock_model.specs.Items.{owner_runs_of}
-use Rattle.boot_journal.specs.Contents.{JournalView}
+use Rattle.boot_journal.specs.JournalView.{JournalView}
 use Rattle.boot_journal.proofs.OwnerLaws.{owner_list}
 use Rattle.boot_journal.proofs.journal.Journal.owners.Goals as goal
 

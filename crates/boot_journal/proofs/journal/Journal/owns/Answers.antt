@@ -1,7 +1,7 @@
 use Rattle.std.proofs.Common.{◌≡◌, ℕ, sym, ◌∙◌, ap}
 use Rattle.address_runs.specs.Runs.{value_at}
 use Rattle.memblock_model.specs.Items.{owner_of}
-use Rattle.boot_journal.specs.Contents.{JournalView}
+use Rattle.boot_journal.specs.JournalView.{JournalView}
 use Rattle.boot_journal.proofs.journal.Journal.owns.Goals as goal
 
 pub returns : goal.returns

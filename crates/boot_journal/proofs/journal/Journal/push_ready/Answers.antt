@@ -2,7 +2,7 @@ use Rattle.std.proofs.Common.{◌≡◌, Bool, sym, ◌∙◌, ap, arith}
 use Rattle.address_runs.specs.Runs.{IsRunsOf}
 use Rattle.memblock_model.specs.Items.{owner_of}
 use Rattle.memblock_model.proofs.ItemLaws.{ItemsHaveBytes-push}
-use Rattle.boot_journal.specs.Contents.{JournalView}
+use Rattle.boot_journal.specs.JournalView.{JournalView}
 use Rattle.boot_journal.specs.Mirrors.{has_mirrors_after, has_mirrors}
 use Rattle.boot_journal.proofs.MirrorLaws.{has_mirrors-push}
 use Rattle.boot_journal.proofs.OwnerLaws.{owners_pushed, owners_within}

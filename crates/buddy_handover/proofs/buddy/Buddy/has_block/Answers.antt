@@ -1,8 +1,8 @@
 -- The first order that has a block serves.
 use Rattle.std.proofs.Common.{◌≡◌, ◌+◌, ◌-◌, suc, sym, ◌∙◌, ap, arith}
-use Rattle.frame_blocks.specs.Listed.{count_blocks}
-use Rattle.frame_blocks.specs.Picked.{picked_block_from}
-use Rattle.buddy_handover.specs.Contents.{buddy_frames}
+use Rattle.buddy_blocks.specs.BlockList.{count_blocks}
+use Rattle.buddy_blocks.specs.PickedBlock.{picked_block_from}
+use Rattle.buddy_handover.specs.BuddyView.{buddy_frames}
 use Rattle.buddy_handover.proofs.TakeLaws.{passed_by, serves_at, serves_is}
 use Rattle.buddy_handover.proofs.buddy.Buddy.has_block.Goals as goal
 

@@ -1,7 +1,7 @@
 -- None of the orders so far has a block.
 use Rattle.std.proofs.Common.{◌≡◌, ◌-◌, ◌≤◌}
-use Rattle.frame_blocks.specs.Picked.{picked_block_from}
-use Rattle.buddy_handover.specs.Contents.{buddy_frames}
+use Rattle.buddy_blocks.specs.PickedBlock.{picked_block_from}
+use Rattle.buddy_handover.specs.BuddyView.{buddy_frames}
 use Rattle.buddy_handover.proofs.buddy.Buddy.has_block.Given as goal
 
 abbrev pub invariant-loop-at : goal.invariant-loop-at

@@ -1,8 +1,8 @@
 use Rattle.std.proofs.Common.{◌≡◌, ℕ, None, ◌∙◌, ap, arith}
 use Rattle.address_runs.specs.Runs.{value_at, IsRunsOf}
-use Rattle.frame_blocks.specs.Frames.{IsInSet}
-use Rattle.frame_blocks.specs.Buddies.{with_set}
-use Rattle.buddy_handover.specs.Contents.{BuddyView}
+use Rattle.buddy_blocks.specs.Frames.{IsInSet}
+use Rattle.buddy_blocks.specs.Buddies.{with_set}
+use Rattle.buddy_handover.specs.BuddyView.{BuddyView}
 use Rattle.std.proofs.lemmas.Option.{IfSome_then}
 use Rattle.buddy_handover.proofs.TakeLaws.{block_small, runs_with, joined_block}
 use Rattle.buddy_handover.proofs.buddy.Buddy.put_back.Goals as goal

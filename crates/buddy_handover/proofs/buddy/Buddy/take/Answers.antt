@@ -2,10 +2,10 @@ use Rattle.std.proofs.Common.{◌≡◌, ◌+◌, ◌^◌, is_some, Result, Ok, 
 use Rattle.bm_base.specs.Range.{RangeView}
 use Rattle.address_runs.specs.Runs.{value_at, IsRunsOf}
 use Rattle.address_runs.specs.Edits.{NothingFrom}
-use Rattle.frame_blocks.specs.declared.run.TheConstants.{MAX_FRAMES}
-use Rattle.frame_blocks.specs.Listed.{block_of}
-use Rattle.frame_blocks.specs.Buddies.{without_set}
-use Rattle.buddy_handover.specs.Contents.{BuddyView, buddy_frames}
+use Rattle.buddy_blocks.specs.declared.run.TheConstants.{MAX_FRAMES}
+use Rattle.buddy_blocks.specs.BlockList.{block_of}
+use Rattle.buddy_blocks.specs.Buddies.{without_set}
+use Rattle.buddy_handover.specs.BuddyView.{BuddyView, buddy_frames}
 use Rattle.std.proofs.lemmas.Option.{IfSome_then}
 use Rattle.buddy_handover.proofs.TakeLaws.{first_is, first_none, runs_without}
 use Rattle.buddy_handover.proofs.buddy.Buddy.take.Goals as goal

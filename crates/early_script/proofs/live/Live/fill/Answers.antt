@@ -2,12 +2,12 @@
 use Rattle.std.proofs.Common.{◌≡◌, ◌≤◌, false, nat_lt, Ok, [], ◌∷◌, ◌++◌, length, refl, ap, subst, arith}
 use Rattle.std.proofs.lemmas.Bool.Decides.{nat_tests}
 use Rattle.bm_base.specs.Range.{RangeView}
-use Rattle.boot_journal.specs.Contents.{JournalView as Journal}
+use Rattle.boot_journal.specs.JournalView.{JournalView as Journal}
 use Rattle.growth_model.specs.Bytes.{Fill}
 use Rattle.growth_model.proofs.FillLaws.{holds-fill}
 use Rattle.early_script.specs.declared.outcome.Outcome.TheVariants as outcomes
-use Rattle.early_script.specs.Acted.{fill_whole, fill_effect}
-use Rattle.early_script.specs.Found.{state_of_memblock, memblock_bytes}
+use Rattle.early_script.specs.Effects.{fill_whole, fill_effect}
+use Rattle.early_script.specs.FromMemblock.{state_of_memblock, memblock_bytes}
 use Rattle.early_script.proofs.HoldLaws.{holds-as, holds-by}
 use Rattle.early_script.proofs.live.Live.fill.Goals as goal
 

@@ -1,7 +1,7 @@
 -- The map has the range, and the journal's result is the definition's test.
 use Rattle.std.proofs.Common.{◌≡◌, true, false, Some, sym, ◌∙◌, subst}
-use Rattle.early_script.specs.Ids.{LiveView, range_of_id}
-use Rattle.early_script.specs.Found.{state_of_memblock}
+use Rattle.early_script.specs.LiveView.{LiveView, range_of_id}
+use Rattle.early_script.specs.FromMemblock.{state_of_memblock}
 use Rattle.early_script.proofs.IdsLaws.{bytes-found}
 use Rattle.early_script.proofs.WholeLaws.{owned-by, whole-is}
 use Rattle.early_script.proofs.live.Live.owned_range.Goals as goal

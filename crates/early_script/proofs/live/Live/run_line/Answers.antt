@@ -1,8 +1,8 @@
 -- Each act is one call, with the deed of the act.
 use Rattle.std.proofs.Common.{Ok, refl, sym}
 use Rattle.script_reader.specs.declared.act.Act.TheVariants as acts
-use Rattle.early_script.specs.Acted.{act_effect}
-use Rattle.early_script.specs.Found.{state_of_memblock}
+use Rattle.early_script.specs.Effects.{act_effect}
+use Rattle.early_script.specs.FromMemblock.{state_of_memblock}
 use Rattle.early_script.proofs.PowerLaws.{power_of}
 use Rattle.early_script.proofs.RunLaws.{alloc-quiet, reserve-quiet, free-quiet, trim-quiet}
 use Rattle.early_script.proofs.DeedLaws.{nothing-done, ran-as, ran-quiet}

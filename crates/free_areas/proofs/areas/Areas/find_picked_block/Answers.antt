@@ -1,7 +1,7 @@
 use Rattle.std.proofs.Common.{◌≡◌, Option, Some, None, MatchOption, List, [], ◌∷◌, sym, subst}
 use Rattle.std.specs.Option.{option_copied}
 use Rattle.std.proofs.Common.{Bor}
-use Rattle.frame_blocks.specs.declared.block.Block.{Block}
+use Rattle.buddy_blocks.specs.declared.block.Block.{Block}
 use Rattle.free_areas.specs.Areas.{IndexesFreeBlocks}
 use Rattle.free_areas.proofs.LeastLaws.{least_is}
 use Rattle.free_areas.proofs.areas.Areas.find_picked_block.Goals as goal

@@ -1,7 +1,7 @@
 use Rattle.std.proofs.Common.{List, sym, ◌∙◌, ap, subst}
 use Rattle.address_runs.specs.Runs.{value_at}
-use Rattle.frame_blocks.specs.declared.block.BlockRow.{BlockRow}
-use Rattle.frame_blocks.specs.Rows.{blocks_of_rows, AreRows}
+use Rattle.buddy_blocks.specs.declared.block.BlockRow.{BlockRow}
+use Rattle.buddy_blocks.specs.Rows.{blocks_of_rows, AreRows}
 use Rattle.free_areas.proofs.AreaLaws.{leads_more, leads_all}
 use Rattle.free_areas.proofs.areas.Areas.index_free_runs.Goals as goal
 

@@ -1,6 +1,6 @@
 use Rattle.std.proofs.Common.{List, sym, subst}
 use Rattle.std.proofs.lemmas.Result.{on_ok_weaker}
-use Rattle.frame_blocks.specs.declared.block.Block.{Block}
+use Rattle.buddy_blocks.specs.declared.block.Block.{Block}
 use Rattle.free_areas.specs.Areas.{IndexesFreeBlocks}
 use Rattle.free_areas.proofs.AreaLaws.{split_areas}
 use Rattle.free_areas.proofs.areas.Areas.split_block.Goals as goal

@@ -2,7 +2,7 @@
 use Rattle.std.proofs.Common.{ℕ, length, sym, ◌∙◌, ap}
 use Rattle.phys_store.specs.Bytes.{byte_of}
 use Rattle.growth_model.specs.Bytes.{Fill, byte_after_fill}
-use Rattle.memblock_grow.specs.Contents.{MemblockView}
+use Rattle.memblock_grow.specs.MemblockView.{MemblockView}
 use Rattle.memblock_grow.proofs.MemblockLaws.{wrote-put, whole-fill}
 use Rattle.memblock_grow.proofs.memblock.Memblock.fill.Goals as goal
 

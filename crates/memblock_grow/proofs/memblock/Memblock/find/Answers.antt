@@ -1,7 +1,7 @@
 -- The search over the tables is that over the items.
 use Rattle.std.proofs.Common.{sym, ◌∙◌, ap}
 use Rattle.memblock_model.specs.Search.{best_place}
-use Rattle.memblock_grow.specs.Contents.{MemblockView}
+use Rattle.memblock_grow.specs.MemblockView.{MemblockView}
 use Rattle.memblock_grow.proofs.GoingLaws.{place-away}
 use Rattle.memblock_grow.proofs.PlaceLaws.{best_place-is, knows-mirrors}
 use Rattle.memblock_grow.proofs.memblock.Memblock.find.Goals as goal

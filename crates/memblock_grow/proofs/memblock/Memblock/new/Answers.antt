@@ -1,6 +1,6 @@
 -- Both tables are empty, and all bytes are 0.
 use Rattle.std.proofs.Common.{sym, ◌∙◌, ap}
-use Rattle.boot_journal.specs.Contents.{JournalView as Journal}
+use Rattle.boot_journal.specs.JournalView.{JournalView as Journal}
 use Rattle.memblock_grow.proofs.MemblockLaws.{whole-new, bytes-new}
 use Rattle.memblock_grow.proofs.memblock.Memblock.new.Goals as goal
 

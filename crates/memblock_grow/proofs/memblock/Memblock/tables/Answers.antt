@@ -2,7 +2,7 @@ use Rattle.std.proofs.Common.{◌^◌, subst, sym}
 use Rattle.address_runs.specs.Edits.{NothingFrom}
 use Rattle.memblock_model.specs.declared.owner.Which.TheVariants as which
 use Rattle.memblock_model.specs.Items.{memory_of}
-use Rattle.memblock_grow.specs.Contents.{MemblockView}
+use Rattle.memblock_grow.specs.MemblockView.{MemblockView}
 use Rattle.memblock_grow.proofs.GoingLaws.{goes-none}
 use Rattle.memblock_grow.proofs.memblock.Memblock.tables.Goals as goal
 

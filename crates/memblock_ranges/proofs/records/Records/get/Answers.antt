@@ -1,5 +1,5 @@
 use Rattle.std.proofs.Common.{◌+◌, ◌*◌, ◌<◌, length, ap, ◌∙◌, arith}
-use Rattle.memblock_ranges.specs.Spelling.{decode_region}
+use Rattle.memblock_ranges.specs.Encoding.{decode_region}
 use Rattle.memblock_ranges.proofs.LentLaws.{slice_is, record_is, record_fits}
 use Rattle.memblock_ranges.proofs.records.Records.get.Goals as goal
 

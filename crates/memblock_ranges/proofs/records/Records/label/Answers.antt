@@ -2,7 +2,7 @@ use Rattle.std.proofs.Common.{◌≡◌, ◌≤◌, get_or, ap, arith}
 use Rattle.address_runs.specs.Runs.{RunOf}
 use Rattle.memblock_model.specs.Labels.{LabelView, plain_label}
 use Rattle.memblock_ranges.specs.declared.region.Region.{Region}
-use Rattle.memblock_ranges.specs.Spelling.{node_field}
+use Rattle.memblock_ranges.specs.Encoding.{node_field}
 use Rattle.memblock_ranges.proofs.records.Records.label.Goals as goal
 
 pub label_of-requires : goal.label_of-requires

@@ -6,7 +6,7 @@ use Rattle.memblock_model.specs.Labels.{LabelView, plain_label}
 use Rattle.memblock_model.specs.Same.{same_label}
 use Rattle.memblock_model.specs.Tables.{records_for}
 use Rattle.memblock_model.proofs.SameLaws.{label_tells}
-use Rattle.memblock_ranges.specs.Spelling.{label_of}
+use Rattle.memblock_ranges.specs.Encoding.{label_of}
 use Rattle.memblock_ranges.specs.Tables.{records_of_head, AreTables, HaveNoNode}
 use Rattle.memblock_ranges.proofs.EditLaws.{cover_room, edited}
 use Rattle.memblock_ranges.proofs.PairLaws.{EditsTable, memory_edited, reserved_edited, plain_covered}

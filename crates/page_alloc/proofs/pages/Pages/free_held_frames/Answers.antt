@@ -1,11 +1,11 @@
 use Rattle.std.proofs.Common.{◌≡◌, Some, None, sym, ◌∙◌, ap, subst}
-use Rattle.buddy_handover.specs.Contents.{buddy_frames}
-use Rattle.frame_blocks.specs.Buddies.{with_set}
+use Rattle.buddy_handover.specs.BuddyView.{buddy_frames}
+use Rattle.buddy_blocks.specs.Buddies.{with_set}
 use Rattle.page_alloc.specs.declared.act.PageAct.TheVariants as acts
 use Rattle.page_alloc.specs.declared.outcome.PageOutcome.{PageOutcome}
 use Rattle.page_alloc.specs.declared.outcome.PageOutcome.TheVariants as outcomes
-use Rattle.page_alloc.specs.Book.{PagesView, held_in, page_state_of}
-use Rattle.page_alloc.specs.Kept.{AreHeldApart}
+use Rattle.page_alloc.specs.PagesView.{PagesView, held_in, page_state_of}
+use Rattle.page_alloc.specs.FramePlaces.{AreHeldApart}
 use Rattle.page_alloc.specs.Pages.{PageState, with_held, free_held_frames}
 use Rattle.page_alloc.proofs.BookLaws.{state_is, changed}
 use Rattle.page_alloc.proofs.KeptLaws.{step_kept}

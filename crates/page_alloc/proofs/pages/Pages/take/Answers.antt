@@ -6,15 +6,15 @@ use Rattle.std.specs.BTreeMap.{insert_entry}
 use Rattle.bm_base.specs.declared.range.TheConstants.{FRAME_SIZE}
 use Rattle.bm_base.specs.declared.memory.Memory.{Memory}
 use Rattle.address_runs.specs.Runs.{IsRunsOf}
-use Rattle.buddy_handover.specs.Contents.{BuddyView, buddy_frames}
-use Rattle.frame_blocks.specs.Buddies.{without_set}
-use Rattle.frame_blocks.specs.Picked.{picked_first_frame}
+use Rattle.buddy_handover.specs.BuddyView.{BuddyView, buddy_frames}
+use Rattle.buddy_blocks.specs.Buddies.{without_set}
+use Rattle.buddy_blocks.specs.PickedBlock.{picked_first_frame}
 use Rattle.page_alloc.specs.declared.act.PageAct.TheVariants as acts
 use Rattle.page_alloc.specs.declared.outcome.Held.{Held}
 use Rattle.page_alloc.specs.declared.outcome.PageOutcome.{PageOutcome}
 use Rattle.page_alloc.specs.declared.outcome.PageOutcome.TheVariants as outcomes
-use Rattle.page_alloc.specs.Book.{PagesView, held_in, page_state_of}
-use Rattle.page_alloc.specs.Kept.{AreHeldApart}
+use Rattle.page_alloc.specs.PagesView.{PagesView, held_in, page_state_of}
+use Rattle.page_alloc.specs.FramePlaces.{AreHeldApart}
 use Rattle.page_alloc.specs.Pages.{PageState, page_step}
 use Rattle.page_alloc.proofs.BookLaws.{took, took_none, nothing_is, kept_by}
 use Rattle.page_alloc.proofs.KeptLaws.{picked_set}

@@ -1,8 +1,0 @@
--- The runs so far end below 2^64; so all do if the remaining ones do.
-use Rattle.std.proofs.Common.{drop}
-use Rattle.std.specs.List.{All}
-use Rattle.audit_laws.specs.Told.{RunEndsInSpace}
-use Rattle.audit_laws.proofs.booted.map_runs_end_in_space.Given as goal
-
-abbrev pub invariant-loop-run : goal.invariant-loop-run
-invariant-loop-run l = All RunEndsInSpace (drop l.run-index l.runs) → All RunEndsInSpace l.runs

@@ -1,8 +1,0 @@
--- The runs so far end below 2^64, with numbers of 32 bits; so all do if the remaining ones do.
-use Rattle.std.proofs.Common.{drop}
-use Rattle.std.specs.List.{All}
-use Rattle.audit_laws.specs.Told.{IsBoundedOwnerRun}
-use Rattle.audit_laws.proofs.booted.owner_runs_are_bounded.Given as goal
-
-abbrev pub invariant-loop-run : goal.invariant-loop-run
-invariant-loop-run l = All IsBoundedOwnerRun (drop l.run-index l.runs) → All IsBoundedOwnerRun l.runs

@@ -1,0 +1,25 @@
+-- Worked examples of the lines of a run and of a block, and of some that have no line.
+use Rattle.std.proofs.Common.{◌≡◌, ℕ, ◌-◌, ◌^◌, refl, arith}
+use Rattle.address_runs.specs.Runs.{RunOf}
+use Rattle.bm_base.specs.declared.zone.Zone.TheVariants as zones
+use Rattle.audit_roundtrip.specs.PrintedLines.{IsPrintableBlock, IsPrintableRun, line_of_block}
+
+-- two frames of RAM at 4 KiB
+abbrev two_frames : RunOf ℕ
+two_frames = record { base = 4096; size = 8192; value = 1 }
+
+two_frames_fit : IsPrintableRun two_frames
+two_frames_fit = ((omega arith, omega arith), (omega arith, omega arith))
+
+-- a run of type 0 has no line
+no_type : ¬ IsPrintableRun (record { base = 4096; size = 8192; value = 0 })
+no_type told = absurd (omega (arith, told.1.0))
+
+-- the block of 256 frames at 1 MiB
+block_told : line_of_block (record { node = 0; zone = zones.Dma; order = 8; first = 256 })
+    ≡ record { node = 0; zone = zones.Dma; order = 8; at = 0x100000 }
+block_told = refl
+
+-- a block whose last frame is above 2^52 has no line
+too_far : ¬ IsPrintableBlock (record { node = 0; zone = zones.Normal; order = 1; first = 2 ^ 40 - 1 })
+too_far told = absurd (omega (arith, told.1.1))

@@ -1,0 +1,53 @@
+-- The lines of a boot's map, owners and blocks show that memory was conserved.
+use Rattle.std.proofs.Common.{◌≡◌, ℕ, ◌^◌, ◌<◌, List, map, Ok, inl, inr, subst, ◌∙◌}
+use Rattle.address_runs.specs.Edits.{NothingFrom}
+use Rattle.address_runs.specs.Runs.{IsRunsOf, extent_of}
+use Rattle.address_runs.proofs.RunsLaws.{by_address}
+use Rattle.memblock_model.specs.Items.{owner_of, owner_runs_of}
+use Rattle.memblock_model.specs.Same.{same_owner}
+use Rattle.memblock_model.specs.declared.item.Item.{Item}
+use Rattle.memblock_model.proofs.SameLaws.{owner_tells}
+use Rattle.boot_model.specs.Boot.{InputsView, BootedView, booted_address_limit, whole_boot}
+use Rattle.conservation.specs.Headline.{IsTouchedOrInOneBlock as IsKept, booted_blocks, count_blocks_with as blocks_of_told}
+use Rattle.conservation.proofs.HeadlineLaws.{all_touched_or_in_one, blocks_maximal, blocks_whole, no_other_in_a_block}
+use Rattle.conservation.proofs.MapLaws.{usable_mapped}
+use Rattle.audit_roundtrip.specs.PrintedLines.{line_of_block, line_of_run}
+use Rattle.boot_audit.specs.Conserved.{LinesConserveMemory, IsTouchedOrInOne}
+use Rattle.audit_soundness.proofs.BlockLaws.{blocks_sound}
+use Rattle.audit_soundness.proofs.FrameLaws.{counted_told, told_usable, touched_told, untouched_told, usable_told}
+
+-- the runs of owners give the owner of each byte
+pub owner_runs : (items : List Item) → NothingFrom (2 ^ 64) (owner_of items) → IsRunsOf (owner_of items) (owner_runs_of items)
+unfolding owner_runs_of
+owner_runs items ends = by_address same_owner owner_tells (owner_of items) ends
+
+module _ (given : InputsView) (told : BootedView) (ends : whole_boot given ≡ Ok told) (near : NothingFrom (2 ^ 64) (owner_of told.items)) where
+  runs : IsRunsOf (owner_of told.items) (owner_runs_of told.items)
+  runs = owner_runs told.items near
+
+  kept_told : (frame : ℕ) → IsKept told frame
+      → IsTouchedOrInOne (map extent_of (owner_runs_of told.items)) (map line_of_block (booted_blocks told)) frame
+  kept_told frame (inl touched) = inl (
+    touched_told told.items (owner_runs_of told.items) runs frame touched.0,
+    counted_told (booted_blocks told) frame ∙ touched.1,
+  )
+  kept_told frame (inr bare) = inr (
+    untouched_told told.items (owner_runs_of told.items) runs frame bare.0,
+    counted_told (booted_blocks told) frame ∙ bare.1,
+  )
+
+  pub lines_conserved : LinesConserveMemory (booted_address_limit told) (map line_of_run told.map) (map extent_of (owner_runs_of told.items))
+      (map line_of_block (booted_blocks told))
+  lines_conserved = record {
+    frames = λ frame usable.
+        kept_told frame (all_touched_or_in_one given told ends frame
+        ((usable_mapped given told frame ends).1 (told_usable (booted_address_limit told) told.map frame usable)));
+    others = λ frame some.
+        (let has : 0 < blocks_of_told (booted_blocks told) frame =
+        subst (λ (n : ℕ). 0 < n) (counted_told (booted_blocks told) frame) some in
+        let free = no_other_in_a_block given told ends frame has in (
+          usable_told (booted_address_limit told) told.map frame ((usable_mapped given told frame ends).0 free.0),
+          untouched_told told.items (owner_runs_of told.items) runs frame free.1,
+        ));
+    each = blocks_sound given told.items (booted_blocks told) (blocks_whole given told ends) (blocks_maximal given told ends);
+  }

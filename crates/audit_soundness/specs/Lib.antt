@@ -1,0 +1,2 @@
+pub mod PrintableBoots
+pub mod Saved

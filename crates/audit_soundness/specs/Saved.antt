@@ -1,0 +1,21 @@
+-- Files that contain three reports of one boot.
+use Rattle.std.specs.Prelude.{◌≡◌, ℕ, ◌≤◌, List, length, Option, Some}
+use Rattle.program_end.specs.Program.{FileContents}
+use Rattle.boot_audit.specs.Args.{AuditArgsView}
+use Rattle.boot_model.specs.Boot.{BootedView}
+use Rattle.debugfs_reports.specs.Report.{report_text}
+use Rattle.debugfs_reports.specs.declared.report.Report.TheVariants as reports
+
+-- the file contains the whole text, which is at most 512 MiB, the greatest size that an audit
+-- reads
+pub record IsSaved (held : Option (List ℕ)) (text : List ℕ) : Type 0 where
+  pub holds : held ≡ Some text
+  pub short : length text ≤ 536870912
+
+-- the three files contain the reports of the boot, and the audit's width of addresses is that of
+-- the boot
+pub record AreSaved (held : FileContents) (wanted : AuditArgsView) (told : BootedView) : Type 0 where
+  pub width : wanted.width ≡ told.width
+  pub map : IsSaved (held wanted.map_name) (report_text reports.Map told)
+  pub owners : IsSaved (held wanted.owners_name) (report_text reports.Owners told)
+  pub blocks : IsSaved (held wanted.blocks_name) (report_text reports.Blocks told)

@@ -1,0 +1,81 @@
+//! The law for the value that the code's boot returns. The types of its fields bound its addresses
+//! and numbers. A proof knows the range of a field's type once the code reads the field, so the
+//! functions here read each run.
+
+ghost use Rattle.std.specs.Prelude.{◌≡◌, Some, Ok};
+ghost use Rattle.std.specs.List.{All};
+ghost use Rattle.audit_soundness.specs.Saved.{AreSaved};
+ghost use Rattle.audit_soundness.specs.PrintableBoots.{IsPrintableBoot, RunEndsInSpace, IsBoundedOwnerRun};
+ghost use Rattle.audit_roundtrip.specs.PrintedLines.{IsPrintableOwner};
+ghost use Rattle.boot_audit.specs.Headline.{FilesConserveMemory};
+ghost use Rattle.boot_audit.specs.Outcome.{audit_outcome};
+ghost use Rattle.program_end.specs.Program.{FileContents};
+ghost use Rattle.boot_audit.specs.Args.{AuditArgsView};
+ghost use Rattle.boot_audit.specs.declared.judgement.Verdict.TheVariants as verdicts;
+ghost use Rattle.boot_model.specs.Boot.{InputsView, whole_boot};
+ghost use Rattle.boot_model.specs.View.{booted_view};
+
+use boot_model::Booted;
+use e820_model::Run;
+use memblock_model::{Owner, OwnerRun};
+
+/// Law: if the files that an audit names contain the three reports of this boot, as `bootmem`
+/// prints them, then memory was conserved by them, and the outcome of the audit is `Sound`.
+pub fn booted_reports_are_sound(booted: &Booted)
+    ghost given: { InputsView }
+    requires { whole_boot given ≡ Ok (booted_view booted.now) }
+    ensures told { IsPrintableBoot (booted_view booted.now) }
+    ensures conserved { (held : FileContents) (wanted : AuditArgsView) → AreSaved held wanted (booted_view booted.now)
+        → FilesConserveMemory (Some wanted) held }
+    ensures sound { (held : FileContents) (wanted : AuditArgsView) → AreSaved held wanted (booted_view booted.now)
+        → audit_outcome (Some wanted) held ≡ Ok verdicts.Sound }
+{
+    map_runs_end_in_space(&booted.map);
+    owner_runs_are_bounded(booted.journal.owners());
+}
+
+/// Law: each run of a map ends below 2^64.
+fn map_runs_end_in_space(runs: &[Run])
+    ensures { All RunEndsInSpace runs.now }
+{
+    for run in runs {
+        run_ends_in_space(run);
+    }
+}
+
+/// Law: a run of a map ends below 2^64.
+fn run_ends_in_space(run: &Run)
+    ensures { RunEndsInSpace run.now }
+{
+    let _range = run.range;
+}
+
+/// Law: each run of an owner ends below 2^64, and the owner's number, if it has one, has 32 bits.
+fn owner_runs_are_bounded(runs: &[OwnerRun])
+    ensures { All IsBoundedOwnerRun runs.now }
+{
+    for run in runs {
+        owner_run_is_bounded(run);
+    }
+}
+
+/// Law: a run of an owner ends below 2^64, and the owner's number, if it has one, has 32 bits.
+fn owner_run_is_bounded(run: &OwnerRun)
+    ensures { IsBoundedOwnerRun run.now }
+{
+    owner_number_is_bounded(run.owner);
+}
+
+/// Law: the number of an owner, if it has one, has 32 bits.
+fn owner_number_is_bounded(owner: Owner)
+    ensures { IsPrintableOwner owner }
+{
+    match owner {
+        Owner::NodeData(_number) => {}
+        Owner::Root(_number) => {}
+        Owner::Usage(_number) => {}
+        Owner::Map(_number) => {}
+        Owner::Script(_number) => {}
+        _ => {}
+    }
+}

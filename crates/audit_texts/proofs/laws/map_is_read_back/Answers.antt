@@ -1,5 +1,0 @@
-use Rattle.audit_texts.proofs.ToldLaws.{map_back}
-use Rattle.audit_texts.proofs.laws.map_is_read_back.Goals as goal
-
-pub returns : goal.returns
-returns c = map_back

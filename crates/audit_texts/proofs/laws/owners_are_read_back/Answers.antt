@@ -1,5 +1,0 @@
-use Rattle.audit_texts.proofs.ToldLaws.{owners_back}
-use Rattle.audit_texts.proofs.laws.owners_are_read_back.Goals as goal
-
-pub returns : goal.returns
-returns c = owners_back

@@ -1,5 +1,0 @@
-use Rattle.audit_texts.proofs.PrintedLaws.{blocks_printed}
-use Rattle.audit_texts.proofs.laws.read_blocks_are_printed.Goals as goal
-
-pub returns : goal.returns
-returns c = blocks_printed

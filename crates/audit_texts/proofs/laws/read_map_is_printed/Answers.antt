@@ -1,5 +1,0 @@
-use Rattle.audit_texts.proofs.PrintedLaws.{map_printed}
-use Rattle.audit_texts.proofs.laws.read_map_is_printed.Goals as goal
-
-pub returns : goal.returns
-returns c = map_printed

@@ -1,5 +1,0 @@
--- The chunks that are put make up the line.
-use Rattle.boot_audit.proofs.tell.put_numbered_line.Goals as goal
-
-pub returns : goal.returns
-returns g c = rw (← c.format-line.ensures.text) c.put_line.ensures

@@ -1,0 +1,40 @@
+-- The block from which the page allocator serves a request (`__rmqueue_smallest`): of the least
+-- order that is large enough, and the lowest block of that order.
+use Rattle.std.specs.Prelude.{◌≡◌, ◌⊎◌, ℕ, zero, suc, ◌+◌, ◌-◌, ◌<◌, ◌≤◌, Option, None}
+use Rattle.std.specs.List.{find}
+use Rattle.std.specs.Option.{option_or, option_map}
+use Rattle.bm_base.specs.declared.zone.Zone.{Zone}
+use Rattle.buddy_blocks.specs.declared.block.Block.{Block}
+use Rattle.buddy_blocks.specs.Frames.{Frames, IsBlock}
+use Rattle.buddy_blocks.specs.BlockList.{blocks_of, is_block_of}
+
+-- the block is on the node, in the zone, and of this order or a larger one
+pub record Serves (n : ℕ) (z : Zone) (order : ℕ) (b : Block) : Type 0 where
+  pub node : b.node ≡ n
+  pub zone : b.zone ≡ z
+  pub enough : order ≤ b.order
+
+-- the block serves the request; each other block that does has a larger order, or the same order
+-- and a higher first frame
+pub record IsPicked (f : Frames) (node : ℕ) (zone : Zone) (order : ℕ) (b : Block) : Type 0 where
+  pub block : IsBlock f b
+  pub serves : Serves node zone order b
+  pub least : (c : Block) → IsBlock f c → Serves node zone order c → (b.order < c.order) ⊎ ((b.order ≡ c.order) × (b.first ≤ c.first))
+
+-- no block serves the request
+abbrev pub NoneServes : Frames → ℕ → Zone → ℕ → Type 0
+NoneServes f node zone order = (b : Block) → IsBlock f b → Serves node zone order b → ⊥
+
+-- the block that is picked, as a function: the first order with a block, of the k orders from
+-- `order` on, and the first block of that order
+abbrev pub picked_block_from : Frames → ℕ → Zone → ℕ → ℕ → Option Block
+picked_block_from f node zone order zero = None
+picked_block_from f node zone order (suc k) = option_or (find (is_block_of node zone order) (blocks_of f)) (picked_block_from f node zone (order + 1) k)
+
+-- the block that is picked, of an order up to 10
+unfoldable pub picked_block : Frames → ℕ → Zone → ℕ → Option Block
+picked_block f node zone order = picked_block_from f node zone order (11 - order)
+
+-- the first frame of the block that is picked
+abbrev pub picked_first_frame : Frames → ℕ → Zone → ℕ → Option ℕ
+picked_first_frame f node zone order = option_map (λ b. b.first) (picked_block f node zone order)

@@ -1,0 +1,14 @@
+-- What contracts see of the free frames.
+use Rattle.std.specs.Prelude.{ℕ, List}
+use Rattle.address_runs.specs.Runs.{RunOf, value_at}
+use Rattle.buddy_blocks.specs.Frames.{Frames}
+
+-- the runs of free frames, ascending, each of one node, and the number of further entries that
+-- there is room for
+pub record BuddyView : Type 0 where
+  pub runs : List (RunOf ℕ)
+  pub spare : ℕ
+
+-- the node of each free frame, or `None`
+abbrev pub buddy_frames : BuddyView → Frames
+buddy_frames b = value_at b.runs

@@ -1,0 +1,14 @@
+-- The place of each frame that was handed over, after the page script, and that no other frame has
+-- come in.
+use Rattle.std.specs.Prelude.{◌≡◌, ℕ, Some, None}
+use Rattle.page_alloc.specs.FramePlaces.{IsInNoBlockNorHeld, IsInOneBlockOrHeld}
+use Rattle.boot_model.specs.Boot.{BootedView}
+
+-- each frame that was handed over is in exactly one block of the free frames, or held by exactly
+-- one ID, and not both
+abbrev pub AllInOneBlockOrHeld : BootedView → Type 0
+AllInOneBlockOrHeld told = (frame node : ℕ) → told.free frame ≡ Some node → IsInOneBlockOrHeld told.after frame
+
+-- a frame that wasn't handed over is in no block, and no ID holds it
+abbrev pub NoOtherInABlockOrHeld : BootedView → Type 0
+NoOtherInABlockOrHeld told = (frame : ℕ) → told.free frame ≡ None → IsInNoBlockNorHeld told.after frame

@@ -1,0 +1,3 @@
+pub mod EarlyInputs
+pub mod Memory
+pub mod FirstItems

@@ -1,0 +1,95 @@
+-- Lines in order, each with its outcome.
+use Rattle.std.specs.Prelude.{◌≡◌, ◌⊎◌, ℕ, ◌+◌, ◌<◌, if◌then◌else◌, List, [], ◌∷◌, ◌++◌, length, take, Vec, vec_capacity}
+use Rattle.std.specs.List.{All}
+use Rattle.std.specs.declared.alloc.Global.{Global}
+use Rattle.memblock_model.specs.declared.item.Item.{Item}
+use Rattle.script_reader.specs.Script.{is_sections}
+use Rattle.script_reader.specs.declared.act.Line.{Line}
+use Rattle.growth_model.specs.Bytes.{Fill, byte_from_history, AreBytesFromHistory}
+use Rattle.memblock_grow.specs.MemblockView.{MemblockView}
+use Rattle.early_script.specs.declared.outcome.Answer.{Answer}
+use Rattle.early_script.specs.LiveView.{LiveView}
+use Rattle.early_script.specs.Effects.{ScriptState, LineEffect, RunsOutDuringLine, CanBeRun, add_fill, act_effect, script_outcome_at_line, state_after_line}
+use Rattle.early_script.specs.FromMemblock.{state_of_memblock, memblock_bytes}
+
+-- what there is before a line: the state, and the fills and outcomes so far
+pub record ScriptSoFar : Type 0 where
+  pub state : ScriptState
+  pub fills : List Fill
+  pub answers : List Answer
+
+-- the deed of a line, which reads at each address the byte of the items and the fills
+abbrev pub line_effect : ScriptSoFar → Line → LineEffect
+line_effect s line = act_effect s.state (byte_from_history s.state.kernel s.state.items s.fills) line.act
+
+abbrev pub script_after_effect : ScriptSoFar → ℕ → LineEffect → ScriptSoFar
+script_after_effect s number d = record {
+  state = state_after_line s.state d;
+  fills = add_fill s.fills d.fill;
+  answers = s.answers ++ record { line = number; outcome = script_outcome_at_line s.state d } ∷ [];
+}
+
+abbrev pub script_after_line : ScriptSoFar → Line → ScriptSoFar
+script_after_line s line = script_after_effect s line.number (line_effect s line)
+
+-- lines in their order
+abbrev pub script_after_lines : ScriptSoFar → List Line → ScriptSoFar
+script_after_lines s [] = s
+script_after_lines s (line ∷ lines) = script_after_lines (script_after_line s line) lines
+
+-- the start of the lines: the state of a memblock after these fills, with these outcomes
+abbrev pub script_so_far : LiveView → MemblockView → List Fill → List Answer → ScriptSoFar
+script_so_far ids m fills answers = record { state = state_of_memblock ids m; fills = fills; answers = answers }
+
+-- live IDs, memblock and outcomes are those of the stage, and each byte is that of its items and
+-- fills
+pub record HasReached (s : ScriptSoFar) (ids : LiveView) (m : MemblockView) (answers : List Answer) : Type 0 where
+  pub state : state_of_memblock ids m ≡ s.state
+  pub answers_are : answers ≡ s.answers
+  pub holds : AreBytesFromHistory m.kernel m.journal.items s.fills (memblock_bytes m)
+
+-- out of memory before the first line: the list had no room for the outcomes of all lines, and
+-- nothing has changed
+pub record RunsOutBeforeLines (ids : LiveView) (m : MemblockView) (answers : Vec Answer Global) (lines : List Line)
+    (later : LiveView) (next : MemblockView) (told : Vec Answer Global) : Type 0 where
+  pub no_room : vec_capacity answers < length answers.items + length lines
+  pub ids_stay : later ≡ ids
+  pub memblock_stays : next ≡ m
+  pub answers_stay : told.items ≡ answers.items
+
+-- out of memory during a line, as that line alone may end (`Acts`); the `count` lines before it
+-- have been run, and their outcomes are in the list
+pub record RunsOutDuringLines (s : ScriptSoFar) (lines : List Line) (ids : LiveView) (m : MemblockView) (answers : List Answer) : Type 0 where
+  pub count : ℕ
+  pub line : Line
+  pub next : take (count + 1) lines ≡ take count lines ++ line ∷ []
+  pub answers_are : answers ≡ (script_after_lines s (take count lines)).answers
+  pub amid : RunsOutDuringLine (script_after_lines s (take count lines)).state (state_of_memblock ids m) (line_effect (script_after_lines s (take count lines)) line)
+  pub holds : AreBytesFromHistory m.kernel m.journal.items (script_after_lines s (take count lines)).fills (memblock_bytes m)
+
+-- out of memory before the first line or during one of them, whatever was filled before
+abbrev pub ScriptRunsOut : LiveView → MemblockView → Vec Answer Global → List Line → LiveView → MemblockView → Vec Answer Global → Type 0
+ScriptRunsOut ids m answers lines later next told =
+    RunsOutBeforeLines ids m answers lines later next told
+    ⊎ ((fills : List Fill) → AreBytesFromHistory m.kernel m.journal.items fills (memblock_bytes m) →
+    RunsOutDuringLines (script_so_far ids m fills answers.items) lines later next told.items)
+
+-- the first list is the beginning of the second, and the second of the third
+pub record IsPrefixChain (first second third : List Item) : Type 0 where
+  pub more : List Item
+  pub rest : List Item
+  pub goes_on : second ≡ first ++ more
+  pub goes_further : third ≡ second ++ rest
+
+-- the lines before the one that places the sections, or all of them; and the lines after it
+abbrev pub before_sections : List Line → List Line
+before_sections [] = []
+before_sections (line ∷ lines) = if is_sections line.act then [] else line ∷ before_sections lines
+
+abbrev pub lines_after_sections : List Line → List Line
+lines_after_sections [] = []
+lines_after_sections (line ∷ lines) = if is_sections line.act then lines else lines_after_sections lines
+
+-- no second line places the sections
+abbrev pub PlacesSectionsOnce : List Line → Type 0
+PlacesSectionsOnce lines = All (λ line. CanBeRun line.act) (lines_after_sections lines)

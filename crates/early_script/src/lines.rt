@@ -1,0 +1,97 @@
+//! The lines of a script in order, each with its outcome. One of the lines may place the sections,
+//! but the crates that do so aren't below this one. So the lines are split there, and the boot
+//! runs both parts.
+
+ghost use Rattle.std.specs.Prelude.{◌≡◌, ℕ, ◌+◌, ◌<◌, ◌≤◌, List, [], ◌∷◌, ◌++◌, OnOk, OnErr, vec_len, vec_capacity, Result, Ok};
+ghost use Rattle.std.specs.List.{All};
+ghost use Rattle.script_reader.specs.Forms.{HasBounds};
+ghost use Rattle.growth_model.specs.Tables.{HasBegun};
+ghost use Rattle.growth_model.specs.Bytes.{Fill, AreBytesFromHistory};
+ghost use Rattle.memblock_grow.specs.Invariant.{StayPrepared};
+ghost use Rattle.early_script.specs.Effects.{CanBeRun, ScriptState, EndsAsLine, act_effect};
+ghost use Rattle.early_script.specs.FromMemblock.{memblock_bytes};
+ghost use Rattle.early_script.specs.Lines.{IsPrefixChain, HasReached, ScriptRunsOut, PlacesSectionsOnce, script_so_far, script_after_lines, before_sections, lines_after_sections};
+ghost use Rattle.bm_base.specs.declared.memory.Memory.{Memory};
+ghost use Rattle.memblock_model.specs.Items.{memory_of, limit_of};
+ghost use Rattle.script_reader.specs.declared.act.Act.{Act};
+ghost use Rattle.script_reader.specs.declared.act.Line.{Line};
+ghost use Rattle.script_reader.specs.Script.{script_of};
+ghost use Rattle.early_script.specs.declared.outcome.Outcome.{Outcome};
+
+use crate::live::Live;
+use crate::outcome::Answer;
+use bm_base::{Memory, push_within_capacity};
+use memblock_grow::Memblock;
+use script_reader::{Act, Line};
+
+/// Runs the lines in order and appends the outcome of each. A refused line has an outcome like any
+/// other.
+///
+/// # Errors
+///
+/// `Memory` if this program is out of memory: either for the list of outcomes, before the first
+/// line, and then nothing has changed; or during a line. All lines before that one have then been
+/// run, and their outcomes are in the list.
+pub fn run_script_lines(
+    live: &mut Live,
+    mb: &mut Memblock,
+    lines: &[Line],
+    answers: &mut Vec<Answer>,
+) -> Result<(), Memory>
+    requires begun { HasBegun mb.old.journal.items }
+    requires run { All (λ l. CanBeRun l.act) lines.now }
+    requires bounds { All (λ l. HasBounds l.act) lines.now }
+    ensures ok { OnOk result ((fills : List Fill) → AreBytesFromHistory mb.old.kernel mb.old.journal.items fills (memblock_bytes mb.old) →
+        HasReached (script_after_lines (script_so_far live.old mb.old fills answers.old.items) lines.now) live.new mb.new answers.new.items) }
+    ensures memory { OnErr result (ScriptRunsOut live.old mb.old answers.old lines.now live.new mb.new answers.new) }
+    ensures journal { (fills : List Fill) → AreBytesFromHistory mb.old.kernel mb.old.journal.items fills (memblock_bytes mb.old) →
+        IsPrefixChain mb.old.journal.items mb.new.journal.items
+        (script_after_lines (script_so_far live.old mb.old fills answers.old.items) lines.now).state.items }
+    ensures kernel { mb.new.kernel ≡ mb.old.kernel }
+    ensures begun { HasBegun mb.new.journal.items }
+    ensures still_ready { StayPrepared mb.old.tables.store mb.new.tables.store }
+{
+    answers.reserve(lines.len())?;
+    for line in lines {
+        let outcome = live.run_line(mb, line)?;
+        let answer = Answer {
+            line: line.number,
+            outcome,
+        };
+        push_within_capacity(answers, answer); // `reserve` made room for it
+    }
+    Ok(())
+}
+
+/// Returns the lines before the one that places the sections, or all lines if none does, and the
+/// lines after it.
+pub fn split_at_sections(lines: &[Line]) -> (&[Line], &[Line])
+    requires once { PlacesSectionsOnce lines.now }
+    requires bounds { All (λ l. HasBounds l.act) lines.now }
+    ensures before { result.0.now ≡ before_sections lines.now }
+    ensures behind { result.1.now ≡ lines_after_sections lines.now }
+    ensures run { All (λ l. CanBeRun l.act) result.0.now × All (λ l. CanBeRun l.act) result.1.now }
+    ensures bounds { All (λ l. HasBounds l.act) result.0.now × All (λ l. HasBounds l.act) result.1.now }
+{
+    for (i, line) in lines.iter().enumerate() {
+        if matches!(line.act, Act::Sections) {
+            return (&lines[..i], &lines[i + 1..]);
+        }
+    }
+    (lines, &[])
+}
+
+/// Law: a line leaves memory, its nodes and the limit unchanged, whatever its outcome, and also if
+/// this program is out of memory during it.
+pub fn lines_leave_memory()
+    ensures memory { (result : Result Outcome Memory) (old new : ScriptState) (bytes : ℕ → ℕ) (a : Act) →
+        EndsAsLine result old new (act_effect old bytes a) → memory_of new.items ≡ memory_of old.items }
+    ensures limit { (result : Result Outcome Memory) (old new : ScriptState) (bytes : ℕ → ℕ) (a : Act) →
+        EndsAsLine result old new (act_effect old bytes a) → limit_of new.items ≡ limit_of old.items }
+{}
+
+/// Law: a script that was read places the sections at most once, so each line after that one can
+/// be run.
+pub fn scripts_place_once()
+    ensures { (bytes : List ℕ) (lines : List Line) → script_of bytes ≡ Ok lines → PlacesSectionsOnce lines }
+{}

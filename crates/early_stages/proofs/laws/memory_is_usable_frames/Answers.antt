@@ -1,5 +1,0 @@
-use Rattle.early_stages.proofs.MemoryLaws.{first_memory, first_limit}
-use Rattle.early_stages.proofs.laws.memory_is_usable_frames.Goals as goal
-
-pub returns : goal.returns
-returns c = record { memory = first_memory; limit = first_limit }

@@ -1,3 +1,0 @@
-pub mod Early
-pub mod Memory
-pub mod Wanted

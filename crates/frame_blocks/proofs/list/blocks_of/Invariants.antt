@@ -1,8 +1,0 @@
-use Rattle.std.proofs.Common.{◌≡◌, ◌++◌, drop}
-use Rattle.address_runs.specs.Runs.{value_at}
-use Rattle.frame_blocks.specs.Listed.{blocks_of}
-use Rattle.frame_blocks.proofs.LookLaws.{listed}
-use Rattle.frame_blocks.proofs.list.blocks_of.Given as goal
-
-abbrev pub invariant-loop-run : goal.invariant-loop-run
-invariant-loop-run l = l.blocks.items ++ listed (value_at l.runs) (drop l.run-index l.runs) ≡ blocks_of (value_at l.runs)

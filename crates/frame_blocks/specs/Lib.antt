@@ -1,6 +1,0 @@
-pub mod Buddies
-pub mod Frames
-pub mod Listed
-pub mod Picked
-pub mod Rows
-pub mod Sets

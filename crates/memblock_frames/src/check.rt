@@ -1,0 +1,75 @@
+//! Checks that the bytes at a head fulfil what the other calls require. This is for callers that
+//! have only the bytes, and no table whose contract ensures it.
+
+ghost use Rattle.std.specs.Prelude.{◌≡◌, ◌+◌, ◌*◌, ◌%◌, ◌^◌, ◌<◌, ◌≤◌, ◌↔◌, IsTrue};
+ghost use Rattle.memblock_ranges.specs.Tables.{records_of_head};
+ghost use Rattle.memblock_frames.specs.HeadRecords.{HasRecords, AreWholeFrames};
+
+use bm_base::FRAME_SIZE;
+use memblock_ranges::{Head, Region, region_at};
+use phys_store::Store;
+
+/// The size of a record, in bytes.
+const RECORD_SIZE: u64 = 24;
+
+/// Tests whether the head has room for its records, and all of that room is below 2^64.
+fn head_has_room(head: &Head) -> bool
+    ensures { IsTrue result ↔ (head.now.count ≤ head.now.room) × (head.now.place + 24 * head.now.room < 2 ^ 64) }
+{
+    let Some(size) = head.room.checked_mul(RECORD_SIZE) else {
+        return false;
+    };
+    head.count <= head.room && head.place.checked_add(size).is_some()
+}
+
+/// Tests whether the record isn't empty, begins at or above `from`, and ends at or below `bound`.
+fn is_in_place(region: &Region, from: u64, bound: u64) -> bool
+    ensures { IsTrue result ↔ (from ≤ region.now.base) × (0 < region.now.size) × (region.now.base + region.now.size ≤ bound) }
+{
+    match region.base.checked_add(region.size) {
+        Some(end) => from <= region.base && region.base < end && end <= bound,
+        None => false,
+    }
+}
+
+/// Tests whether the record begins and ends at the border of a frame.
+fn is_whole_frames(region: &Region) -> bool
+    ensures { IsTrue result ↔ (region.now.base % FRAME_SIZE ≡ 0) × (region.now.size % FRAME_SIZE ≡ 0) }
+{
+    region.base % FRAME_SIZE == 0 && region.size % FRAME_SIZE == 0
+}
+
+/// Tests whether the bytes at the head are an ascending list of records. No record may be empty,
+/// and each must end at or below `bound`.
+pub fn has_records(store: &Store, head: &Head, bound: u64) -> bool
+    ensures list { IsTrue result ↔ HasRecords store.now head.now bound }
+    ensures space { IsTrue result → HasRecords store.now head.now (2 ^ 64) }
+{
+    if !head_has_room(head) {
+        return false;
+    }
+    let mut from = 0;
+    for i in 0..head.count {
+        let region = region_at(store, head, i);
+        if !is_in_place(&region, from, bound) {
+            return false;
+        }
+        from = region.base + region.size;
+    }
+    true
+}
+
+/// Tests whether each record begins and ends at the border of a frame. The bytes at the head must
+/// be a list of records.
+pub fn has_whole_frames(store: &Store, head: &Head) -> bool
+    requires { HasRecords store.now head.now (2 ^ 64) }
+    ensures { IsTrue result ↔ AreWholeFrames (records_of_head store.now head.now) }
+{
+    for i in 0..head.count {
+        let region = region_at(store, head, i);
+        if !is_whole_frames(&region) {
+            return false;
+        }
+    }
+    true
+}

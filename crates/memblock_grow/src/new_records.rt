@@ -1,0 +1,37 @@
+//! Whether a table has room for an edit. An edit inside a table may split a record at both ends of
+//! its range, so it adds at most two. An edit that covers a range adds at most one record for each
+//! piece that isn't covered yet (the count in `memblock_add_range`).
+ghost use Rattle.std.specs.Prelude.{◌≡◌, ◌+◌, nat_lt, length};
+ghost use Rattle.memblock_ranges.specs.Tables.{table_in, records_in, room_in};
+ghost use Rattle.memblock_grow.specs.NewRecords.{new_records_in_table, RangeEndsInSpace};
+
+use bm_base::Range;
+use memblock_model::Which;
+use memblock_ranges::Tables;
+use run_edits::range_end_fits;
+
+/// The greatest number of records that an edit may add to a table.
+#[derive(Clone, Copy, Debug, PartialEq, Eq)]
+pub enum MaxNewRecords {
+    /// One for each run of the range's bytes that the table doesn't cover.
+    PiecesOf(Range),
+    /// Two.
+    Two,
+}
+
+/// Tests whether the table's records and `more` further ones exceed its room.
+pub fn lacks_room(tables: &Tables, which: Which, more: &MaxNewRecords) -> bool
+    ensures full { result ≡
+        nat_lt (room_in which tables.now) (length (records_in which tables.now) + new_records_in_table more.now (table_in which tables.now)) }
+    ensures within { RangeEndsInSpace more.now }
+{
+    let head = tables.head(which);
+    let free = head.room - head.count;
+    match more {
+        MaxNewRecords::PiecesOf(range) => {
+            range_end_fits(range);
+            free < tables.pieces(which, *range)
+        }
+        MaxNewRecords::Two => free < 2,
+    }
+}

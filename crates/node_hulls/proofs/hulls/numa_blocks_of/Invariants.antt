@@ -1,6 +1,0 @@
-use Rattle.std.proofs.Common.{◌≡◌, take}
-use Rattle.node_hulls.specs.Kept.{numa_blocks_of}
-use Rattle.node_hulls.proofs.hulls.numa_blocks_of.Given as goal
-
-abbrev pub invariant-loop-one : goal.invariant-loop-one
-invariant-loop-one l = l.blocks.items ≡ numa_blocks_of (take l.one-index l.kept)

@@ -1,8 +1,0 @@
-use Rattle.std.proofs.Common.{ℕ, ◌<◌, get_or}
-use Rattle.address_runs.specs.Runs.{value_at}
-use Rattle.node_hulls.specs.declared.kept.KeptBlock.{KeptBlock}
-use Rattle.node_hulls.proofs.NodesLaws.{HasOwn}
-use Rattle.node_hulls.proofs.kept.are_apart.Given as goal
-
-abbrev pub invariant-loop-one : goal.invariant-loop-one
-invariant-loop-one l = (k : ℕ) (d : KeptBlock) → k < l.one-index → HasOwn (value_at l.laid.items) (get_or l.kept k d).block

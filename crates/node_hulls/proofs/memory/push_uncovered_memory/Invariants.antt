@@ -1,6 +1,0 @@
-use Rattle.std.proofs.Common.{◌≡◌, ◌++◌, map, take}
-use Rattle.node_hulls.specs.Steps.{run_without_node}
-use Rattle.node_hulls.proofs.memory.push_uncovered_memory.Given as goal
-
-abbrev pub invariant-loop-part : goal.invariant-loop-part
-invariant-loop-part l = l.told.items ≡ l.initial.told.items ++ map run_without_node (take l.part-index l.memory)

@@ -1,6 +1,0 @@
-use Rattle.std.proofs.Common.{◌≡◌, ◌++◌, map, take}
-use Rattle.node_hulls.specs.Steps.{run_with_node}
-use Rattle.node_hulls.proofs.rest.mark_with_nodes.Given as goal
-
-abbrev pub invariant-loop-run : goal.invariant-loop-run
-invariant-loop-run l = l.told.items ≡ l.initial.told.items ++ map run_with_node (take l.run-index l.joined)

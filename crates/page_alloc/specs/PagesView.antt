@@ -1,0 +1,21 @@
+-- What contracts see of the page allocator after the handover.
+use Rattle.std.specs.Prelude.{ℕ, Option, List}
+use Rattle.std.specs.Ordering.{nat_cmp}
+use Rattle.std.specs.Map.{lookup}
+use Rattle.std.specs.BTreeMap.{is_at}
+use Rattle.buddy_handover.specs.BuddyView.{BuddyView, buddy_frames}
+use Rattle.page_alloc.specs.declared.outcome.Held.{Held}
+use Rattle.page_alloc.specs.Pages.{PageState}
+
+-- the free frames, and the IDs that hold frames, in ascending order, each with what it holds
+pub record PagesView : Type 0 where
+  pub buddy : BuddyView
+  pub ids : List (ℕ × Held)
+
+-- the frames that an ID holds
+abbrev pub held_in : List (ℕ × Held) → ℕ → Option Held
+held_in ids id = lookup (is_at (nat_cmp id)) ids
+
+-- the same facts as a state
+abbrev pub page_state_of : PagesView → PageState
+page_state_of b = record { frames = buddy_frames b.buddy; held = held_in b.ids }

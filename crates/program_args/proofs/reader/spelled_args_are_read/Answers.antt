@@ -1,0 +1,6 @@
+-- By the walk over spelled words.
+use Rattle.program_args.proofs.MatchedLaws.{accepted_as_given}
+use Rattle.program_args.proofs.reader.spelled_args_are_read.Goals as goal
+
+pub returns : goal.returns
+returns c = accepted_as_given

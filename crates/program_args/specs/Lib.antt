@@ -1,0 +1,9 @@
+pub mod Answers
+pub mod Entries
+pub mod Grammar
+pub mod Kernel
+pub mod Mirrors
+pub mod Range
+pub mod Spelling
+pub mod View
+pub mod Args

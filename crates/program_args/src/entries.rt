@@ -1,0 +1,49 @@
+//! The number of entries of a made table, from the value of `--make`. `made` of `e820_table`
+//! requires a number within these bounds, so they are checked here.
+
+ghost use Rattle.std.specs.Prelude.{◌≡◌, IfSome, IsTrue};
+ghost use Rattle.std.specs.Option.{option_copied};
+ghost use Rattle.program_args.specs.Entries.{IsEntryCount, are_digits, entry_count_in, made_entry_count};
+
+/// The least number of entries of a made table.
+const FEWEST_ENTRIES: u32 = 2;
+
+/// The greatest number of entries of a made table.
+const MOST_ENTRIES: u32 = 3000;
+
+/// Returns the number of entries if the option has a value. Returns `Some(None)` without a value,
+/// and `None` exactly if the value is refused.
+pub fn made_entry_count(value: Option<&str>) -> Option<Option<u32>>
+    ensures value { result ≡ made_entry_count (option_copied value.entry) }
+    ensures facts { IfSome result (λ made. IfSome made IsEntryCount) }
+{
+    match value {
+        Some(text) => Some(Some(entry_count_in(text)?)),
+        None => Some(None),
+    }
+}
+
+/// Returns the number that the decimal digits give, if it is from 2 to 3000.
+fn entry_count_in(text: &str) -> Option<u32>
+    ensures value { result ≡ entry_count_in text.now }
+    ensures facts { IfSome result IsEntryCount }
+{
+    if !are_digits(text) {
+        return None;
+    }
+    let Ok(count) = text.parse::<u32>() else {
+        return None;
+    };
+    if (FEWEST_ENTRIES..=MOST_ENTRIES).contains(&count) {
+        Some(count)
+    } else {
+        None
+    }
+}
+
+/// Returns whether all bytes of the text are decimal digits; the empty text passes.
+fn are_digits(text: &str) -> bool
+    ensures { result ≡ are_digits text.now }
+{
+    text.bytes().all(|byte| byte.is_ascii_digit())
+}

@@ -1,0 +1,150 @@
+//! From the words to what they ask for. `clap` knows the options but not the meaning of their
+//! values. What the values mean is checked here, after `clap` has taken the words.
+
+ghost use Rattle.std.specs.Prelude.{◌≡◌, IsErrOf, IsSome, ℕ, ◌+◌, ◌*◌, ◌/◌, ◌≤◌, ◌↔◌, List};
+ghost use Rattle.std.specs.Option.{option_copied, option_map};
+ghost use Rattle.clap.specs.Words.{found_of, rows_of};
+ghost use Rattle.bm_base.specs.Answers.{Answers};
+ghost use Rattle.program_args.specs.Answers.{or_refused};
+ghost use Rattle.program_args.specs.View.{bootmem_args_view};
+ghost use Rattle.program_args.specs.Args.{read_args, args_from_values, has_source, report_list_in, bytes_of_words, arg_value_in, width_in};
+ghost use Rattle.bm_base.specs.Range.{RangeView, end_of};
+ghost use Rattle.bm_base.specs.Frames.{frames_within};
+ghost use Rattle.program_args.specs.Mirrors.{LiesInRange};
+ghost use Rattle.program_args.specs.Spelling.{AreSpellings, Spelling, spelled_values, words_of_spellings};
+
+use crate::entries::made_entry_count;
+use crate::grammar::{is_on, match_words, arg_value_in};
+use crate::kernel::kernel_range_of;
+use crate::mirrors::mirrors_of_value;
+use crate::args::BootmemArgs;
+use bm_base::{Width, Memory};
+use clap::ArgMatches;
+use debugfs_reports::are_reports;
+use std::alloc::{Global, AllocError};
+
+/// Why reading the command line failed.
+#[derive(Clone, Copy, Debug, PartialEq, Eq)]
+pub enum ArgsError {
+    /// The command line isn't accepted.
+    Usage,
+    /// This program is out of memory.
+    Memory,
+}
+
+impl From<Memory> for ArgsError {
+    ghost use Rattle.std.specs.Prelude.{◌≡◌};
+    ghost use Rattle.program_args.specs.declared.reader.ArgsError.TheVariants as errors;
+
+    ghost from_gives = { λ _ error. error ≡ errors.Memory };
+
+    fn from(_error: Memory) -> ArgsError {
+        ArgsError::Memory
+    }
+}
+
+/// The list of reports without `--report`.
+const DEFAULT_LIST: &str = "buddyinfo";
+
+/// Returns what the words after the program's name ask for.
+///
+/// The options with a value are `--mirror LIST`, `--cmdline F`, `--e820ext F`, `--srat F`,
+/// `--script F`, `--pages F`, `--slit F`, `--efi F`, `--kernel BASE,SIZE`, `--report LIST` and
+/// `--make N`. They may also be written `--NAME=VALUE`. The flags are `--la57` and `--bottom-up`.
+/// Each may be given at most once, in any order, and ZEROPAGE may stand anywhere. ZEROPAGE must be
+/// given, unless `--make` is; `--make` goes with neither ZEROPAGE nor `--e820ext`.
+///
+/// # Errors
+///
+/// - [`ArgsError::Usage`] exactly if the words aren't accepted, unless memory runs out first.
+/// - [`ArgsError::Memory`] if this program is out of memory, which may happen for any words.
+pub fn read_args<'w>(alloc: Global, words: &'w [String]) -> Result<BootmemArgs<'w>, ArgsError>
+    ensures { Answers ArgsError.Memory bootmem_args_view result (or_refused (read_args (bytes_of_words words.entry.now))) }
+{
+    args_from_values(alloc, match_words(alloc, words)?)
+}
+
+/// Returns whether the first entries have one source: they are made, or come from a zero page, to
+/// which an extension may add.
+fn has_source(matches: &ArgMatches<'_>) -> bool
+    ensures { result ≡ has_source (arg_value_in (rows_of (found_of matches.now))) }
+{
+    let zero_page = arg_value_in(matches, "ZEROPAGE").is_some();
+    let extension = arg_value_in(matches, "e820ext").is_some();
+    if arg_value_in(matches, "make").is_some() {
+        !zero_page && !extension
+    } else {
+        zero_page
+    }
+}
+
+/// Returns the width of addresses: 52 bits with the flag `--la57` (page tables of five levels),
+/// else 46.
+fn width_in(matches: &ArgMatches<'_>) -> Width
+    ensures { result ≡ width_in (arg_value_in (rows_of (found_of matches.now))) }
+{
+    if is_on(matches, "la57") {
+        Width::Bits52
+    } else {
+        Width::Bits46
+    }
+}
+
+/// Returns what the values that were found ask for.
+///
+/// # Errors
+///
+/// - [`ArgsError::Usage`] exactly if a value is refused, or the first entries don't have one
+///   source.
+/// - [`ArgsError::Memory`] if this program is out of memory; never if anything is refused.
+fn args_from_values<'w>(alloc: Global, matches: ArgMatches<'w>) -> Result<BootmemArgs<'w>, ArgsError>
+    ensures value { Answers ArgsError.Memory bootmem_args_view result
+        (or_refused (args_from_values (arg_value_in (rows_of (found_of matches.entry))))) }
+    ensures memory { IsErrOf result ArgsError.Memory → IsSome (args_from_values (arg_value_in (rows_of (found_of matches.entry)))) }
+{
+    if !has_source(&matches) {
+        return Err(ArgsError::Usage);
+    }
+    let made = made_entry_count(arg_value_in(&matches, "make")).ok_or(ArgsError::Usage)?;
+    let width = width_in(&matches);
+    let kernel = kernel_range_of(arg_value_in(&matches, "kernel"), width).ok_or(ArgsError::Usage)?;
+    let list = report_list_in(&matches).ok_or(ArgsError::Usage)?;
+    let mirrors = mirrors_of_value(alloc, arg_value_in(&matches, "mirror"))?;
+    let upward = is_on(&matches, "bottom-up");
+    Ok(BootmemArgs {
+        matches,
+        list,
+        width,
+        mirrors,
+        upward,
+        kernel,
+        made,
+    })
+}
+
+/// Returns the list of requested reports, if each name in it is that of a report.
+fn report_list_in<'w>(matches: &ArgMatches<'w>) -> Option<&'w str>
+    ensures { option_copied result ≡ report_list_in (arg_value_in (rows_of (found_of matches.now))) }
+{
+    let list = arg_value_in(matches, "report").unwrap_or(DEFAULT_LIST);
+    if are_reports(list.as_bytes()) {
+        Some(list)
+    } else {
+        None
+    }
+}
+
+/// Law: a command line that is spelled by the grammar gets what its values ask for, and is refused
+/// exactly if that is. Such a command line has, in any order, options with values, flags, and the
+/// name of the zero page, no argument twice. The value of an option is the next word or follows
+/// `=`. Neither the name nor a value that is the next word begins with a hyphen.
+pub fn spelled_args_are_read()
+    ensures { (spellings : List Spelling) → AreSpellings spellings → read_args (words_of_spellings spellings) ≡ args_from_values (spelled_values spellings) }
+{}
+
+/// Law: an address lies in the mirrored frames of a range exactly if each byte of its frame lies
+/// in the range.
+pub fn ranges_give_whole_frames()
+    ensures { (range : RangeView) (x : ℕ) → LiesInRange (frames_within range) x
+        ↔ ((range.base ≤ 4096 * (x / 4096)) × (4096 * (x / 4096) + 4096 ≤ end_of range)) }
+{}

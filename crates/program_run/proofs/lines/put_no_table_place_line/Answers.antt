@@ -1,0 +1,5 @@
+-- The chunks that are put make up the line.
+use Rattle.program_run.proofs.lines.put_no_table_place_line.Goals as goal
+
+pub returns : goal.returns
+returns g c = rw (← c.format-room.ensures.text) c.put_line.ensures

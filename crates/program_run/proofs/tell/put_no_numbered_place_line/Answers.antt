@@ -1,5 +1,0 @@
--- The chunks that are put make up the line.
-use Rattle.program_run.proofs.tell.put_no_numbered_place_line.Goals as goal
-
-pub returns : goal.returns
-returns g c = rw (← c.format-number.ensures.text) c.put_line.ensures

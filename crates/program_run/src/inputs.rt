@@ -1,0 +1,74 @@
+//! The inputs of the boot: what the named files contain, or a made table in place of the entries
+//! of the zero page and of the extension.
+
+ghost use Rattle.std.specs.Prelude.{◌≡◌, ◌<◌, IfErr, IfOk, IfSome, IsErr, IsSomeAnd, Some};
+ghost use Rattle.boot_model.specs.View.{inputs_view};
+ghost use Rattle.program_end.specs.Causes.{IsFileError};
+ghost use Rattle.program_end.specs.Fetches.{Fetches};
+ghost use Rattle.boot_inputs.specs.Input.{input_place};
+ghost use Rattle.program_args.specs.Entries.{IsEntryCount};
+ghost use Rattle.program_args.specs.View.{bootmem_args_view};
+ghost use Rattle.program_run.specs.Outcome.{read_boot_inputs, with_made_table};
+
+use bm_base::Memory;
+use bm_io::Files;
+use boot_inputs::{NoInputs, read_inputs};
+use boot_model::Inputs;
+use e820_table::made;
+use program_args::BootmemArgs;
+use std::alloc::Global;
+
+/// Reads the files that the command line names, in their order. If the command line asks for a
+/// made table, its entries replace those of the zero page and of the extension.
+///
+/// # Errors
+///
+/// - `Reason::Unread` if a file can't be read, and `Reason::Faulty` if one has a fault. The first
+///   such file ends the call.
+/// - `Memory` if this program is out of memory.
+pub fn read_boot_inputs<F: Files>(
+    alloc: Global,
+    wanted: &BootmemArgs<'_>,
+    files: &mut F,
+) -> Result<Inputs, NoInputs>
+    ensures fetches { IfSome (F.holds files.old) (λ held.
+        Fetches input_place inputs_view result (read_boot_inputs held (bootmem_args_view wanted.now))) }
+    ensures cause { IfErr result (IsFileError (F.faults files.old) (F.faults files.new) (bootmem_args_view wanted.now).named) }
+{
+    let Ok(begun) = wanted.command_line_inputs(alloc) else {
+        return Err(NoInputs::Memory);
+    };
+    let inputs = read_inputs::<F, BootmemArgs<'_>>(alloc, files, wanted, begun)?;
+    match with_made_table(alloc, inputs, wanted.made) {
+        Ok(inputs) => Ok(inputs),
+        Err(_) => Err(NoInputs::Memory),
+    }
+}
+
+/// Returns `inputs`; if `entries` is a number (2 to 3000), a made table with so many entries
+/// replaces those of the zero page and of the extension. Runs out of memory only for more than 128
+/// entries.
+fn with_made_table(alloc: Global, inputs: Inputs, entries: Option<u32>) -> Result<Inputs, Memory>
+    requires few { IfSome entries IsEntryCount }
+    ensures made { IfOk result (λ given. inputs_view given ≡ with_made_table entries (inputs_view inputs)) }
+    ensures many { IsErr result → IsSomeAnd entries (λ n. 128 < n) }
+{
+    match entries {
+        Some(count) => with_made_entries(alloc, inputs, count),
+        None => Ok(inputs),
+    }
+}
+
+/// Replaces the entries of the zero page and of the extension by a made table of `count` entries
+/// (2 to 3000). The inputs then have no initrd. Runs out of memory only for more than 128 entries.
+fn with_made_entries(alloc: Global, inputs: Inputs, count: u32) -> Result<Inputs, Memory>
+    requires few { IsEntryCount count }
+    ensures made { IfOk result (λ given. inputs_view given ≡ with_made_table (Some count) (inputs_view inputs)) }
+    ensures many { IsErr result → 128 < count }
+{
+    let made = made(alloc, count)?;
+    let mut inputs = inputs;
+    inputs.zero = made.zero;
+    inputs.ext = made.ext;
+    Ok(inputs)
+}

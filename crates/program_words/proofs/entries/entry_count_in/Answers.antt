@@ -1,7 +1,0 @@
--- Digits that `parse` refuses give no number of entries.
-use Rattle.std.proofs.Common.{rules}
-use Rattle.program_words.proofs.EntryLaws.{not_parsed}
-use Rattle.program_words.proofs.entries.entry_count_in.Goals as goal
-
-pub returns-in_default-clause-value : goal.returns-in_default-clause-value
-returns-in_default-clause-value c = not_parsed c.args.text.now c.in_default.ensures.value.0 (search rules)

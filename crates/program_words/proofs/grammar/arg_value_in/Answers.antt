@@ -1,8 +1,0 @@
--- The first value of a match is the first value of its row.
-use Rattle.std.proofs.Common.{◌∙◌}
-use Rattle.clap.specs.Words.{found_of}
-use Rattle.clap.proofs.WalkLemmas.{first_value-rows}
-use Rattle.program_words.proofs.grammar.arg_value_in.Goals as goal
-
-pub returns : goal.returns
-returns c = c.get_str.ensures ∙ first_value-rows (found_of c.args.matches.now) c.args.name.now

@@ -1,6 +1,0 @@
--- By the walk over spelled words.
-use Rattle.program_words.proofs.MatchedLaws.{accepted_as_given}
-use Rattle.program_words.proofs.laws.spelled_args_are_read.Goals as goal
-
-pub returns : goal.returns
-returns c = accepted_as_given

@@ -1,9 +1,0 @@
--- The result of reading words.
-use Rattle.std.specs.Prelude.{Option, Some, None, Result, Ok, Err}
-use Rattle.program_words.specs.declared.error.ArgsError.{ArgsError}
-use Rattle.program_words.specs.declared.error.ArgsError.TheVariants as errors
-
--- the value that the words give, or `Usage` if they are refused
-abbrev pub or_refused : {A : Type 0} → Option A → Result A ArgsError
-or_refused None = Err errors.Usage
-or_refused (Some value) = Ok value

@@ -1,0 +1,98 @@
+//! Writes the journal: what happened to memory, item by item. [`put_item`] writes an item without
+//! its number, since the report of nodes has some items in the same words.
+
+ghost use Rattle.std.specs.Prelude.{◌+◌, ◌^◌, ◌<◌};
+ghost use Rattle.bm_base.specs.PutsText.{PutsText};
+ghost use Rattle.report_memory.specs.JournalText.{item_line, item_text, journal_text};
+
+use crate::lines::put_indexed_lines;
+use crate::owners::{put_owner, which_name};
+use crate::ranges::{put_range, put_word_range};
+use bm_base::{Memory, Range, put_dec, put_hex, put_text};
+use boot_journal::{Item, Journal, Owner, Which};
+
+/// Appends the text of the journal: a line for each item, oldest first.
+///
+/// # Errors
+///
+/// - `Memory`: the program ran out of memory; the text is incomplete.
+pub fn put_journal(text: &mut Vec<u8>, journal: &Journal) -> Result<(), Memory>
+    ensures { PutsText text.old text.new result (journal_text journal.now.items) }
+{
+    put_indexed_lines(text, journal.items(), put_item_line)
+}
+
+/// Appends the line of an item. Items are numbered from 1.
+fn put_item_line(text: &mut Vec<u8>, index: u64, item: &Item) -> Result<(), Memory>
+    requires { index + 1 < 2 ^ 64 }
+    ensures { PutsText text.old text.new result (item_line index item.now) }
+{
+    put_dec(text, index + 1, 0)?;
+    put_text(text, b": ")?;
+    put_item(text, item)?;
+    put_text(text, b"\n")
+}
+
+/// Appends an item: the name of its call, and its values.
+///
+/// # Errors
+///
+/// - `Memory`: the program ran out of memory; the text is incomplete.
+pub fn put_item(text: &mut Vec<u8>, item: &Item) -> Result<(), Memory>
+    ensures { PutsText text.old text.new result (item_text item.now) }
+{
+    match item {
+        Item::Mem { range } => put_word_range(text, b"mem ", range),
+        Item::Trim => put_text(text, b"trim"),
+        Item::Node { range, node } => {
+            put_text(text, b"node ")?;
+            put_dec(text, u64::from(*node), 0)?;
+            put_text(text, b" ")?;
+            put_range(text, range)
+        }
+        Item::Mirror { range } => put_word_range(text, b"mirror ", range),
+        Item::Claim { range, owner } => put_claim(text, range, *owner),
+        Item::Free { range } => put_word_range(text, b"free ", range),
+        Item::Limit { at } => {
+            put_text(text, b"limit ")?;
+            put_hex(text, *at)
+        }
+        Item::Upward { on } => put_upward(text, *on),
+        Item::Grown { which, place, room } => put_grown(text, *which, *place, *room),
+    }
+}
+
+/// Appends a claim: its owner and its range.
+fn put_claim(text: &mut Vec<u8>, range: &Range, owner: Owner) -> Result<(), Memory>
+    ensures { PutsText text.old text.new result (item_text (Item.Claim range.now owner)) }
+{
+    put_text(text, b"claim ")?;
+    put_owner(text, owner)?;
+    put_text(text, b" ")?;
+    put_range(text, range)
+}
+
+/// Appends whether searches go upward from now on.
+fn put_upward(text: &mut Vec<u8>, on: bool) -> Result<(), Memory>
+    ensures { PutsText text.old text.new result (item_text (Item.Upward on)) }
+{
+    put_text(text, b"upward ")?;
+    if on {
+        put_text(text, b"on")
+    } else {
+        put_text(text, b"off")
+    }
+}
+
+/// Appends the growth of a table: which table, its new place, and the number of records that it
+/// has room for there.
+fn put_grown(text: &mut Vec<u8>, which: Which, place: u64, room: u64) -> Result<(), Memory>
+    ensures { PutsText text.old text.new result (item_text (Item.Grown which place room)) }
+{
+    put_text(text, b"grown ")?;
+    put_text(text, which_name(which).as_bytes())?;
+    put_text(text, b" ")?;
+    put_hex(text, place)?;
+    put_text(text, b" room ")?;
+    put_dec(text, room, 0)
+}

@@ -1,0 +1,45 @@
+//! Writes ranges and indices, which are the same in every report, also those of other crates. A
+//! range is stored as base and size, and written as its first and its last byte.
+
+ghost use Rattle.std.specs.Prelude.{◌++◌};
+ghost use Rattle.bm_base.specs.PutsText.{PutsText};
+ghost use Rattle.report_memory.specs.Lines.{index_text, range_text};
+
+use bm_base::{Memory, Range, put_dec, put_hex, put_text};
+
+/// Appends the first and the last byte of a range.
+///
+/// # Errors
+///
+/// - `Memory`: the program ran out of memory; the text is incomplete.
+pub fn put_range(text: &mut Vec<u8>, range: &Range) -> Result<(), Memory>
+    ensures { PutsText text.old text.new result (range_text range.now) }
+{
+    put_hex(text, range.base)?;
+    put_text(text, b"..")?;
+    put_hex(text, range.end().saturating_sub(1))
+}
+
+/// Appends a word and a range.
+///
+/// # Errors
+///
+/// - `Memory`: the program ran out of memory; the text is incomplete.
+pub fn put_word_range(text: &mut Vec<u8>, word: &[u8], range: &Range) -> Result<(), Memory>
+    ensures { PutsText text.old text.new result (word.now ++ range_text range.now) }
+{
+    put_text(text, word)?;
+    put_range(text, range)
+}
+
+/// Appends the index at the start of a line, counted from 0.
+///
+/// # Errors
+///
+/// - `Memory`: the program ran out of memory; the text is incomplete.
+pub fn put_index(text: &mut Vec<u8>, index: u64) -> Result<(), Memory>
+    ensures { PutsText text.old text.new result (index_text index) }
+{
+    put_dec(text, index, 4)?;
+    put_text(text, b": ")
+}

@@ -1,0 +1,85 @@
+-- Lemmas on the number of frames in the blocks of a node and a zone, order by order.
+use Rattle.std.proofs.Common.{◌≡◌, ℕ, suc, ◌+◌, ◌-◌, ◌*◌, ◌%◌, ◌^◌, ◌<◌, ◌≤◌, ◌==◌, Bool, ◌&&◌, cond, List, [], ◌∷◌, length, ◌++◌, codes, refl, arith}
+use Rattle.std.specs.Prelude.{nat_lt}
+use Rattle.std.specs.List.{count_by, filter, flat_map, range_with_len, sum_by}
+use Rattle.std.proofs.Math.Pow.{pow_mono}
+use Rattle.std.proofs.lemmas.Bool.Decides.{nat_tests}
+use Rattle.std.proofs.lemmas.List.Sums.{sum_by-cons}
+use Rattle.bm_base.specs.Text.{padded_decimal}
+use Rattle.bm_base.specs.declared.zone.Zone.{Zone}
+use Rattle.buddy_blocks.specs.declared.block.Block.{Block}
+use Rattle.buddy_blocks.specs.Frames.{Frames}
+use Rattle.buddy_blocks.specs.BlockList.{blocks_of, count_blocks, is_block_of, is_same_zone}
+use Rattle.report_stages.specs.ZonesText.{block_count_text, frames_in_zone, is_block_in_zone}
+use Rattle.report_stages.proofs.BlockLaws.{AreInBounds, listed_few, listed_in_bounds}
+
+-- the number of frames in the blocks of the node and the zone with orders below m
+abbrev pub frames_below : ℕ → Zone → ℕ → List Block → ℕ
+frames_below node z m [] = 0
+frames_below node z m (b ∷ bs) = cond (is_block_in_zone node z b && nat_lt b.order m) (2 ^ b.order) 0 + frames_below node z m bs
+
+pub none_below : (node : ℕ) (z : Zone) (bs : List Block) → frames_below node z 0 bs ≡ 0
+none_below node z [] = refl
+none_below node z (b ∷ bs) = grind (arith, nat_tests, none_below node z bs)
+
+-- one more order, of one block and of all
+one_more : (a c : Bool) (o m : ℕ)
+    → cond ((a && c) && nat_lt o (m + 1)) (2 ^ o) 0 ≡ cond ((a && c) && nat_lt o m) (2 ^ o) 0 + cond (a && ((o == m) && c)) 1 0 * 2 ^ m
+one_more a c o m = grind (arith, nat_tests)
+
+next_order : (node : ℕ) (z : Zone) (m : ℕ) (bs : List Block)
+    → frames_below node z (m + 1) bs ≡ frames_below node z m bs + count_by (is_block_of node z m) bs * 2 ^ m
+next_order node z m [] = omega arith
+next_order node z m (b ∷ bs) =
+    let one = one_more (b.node == node) (is_same_zone b.zone z) b.order m in
+    let rest = next_order node z m bs in
+    let count : count_by (is_block_of node z m) (b ∷ bs) ≡ cond (is_block_of node z m b) 1 0 + count_by (is_block_of node z m) bs =
+    sum_by-cons (λ (c : Block). cond (is_block_of node z m c) 1 0) b bs in
+    rw count (omega (arith, one, rest))
+
+-- all orders are those up to 10
+all_below : (node : ℕ) (z : Zone) (bs : List Block) → AreInBounds bs
+    → frames_below node z 11 bs ≡ sum_by (λ (b : Block). 2 ^ b.order) (filter (is_block_in_zone node z) bs)
+all_below node z [] all = refl
+all_below node z (b ∷ bs) all =
+    let low = all.0.order in
+    let total = sum_by-cons (λ (c : Block). 2 ^ c.order) b (filter (is_block_in_zone node z) bs) in
+    grind (arith, nat_tests, low, total, all_below node z bs all.1)
+
+-- no block has more than 1,024 frames
+few_below : (node : ℕ) (z : Zone) (m : ℕ) (bs : List Block) → AreInBounds bs → frames_below node z m bs ≤ 1024 * length bs
+few_below node z m [] all = omega arith
+few_below node z m (b ∷ bs) all =
+    let power : 2 ^ b.order ≤ 2 ^ 10 = pow_mono all.0.order in
+    grind (arith, power, few_below node z m bs all.1)
+
+-- the same for the listed blocks
+pub next_count : (f : Frames) (node : ℕ) (z : Zone) (m : ℕ)
+    → frames_below node z (m + 1) (blocks_of f) ≡ frames_below node z m (blocks_of f) + count_blocks f node z m * 2 ^ m
+unfolding count_blocks
+next_count f node z m = next_order node z m (blocks_of f)
+
+pub all_counted : (f : Frames) (node : ℕ) (z : Zone) → frames_below node z 11 (blocks_of f) ≡ frames_in_zone node z (blocks_of f)
+unfolding frames_in_zone
+all_counted f node z = all_below node z (blocks_of f) (listed_in_bounds f)
+
+pub counted_few : (f : Frames) (node : ℕ) (z : Zone) (m : ℕ) → frames_below node z m (blocks_of f) ≤ 2 ^ 50
+counted_few f node z m =
+    let few = few_below node z m (blocks_of f) (listed_in_bounds f) in
+    let length = listed_few f in
+    omega (arith, few, length)
+
+-- the sum with one more order fits into 64 bits
+pub next_frames : (f : Frames) (node : ℕ) (z : Zone) (m frames count : ℕ) → frames ≡ frames_below node z m (blocks_of f)
+    → count ≡ count_blocks f node z m → frames + count * 2 ^ m % 2 ^ 64 ≡ frames_below node z (m + 1) (blocks_of f)
+next_frames f node z m frames count so_far is =
+    let next = next_count f node z m in
+    let few = counted_few f node z (m + 1) in
+    rw is (omega (arith, next, few, so_far))
+
+-- the numbers of blocks, order by order
+pub next_number : (f : Frames) (node : ℕ) (z : Zone) (order count : ℕ) → order < 11 → count ≡ count_blocks f node z order
+    → flat_map (block_count_text (blocks_of f) node z) (range_with_len order (11 - order))
+    ≡ (padded_decimal 6 count ++ codes " ") ++ flat_map (block_count_text (blocks_of f) node z) (range_with_len (order + 1) (11 - (order + 1)))
+unfolding count_blocks
+next_number f node z order count less is = let left : 11 - order ≡ suc (11 - (order + 1)) = omega arith in rw (left, is) refl

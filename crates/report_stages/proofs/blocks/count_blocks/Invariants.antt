@@ -1,0 +1,7 @@
+-- The blocks so far, and those of the rows that are left, are all blocks.
+use Rattle.std.proofs.Common.{◌≡◌, ◌+◌, drop, length}
+use Rattle.buddy_blocks.specs.Rows.{blocks_of_rows}
+use Rattle.report_stages.proofs.blocks.count_blocks.Given as goal
+
+abbrev pub invariant-loop-row : goal.invariant-loop-row
+invariant-loop-row l = l.count + length (blocks_of_rows (drop l.row-index l.rows)) ≡ length (blocks_of_rows l.rows)

@@ -1,0 +1,44 @@
+-- A batch is the lines of the 1,024 blocks of the largest order in 4 GiB, at a multiple of 4 GiB.
+-- The last eight digits of their addresses are the same in each batch. The eight digits before
+-- them are the same in each line of one batch.
+use Rattle.std.specs.Prelude.{◌≡◌, ℕ, zero, suc, ◌+◌, ◌*◌, ◌%◌, ◌^◌, ◌≤◌, List, [], ◌++◌, drop, codes}
+use Rattle.bm_base.specs.Text.{hex_text}
+use Rattle.buddy_blocks.specs.declared.block.BlockRow.{BlockRow}
+use Rattle.buddy_blocks.specs.declared.block.TheConstants.{MAX_ORDER}
+use Rattle.buddy_blocks.specs.declared.run.TheConstants.{MAX_FRAMES}
+use Rattle.buddy_blocks.specs.Rows.{row_from}
+use Rattle.report_memory.specs.Lines.{indexed_lines}
+use Rattle.report_stages.specs.BlocksText.{block_line}
+
+-- the last eight hexadecimal digits of a number
+abbrev pub last_digits : ℕ → List ℕ
+last_digits n = drop 10 (hex_text n)
+
+-- the end of the line of block j of a batch: the last eight digits of its address, and the newline
+abbrev pub low_digits : ℕ → List ℕ
+low_digits j = last_digits (j * 2 ^ 22) ++ codes "\n"
+
+-- the line of that block, from the text before the address's digits and its higher digits
+abbrev pub batch_line : List ℕ → List ℕ → ℕ → List ℕ
+batch_line front digits j = front ++ (digits ++ low_digits j)
+
+-- n lines from that of block j on
+unfoldable pub batch_from : List ℕ → List ℕ → ℕ → ℕ → List ℕ
+batch_from front digits j zero = []
+batch_from front digits j (suc n) = batch_line front digits j ++ batch_from front digits (j + 1) n
+
+-- a whole batch
+abbrev pub batch_text : List ℕ → List ℕ → List ℕ
+batch_text front digits = batch_from front digits 0 1024
+
+-- the blocks of the row are of the largest order, begin and end at multiples of 4 GiB, and all
+-- their frames are below `MAX_FRAMES`
+pub record FillBatches (row : BlockRow) : Type 0 where
+  pub order : row.order ≡ MAX_ORDER
+  pub first : row.first % 2 ^ 20 ≡ 0
+  pub count : row.count % 1024 ≡ 0
+  pub end : row.first + row.count * 1024 ≤ MAX_FRAMES
+
+-- the lines of the first 1,024 blocks of the row
+abbrev pub first_batch : BlockRow → List ℕ
+first_batch row = indexed_lines block_line 0 (row_from row.order row.first row.node row.zone 1024)

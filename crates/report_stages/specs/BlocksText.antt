@@ -1,0 +1,34 @@
+-- The free blocks, as lines of this project's own.
+use Rattle.std.specs.Prelude.{◌≡◌, ℕ, ◌%◌, ◌^◌, ◌<◌, ◌≤◌, List, [], ◌∷◌, ◌++◌, codes, decimal}
+use Rattle.bm_base.specs.Frames.{bytes_of_frame}
+use Rattle.bm_base.specs.Text.{hex_text}
+use Rattle.buddy_blocks.specs.declared.block.Block.{Block}
+use Rattle.buddy_blocks.specs.declared.block.BlockRow.{BlockRow}
+use Rattle.buddy_blocks.specs.declared.block.TheConstants.{MAX_ORDER}
+use Rattle.buddy_blocks.specs.declared.run.TheConstants.{MAX_FRAMES}
+use Rattle.buddy_blocks.specs.Frames.{Frames}
+use Rattle.buddy_blocks.specs.BlockList.{blocks_of}
+use Rattle.buddy_blocks.specs.Rows.{blocks_of_row}
+use Rattle.report_memory.specs.Lines.{indexed_lines}
+use Rattle.report_stages.specs.ZonesText.{zone_name}
+
+-- the line of a block: its node, its zone, its order, and the address of its first byte; the index
+-- isn't printed
+abbrev pub block_line : ℕ → Block → List ℕ
+block_line n b =
+    codes "node " ++ decimal b.node ++ codes " zone " ++ zone_name b.zone ++ codes " order " ++ decimal b.order ++ codes " "
+    ++ hex_text (bytes_of_frame b.first).base ++ codes "\n"
+
+-- all blocks of these free frames, in ascending order
+abbrev pub blocks_text : Frames → List ℕ
+blocks_text f = indexed_lines block_line 0 (blocks_of f)
+
+-- the lines of a row
+abbrev pub row_text : BlockRow → List ℕ
+row_text row = indexed_lines block_line 0 (blocks_of_row row)
+
+-- each block has an order up to 10; its first frame is below `MAX_FRAMES`, and a multiple of the
+-- number of its frames
+abbrev pub AreAlignedBlocks : List Block → Type 0
+AreAlignedBlocks [] = Unit {0}
+AreAlignedBlocks (b ∷ bs) = (b.order ≤ MAX_ORDER) × (b.first < MAX_FRAMES) × (b.first % 2 ^ b.order ≡ 0) × AreAlignedBlocks bs

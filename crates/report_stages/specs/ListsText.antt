@@ -1,0 +1,32 @@
+-- Whether distances are used, and the zone list of each node, as lines. The words are this
+-- project's own.
+use Rattle.std.specs.Prelude.{ℕ, List, ◌++◌, codes, decimal}
+use Rattle.std.specs.List.{flat_map}
+use Rattle.slit_zonelists.specs.declared.order.ListZone.{ListZone}
+use Rattle.slit_zonelists.specs.declared.uses.SlitUse.{SlitUse}
+use Rattle.slit_zonelists.specs.declared.uses.SlitUse.TheVariants as uses
+use Rattle.slit_zonelists.specs.Lists.{ListsView, nodes_with_zones, slit_use_of, zones_of}
+use Rattle.report_memory.specs.Lines.{indexed_lines}
+use Rattle.report_stages.specs.ZonesText.{zone_name}
+
+-- whether the distances of the SLIT are used, and the reason if they aren't
+abbrev pub slit_use_text : SlitUse → List ℕ
+slit_use_text uses.Used = codes "used"
+slit_use_text uses.Absent = codes "absent"
+slit_use_text uses.NoSrat = codes "no srat"
+slit_use_text (uses.NotValid row column) = codes "not valid " ++ decimal row ++ codes " " ++ decimal column
+
+abbrev pub slit_use_line : SlitUse → List ℕ
+slit_use_line used = codes "slit " ++ slit_use_text used ++ codes "\n"
+
+-- an entry of a list: its node and its zone
+abbrev pub list_zone_text : ListZone → List ℕ
+list_zone_text z = codes " " ++ decimal z.node ++ codes "/" ++ zone_name z.zone
+
+-- the line of a node: the zones in the order of its list; the index isn't printed
+abbrev pub zonelist_line : ListsView → ℕ → ℕ → List ℕ
+zonelist_line k n node = codes "Node " ++ decimal node ++ codes ":" ++ flat_map list_zone_text (zones_of k node) ++ codes "\n"
+
+-- whether the SLIT is used, and a line for each node that has memory
+abbrev pub zonelists_text : ListsView → List ℕ
+zonelists_text k = slit_use_line (slit_use_of k) ++ indexed_lines (zonelist_line k) 0 (nodes_with_zones k.zones)

@@ -1,0 +1,91 @@
+//! Writes the zone lists: whether the firmware's distances are used, and in which order a request
+//! on a node tries the zones.
+
+ghost use Rattle.std.specs.Prelude.{◌≡◌, ◌++◌, OnOk};
+ghost use Rattle.std.specs.List.{flat_map};
+ghost use Rattle.bm_base.specs.PutsText.{PutsText};
+ghost use Rattle.report_memory.specs.Lines.{indexed_lines};
+ghost use Rattle.report_stages.specs.ListsText.{list_zone_text, zonelist_line, slit_use_line, slit_use_text, zonelists_text};
+
+use crate::words::put_word_dec;
+use crate::zones::zone_name;
+use bm_base::{Memory, put_text};
+use report_memory::put_indexed_lines;
+use slit_zonelists::{ListZone, Lists, SlitUse};
+
+/// Appends the zone lists: whether the SLIT is used, and a line for each node that has memory.
+/// Besides the text it allocates the list of these nodes and, one at a time, the list of each.
+///
+/// # Errors
+///
+/// - `Memory`: the program ran out of memory; the text is incomplete.
+pub fn put_zonelists(text: &mut Vec<u8>, lists: &Lists) -> Result<(), Memory>
+    ensures { OnOk result (text.new.items ≡ text.old.items ++ zonelists_text lists.now) }
+{
+    put_slit_use_line(text, lists.used())?;
+    let nodes = lists.nodes_with_zones()?;
+    put_zonelist_lines(text, &nodes, lists)
+}
+
+/// Appends the line of each of these nodes. Also allocates the list of each node.
+fn put_zonelist_lines(text: &mut Vec<u8>, nodes: &[u32], lists: &Lists) -> Result<(), Memory>
+    ensures { OnOk result (text.new.items ≡ text.old.items ++ indexed_lines (zonelist_line lists.now) 0 nodes.now) }
+{
+    put_indexed_lines(text, nodes, |text: &mut Vec<u8>, index: u64, node: &u32| {
+        put_zonelist_line(text, index, node, lists)
+    })
+}
+
+/// Appends the line that says whether the SLIT is used.
+fn put_slit_use_line(text: &mut Vec<u8>, used: SlitUse) -> Result<(), Memory>
+    ensures { PutsText text.old text.new result (slit_use_line used) }
+{
+    put_text(text, b"slit ")?;
+    put_slit_use(text, used)?;
+    put_text(text, b"\n")
+}
+
+/// Appends whether the SLIT is used, and the reason if it isn't.
+fn put_slit_use(text: &mut Vec<u8>, used: SlitUse) -> Result<(), Memory>
+    ensures { PutsText text.old text.new result (slit_use_text used) }
+{
+    match used {
+        SlitUse::Used => put_text(text, b"used"),
+        SlitUse::Absent => put_text(text, b"absent"),
+        SlitUse::NoSrat => put_text(text, b"no srat"),
+        SlitUse::NotValid { row, column } => {
+            put_word_dec(text, b"not valid ", u64::from(row))?;
+            put_word_dec(text, b" ", u64::from(column))
+        }
+    }
+}
+
+/// Appends the line of a node: its number, and the zones of its list. Also allocates that list.
+fn put_zonelist_line(text: &mut Vec<u8>, index: u64, node: &u32, lists: &Lists) -> Result<(), Memory>
+    ensures { OnOk result (text.new.items ≡ text.old.items ++ zonelist_line lists.now index node.now) }
+{
+    put_word_dec(text, b"Node ", u64::from(*node))?;
+    put_text(text, b":")?;
+    let zones = lists.of(*node)?;
+    put_list_zones(text, &zones)?;
+    put_text(text, b"\n")
+}
+
+/// Appends the zones of a list, in their order.
+fn put_list_zones(text: &mut Vec<u8>, zones: &[ListZone]) -> Result<(), Memory>
+    ensures { PutsText text.old text.new result (flat_map list_zone_text zones.now) }
+{
+    for entry in zones {
+        put_list_zone(text, entry)?;
+    }
+    Ok(())
+}
+
+/// Appends an entry of a list.
+fn put_list_zone(text: &mut Vec<u8>, entry: &ListZone) -> Result<(), Memory>
+    ensures { PutsText text.old text.new result (list_zone_text entry.now) }
+{
+    put_word_dec(text, b" ", u64::from(entry.node))?;
+    put_text(text, b"/")?;
+    put_text(text, zone_name(entry.zone).as_bytes())
+}

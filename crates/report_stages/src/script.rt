@@ -1,0 +1,80 @@
+//! Writes the outcome of each line of the early script. A line that is refused doesn't stop the
+//! boot, so its refusal is reported here, with the number of the line.
+
+ghost use Rattle.std.specs.Prelude.{◌≤◌, length};
+ghost use Rattle.bm_base.specs.PutsText.{PutsText};
+ghost use Rattle.hex.specs.Hex.{encode_lower};
+ghost use Rattle.report_stages.specs.ScriptText.{answer_line, outcome_text, script_text};
+
+use crate::words::{put_word_dec, put_word_hex};
+use bm_base::{Memory, put_dec, put_text};
+use early_script::{Answer, Outcome};
+use memblock_model::Which;
+use report_memory::{put_indexed_lines, which_name};
+
+/// The largest number of bytes that a line of the script prints.
+const MOST_BYTES: usize = 64;
+
+/// Appends the outcomes: a line for each, in their order.
+///
+/// # Errors
+///
+/// - `Memory`: the program ran out of memory; the text is incomplete.
+pub fn put_script(text: &mut Vec<u8>, answers: &[Answer]) -> Result<(), Memory>
+    ensures { PutsText text.old text.new result (script_text answers.now) }
+{
+    put_indexed_lines(text, answers, put_answer_line)
+}
+
+/// Appends the line of an outcome: the number of the line in the script, and the outcome.
+fn put_answer_line(text: &mut Vec<u8>, index: u64, answer: &Answer) -> Result<(), Memory>
+    ensures { PutsText text.old text.new result (answer_line index answer.now) }
+{
+    put_dec(text, u64::from(answer.line), 0)?;
+    put_text(text, b": ")?;
+    put_outcome(text, &answer.outcome)?;
+    put_text(text, b"\n")
+}
+
+/// Appends the outcome of a line.
+fn put_outcome(text: &mut Vec<u8>, outcome: &Outcome) -> Result<(), Memory>
+    ensures { PutsText text.old text.new result (outcome_text outcome.now) }
+{
+    match outcome {
+        Outcome::At(address) => put_word_hex(text, b"at ", *address),
+        Outcome::Done => put_text(text, b"done"),
+        Outcome::Bytes(told) => {
+            put_text(text, b"bytes ")?;
+            put_bytes(text, told.as_slice())
+        }
+        Outcome::NoGap => put_text(text, b"no gap"),
+        Outcome::NoGapForTable { which, room } => put_no_gap(text, *which, *room),
+        Outcome::Taken => put_text(text, b"taken"),
+        Outcome::Unknown => put_text(text, b"unknown"),
+        Outcome::NotWhole => put_text(text, b"not whole"),
+        Outcome::TableInUse => put_text(text, b"table in use"),
+        Outcome::TooLargeKeep => put_text(text, b"keep too large"),
+        Outcome::TooLargeFill => put_text(text, b"fill too large"),
+    }
+}
+
+/// Appends which table found no place to grow to, and its room, in records, which was too small.
+fn put_no_gap(text: &mut Vec<u8>, which: Which, room: u64) -> Result<(), Memory>
+    ensures { PutsText text.old text.new result (outcome_text (Outcome.NoGapForTable which room)) }
+{
+    put_text(text, b"no gap for table ")?;
+    put_text(text, which_name(which).as_bytes())?;
+    put_word_dec(text, b" room ", room)
+}
+
+/// Appends bytes as two lower-case hexadecimal digits each. There are at most `MOST_BYTES` of
+/// them.
+fn put_bytes(text: &mut Vec<u8>, bytes: &[u8]) -> Result<(), Memory>
+    requires { length bytes.now ≤ MOST_BYTES }
+    ensures { PutsText text.old text.new result (encode_lower bytes.now) }
+{
+    let mut room = [0u8; 2 * MOST_BYTES];
+    let digits = &mut room[..2 * bytes.len()];
+    hex::encode_to_slice(bytes, digits).unwrap();
+    put_text(text, digits)
+}

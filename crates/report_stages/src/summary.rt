@@ -1,0 +1,68 @@
+//! Writes the summary: the totals at the end of a boot. `debugfs_reports` counts them; the record
+//! of the numbers is here, since the lines are defined over it.
+
+ghost use Rattle.bm_base.specs.PutsText.{PutsText};
+ghost use Rattle.report_stages.specs.SummaryText.{fullness_line, number_line, summary_text};
+
+use crate::words::put_word_dec;
+use bm_base::{Memory, put_text};
+use memblock_model::Which;
+use report_memory::which_name;
+
+/// How full a table of memblock is.
+#[derive(Clone, Copy, Debug, PartialEq, Eq)]
+pub struct Fullness {
+    /// The number of records that it has.
+    pub records: u64,
+    /// The number of records that it has room for.
+    pub room: u64,
+}
+
+/// The totals at the end of a boot.
+#[derive(Clone, Copy, Debug, PartialEq, Eq)]
+pub struct Summary {
+    /// The number of runs of the map.
+    pub runs: u64,
+    /// The number of usable frames.
+    pub usable: u64,
+    /// The number of frames in free blocks.
+    pub free: u64,
+    pub memory: Fullness,
+    pub reserved: Fullness,
+    /// The number of free blocks.
+    pub blocks: u64,
+}
+
+/// Appends the summary: six lines.
+///
+/// # Errors
+///
+/// - `Memory`: the program ran out of memory; the text is incomplete.
+pub fn put_summary(text: &mut Vec<u8>, summary: &Summary) -> Result<(), Memory>
+    ensures { PutsText text.old text.new result (summary_text summary.now) }
+{
+    put_number_line(text, b"runs ", summary.runs)?;
+    put_number_line(text, b"usable ", summary.usable)?;
+    put_number_line(text, b"free ", summary.free)?;
+    put_fullness_line(text, Which::Memory, &summary.memory)?;
+    put_fullness_line(text, Which::Reserved, &summary.reserved)?;
+    put_number_line(text, b"blocks ", summary.blocks)
+}
+
+/// Appends a line with a word and a number.
+fn put_number_line(text: &mut Vec<u8>, word: &[u8], number: u64) -> Result<(), Memory>
+    ensures { PutsText text.old text.new result (number_line word.now number) }
+{
+    put_word_dec(text, word, number)?;
+    put_text(text, b"\n")
+}
+
+/// Appends the line of a table: its records and its room.
+fn put_fullness_line(text: &mut Vec<u8>, which: Which, full: &Fullness) -> Result<(), Memory>
+    ensures { PutsText text.old text.new result (fullness_line which full.now) }
+{
+    put_text(text, which_name(which).as_bytes())?;
+    put_word_dec(text, b" records ", full.records)?;
+    put_word_dec(text, b" room ", full.room)?;
+    put_text(text, b"\n")
+}

@@ -1,0 +1,128 @@
+//! Writes the zones: the range of frames of each node and zone, and the number of free blocks.
+//! Both reports have a line for each span. They count in the free frames (`Buddy::count`), without
+//! a list of blocks.
+
+ghost use Rattle.std.specs.Prelude.{◌≡◌, ◌++◌, codes, decimal};
+ghost use Rattle.bm_base.specs.PutsText.{PutsText};
+ghost use Rattle.bm_base.specs.Text.{padded_decimal};
+ghost use Rattle.buddy_blocks.specs.BlockList.{blocks_of};
+ghost use Rattle.buddy_handover.specs.BuddyView.{buddy_frames};
+ghost use Rattle.report_stages.specs.ZonesText.{buddyinfo_line, buddyinfo_text, block_counts_text, frames_in_zone, padded_zone, zone_line, zone_name, zones_text};
+
+use crate::words::put_word_dec;
+use bm_base::{Memory, Zone, put_dec, put_text};
+use buddy_handover::{Buddy, MAX_ORDER};
+use report_memory::put_indexed_lines;
+use zone_spans::Span;
+
+/// Appends the zones: a line for each span, with the number of its frames that are free.
+///
+/// # Errors
+///
+/// - `Memory`: the program ran out of memory; the text is incomplete.
+pub fn put_zones(text: &mut Vec<u8>, spans: &[Span], buddy: &Buddy) -> Result<(), Memory>
+    ensures { PutsText text.old text.new result (zones_text (buddy_frames buddy.now) spans.now) }
+{
+    put_indexed_lines(text, spans, |text: &mut Vec<u8>, index: u64, span: &Span| {
+        put_zone_line(text, index, span, buddy)
+    })
+}
+
+/// Appends the numbers of free blocks by order, in the format of `/proc/buddyinfo`: a line for
+/// each span.
+///
+/// # Errors
+///
+/// - `Memory`: the program ran out of memory; the text is incomplete.
+pub fn put_buddyinfo(text: &mut Vec<u8>, spans: &[Span], buddy: &Buddy) -> Result<(), Memory>
+    ensures { PutsText text.old text.new result (buddyinfo_text (buddy_frames buddy.now) spans.now) }
+{
+    put_indexed_lines(text, spans, |text: &mut Vec<u8>, index: u64, span: &Span| {
+        put_buddyinfo_line(text, index, span, buddy)
+    })
+}
+
+/// Returns the name of a zone (`zone_names`).
+pub fn zone_name(zone: Zone) -> &'static str
+    ensures { result.now ≡ zone_name zone }
+{
+    match zone {
+        Zone::Dma => "DMA",
+        Zone::Dma32 => "DMA32",
+        Zone::Normal => "Normal",
+    }
+}
+
+/// Appends the line of a span: its bounds, the number of its frames, and the number of these that
+/// are free.
+fn put_zone_line(text: &mut Vec<u8>, index: u64, span: &Span, buddy: &Buddy) -> Result<(), Memory>
+    ensures { PutsText text.old text.new result (zone_line (blocks_of (buddy_frames buddy.now)) index span.now) }
+{
+    put_node_zone(text, span.node)?;
+    put_text(text, zone_name(span.zone).as_bytes())?;
+    put_word_dec(text, b" start ", span.start)?;
+    put_word_dec(text, b" end ", span.end)?;
+    put_word_dec(text, b" present ", span.present)?;
+    put_word_dec(text, b" free ", free_frames_in_zone(buddy, span.node, span.zone))?;
+    put_text(text, b"\n")
+}
+
+/// Appends the line of a span: the number of free blocks of each order.
+#[tactic(auto, unfolding(crate::specs::ZonesText::buddyinfo_line))]
+fn put_buddyinfo_line(text: &mut Vec<u8>, index: u64, span: &Span, buddy: &Buddy) -> Result<(), Memory>
+    ensures { PutsText text.old text.new result (buddyinfo_line (blocks_of (buddy_frames buddy.now)) index span.now) }
+{
+    put_node_zone(text, span.node)?;
+    put_padded_zone(text, span.zone)?;
+    put_text(text, b" ")?;
+    put_block_counts(text, span, buddy)?;
+    put_text(text, b"\n")
+}
+
+/// Appends the number of a node, and the word before the name of a zone.
+fn put_node_zone(text: &mut Vec<u8>, node: u32) -> Result<(), Memory>
+    ensures { PutsText text.old text.new result (codes "Node " ++ decimal node ++ codes ", zone ") }
+{
+    put_word_dec(text, b"Node ", u64::from(node))?;
+    put_text(text, b", zone ")
+}
+
+/// Appends the name of a zone, right-aligned in eight columns.
+fn put_padded_zone(text: &mut Vec<u8>, zone: Zone) -> Result<(), Memory>
+    ensures { PutsText text.old text.new result (padded_zone zone) }
+{
+    let name = zone_name(zone);
+    let spaces = [b' '; 8];
+    put_text(text, &spaces[name.len()..])?;
+    put_text(text, name.as_bytes())
+}
+
+/// Appends the number of free blocks of each order in this node and zone.
+#[tactic(auto, unfolding(crate::specs::ZonesText::block_counts_text))]
+fn put_block_counts(text: &mut Vec<u8>, span: &Span, buddy: &Buddy) -> Result<(), Memory>
+    ensures { PutsText text.old text.new result (block_counts_text (blocks_of (buddy_frames buddy.now)) span.now.node span.now.zone) }
+{
+    for order in 0..=MAX_ORDER {
+        put_block_count(text, buddy.count(span.node, span.zone, order))?;
+    }
+    Ok(())
+}
+
+/// Appends a number of free blocks, right-aligned in six columns, and a space.
+fn put_block_count(text: &mut Vec<u8>, count: u64) -> Result<(), Memory>
+    ensures { PutsText text.old text.new result (padded_decimal 6 count ++ codes " ") }
+{
+    put_dec(text, count, 6)?;
+    put_text(text, b" ")
+}
+
+/// Returns the number of frames in the free blocks of this node and zone. Allocates nothing.
+fn free_frames_in_zone(buddy: &Buddy, node: u32, zone: Zone) -> u64
+    ensures { result ≡ frames_in_zone node zone (blocks_of (buddy_frames buddy.now)) }
+{
+    let mut frames = 0;
+    for order in 0..=MAX_ORDER {
+        frames += buddy.count(node, zone, order) << order;
+    }
+    frames
+}

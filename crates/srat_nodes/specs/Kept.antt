@@ -1,0 +1,79 @@
+-- Which blocks of the firmware's table are kept, and which of them overlap (`numa_add_memblk`,
+-- `numa_cleanup_meminfo`).
+use Rattle.std.specs.Prelude.{ℕ, ◌+◌, ◌-◌, ◌<◌, ◌==◌, Bool, ◌&&◌, not, nat_lt, if◌then◌else◌, Option, None, List, [], ◌∷◌, ◌++◌, map, find, count_by}
+use Rattle.std.specs.List.{list_any}
+use Rattle.std.specs.Option.{option_map, option_or}
+use Rattle.address_runs.specs.Runs.{run_end, extent_of}
+use Rattle.bm_base.specs.Each.{each_in}
+use Rattle.bm_base.specs.Range.{RangeView, covers, end_of}
+use Rattle.bm_base.specs.Frames.{frame_around}
+use Rattle.srat_reader.specs.declared.table.SratBlock.{SratBlock}
+use Rattle.srat_nodes.specs.declared.kept.KeptBlock.{KeptBlock}
+use Rattle.srat_nodes.specs.Domains.{node_of_domain}
+use Rattle.srat_nodes.specs.NodeAt.{NumaBlock, block_meets}
+
+-- memory as a list of ranges: an address is memory if one of them has it; none of them is empty
+abbrev pub is_in_any_range : List RangeView → ℕ → Bool
+is_in_any_range ranges x = list_any (λ r. covers r x) ranges
+
+abbrev pub NoMemoryIsEmpty : List RangeView → Type 0
+NoMemoryIsEmpty [] = Unit {0}
+NoMemoryIsEmpty (r ∷ rs) = (0 < r.size) × NoMemoryIsEmpty rs
+
+-- the first address of the frame that has the address
+abbrev pub frame_base : ℕ → ℕ
+frame_base x = (frame_around x).base
+
+-- a range with both ends rounded down to frames
+abbrev pub round_ends_down : RangeView → RangeView
+round_ends_down r = record { base = frame_base r.base; size = frame_base (end_of r) - frame_base r.base }
+
+-- some byte of the range is memory
+abbrev pub meets_memory : (ℕ → Bool) → RangeView → Bool
+meets_memory memory r = not (each_in r (λ y. not (memory y)))
+
+-- a block of the table in whole frames, with the node of its domain
+abbrev pub block_in_frames : List ℕ → SratBlock → NumaBlock
+block_in_frames domains b = record { base = (round_ends_down b.range).base; size = (round_ends_down b.range).size; value = node_of_domain domains b.domain }
+
+-- the kept blocks: those with a byte of memory, each with its number in the table
+abbrev pub keep_block : (ℕ → Bool) → ℕ → NumaBlock → List KeptBlock
+keep_block memory i b = if meets_memory memory (extent_of b) then record { number = i; block = b } ∷ [] else []
+
+abbrev pub keep_blocks_from : (ℕ → Bool) → List ℕ → ℕ → List SratBlock → List KeptBlock
+keep_blocks_from memory domains i [] = []
+keep_blocks_from memory domains i (b ∷ bs) = keep_block memory i (block_in_frames domains b) ++ keep_blocks_from memory domains (i + 1) bs
+
+abbrev pub keep_blocks : (ℕ → Bool) → List ℕ → List SratBlock → List KeptBlock
+keep_blocks memory domains blocks = keep_blocks_from memory domains 0 blocks
+
+-- the blocks without their numbers
+abbrev pub numa_blocks_of : List KeptBlock → List NumaBlock
+numa_blocks_of kept = map (λ (k : KeptBlock). k.block) kept
+
+-- some kept block has the node
+abbrev pub is_node_of : List KeptBlock → ℕ → Bool
+is_node_of kept n = list_any (λ (k : KeptBlock). k.block.value == n) kept
+
+-- some block is kept
+abbrev pub is_any_kept : (ℕ → Bool) → List SratBlock → Bool
+is_any_kept memory blocks = list_any (λ (b : SratBlock). meets_memory memory (round_ends_down b.range)) blocks
+
+-- the number of blocks that aren't empty in the table, before rounding
+abbrev pub count_with_addresses : List SratBlock → ℕ
+count_with_addresses blocks = count_by (λ (b : SratBlock). nat_lt 0 b.range.size) blocks
+
+-- two kept blocks have different nodes and share an address
+abbrev pub is_clash : KeptBlock → KeptBlock → Bool
+is_clash a b = not (a.block.value == b.block.value) && block_meets a.block.base (run_end a.block) b.block
+
+-- the kept blocks with the numbers i and j, where i is below j, have different nodes and share an
+-- address
+abbrev pub is_clash_of_numbers : List KeptBlock → ℕ → ℕ → Bool
+is_clash_of_numbers kept i j = nat_lt i j && list_any (λ a. (a.number == i) && list_any (λ b. (b.number == j) && is_clash a b) kept) kept
+
+-- the number of the first kept block that overlaps a later one of another node, and the number of
+-- the first such later one
+abbrev pub first_clash : List KeptBlock → Option (ℕ × ℕ)
+first_clash [] = None
+first_clash (a ∷ rest) = option_or (option_map (λ (b : KeptBlock). (a.number, b.number)) (find (is_clash a) rest)) (first_clash rest)

@@ -1,0 +1,5 @@
+pub mod Domains
+pub mod NodeAt
+pub mod SratNodesView
+pub mod Kept
+pub mod Steps

@@ -1,0 +1,55 @@
+-- Definitions of the steps of the code, which only private clauses and proofs cite.
+use Rattle.std.specs.Prelude.{ℕ, ◌+◌, ◌/◌, ◌-◌, ◌^◌, ◌<◌, ◌==◌, Bool, true, false, nat_le, is_some, if◌then◌else◌, List, [], ◌∷◌, length}
+use Rattle.address_runs.specs.Runs.{RunOf, run_end, value_at}
+use Rattle.bm_base.specs.Range.{RangeView}
+use Rattle.bm_base.specs.declared.range.TheConstants.{FRAME_SIZE}
+use Rattle.srat_reader.specs.declared.table.SratBlock.{SratBlock}
+use Rattle.srat_nodes.specs.Domains.{with_domain}
+use Rattle.srat_nodes.specs.NodeAt.{NumaBlock}
+
+-- the list with one more domain, if it has at most 1,024 so far
+abbrev pub with_domain_if_room : List ℕ → ℕ → List ℕ
+with_domain_if_room domains d = if nat_le (length domains) 1024 then with_domain domains d else domains
+
+abbrev pub with_domain_of_block : List ℕ → SratBlock → List ℕ
+with_domain_of_block domains b = with_domain_if_room domains b.domain
+
+-- a run and the joined runs above it; the first of these is joined to it if it has the same node
+abbrev pub prepend_joined : NumaBlock → List NumaBlock → List NumaBlock
+prepend_joined r [] = r ∷ []
+prepend_joined r (s ∷ ss) =
+    if r.value == s.value then record { base = r.base; size = run_end s - r.base; value = r.value } ∷ ss else r ∷ (s ∷ ss)
+
+-- the runs, each joined with the next one if both have the same node
+abbrev pub fill_gaps : List NumaBlock → List NumaBlock
+fill_gaps [] = []
+fill_gaps (r ∷ rs) = prepend_joined r (fill_gaps rs)
+
+-- a range of memory as a run without a node, and a run with a node: the value says whether it has
+-- one
+abbrev pub run_without_node : RangeView → RunOf Bool
+run_without_node r = record { base = r.base; size = r.size; value = false }
+
+abbrev pub run_with_node : NumaBlock → RunOf Bool
+run_with_node r = record { base = r.base; size = r.size; value = true }
+
+-- the address is in a run of memory
+abbrev pub is_in_runs : List (RunOf Bool) → ℕ → Bool
+is_in_runs runs x = is_some (value_at runs x)
+
+-- the runs that have no node, each with the node that it gets
+abbrev pub run_of_node : ℕ → RunOf Bool → NumaBlock
+run_of_node node r = record { base = r.base; size = r.size; value = node }
+
+abbrev pub uncovered_runs_with_node : ℕ → List (RunOf Bool) → List NumaBlock
+uncovered_runs_with_node node [] = []
+uncovered_runs_with_node node (r ∷ rs) = if r.value then uncovered_runs_with_node node rs else run_of_node node r ∷ uncovered_runs_with_node node rs
+
+-- the end of each run is below 2^64
+abbrev pub EndInSpace : List NumaBlock → Type 0
+EndInSpace [] = Unit {0}
+EndInSpace (r ∷ rs) = (run_end r < 2 ^ 64) × EndInSpace rs
+
+-- the number of frames that begin below an address
+abbrev pub count_frames_below : ℕ → ℕ
+count_frames_below x = (x + (FRAME_SIZE - 1)) / FRAME_SIZE

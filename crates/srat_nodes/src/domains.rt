@@ -1,0 +1,90 @@
+//! Numbers the nodes: from 0, in the order in which their domains are first named
+//! (`acpi_map_pxm_to_node`). A node is the index of its domain in the list of domains.
+
+ghost use Rattle.std.specs.Prelude.{◌≡◌, ℕ, ◌<◌, ◌≤◌, ◌==◌, OnOk, IfOk, IfSome, fold, length, take};
+ghost use Rattle.std.specs.List.{position};
+ghost use Rattle.srat_nodes.specs.Domains.{named_domains, node_of_domain};
+ghost use Rattle.srat_nodes.specs.Steps.{with_domain_if_room, with_domain_of_block};
+
+use crate::reasons::MAX_NODES;
+use bm_base::Memory;
+use srat_reader::SratBlock;
+use std::alloc::Global;
+
+/// Returns the domains in the order of their nodes: those of processors first, then those of
+/// memory. The list stops at one more than [`MAX_NODES`], since the table isn't used then.
+///
+/// # Errors
+///
+/// - `Memory`: the program ran out of memory.
+pub fn named_domains(
+    alloc: Global,
+    processors: &[u32],
+    blocks: &[SratBlock],
+) -> Result<Vec<u32>, Memory>
+    ensures { IfOk result (λ domains. domains.items ≡ take 1025 (named_domains processors.now blocks.now)) }
+{
+    let mut domains = Vec::new(alloc);
+    add_processor_domains(&mut domains, processors)?;
+    add_memory_domains(&mut domains, blocks)?;
+    Ok(domains)
+}
+
+/// Appends the domains of processors that aren't in the list yet, in their order.
+///
+/// # Errors
+///
+/// - `Memory`: the program ran out of memory.
+fn add_processor_domains(domains: &mut Vec<u32>, processors: &[u32]) -> Result<(), Memory>
+    ensures { OnOk result (domains.new.items ≡ fold with_domain_if_room domains.old.items processors.now) }
+{
+    for domain in processors {
+        add_domain(domains, *domain)?;
+    }
+    Ok(())
+}
+
+/// Appends the domains of memory that aren't in the list yet, in their order.
+///
+/// # Errors
+///
+/// - `Memory`: the program ran out of memory.
+fn add_memory_domains(domains: &mut Vec<u32>, blocks: &[SratBlock]) -> Result<(), Memory>
+    ensures { OnOk result (domains.new.items ≡ fold with_domain_of_block domains.old.items blocks.now) }
+{
+    for block in blocks {
+        add_domain(domains, block.domain)?;
+    }
+    Ok(())
+}
+
+/// Appends a domain, unless it is in the list already, or the list has more than [`MAX_NODES`]
+/// domains.
+///
+/// # Errors
+///
+/// - `Memory`: the program ran out of memory.
+fn add_domain(domains: &mut Vec<u32>, domain: u32) -> Result<(), Memory>
+    ensures { OnOk result (domains.new.items ≡ with_domain_if_room domains.old.items domain) }
+{
+    if domains.len() <= MAX_NODES && !domains.contains(&domain) {
+        domains.push(domain)?;
+    }
+    Ok(())
+}
+
+/// Returns the node of a domain in the list. A domain that isn't in the list gives 0.
+pub fn node_of_domain(domains: &[u32], domain: u32) -> u32
+    requires { length domains.now ≤ 1024 }
+    ensures { result ≡ node_of_domain domains.now domain }
+{
+    index_of_domain(domains, domain).unwrap_or(0) as u32
+}
+
+/// Returns the index of a domain in the list, or `None` if it isn't in the list.
+fn index_of_domain(domains: &[u32], domain: u32) -> Option<usize>
+    ensures value { result ≡ position (λ e. e == domain) domains.now }
+    ensures within { IfSome result (λ place. place < length domains.now) }
+{
+    domains.iter().position(|named| *named == domain)
+}

@@ -1,0 +1,190 @@
+//! Decides whether the table is used. The reasons against it are tested in the order in which the
+//! boot meets them.
+
+ghost use Rattle.std.specs.Prelude.{◌≡◌, ℕ, ◌^◌, ◌<◌, ◌≤◌, IfOk, IsFalse, IsSome, OnErr, length};
+ghost use Rattle.std.specs.Option.{ForSome, option_map, option_copied};
+ghost use Rattle.address_runs.specs.Overlay.{HaveAddresses};
+ghost use Rattle.srat_reader.specs.Table.{srat_view};
+ghost use Rattle.srat_nodes.specs.SratNodesView.{lowest_node, srat_nodes_view, judge_srat, judge_kept_blocks, judge_srat_table, unused_srat};
+ghost use Rattle.srat_nodes.specs.Kept.{is_in_any_range, numa_blocks_of, NoMemoryIsEmpty};
+ghost use Rattle.srat_nodes.specs.Steps.{EndInSpace};
+
+use crate::domains::named_domains;
+use crate::hulls::{fill_gaps, overlay_blocks};
+use crate::kept::{KeptBlock, count_with_addresses, first_clash, is_any_kept, keep_blocks, NodeRange};
+use crate::memory::memory_runs;
+use crate::rest::{count_frames, uncovered_runs};
+use bm_base::{Memory, Range};
+use srat_reader::{Srat, SratBlock};
+use std::alloc::Global;
+
+/// The largest number of nodes (`MAX_NUMNODES`).
+pub const MAX_NODES: usize = 1024;
+
+/// The largest number of blocks that aren't empty (`NR_NODE_MEMBLKS`).
+pub const MAX_BLOCKS: usize = 2048;
+
+/// The number of frames of memory without a node from which on the table isn't used: 1 MiB
+/// (`numa_meminfo_cover_memory`).
+pub const UNCOVERED_FRAMES: u64 = 256;
+
+/// The reason why the table is or isn't used. From `Off` on, the first in this order that holds is
+/// the reason.
+#[derive(Clone, Copy, Debug, PartialEq, Eq)]
+pub enum Why {
+    /// The table is used: none of the reasons below holds.
+    Used,
+    /// `numa=off` was given.
+    Off,
+    /// There is no table.
+    Absent,
+    /// No enabled block contains a byte of memory, after rounding its ends to frames.
+    NoBlocks,
+    /// The enabled entries name more than [`MAX_NODES`] domains.
+    TooManyDomains,
+    /// More than [`MAX_BLOCKS`] enabled blocks aren't empty in the table, before rounding.
+    TooManyBlocks,
+    /// Kept blocks of different domains share an address. `i` and `j` are their numbers among the
+    /// enabled blocks, from 0. `i` is the least possible, and then `j`.
+    Overlap { i: u32, j: u32 },
+    /// This number of frames of memory has no node; it is [`UNCOVERED_FRAMES`] or more.
+    NotCovered { frames: u64 },
+}
+
+/// The result for the table. If the table isn't used, the lists are empty and `uncovered` is 0.
+#[derive(Debug, Drop)]
+pub struct SratNodes {
+    /// The reason why the table is or isn't used.
+    pub why: Why,
+    /// The domain of each node; the index is the node.
+    pub domains: Vec<u32>,
+    /// The runs of addresses with a node from the blocks, in ascending order.
+    pub joined: Vec<NodeRange>,
+    /// The runs of memory that no block covers, in ascending order, with the lowest node that has
+    /// a block.
+    pub rest: Vec<NodeRange>,
+    /// The number of frames in `rest`.
+    pub uncovered: u64,
+}
+
+/// Decides whether the table is used, and computes the nodes of memory. `memory` has the ranges of
+/// memory, in any order, none of them empty. `off` is true if `numa=off` was given. The table must
+/// have fewer than 2^32 blocks.
+///
+/// # Errors
+///
+/// - `Memory`: the program ran out of memory; there is a table, and `off` is false.
+pub fn judge_srat(
+    alloc: Global,
+    memory: &[Range],
+    srat: Option<&Srat>,
+    off: bool,
+) -> Result<SratNodes, Memory>
+    requires memory { NoMemoryIsEmpty memory.now }
+    requires few { ForSome srat (λ table. length table.now.blocks.items < 2 ^ 32) }
+    ensures value { IfOk result (λ found. srat_nodes_view found ≡
+        judge_srat (is_in_any_range memory.now) off (option_map srat_view (option_copied srat.entry))) }
+    ensures memory { OnErr result (IsFalse off × IsSome srat.entry) }
+{
+    if off {
+        return Ok(unused_srat(alloc, Why::Off));
+    }
+    match srat {
+        None => Ok(unused_srat(alloc, Why::Absent)),
+        Some(table) => judge_srat_table(alloc, memory, &table.cpus, &table.blocks),
+    }
+}
+
+/// Decides about a table that is present: first by the reasons that don't depend on the kept
+/// blocks.
+///
+/// # Errors
+///
+/// - `Memory`: the program ran out of memory.
+fn judge_srat_table(
+    alloc: Global,
+    memory: &[Range],
+    processors: &[u32],
+    blocks: &[SratBlock],
+) -> Result<SratNodes, Memory>
+    requires memory { NoMemoryIsEmpty memory.now }
+    requires few { length blocks.now < 2 ^ 32 }
+    ensures { IfOk result (λ found. srat_nodes_view found ≡
+        judge_srat_table (is_in_any_range memory.now) (record { processors = processors.now; blocks = blocks.now })) }
+{
+    let runs = memory_runs(alloc, memory)?;
+    if !is_any_kept(&runs, blocks) {
+        return Ok(unused_srat(alloc, Why::NoBlocks));
+    }
+    let domains = named_domains(alloc, processors, blocks)?;
+    if domains.len() > MAX_NODES {
+        return Ok(unused_srat(alloc, Why::TooManyDomains));
+    }
+    if count_with_addresses(blocks) > MAX_BLOCKS {
+        return Ok(unused_srat(alloc, Why::TooManyBlocks));
+    }
+    let kept = keep_blocks(alloc, &runs, &domains, blocks)?;
+    judge_kept_blocks(alloc, memory, domains, &kept)
+}
+
+/// Decides about the table by the kept blocks, none of which may be empty.
+///
+/// # Errors
+///
+/// - `Memory`: the program ran out of memory.
+fn judge_kept_blocks(
+    alloc: Global,
+    memory: &[Range],
+    domains: Vec<u32>,
+    kept: &[KeptBlock],
+) -> Result<SratNodes, Memory>
+    requires memory { NoMemoryIsEmpty memory.now }
+    requires some { HaveAddresses (numa_blocks_of kept.now) }
+    requires space { EndInSpace (numa_blocks_of kept.now) }
+    ensures { IfOk result (λ found. srat_nodes_view found ≡ judge_kept_blocks (is_in_any_range memory.now) domains.items kept.now) }
+{
+    let laid = overlay_blocks(alloc, kept)?;
+    if let Some((i, j)) = first_clash(kept, &laid) {
+        return Ok(unused_srat(alloc, Why::Overlap { i, j }));
+    }
+    let joined = fill_gaps(alloc, &laid)?;
+    let rest = uncovered_runs(alloc, memory, &joined, lowest_node(kept))?;
+    let uncovered = count_frames(&rest);
+    if uncovered >= UNCOVERED_FRAMES {
+        return Ok(unused_srat(alloc, Why::NotCovered { frames: uncovered }));
+    }
+    Ok(SratNodes {
+        why: Why::Used,
+        domains,
+        joined,
+        rest,
+        uncovered,
+    })
+}
+
+/// Returns the result for a table that isn't used.
+fn unused_srat(alloc: Global, why: Why) -> SratNodes
+    ensures { srat_nodes_view result ≡ unused_srat why }
+{
+    SratNodes {
+        why,
+        domains: Vec::new(alloc),
+        joined: Vec::new(alloc),
+        rest: Vec::new(alloc),
+        uncovered: 0,
+    }
+}
+
+/// Returns the lowest node of the blocks, or 0 if there are no blocks.
+fn lowest_node(kept: &[KeptBlock]) -> u32
+    ensures { result ≡ lowest_node (numa_blocks_of kept.now) }
+{
+    let [first, others @ ..] = kept else {
+        return 0;
+    };
+    let mut lowest = first.block.value;
+    for other in others {
+        lowest = lowest.min(other.block.value);
+    }
+    lowest
+}

@@ -1,0 +1,127 @@
+//! Finds the memory that no block covers, and counts its frames. The kernel counts them as what is
+//! left of its map (`numa_meminfo_cover_memory`).
+
+ghost use Rattle.std.specs.Prelude.{◌≡◌, ℕ, ◌+◌, ◌-◌, ◌^◌, ◌<◌, ◌≤◌, ◌++◌, [], ◌∷◌, if◌then◌else◌, OnOk, IfOk, map};
+ghost use Rattle.address_runs.specs.Overlay.{HaveAddresses};
+ghost use Rattle.address_runs.specs.Runs.{AreRuns, IsRunsOf, run_end, value_at};
+ghost use Rattle.srat_nodes.specs.SratNodesView.{node_if_uncovered, count_frames_with_node};
+ghost use Rattle.srat_nodes.specs.Kept.{is_in_any_range, NoMemoryIsEmpty};
+ghost use Rattle.srat_nodes.specs.Steps.{run_without_node, run_with_node, uncovered_runs_with_node, run_of_node, count_frames_below, EndInSpace};
+
+use crate::memory::push_uncovered_memory;
+use crate::kept::NodeRange;
+use address_runs::{RunOf, overlay_all};
+use bm_base::{FRAME_SIZE, Memory, Range};
+use std::alloc::Global;
+
+/// Returns the addresses that are in `memory` but in no run of `joined`, as runs in ascending
+/// order, each with the value `node`. No range of `memory` may be empty.
+///
+/// # Errors
+///
+/// - `Memory`: the program ran out of memory.
+pub fn uncovered_runs(
+    alloc: Global,
+    memory: &[Range],
+    joined: &[NodeRange],
+    node: u32,
+) -> Result<Vec<NodeRange>, Memory>
+    requires memory { NoMemoryIsEmpty memory.now }
+    requires joined { AreRuns joined.now }
+    ensures runs { IfOk result (λ rest. IsRunsOf (node_if_uncovered (is_in_any_range memory.now) (value_at joined.now) node) rest.items) }
+    ensures space { IfOk result (λ rest. EndInSpace rest.items) }
+{
+    let told = mark_covered(alloc, memory, joined)?;
+    let covered = overlay_all(alloc, &told)?;
+    uncovered_runs_with_node(alloc, &covered, node)
+}
+
+/// Returns the runs with a node, followed by the ranges of memory. Each says whether it has a
+/// node; when they are overlaid, the first one with an address decides.
+///
+/// # Errors
+///
+/// - `Memory`: the program ran out of memory.
+fn mark_covered(alloc: Global, memory: &[Range], joined: &[NodeRange]) -> Result<Vec<RunOf<bool>>, Memory>
+    ensures { IfOk result (λ told. told.items ≡ map run_with_node joined.now ++ map run_without_node memory.now) }
+{
+    let mut told = Vec::new(alloc);
+    mark_with_nodes(&mut told, joined)?;
+    push_uncovered_memory(&mut told, memory)?;
+    Ok(told)
+}
+
+/// Appends the runs with a node, each with the value `true`.
+///
+/// # Errors
+///
+/// - `Memory`: the program ran out of memory.
+fn mark_with_nodes(told: &mut Vec<RunOf<bool>>, joined: &[NodeRange]) -> Result<(), Memory>
+    ensures { OnOk result (told.new.items ≡ told.old.items ++ map run_with_node joined.now) }
+{
+    for run in joined {
+        told.push(RunOf {
+            range: run.range,
+            value: true,
+        })?;
+    }
+    Ok(())
+}
+
+/// Returns those of the runs that have no node, each with the node that it gets.
+///
+/// # Errors
+///
+/// - `Memory`: the program ran out of memory.
+fn uncovered_runs_with_node(alloc: Global, covered: &[RunOf<bool>], node: u32) -> Result<Vec<NodeRange>, Memory>
+    ensures value { IfOk result (λ rest. rest.items ≡ uncovered_runs_with_node node covered.now) }
+    ensures space { IfOk result (λ rest. EndInSpace rest.items) }
+{
+    let mut rest = Vec::new(alloc);
+    for run in covered {
+        push_run_of_node(&mut rest, run, node)?;
+    }
+    Ok(rest)
+}
+
+/// Appends the run with this node, if it has no node.
+///
+/// # Errors
+///
+/// - `Memory`: the program ran out of memory.
+fn push_run_of_node(rest: &mut Vec<NodeRange>, run: &RunOf<bool>, node: u32) -> Result<(), Memory>
+    ensures value { OnOk result (rest.new.items ≡
+        (if run.now.value then rest.old.items else rest.old.items ++ run_of_node node run.now ∷ [])) }
+    ensures space { run_end run.now < 2 ^ 64 }
+{
+    if !run.value {
+        rest.push(RunOf {
+            range: run.range,
+            value: node,
+        })?;
+    }
+    Ok(())
+}
+
+/// Returns the number of frames that begin in the runs.
+pub fn count_frames(runs: &[NodeRange]) -> u64
+    requires { AreRuns runs.now }
+    ensures { result ≡ count_frames_with_node (value_at runs.now) }
+{
+    let mut frames = 0;
+    let mut rest = runs;
+    while let [run, others @ ..] = rest {
+        frames += frames_begun(run);
+        rest = others;
+    }
+    frames
+}
+
+/// Returns the number of frames that begin in the run.
+fn frames_begun(run: &NodeRange) -> u64
+    ensures value { result ≡ count_frames_below (run_end run.now) - count_frames_below run.now.base }
+    ensures space { run_end run.now < 2 ^ 64 }
+{
+    let end = run.range.end();
+    end.div_ceil(FRAME_SIZE) - run.range.base.div_ceil(FRAME_SIZE)
+}

@@ -1,0 +1,31 @@
+-- Why a stage stops the boot, and the error that its call returns for it. A definition needs no
+-- memory of this program, so out of memory is no cause. It is the error for `None`.
+use Rattle.std.specs.Prelude.{ℕ, Option, Some, None}
+use Rattle.memblock_model.specs.declared.owner.Which.{Which}
+use Rattle.growth_model.specs.declared.refusal.Refusal.{Refusal}
+use Rattle.growth_model.specs.declared.refusal.Refusal.TheVariants as refusal
+use Rattle.growth_model.specs.Change.{RefusedGrowth}
+use Rattle.memblock_grow.specs.declared.stop.What.{What}
+use Rattle.memblock_grow.specs.declared.stop.StageStop.{StageStop}
+use Rattle.memblock_grow.specs.declared.stop.StageStop.TheVariants as stop
+
+-- no place fits what the boot needs, or a table had to grow and found no place
+pub data StageCause : Type 0 where
+  NoPlace : (thing : What) → StageCause
+  NoTablePlace : (which : Which) (room : ℕ) → StageCause
+
+abbrev pub stage_stop : Option StageCause → StageStop
+stage_stop None = stop.Memory
+stage_stop (Some (NoPlace thing)) = stop.NoPlace thing
+stage_stop (Some (NoTablePlace w room)) = stop.NoTablePlace w room
+
+-- the error of a stage that makes its own searches: only a table that found no place stops it
+abbrev pub refusal_for : Option RefusedGrowth → Refusal
+refusal_for None = refusal.Memory
+refusal_for (Some r) = refusal.NoGapForTable r.which r.room
+
+-- why the boot stops if memblock refused a request for this
+abbrev pub stop_for : What → Refusal → StageStop
+stop_for thing refusal.NoGap = stop.NoPlace thing
+stop_for thing (refusal.NoGapForTable w room) = stop.NoTablePlace w room
+stop_for thing refusal.Memory = stop.Memory

@@ -1,0 +1,5 @@
+pub mod Causes
+pub mod Steps
+pub mod Nodes
+pub mod Requests
+pub mod KeepsMemory

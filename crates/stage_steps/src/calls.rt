@@ -1,0 +1,80 @@
+//! Calls of memblock whose refusal is returned as the stop of a stage.
+ghost use Rattle.std.specs.Prelude.{◌≡◌, ℕ, ◌+◌, ◌-◌, ◌^◌, ◌<◌, ◌≤◌, false, IfOk, IsOk, Some};
+ghost use Rattle.memblock_model.specs.declared.owner.Which.TheVariants as tables_of;
+ghost use Rattle.growth_model.specs.Growth.{set_range_node, count_uncovered_pieces, split_record_count, is_full as is_full_by};
+ghost use Rattle.growth_model.specs.Request.{place_for};
+ghost use Rattle.growth_model.specs.Tables.{HasBegun};
+ghost use Rattle.memblock_grow.specs.Continues.{ContinuesMemblock};
+ghost use Rattle.stage_steps.specs.Causes.{stage_stop, stop_for};
+ghost use Rattle.stage_steps.specs.Steps.{EndsAsStage};
+ghost use Rattle.stage_steps.specs.Requests.{place_or_stop, change_or_stop};
+
+use bm_base::Range;
+use boot_journal::Owner;
+use growth_model::{Refusal, Request};
+use memblock_grow::{Memblock, StageStop, What};
+
+/// Returns why the boot stops if memblock refused a request for `what`.
+pub fn stop_for(what: What, refusal: Refusal) -> StageStop
+    ensures { result ≡ stop_for what refusal }
+{
+    match refusal {
+        Refusal::NoGap => StageStop::NoPlace { what },
+        Refusal::NoGapForTable { which, room } => StageStop::NoTablePlace { which, room },
+        Refusal::Memory => StageStop::Memory,
+    }
+}
+
+/// Allocates memory that the boot needs, and returns its address. The size must be at least 1, and
+/// the alignment a power of two. If a place fits, the reserved table has room for it and the
+/// journal has room for an item, the call can't fail.
+///
+/// # Errors
+///
+/// - `NoPlace` if no place fits the request.
+/// - `NoTablePlace` if a table has to grow and finds no place.
+/// - `Memory` if this program is out of memory. The call then stops before one of its steps.
+pub fn place_or_stop(
+    memblock: &mut Memblock,
+    what: What,
+    request: &Request,
+    owner: Owner,
+) -> Result<u64, StageStop>
+    requires begun { HasBegun memblock.old.journal.items }
+    requires some { 1 ≤ request.now.size }
+    requires aligned { (k : ℕ) × (request.now.align ≡ 2 ^ k) }
+    ensures ends { EndsAsStage (place_or_stop what request.now owner) stage_stop result memblock.old.journal.items memblock.new.journal.items }
+    ensures inside { IfOk result (λ base. base + request.now.size < 2 ^ 64) }
+    ensures ready { (place : ℕ) → place_for request.now memblock.old.journal.items ≡ Some place → 0 < memblock.old.journal.spare →
+        is_full_by tables_of.Reserved (count_uncovered_pieces tables_of.Reserved (record { base = place; size = request.now.size }))
+        memblock.old.journal.items ≡ false → IsOk result × (memblock.new.journal.spare ≡ memblock.old.journal.spare - 1) }
+    ensures goes_on { ContinuesMemblock memblock.old memblock.new }
+{
+    match memblock.alloc(request, owner) {
+        Ok(base) => Ok(base),
+        Err(refusal) => Err(stop_for(what, refusal)),
+    }
+}
+
+/// Gives the node, which is below 1,024, to the memory of the range. If the memory table has room
+/// for two more records and the journal has room for an item, the call can't fail. The range must
+/// not be empty.
+///
+/// # Errors
+///
+/// - `NoTablePlace` if a table has to grow and finds no place.
+/// - `Memory` if this program is out of memory. The call then stops before one of its steps.
+pub fn set_node_or_stop(memblock: &mut Memblock, range: Range, node: u32) -> Result<(), StageStop>
+    requires begun { HasBegun memblock.old.journal.items }
+    requires some { 0 < range.size }
+    requires node { node < 1024 }
+    ensures ends { EndsAsStage (change_or_stop (set_range_node range node)) stage_stop result memblock.old.journal.items memblock.new.journal.items }
+    ensures ready { 0 < memblock.old.journal.spare → is_full_by tables_of.Memory split_record_count memblock.old.journal.items ≡ false →
+        IsOk result × (memblock.new.journal.spare ≡ memblock.old.journal.spare - 1) }
+    ensures goes_on { ContinuesMemblock memblock.old memblock.new }
+{
+    match memblock.set_node(range, node) {
+        Ok(()) => Ok(()),
+        Err(refusal) => Err(stop_for(What::NodeData(node), refusal)),
+    }
+}

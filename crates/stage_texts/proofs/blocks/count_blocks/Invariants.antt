@@ -1,7 +1,0 @@
--- The blocks so far, and those of the rows that are left, are all blocks.
-use Rattle.std.proofs.Common.{◌≡◌, ◌+◌, drop, length}
-use Rattle.frame_blocks.specs.Rows.{blocks_of_rows}
-use Rattle.stage_texts.proofs.blocks.count_blocks.Given as goal
-
-abbrev pub invariant-loop-row : goal.invariant-loop-row
-invariant-loop-row l = l.count + length (blocks_of_rows (drop l.row-index l.rows)) ≡ length (blocks_of_rows l.rows)

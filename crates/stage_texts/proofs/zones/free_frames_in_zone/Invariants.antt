@@ -1,9 +1,0 @@
--- The frames in the blocks of the orders so far.
-use Rattle.std.proofs.Common.{◌≡◌}
-use Rattle.buddy_handover.specs.Contents.{buddy_frames}
-use Rattle.frame_blocks.specs.Listed.{blocks_of}
-use Rattle.stage_texts.proofs.ZoneLaws.{frames_below}
-use Rattle.stage_texts.proofs.zones.free_frames_in_zone.Given as goal
-
-abbrev pub invariant-loop-order : goal.invariant-loop-order
-invariant-loop-order l = l.frames ≡ frames_below l.node l.zone l.order (blocks_of (buddy_frames l.buddy))
