@@ -59,9 +59,9 @@ class Words(Case):
         self.check("options of Grammar.antt", codes_in("program_args", "Grammar", r"^options =\n(.*?)∷ \[\]"), list(words.OPTIONS))
         self.check("flags of Grammar.antt", re.findall(r'codes "([a-z0-9-]+)", SetTrue', text("crates/program_args/specs/Grammar.antt")),
                    [name for name, value in words.OPTIONS.items() if not value])
-        self.check("reports of Report.antt", codes_in("debugfs_reports", "Report", r"^(name_of reports.*?)$"), list(words.REPORTS))
-        self.check("inputs of Input.antt", codes_in("boot_inputs", "Input", r"^(word_for inputs.*?)$"), list(words.INPUTS))
-        self.check("options of bootaudit's Words.antt", codes_in("boot_audit", "Words", r"^(accepted .*?)$"), AUDIT)
+        self.check("reports of Report.antt", codes_in("debugfs_reports", "Report", r"^(report_name reports.*?)$"), list(words.REPORTS))
+        self.check("inputs of Input.antt", codes_in("boot_inputs", "Input", r"^(input_word inputs.*?)$"), list(words.INPUTS))
+        self.check("options of bootaudit's Args.antt", codes_in("boot_audit", "Args", r"^(read_audit_args .*?)$"), AUDIT)
 
     @unittest.skipUnless(os.access(PROGRAM, os.X_OK), "there is no program: it isn't asked for its words")
     def test_program(self):

@@ -45,7 +45,8 @@ fn eight_frames_are_sound(rt: HostRuntime) {
         rt.alloc(),
         b"0x0000000000000000..0x0000000000007fff 1 usable\n",
         b"   0: 0x0000000000000000..0x0000000000000fff kernel\n",
-        b"node 0 zone DMA order 0 0x0000000000001000\nnode 0 zone DMA order 1 0x0000000000002000\nnode 0 zone DMA order 2 0x0000000000004000\n",
+        b"node 0 zone DMA order 0 0x0000000000001000\nnode 0 zone DMA order 1 0x0000000000002000\n\
+            node 0 zone DMA order 2 0x0000000000004000\n",
     );
     assert!(rt; verdict == Some(Verdict::Sound));
 }
@@ -67,7 +68,9 @@ fn block_in_wrong_zone(rt: HostRuntime) {
         rt.alloc(),
         b"0x0000000000000000..0x0000000000007fff 1 usable\n",
         b"   0: 0x0000000000000000..0x0000000000000fff kernel\n",
-        b"node 0 zone DMA32 order 0 0x0000000000001000\nnode 0 zone DMA order 1 0x0000000000002000\nnode 0 zone DMA order 2 0x0000000000004000\n",
+        b"node 0 zone DMA32 order 0 0x0000000000001000\n\
+            node 0 zone DMA order 1 0x0000000000002000\n\
+            node 0 zone DMA order 2 0x0000000000004000\n",
     );
     assert!(rt; verdict == Some(Verdict::WrongZone { line: 1 }));
 }
@@ -78,7 +81,8 @@ fn owned_frame_in_a_block(rt: HostRuntime) {
         rt.alloc(),
         b"0x0000000000000000..0x0000000000007fff 1 usable\n",
         b"   0: 0x0000000000000000..0x0000000000001000 kernel\n",
-        b"node 0 zone DMA order 0 0x0000000000001000\nnode 0 zone DMA order 1 0x0000000000002000\nnode 0 zone DMA order 2 0x0000000000004000\n",
+        b"node 0 zone DMA order 0 0x0000000000001000\nnode 0 zone DMA order 1 0x0000000000002000\n\
+            node 0 zone DMA order 2 0x0000000000004000\n",
     );
     assert!(rt; verdict == Some(Verdict::NotFree { frame: 1 }));
 }
@@ -89,7 +93,8 @@ fn frame_that_is_ram_in_part(rt: HostRuntime) {
         rt.alloc(),
         b"0x0000000000000000..0x0000000000007ffe 1 usable\n",
         b"   0: 0x0000000000000000..0x0000000000000fff kernel\n",
-        b"node 0 zone DMA order 0 0x0000000000001000\nnode 0 zone DMA order 1 0x0000000000002000\nnode 0 zone DMA order 2 0x0000000000004000\n",
+        b"node 0 zone DMA order 0 0x0000000000001000\nnode 0 zone DMA order 1 0x0000000000002000\n\
+            node 0 zone DMA order 2 0x0000000000004000\n",
     );
     assert!(rt; verdict == Some(Verdict::NotFree { frame: 7 }));
 }
@@ -111,7 +116,9 @@ fn halves_that_could_be_joined(rt: HostRuntime) {
         rt.alloc(),
         b"0x0000000000000000..0x0000000000007fff 1 usable\n",
         b"   0: 0x0000000000000000..0x0000000000000fff kernel\n",
-        b"node 0 zone DMA order 0 0x0000000000001000\nnode 0 zone DMA order 1 0x0000000000002000\nnode 0 zone DMA order 1 0x0000000000004000\nnode 0 zone DMA order 1 0x0000000000006000\n",
+        b"node 0 zone DMA order 0 0x0000000000001000\nnode 0 zone DMA order 1 0x0000000000002000\n\
+            node 0 zone DMA order 1 0x0000000000004000\n\
+            node 0 zone DMA order 1 0x0000000000006000\n",
     );
     assert!(rt; verdict == Some(Verdict::NotMaximal { line: 3 }));
 }
@@ -122,7 +129,9 @@ fn halves_of_two_nodes(rt: HostRuntime) {
         rt.alloc(),
         b"0x0000000000000000..0x0000000000007fff 1 usable\n",
         b"   0: 0x0000000000000000..0x0000000000000fff kernel\n",
-        b"node 0 zone DMA order 0 0x0000000000001000\nnode 0 zone DMA order 1 0x0000000000002000\nnode 0 zone DMA order 1 0x0000000000004000\nnode 1 zone DMA order 1 0x0000000000006000\n",
+        b"node 0 zone DMA order 0 0x0000000000001000\nnode 0 zone DMA order 1 0x0000000000002000\n\
+            node 0 zone DMA order 1 0x0000000000004000\n\
+            node 1 zone DMA order 1 0x0000000000006000\n",
     );
     assert!(rt; verdict == Some(Verdict::Sound));
 }
@@ -131,7 +140,8 @@ fn halves_of_two_nodes(rt: HostRuntime) {
 fn second_block_repeated(rt: HostRuntime) {
     let fault = fault_of::<BlockLine>(
         rt.alloc(),
-        b"node 0 zone DMA order 8 0x0000000000100000\nnode 0 zone DMA order 9 0x0000000000200000\nnode 0 zone DMA order 9 0x0000000000200000\n",
+        b"node 0 zone DMA order 8 0x0000000000100000\nnode 0 zone DMA order 9 0x0000000000200000\n\
+            node 0 zone DMA order 9 0x0000000000200000\n",
     );
     assert!(rt; fault == Some(LineFault::Order { line: 3 }));
 }
@@ -155,7 +165,8 @@ fn block_beyond_all_addresses(rt: HostRuntime) {
 fn type_0(rt: HostRuntime) {
     let fault = fault_of::<MapLine>(
         rt.alloc(),
-        b"0x0000000000000000..0x0000000000007fff 1 usable\n0x0000000000008000..0x0000000000008fff 0 other\n",
+        b"0x0000000000000000..0x0000000000007fff 1 usable\n\
+            0x0000000000008000..0x0000000000008fff 0 other\n",
     );
     assert!(rt; fault == Some(LineFault::Form { line: 2 }));
 }
@@ -173,7 +184,8 @@ fn name_of_another_type(rt: HostRuntime) {
 fn runs_that_share_a_byte(rt: HostRuntime) {
     let fault = fault_of::<MapLine>(
         rt.alloc(),
-        b"0x0000000000000000..0x0000000000007fff 1 usable\n0x0000000000007fff..0x0000000000008fff 2 reserved\n",
+        b"0x0000000000000000..0x0000000000007fff 1 usable\n\
+            0x0000000000007fff..0x0000000000008fff 2 reserved\n",
     );
     assert!(rt; fault == Some(LineFault::Order { line: 2 }));
 }
@@ -182,7 +194,8 @@ fn runs_that_share_a_byte(rt: HostRuntime) {
 fn form_goes_before_order(rt: HostRuntime) {
     let fault = fault_of::<MapLine>(
         rt.alloc(),
-        b"0x0000000000000000..0x0000000000007fff 1 usable\n0x0000000000000000..0x0000000000000fff 1 other\n",
+        b"0x0000000000000000..0x0000000000007fff 1 usable\n\
+            0x0000000000000000..0x0000000000000fff 1 other\n",
     );
     assert!(rt; fault == Some(LineFault::Form { line: 2 }));
 }
@@ -191,7 +204,8 @@ fn form_goes_before_order(rt: HostRuntime) {
 fn lowest_line_first(rt: HostRuntime) {
     let fault = fault_of::<MapLine>(
         rt.alloc(),
-        b"0x0000000000001000..0x0000000000001fff 1 usable\n0x0000000000000000..0x0000000000007fff 1 usable\nx\n",
+        b"0x0000000000001000..0x0000000000001fff 1 usable\n\
+            0x0000000000000000..0x0000000000007fff 1 usable\nx\n",
     );
     assert!(rt; fault == Some(LineFault::Order { line: 2 }));
 }

@@ -7,7 +7,7 @@ ghost use Rattle.audit_lines.specs.Fields.{rest_after, is_at_end};
 ghost use Rattle.audit_lines.specs.Forms.{block_in, block_if_bounded, map_type_name, map_in, owner_in, zone_in};
 ghost use Rattle.bm_base.specs.Text.{padded_decimal};
 
-use crate::fields::{address_in, rest_after, number_in, range_at_start};
+use crate::fields::{address_in, number_in, range_at_start, rest_after};
 use crate::lines::{BlockLine, MapLine};
 use crate::names::is_owner;
 use crate::report::ReportLine;
@@ -157,7 +157,8 @@ fn zone_in(text: &[u8]) -> Option<(Zone, &[u8])>
 
 /// Returns the block, or `None` if its order is above 10, or it ends above 2^52.
 fn block_if_bounded(node: u32, zone: Zone, order: u32, at: u64) -> Option<BlockLine>
-    ensures { result ≡ block_if_bounded (record { node = node; zone = zone; order = order; at = at }) }
+    ensures { result
+        ≡ block_if_bounded (record { node = node; zone = zone; order = order; at = at }) }
 {
     if order > 10 {
         return None;

@@ -37,7 +37,8 @@ impl Model for BlockLine {
 
     ghost view = { λ b. record { node = b.node; zone = b.zone; order = b.order; at = b.at } };
 
-    ghost invariant = { λ b. IsBlockLine (record { node = b.node; zone = b.zone; order = b.order; at = b.at }) };
+    ghost invariant = { λ b.
+        IsBlockLine (record { node = b.node; zone = b.zone; order = b.order; at = b.at }) };
 
     ghost inverse = { λ b. record { node = b.node; zone = b.zone; order = b.order; at = b.at } };
 }

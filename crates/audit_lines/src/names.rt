@@ -3,7 +3,7 @@
 ghost use Rattle.std.specs.Prelude.{◌≡◌};
 ghost use Rattle.audit_lines.specs.Forms.{is_first_owner, is_exactly, is_later_owner, is_numbered, is_numbered_owner, is_owner};
 
-use crate::fields::{rest_after, number_in};
+use crate::fields::{number_in, rest_after};
 
 /// Tests whether the text is the name of an owner.
 #[tactic(auto, unfolding(crate::specs::Forms::is_owner))]

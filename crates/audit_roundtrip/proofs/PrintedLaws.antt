@@ -1,7 +1,7 @@
 -- Lemmas: what was read would be printed as the same text.
 use Rattle.std.proofs.Common.{◌≡◌, ℕ, ◌*◌, ◌/◌, List, ◌++◌, ◌∷◌, [], map, Ok, refl, arith}
 use Rattle.std.specs.List.{All}
-use Rattle.audit_lines.specs.Blocks.{BlockLineView as BlockLine, bytes_of_block}
+use Rattle.audit_lines.specs.Blocks.{BlockLineView, bytes_of_block}
 use Rattle.audit_lines.specs.Forms.{block_in, map_in}
 use Rattle.audit_lines.specs.Reports.{report_of}
 use Rattle.audit_lines.specs.declared.lines.MapLine.{MapLine}
@@ -22,11 +22,11 @@ pub map_printed : (bytes : List ℕ) (lines : List MapLine) → report_of map_in
 map_printed bytes lines is =
     report_is map_in (λ l. l.range) map_words map_line parsed_map_run (λ l. Unit {0}) map_is map_lined bytes lines is (λ k d inside. tt)
 
-block_lined : (n : ℕ) (b : BlockLine) → BeginsAtFrame b → block_line n (block_of_line b) ≡ block_words b ++ (10 ∷ [])
+block_lined : (n : ℕ) (b : BlockLineView) → BeginsAtFrame b → block_line n (block_of_line b) ≡ block_words b ++ (10 ∷ [])
 block_lined n b at_frame =
     let at : 4096 * (b.at / 4096) ≡ b.at = omega (arith, at_frame) in rw (same_zone b.zone, at) refl
 
-pub blocks_printed : (bytes : List ℕ) (blocks : List BlockLine) → report_of block_in bytes_of_block bytes ≡ Ok blocks
+pub blocks_printed : (bytes : List ℕ) (blocks : List BlockLineView) → report_of block_in bytes_of_block bytes ≡ Ok blocks
     → All BeginsAtFrame blocks → bytes ≡ indexed_lines block_line 0 (map block_of_line blocks)
 blocks_printed bytes blocks is all =
     report_is block_in bytes_of_block block_words block_line block_of_line BeginsAtFrame block_is block_lined bytes blocks is all

@@ -7,7 +7,7 @@ use Rattle.bm_base.specs.Range.{RangeView}
 use Rattle.bm_base.specs.declared.zone.Zone.{Zone}
 use Rattle.bm_base.specs.declared.zone.Zone.TheVariants as zones
 use Rattle.audit_lines.specs.Blocks.{bytes_of_block}
-use Rattle.audit_lines.specs.Forms.{block_in, is_exactly, is_numbered, is_owner, map_type_name as kind_name_in, map_in, owner_in}
+use Rattle.audit_lines.specs.Forms.{block_in, is_exactly, is_numbered, is_owner, map_type_name, map_in, owner_in}
 use Rattle.audit_lines.specs.Fields.{rest_after}
 use Rattle.audit_lines.specs.Lines.{AscendApart, StartFrom}
 use Rattle.audit_lines.specs.Reports.{report_of}
@@ -32,8 +32,8 @@ module _ {L X : Type 0} (form : ℕ → List ℕ → Option L) (extent : L → R
   all_back (x ∷ xs) all = (each x (All-head P x xs all), all_back xs (All-tail P x xs all))
 
 -- both crates have the same names for types
-pub same_name : (kind : ℕ) → kind_name_in kind ≡ e820_type_name kind
-unfolding kind_name_in
+pub same_name : (kind : ℕ) → map_type_name kind ≡ e820_type_name kind
+unfolding map_type_name
 same_name kind = refl
 
 run_back : (r : RunOf ℕ) → IsPrintableRun r

@@ -5,7 +5,7 @@ use Rattle.address_runs.specs.Runs.{RunOf, extent_of}
 use Rattle.bm_base.specs.Range.{end_of}
 use Rattle.bm_base.specs.Frames.{bytes_of_frame}
 use Rattle.bm_base.specs.declared.range.TheConstants.{FRAME_SIZE}
-use Rattle.audit_lines.specs.Blocks.{BlockLineView as BlockLine, IsBlockLine}
+use Rattle.audit_lines.specs.Blocks.{BlockLineView, IsBlockLine}
 use Rattle.audit_lines.specs.declared.lines.MapLine.{MapLine}
 use Rattle.buddy_blocks.specs.declared.block.Block.{Block}
 use Rattle.memblock_model.specs.declared.owner.Owner.{Owner}
@@ -36,7 +36,7 @@ abbrev pub IsPrintableOwnerRun : RunOf Owner → Type 0
 IsPrintableOwnerRun r = IsPrintableRange r × IsPrintableOwner r.value
 
 -- the line of a block: its node, zone and order, and the address of its first byte
-abbrev pub line_of_block : Block → BlockLine
+abbrev pub line_of_block : Block → BlockLineView
 line_of_block b = record { node = b.node; zone = b.zone; order = b.order; at = (bytes_of_frame b.first).base }
 
 -- the block has a node of 32 bits and an order up to 10, and ends at or below 2^52
@@ -47,9 +47,9 @@ IsPrintableBlock b = (b.node < 2 ^ 32) × IsBlockLine (line_of_block b)
 abbrev pub parsed_map_run : MapLine → RunOf ℕ
 parsed_map_run l = record { base = l.range.base; size = l.range.size; value = l.kind }
 
-abbrev pub block_of_line : BlockLine → Block
+abbrev pub block_of_line : BlockLineView → Block
 block_of_line b = record { node = b.node; zone = b.zone; order = b.order; first = b.at / FRAME_SIZE }
 
 -- the block begins at a frame
-abbrev pub BeginsAtFrame : BlockLine → Type 0
+abbrev pub BeginsAtFrame : BlockLineView → Type 0
 BeginsAtFrame b = b.at % FRAME_SIZE ≡ 0

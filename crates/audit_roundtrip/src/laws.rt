@@ -4,7 +4,7 @@
 ghost use Rattle.std.specs.Prelude.{◌≡◌, ◌<◌, ◌^◌, ℕ, List, Ok, length, map};
 ghost use Rattle.std.specs.List.{All};
 ghost use Rattle.address_runs.specs.Runs.{RunOf, extent_of};
-ghost use Rattle.audit_lines.specs.Blocks.{BlockLineView as BlockLine, bytes_of_block};
+ghost use Rattle.audit_lines.specs.Blocks.{BlockLineView, bytes_of_block};
 ghost use Rattle.audit_lines.specs.Forms.{block_in, map_in, owner_in};
 ghost use Rattle.audit_lines.specs.Lines.{AscendApart};
 ghost use Rattle.audit_lines.specs.Reports.{report_of};
@@ -21,14 +21,16 @@ ghost use Rattle.report_stages.specs.BlocksText.{block_line};
 /// disjoint, not empty, end below 2^64, and have types above 0. There must be fewer than 2^64
 /// runs.
 pub fn map_is_read_back()
-    ensures { (runs : List (RunOf ℕ)) → length runs < 2 ^ 64 → All IsPrintableRun runs → AscendApart (map extent_of runs)
+    ensures { (runs : List (RunOf ℕ)) → length runs < 2 ^ 64 → All IsPrintableRun runs
+        → AscendApart (map extent_of runs)
         → report_of map_in (λ l. l.range) (map_text runs) ≡ Ok (map line_of_run runs) }
 {}
 
 /// Law: the text of the owners is read as the ranges that have an owner. The ranges must be
 /// ascending and disjoint, not empty, and end below 2^64. There must be fewer than 2^64 ranges.
 pub fn owners_are_read_back()
-    ensures { (runs : List (RunOf Owner)) → length runs < 2 ^ 64 → All IsPrintableOwnerRun runs → AscendApart (map extent_of runs)
+    ensures { (runs : List (RunOf Owner)) → length runs < 2 ^ 64 → All IsPrintableOwnerRun runs
+        → AscendApart (map extent_of runs)
         → report_of owner_in (λ r. r) (owners_text runs) ≡ Ok (map extent_of runs) }
 {}
 
@@ -37,18 +39,21 @@ pub fn owners_are_read_back()
 pub fn blocks_are_read_back()
     ensures { (blocks : List Block) → length blocks < 2 ^ 64 → All IsPrintableBlock blocks
         → AscendApart (map bytes_of_block (map line_of_block blocks))
-        → report_of block_in bytes_of_block (indexed_lines block_line 0 blocks) ≡ Ok (map line_of_block blocks) }
+        → report_of block_in bytes_of_block (indexed_lines block_line 0 blocks)
+        ≡ Ok (map line_of_block blocks) }
 {}
 
 /// Law: bytes that are read as a map are exactly the text of that map.
 pub fn read_map_is_printed()
-    ensures { (bytes : List ℕ) (lines : List MapLine) → report_of map_in (λ l. l.range) bytes ≡ Ok lines
+    ensures { (bytes : List ℕ) (lines : List MapLine)
+        → report_of map_in (λ l. l.range) bytes ≡ Ok lines
         → bytes ≡ map_text (map parsed_map_run lines) }
 {}
 
 /// Law: bytes that are read as blocks, each of which begins at a frame, are exactly the lines of
 /// these blocks.
 pub fn read_blocks_are_printed()
-    ensures { (bytes : List ℕ) (blocks : List BlockLine) → report_of block_in bytes_of_block bytes ≡ Ok blocks
+    ensures { (bytes : List ℕ) (blocks : List BlockLineView)
+        → report_of block_in bytes_of_block bytes ≡ Ok blocks
         → All BeginsAtFrame blocks → bytes ≡ indexed_lines block_line 0 (map block_of_line blocks) }
 {}

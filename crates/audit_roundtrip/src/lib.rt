@@ -10,8 +10,9 @@
 //! - [`read_map_is_printed`], [`read_blocks_are_printed`]: a text that is accepted is the one that
 //!   would be printed for the result.
 //!
-//! `specs/PrintedLines.antt` defines the line that a run or a block is read back as. The audit keeps the
-//! ranges of `owners`, but not the names, so there is no law of the second kind for that report.
+//! `specs/PrintedLines.antt` defines the line that a run or a block is read back as. The audit
+//! keeps the ranges of `owners`, but not the names, so there is no law of the second kind for that
+//! report.
 #![tactic(auto)]
 
 mod laws;

@@ -15,7 +15,7 @@ use Rattle.buddy_blocks.specs.declared.block.Block.{Block}
 use Rattle.boot_model.specs.Boot.{lies_in_memory}
 use Rattle.conservation.specs.ByMap.{IsUsableByMap}
 use Rattle.conservation.specs.RecordedClaims.{IsTouched, IsUntouched}
-use Rattle.conservation.specs.Headline.{count_blocks_with as blocks_of_told, has_frame}
+use Rattle.conservation.specs.Headline.{count_blocks_with, has_frame}
 use Rattle.conservation.proofs.ClaimedLaws.{covers_frame, frame_covers}
 use Rattle.audit_roundtrip.specs.PrintedLines.{line_of_block, line_of_run}
 use Rattle.boot_audit.specs.Conserved.{count_blocks_of_frame}
@@ -94,21 +94,21 @@ pub frame_told : (b : Block) (frame : ℕ) → covers (frames_of_block (line_of_
 frame_told b frame = ap (λ (e : RangeView). covers e frame) (frames_told b)
 
 -- so the numbers of blocks that have it are equal
-pub counted_told : (bs : List Block) (frame : ℕ) → count_blocks_of_frame (map line_of_block bs) frame ≡ blocks_of_told bs frame
+pub counted_told : (bs : List Block) (frame : ℕ) → count_blocks_of_frame (map line_of_block bs) frame ≡ count_blocks_with bs frame
 counted_told [] frame = refl
 counted_told (b ∷ bs) frame =
-    let counts : blocks_of_told (b ∷ bs) frame ≡ cond (has_frame b frame) 1 0 + blocks_of_told bs frame =
+    let counts : count_blocks_with (b ∷ bs) frame ≡ cond (has_frame b frame) 1 0 + count_blocks_with bs frame =
     sum_by-cons (λ (c : Block). cond (has_frame c frame) 1 0) b bs in
-    let rest : count_blocks_of_frame (map line_of_block bs) frame ≡ blocks_of_told bs frame = counted_told bs frame in
-    elim (cases_Bool (has_frame b frame)) as (λ _. count_blocks_of_frame (map line_of_block (b ∷ bs)) frame ≡ blocks_of_told (b ∷ bs) frame) [
+    let rest : count_blocks_of_frame (map line_of_block bs) frame ≡ count_blocks_with bs frame = counted_told bs frame in
+    elim (cases_Bool (has_frame b frame)) as (λ _. count_blocks_of_frame (map line_of_block (b ∷ bs)) frame ≡ count_blocks_with (b ∷ bs) frame) [
       | inl inside ↦
           (let here : covers (frames_of_block (line_of_block b)) frame ≡ true = frame_told b frame ∙ inside in
-          let one : blocks_of_told (b ∷ bs) frame ≡ 1 + blocks_of_told bs frame =
-          counts ∙ ap (λ (t : Bool). cond t 1 0 + blocks_of_told bs frame) inside in
+          let one : count_blocks_with (b ∷ bs) frame ≡ 1 + count_blocks_with bs frame =
+          counts ∙ ap (λ (t : Bool). cond t 1 0 + count_blocks_with bs frame) inside in
           rw here (omega (arith, rest, one)))
       | inr outside ↦
           (let away : covers (frames_of_block (line_of_block b)) frame ≡ false = frame_told b frame ∙ outside in
-          let none : blocks_of_told (b ∷ bs) frame ≡ 0 + blocks_of_told bs frame =
-          counts ∙ ap (λ (t : Bool). cond t 1 0 + blocks_of_told bs frame) outside in
+          let none : count_blocks_with (b ∷ bs) frame ≡ 0 + count_blocks_with bs frame =
+          counts ∙ ap (λ (t : Bool). cond t 1 0 + count_blocks_with bs frame) outside in
           rw away (omega (arith, rest, none)))
     ]

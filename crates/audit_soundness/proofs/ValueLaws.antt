@@ -8,7 +8,7 @@ use Rattle.memblock_model.specs.Same.{same_owner}
 use Rattle.memblock_model.specs.declared.item.Item.{Item}
 use Rattle.memblock_model.proofs.SameLaws.{owner_tells}
 use Rattle.boot_model.specs.Boot.{InputsView, BootedView, booted_address_limit, whole_boot}
-use Rattle.conservation.specs.Headline.{IsTouchedOrInOneBlock as IsKept, booted_blocks, count_blocks_with as blocks_of_told}
+use Rattle.conservation.specs.Headline.{IsTouchedOrInOneBlock, booted_blocks, count_blocks_with}
 use Rattle.conservation.proofs.HeadlineLaws.{all_touched_or_in_one, blocks_maximal, blocks_whole, no_other_in_a_block}
 use Rattle.conservation.proofs.MapLaws.{usable_mapped}
 use Rattle.audit_roundtrip.specs.PrintedLines.{line_of_block, line_of_run}
@@ -25,7 +25,7 @@ module _ (given : InputsView) (told : BootedView) (ends : whole_boot given ≡ O
   runs : IsRunsOf (owner_of told.items) (owner_runs_of told.items)
   runs = owner_runs told.items near
 
-  kept_told : (frame : ℕ) → IsKept told frame
+  kept_told : (frame : ℕ) → IsTouchedOrInOneBlock told frame
       → IsTouchedOrInOne (map extent_of (owner_runs_of told.items)) (map line_of_block (booted_blocks told)) frame
   kept_told frame (inl touched) = inl (
     touched_told told.items (owner_runs_of told.items) runs frame touched.0,
@@ -43,7 +43,7 @@ module _ (given : InputsView) (told : BootedView) (ends : whole_boot given ≡ O
         kept_told frame (all_touched_or_in_one given told ends frame
         ((usable_mapped given told frame ends).1 (told_usable (booted_address_limit told) told.map frame usable)));
     others = λ frame some.
-        (let has : 0 < blocks_of_told (booted_blocks told) frame =
+        (let has : 0 < count_blocks_with (booted_blocks told) frame =
         subst (λ (n : ℕ). 0 < n) (counted_told (booted_blocks told) frame) some in
         let free = no_other_in_a_block given told ends frame has in (
           usable_told (booted_address_limit told) told.map frame ((usable_mapped given told frame ends).0 free.0),

@@ -25,9 +25,11 @@ pub fn booted_reports_are_sound(booted: &Booted)
     ghost given: { InputsView }
     requires { whole_boot given ≡ Ok (booted_view booted.now) }
     ensures told { IsPrintableBoot (booted_view booted.now) }
-    ensures conserved { (held : FileContents) (wanted : AuditArgsView) → AreSaved held wanted (booted_view booted.now)
+    ensures conserved { (held : FileContents) (wanted : AuditArgsView)
+        → AreSaved held wanted (booted_view booted.now)
         → FilesConserveMemory (Some wanted) held }
-    ensures sound { (held : FileContents) (wanted : AuditArgsView) → AreSaved held wanted (booted_view booted.now)
+    ensures sound { (held : FileContents) (wanted : AuditArgsView)
+        → AreSaved held wanted (booted_view booted.now)
         → audit_outcome (Some wanted) held ≡ Ok verdicts.Sound }
 {
     map_runs_end_in_space(&booted.map);

@@ -27,27 +27,39 @@ ghost use Rattle.memblock_model.specs.Items.{owner_of, owner_runs_of};
 /// block, and each frame of a block is usable and untouched. Each block is aligned, lies in its
 /// zone, and couldn't merge with its buddy.
 pub fn booted_lines_conserve_memory()
-    ensures { (given : InputsView) (told : BootedView) → whole_boot given ≡ Ok told → NothingFrom (2 ^ 64) (owner_of told.items)
-        → LinesConserveMemory (booted_address_limit told) (map line_of_run told.map) (map extent_of (owner_runs_of told.items))
+    ensures { (given : InputsView) (told : BootedView) → whole_boot given ≡ Ok told
+        → NothingFrom (2 ^ 64) (owner_of told.items)
+        → LinesConserveMemory (booted_address_limit told) (map line_of_run told.map)
+        (map extent_of (owner_runs_of told.items))
         (map line_of_block (booted_blocks told)) }
 {}
 
 /// Law: the three reports of a successful boot are read back as its lines, provided its addresses
 /// and numbers are in the ranges of the program's types.
 pub fn booted_reports_are_read_back()
-    ensures map { (given : InputsView) (told : BootedView) → whole_boot given ≡ Ok told → IsPrintableBoot told
-        → report_of map_in (λ l. l.range) (report_text reports.Map told) ≡ Ok (map line_of_run told.map) }
-    ensures owners { (given : InputsView) (told : BootedView) → whole_boot given ≡ Ok told → IsPrintableBoot told
-        → report_of owner_in (λ r. r) (report_text reports.Owners told) ≡ Ok (map extent_of (owner_runs_of told.items)) }
-    ensures blocks { (given : InputsView) (told : BootedView) → whole_boot given ≡ Ok told → IsPrintableBoot told
-        → report_of block_in bytes_of_block (report_text reports.Blocks told) ≡ Ok (map line_of_block (booted_blocks told)) }
+    ensures map { (given : InputsView) (told : BootedView) → whole_boot given ≡ Ok told
+        → IsPrintableBoot told
+        → report_of map_in (λ l. l.range) (report_text reports.Map told)
+        ≡ Ok (map line_of_run told.map) }
+    ensures owners { (given : InputsView) (told : BootedView) → whole_boot given ≡ Ok told
+        → IsPrintableBoot told
+        → report_of owner_in (λ r. r) (report_text reports.Owners told)
+        ≡ Ok (map extent_of (owner_runs_of told.items)) }
+    ensures blocks { (given : InputsView) (told : BootedView) → whole_boot given ≡ Ok told
+        → IsPrintableBoot told
+        → report_of block_in bytes_of_block (report_text reports.Blocks told)
+        ≡ Ok (map line_of_block (booted_blocks told)) }
 {}
 
 /// Law: if the files that an audit names contain the three reports of such a boot, then memory was
 /// conserved by them, and the outcome of the audit is `Sound`.
 pub fn saved_reports_are_sound()
-    ensures conserved { (given : InputsView) (told : BootedView) → whole_boot given ≡ Ok told → IsPrintableBoot told
-        → (held : FileContents) (wanted : AuditArgsView) → AreSaved held wanted told → FilesConserveMemory (Some wanted) held }
-    ensures sound { (given : InputsView) (told : BootedView) → whole_boot given ≡ Ok told → IsPrintableBoot told
-        → (held : FileContents) (wanted : AuditArgsView) → AreSaved held wanted told → audit_outcome (Some wanted) held ≡ Ok verdicts.Sound }
+    ensures conserved { (given : InputsView) (told : BootedView) → whole_boot given ≡ Ok told
+        → IsPrintableBoot told
+        → (held : FileContents) (wanted : AuditArgsView) → AreSaved held wanted told
+        → FilesConserveMemory (Some wanted) held }
+    ensures sound { (given : InputsView) (told : BootedView) → whole_boot given ≡ Ok told
+        → IsPrintableBoot told
+        → (held : FileContents) (wanted : AuditArgsView) → AreSaved held wanted told
+        → audit_outcome (Some wanted) held ≡ Ok verdicts.Sound }
 {}

@@ -11,13 +11,15 @@
 //! - [`saved_reports_are_sound`]: files that contain these reports get the verdict `Sound`.
 //! - [`booted_reports_are_sound`]: the same for the value that the code's boot returns.
 //!
-//! `specs/PrintableBoots.antt` defines which boots can be printed as lines, and `specs/Saved.antt` which
-//! files contain their reports. A law is a function whose contract is a proven fact: it has no
-//! effect. In contracts, a name means the definition in `specs/`.
+//! `specs/PrintableBoots.antt` defines which boots can be printed as lines, and `specs/Saved.antt`
+//! which files contain their reports. A law is a function whose contract is a proven fact: it has
+//! no effect. In contracts, a name means the definition in `specs/`.
 #![tactic(auto)]
 
 mod booted;
 mod laws;
 
 pub use booted::booted_reports_are_sound;
-pub use laws::{saved_reports_are_sound, booted_lines_conserve_memory, booted_reports_are_read_back};
+pub use laws::{
+    booted_lines_conserve_memory, booted_reports_are_read_back, saved_reports_are_sound,
+};

@@ -8,7 +8,7 @@ use Rattle.bm_base.specs.Frames.{range_between, frames_within}
 use Rattle.bm_base.specs.Text.{hex_digits, hex_text, padded_decimal}
 use Rattle.bm_base.specs.Size.{number_of, size_of}
 use Rattle.bm_base.specs.declared.size.NumFault.TheVariants.{NoDigits, TooLarge}
-use Rattle.bm_base.specs.Spelling.{SpellsIn, hexadecimal as in_hexadecimal, octal, decimal, SpellsNumber, SpellsSize, number_alone, number_with_suffix}
+use Rattle.bm_base.specs.Spelling.{SpellsIn, hexadecimal, octal, decimal, SpellsNumber, SpellsSize, number_alone, number_with_suffix}
 use Rattle.bm_base.proofs.SpellingLaws.{size-read}
 use Rattle.bm_base.specs.Width.{reach_of, root_table_of}
 use Rattle.bm_base.specs.declared.width.Width.TheVariants.{Bits46, Bits52}
@@ -24,7 +24,8 @@ second_page = record { base = 0x1000; size = 0x1000 }
 abbrev third_page : RangeView
 third_page = record { base = 0x2000; size = 0x1000 }
 
--- a range covers its first and last byte, but not the byte below or the byte after; an empty range covers nothing
+-- a range covers its first and last byte, but not the byte below or the byte after; an empty range
+-- covers nothing
 covers_examples : (covers second_page 0xFFF ≡ false) × (covers second_page 0x1000 ≡ true) × (covers second_page 0x1FFF ≡ true)
     × (covers second_page 0x2000 ≡ false)
     × (covers (record { base = 0x1000; size = 0 }) 0x1000 ≡ false)
@@ -58,7 +59,8 @@ decimal_examples : (padded_decimal 6 640 ≡ codes "   640") × (padded_decimal 
 unfolding digits
 decimal_examples = (refl, refl)
 
--- the definition's value and error are allowed and no others, except error 9, which is always allowed
+-- the definition's value and error are allowed and no others, except error 9, which is always
+-- allowed
 answer_examples : Answers {A = ℕ} {B = ℕ} {E = ℕ} 9 (λ n. n + 1) (Ok 4) (Ok 5)
     × (¬ Answers {A = ℕ} {B = ℕ} {E = ℕ} 9 (λ n. n + 1) (Ok 5) (Ok 5))
     × Answers {A = ℕ} {B = ℕ} {E = ℕ} 9 (λ n. n) (Err 9) (Ok 5)
@@ -76,20 +78,23 @@ width_examples : (reach_of Bits46 ≡ 70368744177664) × (reach_of Bits52 ≡ 45
     × (root_table_of Bits46 ≡ 2 ^ 19 / 256 * 8) × (root_table_of Bits52 ≡ 2 ^ 25 / 256 * 8)
 width_examples = (refl, refl, refl, refl)
 
--- a frame is 4,096 bytes (`PAGE_SHIFT` 12); the zones end at 16 MiB (`MAX_DMA_PFN`) and at 4 GiB (`MAX_DMA32_PFN`)
+-- a frame is 4,096 bytes (`PAGE_SHIFT` 12); the zones end at 16 MiB (`MAX_DMA_PFN`) and at 4 GiB
+-- (`MAX_DMA32_PFN`)
 frame_numbers : (FRAME_SIZE ≡ 2 ^ 12) × (MAX_DMA_FRAME * FRAME_SIZE ≡ 16 * 1048576) × (MAX_DMA32_FRAME * FRAME_SIZE ≡ 2 ^ 32)
 frame_numbers = (refl, refl, refl)
 
--- the whole frames of a range that begins and ends inside a frame; of one frame; of less than a frame
+-- the whole frames of a range that begins and ends inside a frame; of one frame; of less than a
+-- frame
 whole_frames_examples : (frames_within (record { base = 0x0FFF; size = 0x2002 }) ≡ Some (record { base = 0x1000; size = 0x2000 }))
     × (frames_within second_page ≡ Some second_page) × (frames_within (record { base = 0x1001; size = 0x1FFE }) ≡ None)
     × (range_between 5 5 ≡ None)
 whole_frames_examples = (refl, refl, refl, refl)
 
--- a number in each base; sizes with and without a suffix; `E` is a digit in base 16; 16E is too large
+-- a number in each base; sizes with and without a suffix; `E` is a digit in base 16; 16E is too
+-- large
 spelled_numbers : SpellsIn 16 (codes "0x1E") 30 × SpellsIn 8 (codes "010") 8 × SpellsIn 10 (codes "640") 640 × SpellsNumber (codes "0") 0
 spelled_numbers = (
-  in_hexadecimal 120 49 (codes "E") (inl refl) (omega arith, (omega arith, tt)),
+  hexadecimal 120 49 (codes "E") (inl refl) (omega arith, (omega arith, tt)),
   octal (codes "10") (omega arith, (omega arith, tt)),
   decimal 54 (codes "40") (omega arith, (omega arith, (omega arith, tt))) (λ same. cc same),
   record { radix = 8; number = octal [] tt; fits = omega arith },

@@ -34,7 +34,8 @@ pub trait Sink {
     /// cases the first bytes of the chunk were appended: none, some or all.
     fn put(&mut self, chunk: &[u8]) -> Result<(), Put>
         ensures whole { OnOk result (Appends (written self.old) (written self.new) chunk.now) }
-        ensures front { OnErr result (AppendsFront (written self.old) (written self.new) chunk.now) }
+        ensures front { OnErr result
+            (AppendsFront (written self.old) (written self.new) chunk.now) }
 
         // The cause of each error.
         ensures failed { IsErrOf result Put.Failed → Rose (faults self.old) (faults self.new) }

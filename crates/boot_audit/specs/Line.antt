@@ -3,7 +3,7 @@ use Rattle.std.specs.Prelude.{ℕ, ◌*◌, List, [], ◌++◌, codes, decimal, 
 use Rattle.bm_base.specs.Text.{hex_text}
 use Rattle.bm_base.specs.declared.range.TheConstants.{FRAME_SIZE}
 use Rattle.program_end.specs.declared.failure.Failure.{Failure}
-use Rattle.program_end.specs.Line.{failure_line as end_line}
+use Rattle.program_end.specs.Line.{failure_line}
 use Rattle.audit_lines.specs.declared.report.LineFault.{LineFault}
 use Rattle.audit_lines.specs.declared.report.LineFault.TheVariants as line_faults
 use Rattle.boot_audit.specs.declared.failure.ReportFault.{ReportFault}
@@ -71,4 +71,4 @@ bootaudit_name = codes "bootaudit"
 
 -- the line of a failure
 abbrev pub audit_failure_line : Option AuditArgsView → Failure AuditReason → List ℕ
-audit_failure_line accepted failure = end_line bootaudit_name (report_file_text accepted) report_fault_line impossible_cause_text failure
+audit_failure_line accepted failure = failure_line bootaudit_name (report_file_text accepted) report_fault_line impossible_cause_text failure

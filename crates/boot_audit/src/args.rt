@@ -48,7 +48,8 @@ pub fn read_audit_args(words: &[String]) -> Option<AuditArgs<'_>>
 }
 
 fn three_file_names(width: Width, words: &[String]) -> Option<AuditArgs<'_>>
-    ensures { option_map audit_args_view result ≡ three_file_names width (map string_bytes words.now) }
+    ensures { option_map audit_args_view result
+        ≡ three_file_names width (map string_bytes words.now) }
 {
     let [map, owners, blocks] = words else {
         return None;

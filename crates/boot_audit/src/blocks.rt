@@ -1,8 +1,7 @@
 //! Tests of a single block: its address is a multiple of its size, and it lies in its zone.
 
 ghost use Rattle.std.specs.Prelude.{◌≡◌, ◌^◌, ◌<◌, length, not};
-ghost use Rattle.audit_lines.specs.Blocks.{IsBlockLine};
-ghost use Rattle.boot_audit.specs.Frames.{frames_of_block, is_aligned, is_in_zone, parent_of, same_zone};
+ghost use Rattle.boot_audit.specs.Frames.{frames_of_block, is_aligned, is_in_zone, same_zone};
 ghost use Rattle.boot_audit.specs.Verdicts.{first_line};
 ghost use Rattle.bm_base.specs.Range.{end_of};
 

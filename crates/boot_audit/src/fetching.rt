@@ -1,6 +1,6 @@
 //! Fetches and reads the three reports, one after another.
 
-ghost use Rattle.std.specs.Prelude.{◌≡◌, ◌<◌, ◌≤◌, ◌^◌, ℕ, List, Some, length, map, IfErr, IfOk, IfSome, IsErrOf};
+ghost use Rattle.std.specs.Prelude.{◌≡◌, ◌<◌, ◌≤◌, ◌^◌, ℕ, List, length, map, IfErr, IfOk, IfSome, IsErrOf};
 ghost use Rattle.audit_lines.specs.Blocks.{bytes_of_block};
 ghost use Rattle.audit_lines.specs.Lines.{AscendApart};
 ghost use Rattle.bm_io.specs.Counts.{Rose};
@@ -12,9 +12,9 @@ ghost use Rattle.boot_audit.specs.Audit.{bootaudit, report_position};
 ghost use Rattle.boot_audit.specs.Outcome.{lines_in_file, saved_in_files};
 ghost use Rattle.boot_audit.specs.View.{saved_view, audit_args_view};
 
-use crate::failure::{ReportFault, NoVerdict, AuditReason, SavedReport};
-use crate::judgement::Saved;
 use crate::args::AuditArgs;
+use crate::failure::{AuditReason, NoVerdict, ReportFault, SavedReport};
+use crate::judgement::Saved;
 use audit_lines::{BlockLine, MapLine, ReadError, ReportLine, read_report};
 use bm_base::Range;
 use bm_io::{Fetch, Files};
@@ -28,8 +28,8 @@ const LIMIT: u64 = 536_870_912;
 ///
 /// # Errors
 ///
-/// - `AuditReason::Unread` if a file can't be read, and `AuditReason::Faulty` if it contains more than 512
-///   MiB or a line has a fault. The first such file ends the call.
+/// - `AuditReason::Unread` if a file can't be read, and `AuditReason::Faulty` if it contains more
+///   than 512 MiB or a line has a fault. The first such file ends the call.
 /// - `Memory` if this program is out of memory.
 pub fn fetch_saved<F: Files>(
     alloc: Global,
@@ -37,11 +37,14 @@ pub fn fetch_saved<F: Files>(
     names: &AuditArgs<'_>,
 ) -> Result<Saved, NoVerdict>
     ensures fetches { IfSome (F.holds files.old) (λ held.
-        Fetches report_position saved_view result (saved_in_files held (audit_args_view names.now))) }
-    ensures cause { IfErr result (IsFileError (F.faults files.old) (F.faults files.new) (bootaudit.named (audit_args_view names.now))) }
+        Fetches report_position saved_view result
+        (saved_in_files held (audit_args_view names.now))) }
+    ensures cause { IfErr result (IsFileError (F.faults files.old) (F.faults files.new)
+        (bootaudit.named (audit_args_view names.now))) }
     ensures map_order { IfOk result (λ saved. AscendApart (map (λ l. l.range) saved.map.items)) }
     ensures owner_order { IfOk result (λ saved. AscendApart (map (λ r. r) saved.owners.items)) }
-    ensures block_order { IfOk result (λ saved. AscendApart (map bytes_of_block saved.blocks.items)) }
+    ensures block_order { IfOk result (λ saved.
+        AscendApart (map bytes_of_block saved.blocks.items)) }
     ensures few { IfOk result (λ saved. length saved.blocks.items < 2 ^ 32) }
 {
     let runs: Vec<MapLine> = fetch_lines(alloc, files, names.map, SavedReport::Map)?;
@@ -63,7 +66,8 @@ fn fetch_lines<F: Files, L: ReportLine>(
     report: SavedReport,
 ) -> Result<Vec<L>, NoVerdict>
     ensures fetches { IfSome (F.holds files.old) (λ held.
-        Fetches report_position (λ lines. lines.items) result (lines_in_file L.form L.extent report (held name.now))) }
+        Fetches report_position (λ lines. lines.items) result
+        (lines_in_file L.form L.extent report (held name.now))) }
     ensures own { IfErr result (IsErrorOfInput report) }
     ensures failed { IsErrOf result (errors.Reason (reasons.Unread report))
         → Rose (F.faults files.old name.now) (F.faults files.new name.now) }

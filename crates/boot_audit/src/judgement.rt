@@ -10,8 +10,8 @@ ghost use Rattle.boot_audit.specs.Verdicts.{HasFrameInSpace, verdict_of};
 use crate::blocks::{first_in_wrong_zone, first_misaligned};
 use crate::merges::first_mergeable;
 use crate::sweep::sweep;
-use bm_base::{Memory, Width, Range};
 use audit_lines::{BlockLine, MapLine};
+use bm_base::{Memory, Range, Width};
 
 /// Whether memory was conserved, or the first fault. `line` is a line of `blocks`, counted from 1.
 /// `frame` is the number of a frame of 4096 bytes; frame n begins at address 4096 n.

@@ -9,8 +9,8 @@
 //!
 //! - [`judge`] gives the verdict on the lines of the reports: `Sound`, or the first fault
 //!   (`specs/Verdicts.antt`).
-//! - [`sound_verdict_conserves_memory`] is a law: the verdict is `Sound` exactly if memory was conserved. A
-//!   law is an empty function whose contract is a proven fact.
+//! - [`sound_verdict_conserves_memory`] is a law: the verdict is `Sound` exactly if memory was
+//!   conserved. A law is an empty function whose contract is a proven fact.
 //! - [`audit`] is the program `bootaudit` over any files, output and error output. It reads the
 //!   three reports that the command line names (`audit_lines`), and writes the verdict. `outcome`
 //!   (`specs/Outcome.antt`) defines what it writes.
@@ -22,18 +22,18 @@
 //! In contracts, a name means the definition in `specs/`.
 #![tactic(auto)]
 
+mod args;
 mod blocks;
 mod failure;
 mod fetching;
-mod merges;
 mod judgement;
+mod lines;
+mod merges;
 mod program;
 mod sweep;
-mod lines;
 mod texts;
-mod args;
 
 pub use audit_lines::{BlockLine, MapLine};
-pub use failure::{Failure, ReportFault, NoCause, NoVerdict, AuditReason, SavedReport};
-pub use judgement::{judge, sound_verdict_conserves_memory, Saved, Verdict};
+pub use failure::{AuditReason, Failure, NoCause, NoVerdict, ReportFault, SavedReport};
+pub use judgement::{Saved, Verdict, judge, sound_verdict_conserves_memory};
 pub use program::audit;

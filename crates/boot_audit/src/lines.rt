@@ -6,8 +6,8 @@ ghost use Rattle.program_end.specs.Line.{PutsLine};
 ghost use Rattle.boot_audit.specs.Line.{named_fault_line, line_fault_line, report_file_text, numbered_line, bootaudit_name, report_fault_line};
 ghost use Rattle.boot_audit.specs.View.{audit_args_view};
 
-use crate::failure::{ReportFault, SavedReport};
 use crate::args::AuditArgs;
+use crate::failure::{ReportFault, SavedReport};
 use audit_lines::LineFault;
 use bm_io::Sink;
 use itoa::Buffer;
@@ -23,7 +23,8 @@ pub struct AuditLines<'a, 'w> {
 impl<'a, 'w, C: Copy> Lines<SavedReport, ReportFault, C> for AuditLines<'a, 'w> {
     ghost program_name = { bootaudit_name };
 
-    ghost file_name = { λ lines report. report_file_text (option_map audit_args_view lines.names.now) report };
+    ghost file_name = { λ lines report.
+        report_file_text (option_map audit_args_view lines.names.now) report };
 
     ghost fault_line = { report_fault_line };
 

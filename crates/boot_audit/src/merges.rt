@@ -8,7 +8,7 @@
 
 ghost use Rattle.std.specs.Prelude.{◌≡◌, ◌+◌, ◌^◌, ◌<◌, length, map};
 ghost use Rattle.audit_lines.specs.Lines.{AscendApart};
-ghost use Rattle.boot_audit.specs.Frames.{are_of_one_zone, could_merge, frames_of_block, parent_of};
+ghost use Rattle.boot_audit.specs.Frames.{are_of_one_zone, could_merge, frames_of_block};
 ghost use Rattle.boot_audit.specs.Verdicts.{first_line};
 ghost use Rattle.boot_audit.specs.Walk.{is_covered_up_to, is_next_in_run, could_merge_in_run, run_start};
 ghost use Rattle.bm_base.specs.Range.{end_of};
@@ -78,7 +78,8 @@ fn could_merge_in_run(from: u64, block: &BlockLine, others: &[BlockLine]) -> boo
 /// Returns whether `others` cover all frames from the block's end up to frame `until`, without a
 /// gap and with blocks of its node and zone.
 fn is_covered_up_to(block: &BlockLine, until: u64, others: &[BlockLine]) -> bool
-    ensures { result ≡ is_covered_up_to block.now (end_of (frames_of_block block.now)) until others.now }
+    ensures { result
+        ≡ is_covered_up_to block.now (end_of (frames_of_block block.now)) until others.now }
 {
     let mut at = end_frame(block);
     for other in others {

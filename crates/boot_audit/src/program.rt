@@ -26,12 +26,12 @@ ghost use Rattle.boot_audit.specs.Verdicts.{HasFrameInSpace};
 ghost use Rattle.boot_audit.specs.View.{audit_args_view};
 ghost use Rattle.boot_audit.specs.Args.{read_audit_args};
 
-use crate::failure::{Failure, NoVerdict, AuditReason, verdict_status};
+use crate::args::{AuditArgs, read_audit_args};
+use crate::failure::{AuditReason, Failure, NoVerdict, verdict_status};
 use crate::fetching::fetch_saved;
-use crate::judgement::{judge, Verdict};
+use crate::judgement::{Verdict, judge};
 use crate::lines::AuditLines;
 use crate::texts::verdict_text;
-use crate::args::{AuditArgs, read_audit_args};
 use bm_io::{Files, Sink};
 use program_end::{exit_status, put_end_line};
 use std::alloc::Global;
@@ -65,12 +65,14 @@ pub fn audit<F: Files, S: Sink, E: Sink>(
     // the command line is refused.
     ensures usage { (result ≡ 2) ↔ IsNone (read_audit_args (map string_bytes words.now)) }
     ensures unread { result ≡ 3 → (report : AnyReport)
-        × InputFaultsRose bootaudit (F.faults files.old) (F.faults files.new) (read_audit_args (map string_bytes words.now)) report }
+        × InputFaultsRose bootaudit (F.faults files.old) (F.faults files.new)
+        (read_audit_args (map string_bytes words.now)) report }
     ensures unwritten { result ≡ 4 → Rose (S.faults out.old) (S.faults out.new) }
 
     // What stays as it was, even if the files' contents are unknown: the files if the command line
     // is refused, and `out` if there is no verdict.
-    ensures unfetched { IsNone (read_audit_args (map string_bytes words.now)) → files.new ≡ files.old }
+    ensures unfetched { IsNone (read_audit_args (map string_bytes words.now))
+        → files.new ≡ files.old }
     ensures early { (result ≡ 2) ⊎ (result ≡ 3) ⊎ (result ≡ 5) → out.new ≡ out.old }
     ensures wanting { result ≡ 7 → (out.new ≡ out.old) ⊎ Rose (S.wants out.old) (S.wants out.new) }
 
@@ -78,16 +80,20 @@ pub fn audit<F: Files, S: Sink, E: Sink>(
     // the three texts are well-formed, and memory was conserved by their lines. If all this holds,
     // and no counter of faults rose, of `out` or of a file, the status is 0, or 7 if out of
     // memory.
-    ensures headline { result ≡ 0 → IfSome (F.holds files.old) (FilesConserveMemory (read_audit_args (map string_bytes words.now))) }
-    ensures conserved { IfSome (F.holds files.old) (λ held. FilesConserveMemory (read_audit_args (map string_bytes words.now)) held
+    ensures headline { result ≡ 0 → IfSome (F.holds files.old)
+        (FilesConserveMemory (read_audit_args (map string_bytes words.now))) }
+    ensures conserved { IfSome (F.holds files.old) (λ held.
+        FilesConserveMemory (read_audit_args (map string_bytes words.now)) held
         → ¬ Rose (S.faults out.old) (S.faults out.new)
         → ((report : AnyReport)
-        → ¬ InputFaultsRose bootaudit (F.faults files.old) (F.faults files.new) (read_audit_args (map string_bytes words.now)) report)
+        → ¬ InputFaultsRose bootaudit (F.faults files.old) (F.faults files.new)
+        (read_audit_args (map string_bytes words.now)) report)
         → (result ≡ 0) ⊎ (result ≡ 7)) }
 
     // If the files' contents are known, the status and the output are those of the outcome.
     ensures answers { IfSome (F.holds files.old) (λ held.
-        MayEndWith bootaudit (audit_outcome (read_audit_args (map string_bytes words.now)) held) result) }
+        MayEndWith bootaudit
+        (audit_outcome (read_audit_args (map string_bytes words.now)) held) result) }
     ensures sound { result ≡ 0 → IfSome (F.holds files.old) (λ held.
         audit_outcome (read_audit_args (map string_bytes words.now)) held ≡ Ok Verdict.Sound) }
     ensures unsound { result ≡ 8 → IfSome (F.holds files.old) (λ held.
@@ -111,17 +117,22 @@ pub fn audit<F: Files, S: Sink, E: Sink>(
         → audit_outcome (read_audit_args (map string_bytes words.now)) held ≡ Ok verdict
         → ¬ Rose (S.faults out.old) (S.faults out.new)
         → ((report : AnyReport)
-        → ¬ InputFaultsRose bootaudit (F.faults files.old) (F.faults files.new) (read_audit_args (map string_bytes words.now)) report)
+        → ¬ InputFaultsRose bootaudit (F.faults files.old) (F.faults files.new)
+        (read_audit_args (map string_bytes words.now)) report)
         → (result ≡ verdict_status verdict) ⊎ (result ≡ 7)) }
 
     // What `err` has: nothing with a verdict, else the line of a failure with this status. The
     // failure has its cause and fits the outcome.
     ensures silent { (result ≡ 0) ⊎ (result ≡ 8) → err.new ≡ err.old }
-    ensures line { result ≢ 0 → result ≢ 8 → (failure : AnyFailure AnyReason) × (result ≡ failure_status failure)
-        × PutsLine E.Sink err.old err.new (audit_failure_line (read_audit_args (map string_bytes words.now)) failure)
-        × FailureHasCause bootaudit (F.faults files.old) (F.faults files.new) (read_audit_args (map string_bytes words.now)) failure
+    ensures line { result ≢ 0 → result ≢ 8 → (failure : AnyFailure AnyReason)
+        × (result ≡ failure_status failure)
+        × PutsLine E.Sink err.old err.new
+        (audit_failure_line (read_audit_args (map string_bytes words.now)) failure)
+        × FailureHasCause bootaudit (F.faults files.old) (F.faults files.new)
+        (read_audit_args (map string_bytes words.now)) failure
         × IfSome (F.holds files.old) (λ held.
-        FitsFailure bootaudit failure (audit_outcome (read_audit_args (map string_bytes words.now)) held)) }
+        FitsFailure bootaudit failure
+        (audit_outcome (read_audit_args (map string_bytes words.now)) held)) }
 {
     let names = read_audit_args(words);
     let end = write_verdict(alloc, &names, files, out);
@@ -137,8 +148,10 @@ fn write_verdict<F: Files, S: Sink>(
     out: &mut S,
 ) -> Result<u8, Failure>
     ensures writes { IfSome (F.holds files.old) (λ held.
-        WritesOutcome bootaudit (S.written out.old) (S.written out.new) result (audit_outcome (option_map audit_args_view names.now) held)) }
-    ensures cause { EndHasCause bootaudit (F.faults files.old) (F.faults files.new) (option_map audit_args_view names.now) result }
+        WritesOutcome bootaudit (S.written out.old) (S.written out.new) result
+        (audit_outcome (option_map audit_args_view names.now) held)) }
+    ensures cause { EndHasCause bootaudit (F.faults files.old) (F.faults files.new)
+        (option_map audit_args_view names.now) result }
     ensures usage { IsNone (option_map audit_args_view names.now)
         → result ≡ Err (failures.NoResult (errors.Reason reasons.Usage)) }
     ensures unfetched { IsNone (option_map audit_args_view names.now) → files.new ≡ files.old }
@@ -157,9 +170,12 @@ fn find_verdict<F: Files>(
     files: &mut F,
 ) -> Result<Verdict, NoVerdict>
     ensures fetches { IfSome (F.holds files.old) (λ held.
-        Fetches report_position (λ verdict. verdict) result (audit_outcome (option_map audit_args_view names.now) held)) }
-    ensures cause { IfErr result (ErrorHasCause bootaudit (F.faults files.old) (F.faults files.new) (option_map audit_args_view names.now)) }
-    ensures usage { IsNone (option_map audit_args_view names.now) → result ≡ Err (errors.Reason reasons.Usage) }
+        Fetches report_position (λ verdict. verdict) result
+        (audit_outcome (option_map audit_args_view names.now) held)) }
+    ensures cause { IfErr result (ErrorHasCause bootaudit (F.faults files.old) (F.faults files.new)
+        (option_map audit_args_view names.now)) }
+    ensures usage { IsNone (option_map audit_args_view names.now)
+        → result ≡ Err (errors.Reason reasons.Usage) }
     ensures near { IfOk result HasFrameInSpace }
     ensures unfetched { IsNone (option_map audit_args_view names.now) → files.new ≡ files.old }
 {

@@ -135,7 +135,8 @@ fn coverage_at<L: RangeLine>(lines: &[L], at: u64) -> Coverage
     requires behind { FirstEndsAbove at (map L.extent lines.now) }
     requires near { at < 2 ^ 52 }
     ensures forward { at < result.until }
-    ensures says { (x : ℕ) → at ≤ x → x < result.until → is_in_relevant_line L.counted L.extent lines.now x ≡ result.inside }
+    ensures says { (x : ℕ) → at ≤ x → x < result.until
+        → is_in_relevant_line L.counted L.extent lines.now x ≡ result.inside }
 {
     let Some((line, _)) = lines.split_first() else {
         return Coverage {
@@ -161,7 +162,8 @@ fn skip_lines_below<L: RangeLine>(lines: &[L], at: u64) -> &[L]
     requires { AscendApart (map L.extent lines.now) }
     ensures order { AscendApart (map L.extent result.now) }
     ensures behind { FirstEndsAbove at (map L.extent result.now) }
-    ensures says { (x : ℕ) → at ≤ x → is_in_relevant_line L.counted L.extent result.now x ≡ is_in_relevant_line L.counted L.extent lines.now x }
+    ensures says { (x : ℕ) → at ≤ x → is_in_relevant_line L.counted L.extent result.now x
+        ≡ is_in_relevant_line L.counted L.extent lines.now x }
 {
     let mut rest = lines;
     while let Some((line, others)) = rest.split_first() {
@@ -236,7 +238,8 @@ fn state_from(
     requires near { at < 2 ^ 52 }
     ensures forward { at < result.until }
     ensures near { result.until ≤ 2 ^ 52 }
-    ensures state { (x : ℕ) → at ≤ x → x < result.until → byte_state_at limit runs.now owners.now blocks.now x ≡ result.state }
+    ensures state { (x : ℕ) → at ≤ x → x < result.until
+        → byte_state_at limit runs.now owners.now blocks.now x ≡ result.state }
 {
     let below = coverage_below_limit(limit, at);
     let memory = coverage_at(runs, at);
@@ -284,9 +287,11 @@ pub fn sweep(saved: &Saved, limit: u64) -> FrameFaults
     requires owner_order { AscendApart (map (λ r. r) saved.now.owners.items) }
     requires block_order { AscendApart (map bytes_of_block saved.now.blocks.items) }
     requires aligned { first_line (λ b. not (is_aligned b)) 1 saved.now.blocks.items ≡ None }
-    ensures not_free { result.not_free ≡ least_frame (is_not_free limit saved.now.map.items saved.now.owners.items
+    ensures not_free { result.not_free
+        ≡ least_frame (is_not_free limit saved.now.map.items saved.now.owners.items
         saved.now.blocks.items) }
-    ensures lost { IsNone result.not_free → result.lost ≡ least_frame (is_lost limit saved.now.map.items
+    ensures lost { IsNone result.not_free
+        → result.lost ≡ least_frame (is_lost limit saved.now.map.items
         saved.now.owners.items saved.now.blocks.items) }
 {
     let mut runs = skip_lines_below(&saved.map, 0);

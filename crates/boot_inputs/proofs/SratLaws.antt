@@ -4,7 +4,7 @@ use Rattle.std.specs.Prelude.{IsErrOf}
 use Rattle.std.specs.Option.{option_or}
 use Rattle.srat_reader.specs.declared.table.SratFault.{SratFault}
 use Rattle.srat_reader.specs.declared.table.SratFault.TheVariants as srat
-use Rattle.srat_reader.specs.Table.{SratView, srat_fault_at as entry_fault, first_srat_fault, srat_header_fault, entry_offsets, srat_fault, srat_of, srat_unless_fault as unless_srat}
+use Rattle.srat_reader.specs.Table.{SratView, srat_fault_at, first_srat_fault, srat_header_fault, entry_offsets, srat_fault, srat_of, srat_unless_fault}
 
 or_other : {E : Type 0} (want : E) (x y : Option E) → x ≢ Some want → y ≢ Some want → option_or x y ≢ Some want
 or_other want x y first second = grind arith
@@ -12,10 +12,10 @@ or_other want x y first second = grind arith
 entries_other : (bytes offsets : List ℕ) → first_srat_fault bytes offsets ≢ Some srat.Memory
 entries_other bytes [] = λ is. cc is
 entries_other bytes (at ∷ rest) =
-    or_other srat.Memory (entry_fault bytes at) (first_srat_fault bytes rest) (λ is. grind arith) (entries_other bytes rest)
+    or_other srat.Memory (srat_fault_at bytes at) (first_srat_fault bytes rest) (λ is. grind arith) (entries_other bytes rest)
 
 unless_srat_other : (fault : Option SratFault) (lists : SratView) → fault ≢ Some srat.Memory
-    → ¬ IsErrOf (unless_srat fault lists) srat.Memory
+    → ¬ IsErrOf (srat_unless_fault fault lists) srat.Memory
 unless_srat_other fault lists other = λ is. grind arith
 
 pub srat_other : (bytes : List ℕ) → ¬ IsErrOf (srat_of bytes) srat.Memory

@@ -1,8 +1,7 @@
 -- The inputs that the files give with the EFI memory map and without it.
-use Rattle.std.proofs.Common.{◌≡◌, ◌⊎◌, ◌∙◌, ℕ, Bool, true, false, nat_lt, List, [], ◌∷◌, ◌++◌, length, Option, Some, None, Result, Ok, Err, refl, sym, ap, inl, inr, arith}
-use Rattle.std.specs.Prelude.{IfOk, IfSome, if◌then◌else◌, map, not}
+use Rattle.std.proofs.Common.{◌≡◌, ◌⊎◌, ◌∙◌, ℕ, Bool, true, false, List, [], ◌∷◌, ◌++◌, Option, Some, None, Result, Ok, Err, refl, sym, ap, inl, inr, arith}
+use Rattle.std.specs.Prelude.{IfOk, if◌then◌else◌, map, not}
 use Rattle.std.specs.Option.{option_and_then}
-use Rattle.std.proofs.lemmas.Bool.{cases_Bool}
 use Rattle.bm_base.specs.ResultSteps.{◌>>=◌, with_error}
 use Rattle.e820_model.specs.declared.entry.Entry.{Entry}
 use Rattle.e820_model.specs.Claims.{Claims, final_claims}
@@ -20,14 +19,12 @@ use Rattle.efi_map.specs.Map.{EfiContent, descriptors_of, efi_of, far_descriptor
 use Rattle.boot_model.specs.Boot.{EfiMapView, InputsView, added_entries, claims, efi_entries}
 use Rattle.boot_inputs.specs.declared.fault.Fault.{Fault}
 use Rattle.boot_inputs.specs.declared.fault.Fault.TheVariants as faults
-use Rattle.boot_inputs.specs.declared.input.Input.{Input}
 use Rattle.boot_inputs.specs.declared.input.Input.TheVariants as inputs
-use Rattle.boot_inputs.specs.Reason.{InputsReason}
 use Rattle.boot_inputs.specs.CommandLine.{command_line, options_or_fault, set_command_line}
-use Rattle.boot_inputs.specs.Efi.{efi_file, efi_map_in_frames, efi_or_fault, put_efi}
+use Rattle.boot_inputs.specs.Efi.{efi_file, efi_or_fault, put_efi}
 use Rattle.boot_inputs.specs.Extension.{extension_file, extension_or_fault, put_extension}
 use Rattle.boot_inputs.specs.File.{File, with_value}
-use Rattle.boot_inputs.specs.Inputs.{FileNames, inputs_after_file, inputs_after_files, input_files, inputs_of, answer_or_faulty_file, step_or_unread_file, inputs_after_optional_file, within_limit}
+use Rattle.boot_inputs.specs.Inputs.{FileNames, inputs_after_file, inputs_after_files, inputs_of, answer_or_faulty_file, step_or_unread_file, inputs_after_optional_file, within_limit}
 use Rattle.program_end.specs.Program.{FileContents}
 use Rattle.boot_inputs.specs.Pages.{pages_file, page_script_or_fault, set_page_script}
 use Rattle.boot_inputs.specs.Script.{script_or_fault, set_early_script, script_file}
@@ -35,7 +32,7 @@ use Rattle.boot_inputs.specs.Slit.{slit_or_fault, set_slit, slit_file}
 use Rattle.boot_inputs.specs.Srat.{set_srat, srat_file, srat_or_fault}
 use Rattle.boot_inputs.specs.ZeroPage.{zero_page_or_fault, set_zero_page, zero_page}
 use Rattle.boot_model.proofs.StageLaws.{GoesBy, goes_by}
-use Rattle.boot_inputs.specs.WithoutEfi.{HasMapWithoutEfi, IsBeforeFiles, LacksDescriptors, LacksEfiWord, asks_for_efi, without_efi, without_efi_map}
+use Rattle.boot_inputs.specs.WithoutEfi.{HasMapWithoutEfi, IsBeforeFiles, LacksDescriptors, LacksEfiWord, without_efi, without_efi_map}
 use Rattle.boot_inputs.proofs.EfiWordLaws.{options_not}
 
 -- what a named and held file makes of the inputs before it

@@ -1,5 +1,5 @@
 -- The inputs with the EFI memory map, compared with the same inputs without it.
-use Rattle.std.specs.Prelude.{◌≡◌, ℕ, Bool, false, List, [], codes, Option, None, Ok, IfSome}
+use Rattle.std.specs.Prelude.{◌≡◌, ℕ, Bool, false, List, [], codes, None, Ok, IfSome}
 use Rattle.std.specs.Option.{option_and_then}
 use Rattle.std.specs.List.{list_any}
 use Rattle.std.specs.Str.{bytes_eq}

@@ -1,11 +1,7 @@
 //! The command line of the kernel as an input. Only its options are kept.
 
-ghost use Rattle.std.specs.Prelude.{◌≡◌, ◌≤◌, ℕ, length, IsErrOf, IsOk, IsTrue, List};
+ghost use Rattle.std.specs.Prelude.{◌≡◌, ◌≤◌, ℕ, IsErrOf, List};
 ghost use Rattle.std.specs.Option.{option_map};
-ghost use Rattle.bm_base.specs.Answers.{Answers};
-ghost use Rattle.bm_base.specs.ResultSteps.{with_error};
-ghost use Rattle.boot_model.specs.View.{inputs_view};
-ghost use Rattle.boot_inputs.specs.Faults.{FaultsAreOfBytes};
 ghost use Rattle.boot_inputs.specs.Diagnostic.{diagnostic_view};
 ghost use Rattle.boot_inputs.specs.CommandLine.{command_line, command_line_diagnostic};
 ghost use Rattle.boot_options.specs.Options.{options_of};

@@ -1,12 +1,8 @@
 //! The E820 extension as an input. The boot loader passes it apart from the zero page, whose
 //! entries it continues (`setup_data`). So it is a file of its own, with its own limit and faults.
 
-ghost use Rattle.std.specs.Prelude.{◌≡◌, ◌≢◌, ◌≤◌, ℕ, length, IsErrOf, IsOk, IsTrue, List, Some};
+ghost use Rattle.std.specs.Prelude.{◌≡◌, ◌≢◌, ◌≤◌, ℕ, length, List, Some};
 ghost use Rattle.std.specs.Option.{option_map};
-ghost use Rattle.bm_base.specs.Answers.{Answers};
-ghost use Rattle.bm_base.specs.ResultSteps.{with_error};
-ghost use Rattle.boot_model.specs.View.{inputs_view};
-ghost use Rattle.boot_inputs.specs.Faults.{FaultsAreOfBytes};
 ghost use Rattle.boot_inputs.specs.Diagnostic.{diagnostic_view};
 ghost use Rattle.boot_inputs.specs.Extension.{extension_diagnostic, extension_file};
 ghost use Rattle.e820_table.specs.Extension.{ext_fault};

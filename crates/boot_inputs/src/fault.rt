@@ -10,11 +10,13 @@ ghost use Rattle.boot_inputs.specs.Faults.{diagnostic_of};
 use crate::command_line::command_line_diagnostic;
 use crate::efi::efi_diagnostic;
 use crate::extension::extension_diagnostic;
+use crate::input::Input;
 use crate::pages::pages_diagnostic;
 use crate::script::script_diagnostic;
 use crate::slit::slit_diagnostic;
 use crate::srat::srat_diagnostic;
 use crate::zero_page::zero_page_diagnostic;
+use boot_model::Cause;
 use boot_options::OptionFault;
 use e820_table::{ExtFault, ZeroFault};
 use efi_map::EfiFault;
@@ -22,8 +24,6 @@ use page_alloc::PageFault;
 use script_reader::ScriptFault;
 use slit_zonelists::SlitFault;
 use srat_reader::SratFault;
-use crate::input::Input;
-use boot_model::Cause;
 
 /// Why words and files give no report.
 pub type InputsReason = program_end::Reason<Input, Fault, Cause>;

@@ -9,12 +9,12 @@ ghost use Rattle.boot_inputs.specs.declared.input.Input.{Input as AnyInput};
 ghost use Rattle.boot_inputs.specs.Inputs.{inputs_after_file, inputs_after_named_file, answer_or_faulty_file};
 ghost use Rattle.std.specs.Option.{option_copied};
 
-use crate::fault::{Fault, Misread, NoInputs, InputsReason};
+use crate::fault::{Fault, InputsReason, Misread, NoInputs};
+use crate::input::Input;
 use crate::reader::Reader;
 use bm_io::{Fetch, Files};
 use boot_model::Inputs;
 use std::alloc::Global;
-use crate::input::Input;
 
 /// What knows the name of each input's file.
 pub trait Names {
@@ -42,9 +42,11 @@ pub fn add_file<R: Reader, F: Files, N: Names>(
     names: &N,
     inputs: &mut Inputs,
 ) -> Result<(), NoInputs>
-    ensures fetches { IfSome (F.holds files.old) (λ held. Fetches input_place (λ done. inputs_view inputs.new) result
+    ensures fetches { IfSome (F.holds files.old) (λ held.
+        Fetches input_place (λ done. inputs_view inputs.new) result
         (inputs_after_file held (N.named names.now) R.file (inputs_view inputs.old))) }
-    ensures cause { IfErr result (IsFileError (F.faults files.old) (F.faults files.new) (N.named names.now)) }
+    ensures cause { IfErr result
+        (IsFileError (F.faults files.old) (F.faults files.new) (N.named names.now)) }
     ensures own { IfErr result (IsErrorOfInput R.file.input) }
     ensures unnamed { IsNone (N.named names.now R.file.input) → IsOk result }
     ensures unfetched { IsNone (N.named names.now R.file.input) → files.new ≡ files.old }
@@ -68,9 +70,11 @@ fn fetch<R: Reader, F: Files>(
     name: &str,
     inputs: &mut Inputs,
 ) -> Result<(), NoInputs>
-    ensures fetches { IfSome (F.holds files.old) (λ held. Fetches input_place (λ done. inputs_view inputs.new) result
+    ensures fetches { IfSome (F.holds files.old) (λ held.
+        Fetches input_place (λ done. inputs_view inputs.new) result
         (inputs_after_named_file held R.file (inputs_view inputs.old) name.now)) }
-    ensures cause { IfErr result (IsFileError (F.faults files.old) (F.faults files.new) (λ input. Some name.now)) }
+    ensures cause { IfErr result
+        (IsFileError (F.faults files.old) (F.faults files.new) (λ input. Some name.now)) }
     ensures own { IfErr result (IsErrorOfInput R.file.input) }
     ensures kept { F.holds files.new ≡ F.holds files.old }
     ensures faults_stay { (any : List ℕ) → F.faults files.old any ≤ F.faults files.new any }
@@ -78,7 +82,10 @@ fn fetch<R: Reader, F: Files>(
     match files.fetch(alloc, name, R::limit()) {
         Ok(bytes) => read::<R>(alloc, &bytes, inputs),
         Err(Fetch::Failed) => Err(NoInputs::Reason(InputsReason::Unread(R::input()))),
-        Err(Fetch::TooLong) => Err(NoInputs::Reason(InputsReason::Faulty(R::input(), Fault::TooLong))),
+        Err(Fetch::TooLong) => Err(NoInputs::Reason(InputsReason::Faulty(
+            R::input(),
+            Fault::TooLong,
+        ))),
         Err(Fetch::Memory) => Err(NoInputs::Memory),
     }
 }
@@ -93,12 +100,15 @@ fn read<R: Reader>(alloc: Global, bytes: &[u8], inputs: &mut Inputs) -> Result<(
     requires { length bytes.now ≤ R.file.limit }
     ensures fetches { Fetches input_place (λ done. inputs_view inputs.new) result
         (answer_or_faulty_file R.file.input (R.file.says bytes.now (inputs_view inputs.old))) }
-    ensures cause { (before now : List ℕ → ℕ) (named : AnyInput → Option (List ℕ)) → IfErr result (IsFileError before now named) }
+    ensures cause { (before now : List ℕ → ℕ) (named : AnyInput → Option (List ℕ))
+        → IfErr result (IsFileError before now named) }
     ensures own { IfErr result (IsErrorOfInput R.file.input) }
 {
     match R::read(alloc, bytes, inputs) {
         Ok(()) => Ok(()),
-        Err(Misread::Fault(fault)) => { Err(NoInputs::Reason(InputsReason::Faulty(R::input(), fault))) }
+        Err(Misread::Fault(fault)) => {
+            Err(NoInputs::Reason(InputsReason::Faulty(R::input(), fault)))
+        }
         Err(Misread::Memory) => Err(NoInputs::Memory),
     }
 }

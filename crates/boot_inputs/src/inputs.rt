@@ -11,10 +11,10 @@ ghost use Rattle.boot_inputs.specs.declared.input.Input.{Input as AnyInput};
 use crate::command_line::CommandLines;
 use crate::efi::EfiMaps;
 use crate::extension::Extensions;
-use crate::list::Readers;
-use crate::fetching::Names;
-use crate::pages::PageScripts;
 use crate::fault::NoInputs;
+use crate::fetching::Names;
+use crate::list::Readers;
+use crate::pages::PageScripts;
 use crate::script::Scripts;
 use crate::slit::Slits;
 use crate::srat::Srats;
@@ -54,8 +54,10 @@ pub fn read_inputs<F: Files, N: Names>(
     begun: Inputs,
 ) -> Result<Inputs, NoInputs>
     ensures fetches { IfSome (F.holds files.old) (λ held.
-        Fetches input_place inputs_view result (inputs_of held (N.named names.now) (inputs_view begun))) }
-    ensures cause { IfErr result (IsFileError (F.faults files.old) (F.faults files.new) (N.named names.now)) }
+        Fetches input_place inputs_view result
+        (inputs_of held (N.named names.now) (inputs_view begun))) }
+    ensures cause { IfErr result
+        (IsFileError (F.faults files.old) (F.faults files.new) (N.named names.now)) }
     ensures unnamed { ((input : AnyInput) → IsNone (N.named names.now input)) → IsOk result }
 {
     let mut inputs = begun;

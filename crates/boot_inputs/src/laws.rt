@@ -17,7 +17,8 @@ use crate::list::Readers;
 /// it as its fault.
 pub fn exhaustion_is_no_file_fault()
     ensures files { All FaultsAreOfBytes input_files }
-    ensures refused { (held : FileContents) (named : FileNames) (begun : InputsView) (input : AnyInput) (fault : AnyFault) →
+    ensures refused { (held : FileContents) (named : FileNames) (begun : InputsView)
+        (input : AnyInput) (fault : AnyFault) →
         inputs_of held named begun ≡ Err (reasons.Faulty input fault) → IsOfBytes fault }
 {
     FromZeroPage::exhaustion_is_no_fault_of_any();
@@ -27,8 +28,12 @@ pub fn exhaustion_is_no_file_fault()
 /// `add_efi_memmap` and the file has descriptors. Otherwise the map is that of the same inputs
 /// without the file (`do_add_efi_memmap`).
 pub fn efi_adds_what_is_asked()
-    ensures unasked { (held : FileContents) (named : FileNames) (begun given : InputsView) → IsBeforeFiles begun →
-        inputs_of held named begun ≡ Ok given → LacksEfiWord held named → HasMapWithoutEfi held named begun given }
-    ensures empty { (held : FileContents) (named : FileNames) (begun given : InputsView) → IsBeforeFiles begun →
-        inputs_of held named begun ≡ Ok given → LacksDescriptors held named → HasMapWithoutEfi held named begun given }
+    ensures unasked { (held : FileContents) (named : FileNames) (begun given : InputsView)
+        → IsBeforeFiles begun →
+        inputs_of held named begun ≡ Ok given → LacksEfiWord held named
+        → HasMapWithoutEfi held named begun given }
+    ensures empty { (held : FileContents) (named : FileNames) (begun given : InputsView)
+        → IsBeforeFiles begun →
+        inputs_of held named begun ≡ Ok given → LacksDescriptors held named
+        → HasMapWithoutEfi held named begun given }
 {}

@@ -52,13 +52,13 @@ mod srat;
 mod zero_page;
 
 pub use command_line::exhaustion_is_no_line_fault;
-pub use fault::{Diagnostic, Fault, Misread, NoInputs, InputsReason};
 pub use efi::exhaustion_is_no_efi_fault;
 pub use extension::exhaustion_is_no_ext_fault;
-pub use fetching::{add_file, Names};
+pub use fault::{Diagnostic, Fault, InputsReason, Misread, NoInputs};
+pub use fetching::{Names, add_file};
 pub use input::Input;
 pub use inputs::read_inputs;
-pub use laws::{exhaustion_is_no_file_fault, efi_adds_what_is_asked};
+pub use laws::{efi_adds_what_is_asked, exhaustion_is_no_file_fault};
 pub use list::Readers;
 pub use pages::exhaustion_is_no_page_script_fault;
 pub use reader::Reader;

@@ -7,9 +7,9 @@ ghost use Rattle.boot_inputs.specs.Faults.{FaultsAreOfBytes};
 ghost use Rattle.boot_inputs.specs.File.{File};
 ghost use Rattle.boot_inputs.specs.Reading.{AreRead, are_in_reading_order};
 
-use crate::fetching::{add_file, Names};
-use crate::reader::Reader;
 use crate::fault::NoInputs;
+use crate::fetching::{Names, add_file};
+use crate::reader::Reader;
 use bm_io::Files;
 use boot_model::Inputs;
 use std::alloc::Global;
@@ -33,7 +33,8 @@ pub trait Readers {
         inputs: &mut Inputs,
     ) -> Result<(), NoInputs>
         requires { IsTrue (are_in_reading_order list) }
-        ensures { AreRead F.Files (N.named names.now) list files.old files.new (inputs_view inputs.old) (inputs_view inputs.new) result };
+        ensures { AreRead F.Files (N.named names.now) list files.old files.new
+            (inputs_view inputs.old) (inputs_view inputs.new) result };
 
     /// Law: "out of memory" is never a fault of these files' contents.
     fn exhaustion_is_no_fault_of_any()

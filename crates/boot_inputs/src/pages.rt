@@ -1,11 +1,7 @@
 //! The page script as an input: what the page allocator is asked for after the boot.
 
-ghost use Rattle.std.specs.Prelude.{◌≡◌, ◌≤◌, ℕ, length, IsErrOf, IsOk, IsTrue, List};
+ghost use Rattle.std.specs.Prelude.{◌≡◌, ◌≤◌, ℕ, IsErrOf, List};
 ghost use Rattle.std.specs.Option.{option_map};
-ghost use Rattle.bm_base.specs.Answers.{Answers};
-ghost use Rattle.bm_base.specs.ResultSteps.{with_error};
-ghost use Rattle.boot_model.specs.View.{inputs_view};
-ghost use Rattle.boot_inputs.specs.Faults.{FaultsAreOfBytes};
 ghost use Rattle.boot_inputs.specs.Diagnostic.{diagnostic_view};
 ghost use Rattle.boot_inputs.specs.Pages.{pages_diagnostic, pages_file};
 ghost use Rattle.page_alloc.specs.Reading.{page_lines_of};

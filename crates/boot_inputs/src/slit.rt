@@ -1,11 +1,7 @@
 //! The firmware's table of distances between domains as an input.
 
-ghost use Rattle.std.specs.Prelude.{◌≡◌, ◌≤◌, ℕ, length, IsErrOf, IsOk, IsTrue, List};
+ghost use Rattle.std.specs.Prelude.{◌≡◌, ◌≤◌, ℕ, length, IsErrOf, List};
 ghost use Rattle.std.specs.Option.{option_map};
-ghost use Rattle.bm_base.specs.Answers.{Answers};
-ghost use Rattle.bm_base.specs.ResultSteps.{with_error};
-ghost use Rattle.boot_model.specs.View.{inputs_view};
-ghost use Rattle.boot_inputs.specs.Faults.{FaultsAreOfBytes};
 ghost use Rattle.boot_inputs.specs.Diagnostic.{diagnostic_view};
 ghost use Rattle.boot_inputs.specs.Slit.{slit_diagnostic, slit_file};
 ghost use Rattle.slit_zonelists.specs.Table.{slit_of};

@@ -1,12 +1,8 @@
 //! The zero page as an input. Its entries go into an array with room for all of them, so it is the
 //! only input that is read without memory.
 
-ghost use Rattle.std.specs.Prelude.{◌≡◌, ◌≤◌, length, IsErrOf, IsOk, IsTrue};
-ghost use Rattle.bm_base.specs.Answers.{Answers};
-ghost use Rattle.bm_base.specs.ResultSteps.{with_error};
-ghost use Rattle.boot_model.specs.View.{inputs_view};
+ghost use Rattle.std.specs.Prelude.{◌≡◌, ◌≤◌, length};
 ghost use Rattle.boot_inputs.specs.Diagnostic.{diagnostic_view};
-ghost use Rattle.boot_inputs.specs.Faults.{FaultsAreOfBytes};
 ghost use Rattle.boot_inputs.specs.ZeroPage.{zero_page, zero_page_diagnostic};
 
 use crate::fault::{Diagnostic, Fault, Misread};

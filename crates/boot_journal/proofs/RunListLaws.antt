@@ -1,5 +1,5 @@
 -- Lemmas: an edit of the elements from an index on is an edit of the list that begins there.
-use Rattle.std.proofs.Common.{◌≡◌, ℕ, suc, ◌+◌, ◌-◌, ◌≤◌, List, ◌∷◌, ◌++◌, length, take, drop, set, sym, ◌∙◌, ap, arith}
+use Rattle.std.proofs.Common.{◌≡◌, ℕ, ◌+◌, ◌-◌, ◌≤◌, List, ◌∷◌, ◌++◌, length, take, drop, set, sym, ◌∙◌, ap, arith}
 use Rattle.std.specs.Prelude.{insert}
 use Rattle.std.specs.List.{copy_within}
 use Rattle.std.proofs.lemmas.List.{append_assoc, drop-append-le, drop-drop, drop-set-add, drop-take, drop_at, length-drop, length-take-le, set-append_right, set_split}

@@ -47,7 +47,8 @@ impl Model for Journal {
     ghost invariant = { λ j.
         (vec_len j.items + j.spare ≤ vec_capacity j.items) × ItemsHaveBytes j.items.items ×
         (length j.owners.items + 2 * j.spare ≤ j.owners.room) ×
-        IsRunsOf (owner_of j.items.items) j.owners.items × NothingFrom (2 ^ 64) (owner_of j.items.items) ×
+        IsRunsOf (owner_of j.items.items) j.owners.items
+        × NothingFrom (2 ^ 64) (owner_of j.items.items) ×
         (j.mirrors ≡ has_mirrors j.items.items) };
 }
 
@@ -115,7 +116,8 @@ impl Journal {
     pub fn push_ready(&mut self, item: Item)
         requires item { ItemHasBytes item }
         requires spare { 0 < self.old.spare }
-        ensures { self.new ≡ record { items = self.old.items ++ item ∷ []; spare = self.old.spare - 1 } }
+        ensures { self.new
+            ≡ record { items = self.old.items ++ item ∷ []; spare = self.old.spare - 1 } }
     {
         owners::update_owners(&mut self.owners, &item);
         self.mirrors = has_mirrors_after(self.mirrors, &item);

@@ -42,7 +42,8 @@ fn apply_change<C: Change<Owner>>(owners: &mut RunList, range: &Range, change: C
     requires within { NothingFrom (2 ^ 64) (value_at owners.old.items) }
     requires change { EndsNoRun (C.makes change) }
     requires room { length owners.old.items + 2 ≤ owners.old.room }
-    ensures runs { IsRunsOf (change_range (C.makes change) range.now (value_at owners.old.items)) owners.new.items }
+    ensures runs { IsRunsOf
+        (change_range (C.makes change) range.now (value_at owners.old.items)) owners.new.items }
     ensures within { NothingFrom (2 ^ 64) (value_at owners.new.items) }
     ensures len { length owners.new.items ≤ length owners.old.items + 2 }
     ensures room { owners.old.room ≤ owners.new.room }

@@ -28,7 +28,8 @@ impl Model for RunList {
 
     ghost Value = { RunListView };
 
-    ghost view = { λ r. record { items = drop r.front r.records.items; room = vec_capacity r.records } };
+    ghost view = { λ r.
+        record { items = drop r.front r.records.items; room = vec_capacity r.records } };
 
     ghost invariant = { λ r. r.front ≤ vec_len r.records };
 }

@@ -72,7 +72,8 @@ fn item_agrees(whole: &Option<Marks>, items: &[Item], first: u64, item: &Item) -
 
 fn range_agrees(whole: &Option<Marks>, items: &[Item], first: u64, range: &Range) -> bool
     ensures agrees { IsTrue result →
-        EdgeAgrees whole.now items.now first range.now.base × EdgeAgrees whole.now items.now first (end_of range.now) }
+        EdgeAgrees whole.now items.now first range.now.base
+        × EdgeAgrees whole.now items.now first (end_of range.now) }
     ensures differs { result ≡ false → (e : ℕ) × EdgeDiffers whole.now items.now first e }
 {
     edge_agrees(whole, items, first, range.base) && edge_agrees(whole, items, first, range.end())

@@ -6,7 +6,7 @@ use Rattle.memblock_model.specs.declared.item.Item.{Item}
 use Rattle.growth_model.specs.Change.{ChangeEffect, RefusedGrowth, items_of_steps}
 use Rattle.growth_model.specs.Requests.{carry_out_items, change_for, unless_refused}
 use Rattle.stage_steps.specs.Steps.{StepEffect, items_after_step, append_groups, continue_if_ok}
-use Rattle.stage_steps.specs.Requests.{fail_if_refused as answer_of}
+use Rattle.stage_steps.specs.Requests.{fail_if_refused}
 use Rattle.stage_steps.proofs.DoingLaws.{append_groups-append, append_groups-joined}
 use Rattle.early_memory.specs.FirstItems.{first_items}
 use Rattle.boot_model.specs.Boot.{InputsView, BootSoFar, early_inputs, memory_stage}
@@ -21,7 +21,7 @@ items_by items d = d.answer >>= λ done. Ok (items_after_step items d)
 step_said : (steps : List (List Item)) (refused : Option RefusedGrowth) (is items : List Item)
     → carry_out_items is (append_groups items steps) ≡ items_by (append_groups items steps) (items_with_growths is (append_groups items steps))
     → (unless_refused refused (items ++ items_of_steps steps) >>= λ next. carry_out_items is next)
-    ≡ items_by items (continue_if_ok steps (answer_of refused) (λ done. items_with_growths is (append_groups items steps)))
+    ≡ items_by items (continue_if_ok steps (fail_if_refused refused) (λ done. items_with_growths is (append_groups items steps)))
 step_said steps None is items rest =
     let d : StepEffect RefusedGrowth (Unit {0}) = items_with_growths is (append_groups items steps) in
     ap (carry_out_items is) (sym (append_groups-joined items steps)) ∙ rest

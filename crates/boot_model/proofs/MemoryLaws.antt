@@ -24,7 +24,7 @@ use Rattle.early_memory.proofs.MemoryLaws.{first_limit, first_memory}
 use Rattle.early_memory.proofs.EndLaws.{memory_end-same}
 use Rattle.script_reader.specs.declared.act.Line.{Line}
 use Rattle.early_script.specs.Effects.{script_outcome_at_line, state_after_line}
-use Rattle.early_script.specs.Lines.{ScriptSoFar as Script, script_after_line, script_after_lines, before_sections, lines_after_sections, line_effect}
+use Rattle.early_script.specs.Lines.{ScriptSoFar, script_after_line, script_after_lines, before_sections, lines_after_sections, line_effect}
 use Rattle.early_script.proofs.QuietLaws.{acts-keep, act_effect-quiet}
 use Rattle.boot_model.specs.Boot.{InputsView, BootSoFar, Stage, boot, claims, early_inputs, crash_area_stage, memory_stage, nodes_stage, sections_stage, later_stages, judge_map, all_mirrors, made_with_crash_area, result_with_nodes, made_with_sections, reach, script_stage, script_state, types_in_reach}
 use Rattle.boot_model.specs.Sections.{place_present_sections}
@@ -57,7 +57,7 @@ bound_by made = limit_of made.items
 
 -- each line of the script leaves memory as it is
 lines_keep : {X : Type 0} (f : List Item → X)
-    → ((items : List Item) (o : ChangeEffect) → StepsKeepMemory o.steps → f (items_after_change items o) ≡ f items) → (s : Script) (lines : List Line)
+    → ((items : List Item) (o : ChangeEffect) → StepsKeepMemory o.steps → f (items_after_change items o) ≡ f items) → (s : ScriptSoFar) (lines : List Line)
     → f (script_after_lines s lines).state.items ≡ f s.state.items
 lines_keep f keeps s [] = refl
 lines_keep f keeps s (line ∷ lines) =

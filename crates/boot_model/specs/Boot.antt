@@ -24,7 +24,7 @@ use Rattle.early_memory.specs.FirstItems.{first_items}
 use Rattle.script_reader.specs.declared.act.Line.{Line}
 use Rattle.early_script.specs.declared.outcome.Answer.{Answer}
 use Rattle.early_script.specs.LiveView.{LiveView}
-use Rattle.early_script.specs.Lines.{ScriptSoFar as Script, script_after_lines, before_sections, lines_after_sections}
+use Rattle.early_script.specs.Lines.{ScriptSoFar, script_after_lines, before_sections, lines_after_sections}
 use Rattle.bm_base.specs.ResultSteps.{◌>>=◌}
 use Rattle.memblock_model.specs.Items.{memory_of, owner_of}
 use Rattle.memblock_model.specs.Tables.{reserved_labels}
@@ -39,7 +39,7 @@ use Rattle.memblock_frames.specs.Frames.{free_node_in, node_of_frame}
 use Rattle.buddy_blocks.specs.Frames.{Frames}
 use Rattle.page_alloc.specs.declared.act.PageLine.{PageLine}
 use Rattle.page_alloc.specs.declared.outcome.PageAnswer.{PageAnswer}
-use Rattle.page_alloc.specs.Pages.{PageState as Pages, first_page_state as nothing_taken}
+use Rattle.page_alloc.specs.Pages.{PageState, first_page_state}
 use Rattle.slit_zonelists.specs.SlitView.{SlitView}
 use Rattle.slit_zonelists.specs.Lists.{ListsView, zonelists_from_slit}
 use Rattle.slit_zonelists.specs.Near.{page_state_after, page_answers_of}
@@ -157,7 +157,7 @@ pub record BootedView : Type 0 where
   pub free : Frames
   pub lists : ListsView
   pub page_answers : List PageAnswer
-  pub after : Pages
+  pub after : PageState
 
 -- the nodes before memory has any
 abbrev pub no_nodes : NodesView
@@ -221,8 +221,8 @@ finish_boot given made = record {
   spans = spans_of_memory made.items;
   free = handover_frames made.items;
   lists = booted_zonelists given made;
-  page_answers = page_answers_of (booted_zonelists given made) (nothing_taken (handover_frames made.items)) given.page_lines;
-  after = page_state_after (booted_zonelists given made) (nothing_taken (handover_frames made.items)) given.page_lines;
+  page_answers = page_answers_of (booted_zonelists given made) (first_page_state (handover_frames made.items)) given.page_lines;
+  after = page_state_after (booted_zonelists given made) (first_page_state (handover_frames made.items)) given.page_lines;
 }
 
 -- a boot begins with a map, and nothing has happened to memory yet
@@ -270,7 +270,7 @@ abbrev pub judge_map : InputsView → Result BootSoFar Cause
 judge_map given = run_each_stage (map_stages given) (begin_boot given)
 
 -- the state that lines of the script begin with
-abbrev pub script_state : RangeView → BootSoFar → Script
+abbrev pub script_state : RangeView → BootSoFar → ScriptSoFar
 script_state kernel made = record {
   state = record { kernel = kernel; items = made.items; ids = made.ids };
   fills = made.fills;
@@ -278,7 +278,7 @@ script_state kernel made = record {
 }
 
 -- what was made, with the state that the lines of the script left
-abbrev pub with_script_state : BootSoFar → Script → BootSoFar
+abbrev pub with_script_state : BootSoFar → ScriptSoFar → BootSoFar
 with_script_state made s = record made { items = s.state.items; ids = s.state.ids; fills = s.fills; answers = s.answers }
 
 -- The lines of the early script are carried out. A line that is refused is answered, and the boot

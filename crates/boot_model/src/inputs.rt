@@ -9,12 +9,12 @@ ghost use Rattle.e820_table.specs.Initrd.{IsInitrd};
 ghost use Rattle.early_script.specs.Lines.{PlacesSectionsOnce};
 ghost use Rattle.page_alloc.specs.Pages.{HaveValidOrders};
 ghost use Rattle.slit_zonelists.specs.SlitView.{IsSquare, slit_view};
-ghost use Rattle.boot_model.specs.Facts.{EntriesFit-prop, HaveBounds, HaveBounds-prop, HaveValidOrders-prop, HaveTypes-prop, PlacesSectionsOnce-prop, efi_ends-prop};
+ghost use Rattle.boot_model.specs.Facts.{EntriesFit-prop, HaveBounds, HaveBounds-prop, HaveTypes-prop, efi_ends-prop};
 ghost use Rattle.boot_model.specs.Kernel.{IsKernel, is_kernel};
 ghost use Rattle.boot_model.specs.Mirrors.{IsMirror};
 
 use arrayvec::ArrayVec;
-use bm_base::{Range, Width, FRAME_SIZE};
+use bm_base::{FRAME_SIZE, Range, Width};
 use boot_options::{CrashOption, Options};
 use e820_table::{Entry, ZeroPage};
 use efi_map::EfiMap;
@@ -81,7 +81,7 @@ pub struct Inputs {
     ghost initrd_fits: { IfSome zero.initrd IsInitrd } by { Prim.hlevel props },
     ghost extension_ends: { EntriesFit ext.items } by { EntriesFit-prop ext.items },
     ghost types_fit: { HaveTypes options.edits.items } by { HaveTypes-prop options.edits.items },
-    ghost few_blocks: { IfSome srat (λ table. length table.blocks.items < 2 ^ 32) } by { Prim.hlevel props },
+    ghost few_blocks: { IfSome srat (λ t. length t.blocks.items < 2 ^ 32) } by { Prim.hlevel props },
     ghost kernel_fits: { IsKernel width kernel },
     ghost mirrors_fit: { All IsMirror mirrors.items },
     ghost bounds_fit: { HaveBounds lines.items } by { HaveBounds-prop lines.items },
@@ -89,7 +89,7 @@ pub struct Inputs {
     ghost orders_fit: { HaveValidOrders page_lines.items } by { HaveOrders-prop page_lines.items },
     ghost slit_square: { IfSome slit (λ table. IsSquare (slit_view table)) } by { Prim.hlevel props },
     ghost efi_ends: { IfSome efi (λ map. EntriesFit map.entries.items) } by { efi_ends-prop efi },
-    ghost efi_mirrors_fit: { IfSome efi (λ map. All IsMirror map.mirrors.items) } by { Prim.hlevel props },
+    ghost efi_mirrors_fit: { IfSome efi (λ m. All IsMirror m.mirrors.items) } by { Prim.hlevel props },
 }
 
 impl Inputs {

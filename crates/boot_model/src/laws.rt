@@ -13,7 +13,6 @@ ghost use Rattle.e820_model.specs.Usable.{is_usable_frame, usable_frames};
 ghost use Rattle.e820_model.specs.declared.entry.TheConstants.{E820_MAX_ENTRIES};
 ghost use Rattle.memblock_model.specs.Items.{limit_of, memory_of};
 ghost use Rattle.early_memory.specs.Memory.{memory_end};
-ghost use Rattle.memblock_model.specs.declared.item.Item.{Item};
 ghost use Rattle.boot_model.specs.declared.stop.Cause.TheVariants as causes;
 ghost use Rattle.boot_model.specs.Mirrors.{IsMirror};
 ghost use Rattle.boot_model.specs.Boot.{InputsView, BootSoFar, boot, claims, efi_entries, lies_in_memory, reach, types_in_reach};
@@ -32,9 +31,11 @@ pub fn efi_map_counts_only_if_asked()
 /// Law: the map of a boot gives each address below 2^64 the type of its greatest claim, and has at
 /// most 3,200 runs.
 pub fn map_gives_types()
-    ensures types { (given : InputsView) (made : BootSoFar) (x : ℕ) → boot given ≡ Ok made → x < 2 ^ 64 →
+    ensures types { (given : InputsView) (made : BootSoFar) (x : ℕ) → boot given ≡ Ok made
+        → x < 2 ^ 64 →
         value_at made.map x ≡ kinds (claims given) x }
-    ensures room { (given : InputsView) (made : BootSoFar) → boot given ≡ Ok made → length made.map ≤ E820_MAX_ENTRIES }
+    ensures room { (given : InputsView) (made : BootSoFar) → boot given ≡ Ok made
+        → length made.map ≤ E820_MAX_ENTRIES }
 {}
 
 /// Law: a frame below the limit of physical addresses is usable exactly if all its bytes lie in
@@ -61,7 +62,8 @@ pub fn map_gives_memory()
 
 /// Law: a boot stops with `NoRam` only if no frame is usable.
 pub fn no_ram_means_no_usable_frame()
-    ensures { (given : InputsView) → boot given ≡ Err causes.NoRam → usable_frames (types_in_reach given) ≡ 0 }
+    ensures { (given : InputsView) → boot given ≡ Err causes.NoRam
+        → usable_frames (types_in_reach given) ≡ 0 }
 {}
 
 /// Law: the mirrored ranges that the firmware gives, and those of command words cut to whole

@@ -12,9 +12,10 @@
 //! says that it leaves that part as it is.
 //!
 //! The facts about each input's value are facts of the type [`Inputs`], so every function that has
-//! inputs has them. [`is_kernel`] tests the place of the kernel. [`Inputs::without_files`] are the inputs
-//! without any file, to which each file adds. Only [`Inputs::reach`] gives the limit of physical
-//! addresses. Mirrored memory is given in whole frames, so no law about a boot has to require it.
+//! inputs has them. [`is_kernel`] tests the place of the kernel. [`Inputs::without_files`] are the
+//! inputs without any file, to which each file adds. Only [`Inputs::reach`] gives the limit of
+//! physical addresses. Mirrored memory is given in whole frames, so no law about a boot has to
+//! require it.
 //!
 //! The layers above may rest on this crate's laws: the map of a boot that isn't stopped gives each
 //! address the type of its greatest claim, and says which frames are usable. At the end a byte is

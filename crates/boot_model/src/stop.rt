@@ -92,7 +92,8 @@ impl From<StageStop> for Stop {
     ghost use Rattle.stage_steps.specs.Causes.{StageCause, stage_stop};
     ghost use Rattle.boot_model.specs.Stop.{cause_of_stage, stop_of_error};
 
-    ghost from_gives = { λ stage stop. (why : Option StageCause) → stage ≡ stage_stop why → stop ≡ stop_of_error cause_of_stage why };
+    ghost from_gives = { λ stage stop. (why : Option StageCause) → stage ≡ stage_stop why
+        → stop ≡ stop_of_error cause_of_stage why };
 
     fn from(stage: StageStop) -> Stop {
         match stage {
@@ -111,7 +112,8 @@ impl From<Refusal> for Stop {
     ghost use Rattle.stage_steps.specs.Causes.{refusal_for};
     ghost use Rattle.boot_model.specs.Stop.{cause_of_growth, stop_of_error};
 
-    ghost from_gives = { λ refusal stop. (why : Option RefusedGrowth) → refusal ≡ refusal_for why → stop ≡ stop_of_error cause_of_growth why };
+    ghost from_gives = { λ refusal stop. (why : Option RefusedGrowth) → refusal ≡ refusal_for why
+        → stop ≡ stop_of_error cause_of_growth why };
 
     fn from(refusal: Refusal) -> Stop {
         if let Refusal::NoGapForTable { which, room } = refusal {

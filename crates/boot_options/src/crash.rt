@@ -10,12 +10,12 @@ ghost use Rattle.std.specs.Prelude.{◌≡◌, ◌↔◌, ℕ, List, ◌∷◌, 
 ghost use Rattle.std.specs.Option.{option_map};
 ghost use Rattle.text_words.specs.declared.separators.Separators.TheVariants.{Byte as any_byte};
 ghost use Rattle.text_words.specs.Parts.{parts_in};
-ghost use Rattle.boot_options.specs.Crash.{CrashFormView, comma, crash_range_of, crash_ranges_of, end_of_range, crash_form_of, text_and_base as place_at, ranges_form, simple_form, suffix_form};
+ghost use Rattle.boot_options.specs.Crash.{CrashFormView, comma, crash_range_of, crash_ranges_of, end_of_range, crash_form_of, text_and_base, ranges_form, simple_form, suffix_form};
 ghost use Rattle.boot_options.specs.Kept.{KeepsItems, KeepsForm, KeepsRanges};
 ghost use Rattle.boot_options.specs.Spelling.{SpellsForm};
 
-use crate::reading::append_item;
 use crate::map_option::read_whole_size;
+use crate::reading::append_item;
 use bm_base::Memory;
 use std::alloc::Global;
 use text_words::{Separators, next_part, split_once};
@@ -141,7 +141,7 @@ fn read_suffix_form(size: &[u8], name: &[u8]) -> Option<CrashForm>
 /// Returns the text before the first `@`, and the base after it, or 0 if there is no `@`. Returns
 /// `None` if the base is malformed.
 fn text_and_base(text: &[u8]) -> Option<(&[u8], u64)>
-    ensures { option_map (λ place. (place.0.now, place.1)) result ≡ place_at text.now }
+    ensures { option_map (λ place. (place.0.now, place.1)) result ≡ text_and_base text.now }
 {
     match split_once(text, b'@') {
         Some((front, base)) => Some((front, read_whole_size(base)?)),
@@ -195,5 +195,6 @@ fn read_end(text: &[u8]) -> Option<Option<u64>>
 
 /// Law: a value of `crashkernel=` is read as a form exactly if the grammar spells it as that form.
 pub fn crash_forms_are_spelled()
-    ensures { (value : List ℕ) (form : CrashFormView) → crash_form_of value ≡ Some form ↔ SpellsForm value form }
+    ensures { (value : List ℕ) (form : CrashFormView)
+        → crash_form_of value ≡ Some form ↔ SpellsForm value form }
 {}

@@ -11,7 +11,7 @@ ghost use Rattle.text_words.specs.declared.separators.Separators.TheVariants.{By
 ghost use Rattle.text_words.specs.Parts.{parts_in};
 ghost use Rattle.boot_options.specs.declared.map_option.MapOption.{MapOption as AnyOption};
 ghost use Rattle.boot_options.specs.Crash.{comma};
-ghost use Rattle.boot_options.specs.MapOptions.{front_size, front_number, whole_size, unless_empty as edit_unless_empty, ram_above as edit_above, adding_option as adding_map_option, kind_after_mark as front_kind, retype_option as retyped_map_option, percent_map_option as changed_map_option, map_option_by_mark as marked_map_option, map_option_of, mem_of};
+ghost use Rattle.boot_options.specs.MapOptions.{front_size, front_number, whole_size, unless_empty, ram_above, adding_option, kind_after_mark, retype_option, percent_map_option, map_option_by_mark, map_option_of, mem_of};
 ghost use Rattle.boot_options.specs.Options.{map_options_of};
 ghost use Rattle.boot_options.specs.Spelling.{SpellsMapOption, SpellsMapOptions, SpellsMem};
 
@@ -58,7 +58,7 @@ pub fn read_map_option(text: &[u8]) -> Option<MapOption>
 /// Returns the map option for a size and the text after it, which begins with a mark. Returns
 /// `None` if the text is malformed. An empty text ends RAM at `size`.
 fn map_option_by_mark(size: u64, text: &[u8]) -> Option<MapOption>
-    ensures { result ≡ marked_map_option size text.now }
+    ensures { result ≡ map_option_by_mark size text.now }
 {
     let [mark, place @ ..] = text else {
         return Some(MapOption::Other(ram_above(size)));
@@ -76,7 +76,7 @@ fn map_option_by_mark(size: u64, text: &[u8]) -> Option<MapOption>
 /// Returns the map option that adds `size` bytes of type `kind` at the address in `place`. Returns
 /// `None` if the address is malformed, or the range would exceed 2^64 - 1.
 fn adding_option(kind: u32, size: u64, place: &[u8]) -> Option<MapOption>
-    ensures { result ≡ adding_map_option kind size place.now }
+    ensures { result ≡ adding_option kind size place.now }
 {
     let base = read_whole_size(place)?;
     let range = Range::new(base, size)?;
@@ -86,7 +86,7 @@ fn adding_option(kind: u32, size: u64, place: &[u8]) -> Option<MapOption>
 /// Reads `A-f+t`, the text after `S%`: an address, and optional types to change from and to.
 /// Returns `None` if it is malformed, or the range would exceed 2^64 - 1.
 fn percent_map_option(size: u64, place: &[u8]) -> Option<MapOption>
-    ensures { result ≡ changed_map_option size place.now }
+    ensures { result ≡ percent_map_option size place.now }
 {
     let (base, rest) = read_front_size(place)?;
     let range = Range::new(base, size)?;
@@ -101,7 +101,7 @@ fn percent_map_option(size: u64, place: &[u8]) -> Option<MapOption>
 /// Returns the map option that changes type `from` to type `to` in the range; 0 stands for a type
 /// that isn't given. Returns `None` if both types are given and equal.
 fn retype_option(range: Range, from: u32, to: u32) -> Option<MapOption>
-    ensures { result ≡ retyped_map_option range from to }
+    ensures { result ≡ retype_option range from to }
 {
     match (from, to) {
         (0, 0) => Some(MapOption::Other(unless_empty(range, Edit::RemoveAll { range }))),
@@ -115,7 +115,7 @@ fn retype_option(range: Range, from: u32, to: u32) -> Option<MapOption>
 /// Returns the type after `mark`, if the text begins with that mark, and the rest of the text. The
 /// type is 0 if the mark isn't there. Returns `None` if the type is malformed or exceeds 2^32 - 1.
 fn kind_after_mark(mark: u8, text: &[u8]) -> Option<(u32, &[u8])>
-    ensures { option_map (λ front. (front.0, front.1.now)) result ≡ front_kind mark text.now }
+    ensures { option_map (λ front. (front.0, front.1.now)) result ≡ kind_after_mark mark text.now }
 {
     match text {
         [first, number @ ..] if *first == mark => {
@@ -129,7 +129,7 @@ fn kind_after_mark(mark: u8, text: &[u8]) -> Option<(u32, &[u8])>
 /// Returns the edit that removes RAM from address `size` up to 2^64 - 2, or `None` if there is no
 /// such address.
 fn ram_above(size: u64) -> Option<Edit>
-    ensures { result ≡ edit_above size }
+    ensures { result ≡ ram_above size }
 {
     let range = Range {
         base: size,
@@ -146,7 +146,7 @@ fn ram_above(size: u64) -> Option<Edit>
 
 /// Returns the edit, or `None` if its range is empty.
 fn unless_empty(range: Range, edit: Edit) -> Option<Edit>
-    ensures { result ≡ edit_unless_empty range edit }
+    ensures { result ≡ unless_empty range edit }
 {
     if range.size > 0 { Some(edit) } else { None }
 }

@@ -50,7 +50,8 @@ pub fn read_options(alloc: Global, bytes: &[u8]) -> Result<Options, OptionFault>
         IsOkAnd (options_of bytes.now) OptionsNeedMemory }
     ensures types { IfOk result (λ options. HaveTypes options.edits.items) }
     ensures ranges { IfOk result (λ options. HaveRanges options.edits.items) }
-    ensures crash { IfOk result (λ options. IfSome options.crash.plain (λ plain. IsPlain (crash_plain_view plain))) }
+    ensures crash { IfOk result (λ options.
+        IfSome options.crash.plain (λ plain. IsPlain (crash_plain_view plain))) }
     ensures words { IfErr result IsNumbered }
 {
     let line = command_line_of(bytes)?;
@@ -78,7 +79,8 @@ pub fn malformed_words_are_faults()
 pub fn words_say_what_they_spell()
     ensures word { (number : ℕ) (word : List ℕ) (said : WordMeaning) →
         word_meaning number (name_value_of word) ≡ Ok said ↔ SpellsMeaning word said }
-    ensures line { (bytes line : List ℕ) (said : List (ℕ × WordMeaning)) → command_line_of bytes ≡ Ok line →
+    ensures line { (bytes line : List ℕ) (said : List (ℕ × WordMeaning))
+        → command_line_of bytes ≡ Ok line →
         word_meanings_from 1 (option_words line) ≡ Ok said ↔ SpellsLine line said }
 {}
 
@@ -118,7 +120,8 @@ fn command_line_of(bytes: &[u8]) -> Result<&[u8], OptionFault>
 fn finish(reading: Reading) -> Result<Options, OptionFault>
     ensures answers { (st : ReadingState) → IsReadTo reading st →
         Answers OptionFault.Memory options_view result (at_line_end st) }
-    ensures memory { result ≡ Err OptionFault.Memory → IsErr reading.edits ⊎ LacksRanges reading.crash.plain }
+    ensures memory { result ≡ Err OptionFault.Memory
+        → IsErr reading.edits ⊎ LacksRanges reading.crash.plain }
     ensures complete { result ≡ Err OptionFault.Memory → (st : ReadingState) → IsReadTo reading st →
         IsOkAnd (at_line_end st) OptionsNeedMemory }
 {

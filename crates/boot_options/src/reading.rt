@@ -9,11 +9,11 @@
 //! line is still read, so that a fault anywhere in it is found. No function here returns `Memory`.
 
 ghost use Rattle.std.specs.Prelude.{◌≡◌, ℕ, ◌≤◌, ◌+◌, length, Result, Ok, Err, List, [], ◌++◌};
-ghost use Rattle.std.specs.Option.{option_map, option_and_then};
+ghost use Rattle.std.specs.Option.{option_map};
 ghost use Rattle.boot_options.specs.declared.fault.OptionFault.TheVariants as faults;
 ghost use Rattle.boot_options.specs.declared.options.TheConstants.{LONGEST_LINE};
 ghost use Rattle.boot_options.specs.Options.{name_value_of, word_meaning, word_meanings_from, option_words, meaning_or_fault, crash_of, memmap_of};
-ghost use Rattle.boot_options.specs.Reading.{ReadingState, start_state, user_map_less_one as one_fewer_wanted, after_map_option, after_meaning, after_meanings, IsReadTo, ReadsAs};
+ghost use Rattle.boot_options.specs.Reading.{ReadingState, start_state, user_map_less_one, after_map_option, after_meaning, after_meanings, IsReadTo, ReadsAs};
 ghost use Rattle.std.specs.List.{cons_option};
 ghost use Rattle.boot_options.specs.Kept.{KeepsItems};
 
@@ -150,7 +150,8 @@ fn name_value_of(word: &[u8]) -> (&[u8], Option<&[u8]>)
 fn read_memmap(value: &[u8], number: u32, reading: &mut Reading) -> Result<(), OptionFault>
     ensures { (st : ReadingState) → IsReadTo reading.old st →
         ReadsAs (λ _. reading.new) result
-        (after_meaning number st (meaning_or_fault (faults.BadMemmap number) (memmap_of value.now))) }
+        (after_meaning number st
+        (meaning_or_fault (faults.BadMemmap number) (memmap_of value.now))) }
 {
     let mut rest = Some(value);
     while let Some(text) = rest {
@@ -211,7 +212,7 @@ fn take_map_option(option: &MapOption, number: u32, reading: &mut Reading)
 
 /// Returns the user map with one map option fewer to come.
 fn user_map_less_one(map: &Option<UserMap>) -> Option<UserMap>
-    ensures { result ≡ option_map one_fewer_wanted map.now }
+    ensures { result ≡ option_map user_map_less_one map.now }
 {
     map.map(|map| UserMap {
         word: map.word,

@@ -15,8 +15,8 @@ use Rattle.memblock_model.specs.Tables.{records_of, reserved_labels}
 use Rattle.memblock_model.proofs.TableLaws.{value_at-records}
 use Rattle.memblock_ranges.specs.declared.region.Head.{Head}
 use Rattle.memblock_ranges.specs.declared.region.Heads.{Heads}
-use Rattle.memblock_ranges.specs.Tables.{TablesView as Tables, table_in, IsInStore, TableView, head_of, records_of_head}
-use Rattle.memblock_grow.specs.MemblockView.{MemblockView as Memblock}
+use Rattle.memblock_ranges.specs.Tables.{TablesView, table_in, IsInStore, TableView, head_of, records_of_head}
+use Rattle.memblock_grow.specs.MemblockView.{MemblockView}
 use Rattle.sparse_sections.proofs.NodedLaws.{noded-told}
 use Rattle.stage_steps.specs.Nodes.{HasNodes}
 use Rattle.memblock_frames.specs.Frames.{free_node_in, node_of_frame}
@@ -25,7 +25,7 @@ use Rattle.memblock_frames.proofs.StandLaws.{stands_ascending, stands_below, sta
 use Rattle.zone_spans.specs.Spans.{spans_of}
 use Rattle.buddy_blocks.specs.Frames.{Frames}
 use Rattle.page_alloc.specs.declared.outcome.PageAnswer.{PageAnswer}
-use Rattle.page_alloc.specs.Pages.{PageState as Pages, first_page_state}
+use Rattle.page_alloc.specs.Pages.{PageState, first_page_state}
 use Rattle.slit_zonelists.specs.Lists.{ListsView, zonelists_from_slit}
 use Rattle.slit_zonelists.specs.Near.{page_state_after, page_answers_of}
 use Rattle.numa_nodes.specs.Assignment.{nodes_view}
@@ -77,7 +77,7 @@ module _ {items : List Item} {store : List ExtentView} {memory reserved : Head} 
       ∙ rw (s.first_says, s.second_says) refl)
 
 -- the tables of a memblock stand in its bytes
-pub stand-by : (m : Memblock) (store : List ExtentView) (heads : Heads)
+pub stand-by : (m : MemblockView) (store : List ExtentView) (heads : Heads)
     → heads ≡ record { memory = head_of m.tables.memory; reserved = head_of m.tables.reserved }
     → m.tables.memory ≡ table_for which.Memory m.kernel m.journal.items
     → m.tables.reserved ≡ table_for which.Reserved m.kernel m.journal.items
@@ -100,8 +100,8 @@ stand-by m store heads finish_boot first second first_stands second_stands noded
 
 -- the report of what the boot made is that of what was handed over, and of what it made after the
 -- handover
-pub finish_boot-by : (given : InputsView) (map : List (RunOf ℕ)) (m : Memblock) (later : Later) (ids : LiveView) (fills : List Fill) (items : List Item)
-    (heads : Heads) (spans : List Span) (frames : Frames) (lists : ListsView) (answers : List PageAnswer) (after : Pages)
+pub finish_boot-by : (given : InputsView) (map : List (RunOf ℕ)) (m : MemblockView) (later : Later) (ids : LiveView) (fills : List Fill) (items : List Item)
+    (heads : Heads) (spans : List Span) (frames : Frames) (lists : ListsView) (answers : List PageAnswer) (after : PageState)
     → m.kernel ≡ given.kernel → items ≡ m.journal.items → heads ≡ heads_of m.kernel m.journal.items → spans ≡ spans_of_memory m.journal.items
     → frames ≡ handover_frames m.journal.items → lists ≡ zonelists_from_slit given.slit (nodes_view later.nodes).domains spans
     → answers ≡ page_answers_of lists (first_page_state frames) given.page_lines → after ≡ page_state_after lists (first_page_state frames) given.page_lines
@@ -125,7 +125,7 @@ finish_boot-by given map m later ids fills items heads spans frames lists answer
     cc
 
 -- the tables of a memblock are those of its items
-pub tables-kept : (w : Which) (kernel : RangeView) (items : List Item) (t : Tables) (aim : AllocSettings) → TablesMatchItems kernel items t aim
+pub tables-kept : (w : Which) (kernel : RangeView) (items : List Item) (t : TablesView) (aim : AllocSettings) → TablesMatchItems kernel items t aim
     → table_in w t ≡ table_for w kernel items
 tables-kept which.Memory kernel items t aim kept = kept.memory
 tables-kept which.Reserved kernel items t aim kept = kept.reserved

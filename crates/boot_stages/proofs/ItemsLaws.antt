@@ -9,7 +9,7 @@ use Rattle.memblock_model.specs.declared.item.Item.{Item}
 use Rattle.memblock_model.specs.declared.item.Item.TheVariants as item
 use Rattle.growth_model.specs.declared.refusal.Refusal.{Refusal}
 use Rattle.growth_model.specs.declared.refusal.Refusal.TheVariants as refusal
-use Rattle.growth_model.specs.Change.{RefusedGrowth, ChangeEffect, Change, items_after_change as behind, followed_by, items_of_steps, write_item}
+use Rattle.growth_model.specs.Change.{RefusedGrowth, ChangeEffect, Change, items_after_change, followed_by, items_of_steps, write_item}
 use Rattle.growth_model.specs.Growth.{claim_range, make_table_room, count_uncovered_pieces, reserved_growth}
 use Rattle.growth_model.specs.Tables.{HasBegun}
 use Rattle.growth_model.specs.Ends.{EndsAsChange, StopsBeforeStep}
@@ -134,8 +134,8 @@ last_begun [] i = tt
 last_begun (j ∷ is) i = tt
 
 behind_begun : (first : ChangeEffect) (r : Option RefusedGrowth) (i : Item) (old new : List Item) → first.refused ≡ r
-    → (followed_by first r (write_item i (behind old first))).refused ≡ None
-    → new ≡ behind old (followed_by first r (write_item i (behind old first))) → HasBegun new
+    → (followed_by first r (write_item i (items_after_change old first))).refused ≡ None
+    → new ≡ items_after_change old (followed_by first r (write_item i (items_after_change old first))) → HasBegun new
 behind_begun first None i old new is unrefused same =
     let last = same ∙ ap (λ (t : List Item). old ++ t) (items_of_steps-append first.steps ((i ∷ []) ∷ []))
     ∙ sym (append_assoc old (items_of_steps first.steps) (i ∷ [])) in

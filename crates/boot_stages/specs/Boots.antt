@@ -16,7 +16,7 @@ use Rattle.memblock_ranges.specs.declared.region.Head.{Head}
 use Rattle.memblock_ranges.specs.declared.region.Heads.{Heads}
 use Rattle.memblock_ranges.specs.Tables.{TableView, IsInStore, head_of, records_of_head}
 use Rattle.memblock_frames.specs.Frames.{free_node_in}
-use Rattle.buddy_handover.specs.BuddyView.{BuddyView as Buddy, buddy_frames}
+use Rattle.buddy_handover.specs.BuddyView.{BuddyView, buddy_frames}
 use Rattle.boot_model.specs.declared.stop.Cause.TheVariants as causes
 use Rattle.boot_model.specs.declared.stop.Stop.{Stop}
 use Rattle.boot_model.specs.declared.stop.Stop.TheVariants as stops
@@ -69,7 +69,7 @@ pub record IsStoredTable (w : Which) (items : List Item) (store : List ExtentVie
 
 -- the free frames are exactly those that the two lists in the bytes of `store`, at the places of
 -- the heads, leave free
-abbrev pub IsFreeByStore : List ExtentView → Heads → Buddy → Type 0
+abbrev pub IsFreeByStore : List ExtentView → Heads → BuddyView → Type 0
 IsFreeByStore store heads buddy =
     (frame : ℕ) → buddy_frames buddy frame ≡ free_node_in (value_at (records_of_head store heads.memory)) (value_at (records_of_head store heads.reserved)) frame
 

@@ -44,14 +44,18 @@ pub fn hand_over_memory(
 ) -> Result<Booted, Memory>
     requires kernel { memblock.kernel ≡ inputs.kernel }
     requires noded { HasNodes (2 ^ 52) (memory_of memblock.journal.items) }
-    requires tables { (w : Which) → table_in w memblock.tables ≡ table_for w memblock.kernel memblock.journal.items }
+    requires tables { (w : Which)
+        → table_in w memblock.tables ≡ table_for w memblock.kernel memblock.journal.items }
     requires within { NothingFrom (2 ^ 64) (reserved_labels (owner_of memblock.journal.items)) }
     ensures told { IfOk result (λ booted. (ids : LiveView) (fills : List Fill) → booted_view booted
-        ≡ finish_boot (inputs_view inputs) (made_after_stages (inputs_view inputs) map.items memblock later ids fills)) }
+        ≡ finish_boot (inputs_view inputs)
+        (made_after_stages (inputs_view inputs) map.items memblock later ids fills)) }
     ensures map { IfOk result (λ booted. booted.map ≡ map) }
     ensures store { IfOk result (λ booted. booted.store ≡ memblock.tables.store) }
-    ensures memory { IfOk result (λ booted. IsStoredTable which.Memory booted.journal.items booted.store booted.heads.memory) }
-    ensures reserved { IfOk result (λ booted. IsStoredTable which.Reserved booted.journal.items booted.store booted.heads.reserved) }
+    ensures memory { IfOk result (λ booted.
+        IsStoredTable which.Memory booted.journal.items booted.store booted.heads.memory) }
+    ensures reserved { IfOk result (λ booted.
+        IsStoredTable which.Reserved booted.journal.items booted.store booted.heads.reserved) }
     ensures spelled { IfOk result (λ booted. IsFreeByStore booted.store booted.heads booted.buddy) }
 {
     let (store, heads, journal) = memblock.into_parts();

@@ -48,7 +48,8 @@ fn place_sections(
 ) -> Result<(Roots, Vec<Placed>), StageStop>
     requires begun { HasBegun memblock.old.journal.items }
     requires noded { HasNodes (2 ^ 52) (memory_of memblock.old.journal.items) }
-    ensures ends { EndsAsStage (place_present_sections width) stage_stop (view_of_result (λ places. sections_view places.0 places.1) result)
+    ensures ends { EndsAsStage (place_present_sections width) stage_stop
+        (view_of_result (λ places. sections_view places.0 places.1) result)
         memblock.old.journal.items memblock.new.journal.items }
     ensures goes_on { ContinuesMemblock memblock.old memblock.new }
 {
@@ -75,8 +76,10 @@ pub fn run_stages(
     requires kernel { memblock.old.kernel ≡ inputs.now.kernel }
     requires bytes { HoldsFills [] memblock.old }
     requires runs { AreRuns map.now }
-    requires judged { judge_map (inputs_view inputs.now) ≡ Ok (begin_with_map map.now (inputs_view inputs.now).options) }
-    ensures run { IfOk result (λ later. StagesEndWith (inputs_view inputs.now) map.now memblock.new later) }
+    requires judged { judge_map (inputs_view inputs.now)
+        ≡ Ok (begin_with_map map.now (inputs_view inputs.now).options) }
+    ensures run { IfOk result (λ later.
+        StagesEndWith (inputs_view inputs.now) map.now memblock.new later) }
     ensures stopped { IfErr result (λ stop. StagesStopWith (inputs_view inputs.now) map.now stop) }
 {
     make_memory(memblock, inputs, map)?;

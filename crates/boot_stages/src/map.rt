@@ -20,8 +20,8 @@ use e820_table::Entry;
 use std::alloc::Global;
 
 /// Returns the table of the finished map: the zero page's entries, the extension's entries, the
-/// options' edits, and the entries `added_entries` after the edits. Each part is settled, and the BIOS
-/// range is trimmed (`trim_bios_range`).
+/// options' edits, and the entries `added_entries` after the edits. Each part is settled, and the
+/// BIOS range is trimmed (`trim_bios_range`).
 ///
 /// # Errors
 ///
@@ -37,7 +37,8 @@ pub fn finished_table(
     requires extension_ends { EntriesFit extension.now }
     requires types { HaveTypes edits.now }
     requires added_end { EntriesFit added.now }
-    ensures { IfOk result (λ table. claims_of table ≡ final_claims entries.now extension.now edits.now added.now) }
+    ensures { IfOk result (λ table.
+        claims_of table ≡ final_claims entries.now extension.now edits.now added.now) }
 {
     let mut table = Table::new(alloc);
     append_and_sanitise(&mut table, entries)?;
@@ -68,12 +69,13 @@ fn append_and_sanitise(table: &mut Table, entries: &[Entry]) -> Result<(), Memor
     table.settle()
 }
 
-/// Makes the edits, appends the entries `added_entries` (`do_add_efi_memmap`), and settles the table
-/// (`e820__finish_early_params`).
+/// Makes the edits, appends the entries `added_entries` (`do_add_efi_memmap`), and settles the
+/// table (`e820__finish_early_params`).
 fn edit_and_sanitise(table: &mut Table, edits: &[Edit], added: &[Entry]) -> Result<(), Memory>
     requires types { HaveTypes edits.now }
     requires added_end { EntriesFit added.now }
-    ensures { OnOk result (claims_of table.new ≡ with_options edits.now added.now (claims_of table.old)) }
+    ensures { OnOk result (claims_of table.new
+        ≡ with_options edits.now added.now (claims_of table.old)) }
 {
     for edit in edits {
         table.edit(edit)?;

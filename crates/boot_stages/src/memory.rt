@@ -80,7 +80,8 @@ fn add_run(memblock: &mut Memblock, run: &Run, reach: u64) -> Result<(), Refusal
 /// Returns the part of `range` that lies below `reach`. The range must begin below `reach`.
 fn below_limit(range: Range, reach: u64) -> Range
     requires { range.base < reach }
-    ensures { result ≡ record { base = range.base; size = min (range.base + range.size) reach - range.base } }
+    ensures { result
+        ≡ record { base = range.base; size = min (range.base + range.size) reach - range.base } }
 {
     if range.end() < reach {
         range
@@ -140,7 +141,8 @@ fn turn_upward(memblock: &mut Memblock, upward: bool) -> Result<(), Refusal>
 fn begin_memory(memblock: &mut Memblock, inputs: &Inputs) -> Result<(), Refusal>
     requires first { memblock.old.journal.items ≡ [] }
     requires kernel { inputs.now.kernel ≡ memblock.old.kernel }
-    ensures ends { EndsAsStage (items_with_growths (items_before_memory (early_inputs (inputs_view inputs.now)))) refusal_for result
+    ensures ends { EndsAsStage (items_with_growths
+        (items_before_memory (early_inputs (inputs_view inputs.now)))) refusal_for result
         memblock.old.journal.items memblock.new.journal.items }
     ensures begun { OnOk result (HasBegun memblock.new.journal.items) }
     ensures goes_on { ContinuesMemblock memblock.old memblock.new }
@@ -155,7 +157,8 @@ fn begin_memory(memblock: &mut Memblock, inputs: &Inputs) -> Result<(), Refusal>
 fn add_mirrors(memblock: &mut Memblock, mirrors: &[Range]) -> Result<(), Refusal>
     requires whole { All IsMirror mirrors.now }
     requires begun { HasBegun memblock.old.journal.items }
-    ensures ends { EndsAsStage (items_with_growths (mirror_items (map frame_range_of mirrors.now))) refusal_for result
+    ensures ends { EndsAsStage
+        (items_with_growths (mirror_items (map frame_range_of mirrors.now))) refusal_for result
         memblock.old.journal.items memblock.new.journal.items }
     ensures begun { HasBegun memblock.new.journal.items }
     ensures goes_on { ContinuesMemblock memblock.old memblock.new }
@@ -171,7 +174,8 @@ fn add_mirrors(memblock: &mut Memblock, mirrors: &[Range]) -> Result<(), Refusal
 /// map.
 fn mirror_memory(memblock: &mut Memblock, inputs: &Inputs) -> Result<(), Refusal>
     requires { HasBegun memblock.old.journal.items }
-    ensures ends { EndsAsStage (items_with_growths (mirror_items (all_mirrors (inputs_view inputs.now)))) refusal_for result
+    ensures ends { EndsAsStage (items_with_growths
+        (mirror_items (all_mirrors (inputs_view inputs.now)))) refusal_for result
         memblock.old.journal.items memblock.new.journal.items }
     ensures begun { HasBegun memblock.new.journal.items }
     ensures goes_on { ContinuesMemblock memblock.old memblock.new }
@@ -188,7 +192,8 @@ fn mirror_memory(memblock: &mut Memblock, inputs: &Inputs) -> Result<(), Refusal
 fn map_memory(memblock: &mut Memblock, inputs: &Inputs, map: &[Run]) -> Result<(), Refusal>
     requires begun { HasBegun memblock.old.journal.items }
     requires runs { AreRuns map.now }
-    ensures ends { EndsAsStage (items_with_growths (map_memory_items (early_inputs (inputs_view inputs.now)) map.now)) refusal_for result
+    ensures ends { EndsAsStage (items_with_growths
+        (map_memory_items (early_inputs (inputs_view inputs.now)) map.now)) refusal_for result
         memblock.old.journal.items memblock.new.journal.items }
     ensures begun { OnOk result (HasBegun memblock.new.journal.items) }
     ensures goes_on { ContinuesMemblock memblock.old memblock.new }
@@ -222,7 +227,8 @@ pub fn make_memory(memblock: &mut Memblock, inputs: &Inputs, map: &[Run]) -> Res
     requires first { memblock.old.journal.items ≡ [] }
     requires kernel { inputs.now.kernel ≡ memblock.old.kernel }
     requires runs { AreRuns map.now }
-    ensures ends { EndsAsStage (items_with_growths (first_items (early_inputs (inputs_view inputs.now)) map.now)) refusal_for result
+    ensures ends { EndsAsStage (items_with_growths
+        (first_items (early_inputs (inputs_view inputs.now)) map.now)) refusal_for result
         memblock.old.journal.items memblock.new.journal.items }
     ensures begun { OnOk result (HasBegun memblock.new.journal.items) }
     ensures goes_on { ContinuesMemblock memblock.old memblock.new }

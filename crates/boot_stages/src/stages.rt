@@ -18,7 +18,7 @@ ghost use Rattle.boot_stages.specs.Boots.{IsFreeByStore, IsStoredTable};
 
 use crate::handover::hand_over_memory;
 use crate::later::run_stages;
-use crate::map::{added_entries, finished_table, accept_map};
+use crate::map::{accept_map, added_entries, finished_table};
 use boot_model::{Booted, Inputs, Stop};
 use e820_sanitise::Run;
 use memblock_grow::Memblock;
@@ -54,16 +54,24 @@ use std::alloc::Global;
 pub fn boot(alloc: Global, inputs: Inputs) -> Result<Booted, Stop>
     ensures boots { Answers Stop.Memory booted_view result
         (with_error stop_of (whole_boot (inputs_view inputs))) }
-    ensures bytes { IfOk result (λ booted. (made : BootSoFar) → boot (inputs_view inputs) ≡ Ok made →
-        (x : ℕ) → byte_of booted.store x ≡ byte_from_history inputs.kernel made.items made.fills x) }
+    ensures bytes { IfOk result (λ booted. (made : BootSoFar) → boot (inputs_view inputs) ≡ Ok made
+        →
+        (x : ℕ) →
+        byte_of booted.store x ≡ byte_from_history inputs.kernel made.items made.fills x) }
     ensures runs { IfOk result (λ booted. AreRuns booted.map.items) }
-    ensures memory { IfOk result (λ booted. IsStoredTable which.Memory booted.journal.items booted.store booted.heads.memory) }
-    ensures reserved { IfOk result (λ booted. IsStoredTable which.Reserved booted.journal.items booted.store booted.heads.reserved) }
+    ensures memory { IfOk result (λ booted.
+        IsStoredTable which.Memory booted.journal.items booted.store booted.heads.memory) }
+    ensures reserved { IfOk result (λ booted.
+        IsStoredTable which.Reserved booted.journal.items booted.store booted.heads.reserved) }
     ensures spelled { IfOk result (λ booted. IsFreeByStore booted.store booted.heads booted.buddy) }
-    ensures each { IfOk result (λ booted. AllTouchedOrInOneBlock (inputs_view inputs) (booted_view booted)) }
-    ensures others { IfOk result (λ booted. NoOtherInABlock (inputs_view inputs) (booted_view booted)) }
-    ensures whole { IfOk result (λ booted. BlocksAreWhole (inputs_view inputs) (booted_view booted)) }
-    ensures maximal { IfOk result (λ booted. BlocksAreMaximal (inputs_view inputs) (booted_view booted)) }
+    ensures each { IfOk result (λ booted.
+        AllTouchedOrInOneBlock (inputs_view inputs) (booted_view booted)) }
+    ensures others { IfOk result (λ booted.
+        NoOtherInABlock (inputs_view inputs) (booted_view booted)) }
+    ensures whole { IfOk result (λ booted.
+        BlocksAreWhole (inputs_view inputs) (booted_view booted)) }
+    ensures maximal { IfOk result (λ booted.
+        BlocksAreMaximal (inputs_view inputs) (booted_view booted)) }
     ensures paged { IfOk result (λ booted. AllInOneBlockOrHeld (booted_view booted)) }
     ensures none_paged { IfOk result (λ booted. NoOtherInABlockOrHeld (booted_view booted)) }
 {
@@ -79,7 +87,8 @@ pub fn boot(alloc: Global, inputs: Inputs) -> Result<Booted, Stop>
 ///
 /// The stops of `accept_map`, and out of memory.
 fn settled_map(alloc: Global, inputs: &Inputs) -> Result<Vec<Run>, Stop>
-    ensures answers { Answers Stop.Memory (λ map. begin_with_map map.items (inputs_view inputs.now).options) result
+    ensures answers { Answers Stop.Memory (λ map.
+        begin_with_map map.items (inputs_view inputs.now).options) result
         (with_error stop_of (judge_map (inputs_view inputs.now))) }
     ensures runs { IfOk result (λ map. AreRuns map.items) }
 {

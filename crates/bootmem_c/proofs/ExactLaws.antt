@@ -6,7 +6,7 @@ use Rattle.bm_io.specs.MemFiles.{file_bytes}
 use Rattle.boot_inputs.specs.declared.fault.Fault.{Fault}
 use Rattle.boot_inputs.specs.declared.input.Input.{Input}
 use Rattle.boot_inputs.specs.Reason.{NoInputs, InputsReason}
-use Rattle.boot_inputs.specs.File.{File as InputFile}
+use Rattle.boot_inputs.specs.File.{File}
 use Rattle.boot_inputs.specs.Input.{input_place}
 use Rattle.boot_inputs.specs.Inputs.{FileNames, inputs_after_file, inputs_after_files, input_files, inputs_of, inputs_after_named_file, answer_or_faulty_file, step_or_unread_file, inputs_after_optional_file, within_limit}
 use Rattle.program_end.specs.Program.{FileContents}
@@ -24,7 +24,7 @@ use Rattle.bootmem_c.specs.Fetches.{LentFilesView, faults_at}
 use Rattle.bootmem_c.proofs.FetchLaws.{rose_unheld}
 
 -- the input is in the list, and those before it in the list have lower positions
-abbrev Has : Input → List InputFile → Type 0
+abbrev Has : Input → List File → Type 0
 Has input [] = ⊥
 Has input (file ∷ files) = (file.input ≡ input) ⊎ ((input_place file.input < input_place input) × Has input files)
 
@@ -45,13 +45,13 @@ unread_is : (held : Option (List ℕ)) (input : Input) (step : List ℕ → Resu
 unread_is None input step is = refl
 unread_is (Some bytes) input step is = is bytes
 
-step_is : (held : FileContents) (file : InputFile) (given : InputsView) (name : Option (List ℕ)) → Refuses file.input (inputs_after_optional_file held file given name)
+step_is : (held : FileContents) (file : File) (given : InputsView) (name : Option (List ℕ)) → Refuses file.input (inputs_after_optional_file held file given name)
 step_is held file given None = tt
 step_is held file given (Some name) =
     unread_is (held name) file.input _ (λ bytes. faulty_is file.input (within_limit file.limit bytes >>= λ read. file.says read given))
 
 -- if the files before are read, the reason is the first file that can't be read
-behind : (input : Input) (file : InputFile) (rest : InputsView → Result InputsView InputsReason) → input_place file.input < input_place input
+behind : (input : Input) (file : File) (rest : InputsView → Result InputsView InputsReason) → input_place file.input < input_place input
     → ((given : InputsView) → ReachesFile input_place input (rest given) → rest given ≡ Err (reasons.Unread input))
     → (step : Result InputsView InputsReason) → Refuses file.input step → ReachesFile input_place input (step >>= rest)
     → (step >>= rest) ≡ Err (reasons.Unread input)
@@ -61,12 +61,12 @@ behind input file rest lower goes (Err (reasons.Unread other)) is comes = absurd
 behind input file rest lower goes (Err (reasons.Faulty other fault)) is comes = absurd (omega (arith, lower, comes, ap input_place is))
 behind input file rest lower goes (Err (reasons.Stopped cause)) is comes = absurd is
 
-named_unread : (held : FileContents) (file : InputFile) (given : InputsView) (name : List ℕ) → held name ≡ None
+named_unread : (held : FileContents) (file : File) (given : InputsView) (name : List ℕ) → held name ≡ None
     → inputs_after_named_file held file given name ≡ Err (reasons.Unread file.input)
 named_unread held file given name none = rw none refl
 
 unread_at : (held : FileContents) (named : FileNames) (input : Input) (name : List ℕ) → named input ≡ Some name → held name ≡ None
-    → (files : List InputFile) (given : InputsView) → Has input files → ReachesFile input_place input (inputs_after_files held named files given)
+    → (files : List File) (given : InputsView) → Has input files → ReachesFile input_place input (inputs_after_files held named files given)
     → inputs_after_files held named files given ≡ Err (reasons.Unread input)
 unread_at held named input name is none [] given has comes = absurd has
 unread_at held named input name is none (file ∷ files) given (inl same) comes =

@@ -33,7 +33,7 @@ use Rattle.bootmem_c.specs.Call.{are_utf8, read_lent_args, outcome_line, outcome
 use Rattle.bootmem_c.specs.Fetches.{LentFilesView, faults_at}
 use Rattle.bootmem_c.specs.Copies.{CopiesText, TextSinkView, wants_of}
 use Rattle.bootmem_c.specs.declared.crossing.Text.{Text}
-use Rattle.bootmem_c.specs.contracts.text_sink.TextSinkSink.TheImpl.{ghosts as text_sink}
+use Rattle.bootmem_c.specs.contracts.text_sink.TextSinkSink.TheImpl.{ghosts}
 use Rattle.bootmem_c.proofs.ExactLaws.{fails_as}
 
 -- if all words are UTF-8, the test says so
@@ -117,7 +117,7 @@ line_of : (read_args : Option BootmemArgsView) (said : Result (List ℕ) InputsR
 line_of read_args said reason are = sym (ap (outcome_line read_args) are)
 
 line_ends : (old new : LentFilesView) (read_args : Option BootmemArgsView) (failure : Failure InputsReason) (l0 l1 : TextSinkView) → failure_status failure ≢ 4
-    → failure_status failure ≢ 7 → l0.text ≡ [] → l0.is_short ≡ false → l1.is_short ≡ false → PutsLine text_sink l0 l1 (bootmem_failure_line read_args failure)
+    → failure_status failure ≢ 7 → l0.text ≡ [] → l0.is_short ≡ false → l1.is_short ≡ false → PutsLine ghosts l0 l1 (bootmem_failure_line read_args failure)
     → FailureHasCause bootmem (faults_at old) (faults_at new) read_args failure
     → FitsFailure bootmem failure (bootmem_outcome read_args (file_bytes old.files))
     → l1.text ≡ outcome_line read_args (bootmem_outcome read_args (file_bytes old.files))
@@ -131,7 +131,7 @@ line_ends old new read_args (failures.Output put.Memory) l0 l1 written other emp
 
 pub ran_line : (old new : LentFilesView) (read_args : Option BootmemArgsView) (l0 l1 : TextSinkView) (status : ℕ) → (status ≡ 4 → Rose 0 0)
     → l0.text ≡ [] → l0.is_short ≡ false
-    → (status ≢ 0 → IsFailure old new read_args status (λ failure. PutsLine text_sink l0 l1 (bootmem_failure_line read_args failure)))
+    → (status ≢ 0 → IsFailure old new read_args status (λ failure. PutsLine ghosts l0 l1 (bootmem_failure_line read_args failure)))
     → status ≢ 0 → status ≢ 7 → l1.is_short ≡ false
     → l1.text ≡ outcome_line read_args (bootmem_outcome read_args (file_bytes old.files))
 ran_line old new read_args l0 l1 status unwritten empty not_short line some other short =

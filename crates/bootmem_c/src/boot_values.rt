@@ -1,5 +1,5 @@
-//! What the boot made, as values: the map, the crash area, memory, the nodes, the zones and the free
-//! blocks.
+//! What the boot made, as values: the map, the crash area, memory, the nodes, the zones and the
+//! free blocks.
 //!
 //! Each export takes the words and files of `bootmem_run` and returns the same status, except that
 //! either may run out of memory. The reports that the words ask for make no difference.
@@ -16,8 +16,8 @@ use crate::boots::boot_lent;
 use crate::crossing::{Bytes, File};
 use crate::values::{
     CrashArea, FreeBlock, FreeBlocks, MapRun, MapRuns, MemoryNode, MemoryNodes, MemoryRange,
-    MemoryRanges, ZoneSpan, ZoneSpans, block_values, copy_values, map_values, memory_values, node_values,
-    zone_values,
+    MemoryRanges, ZoneSpan, ZoneSpans, block_values, copy_values, map_values, memory_values,
+    node_values, zone_values,
 };
 use program_run::NoReport;
 use std::alloc::Global;

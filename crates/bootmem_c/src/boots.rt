@@ -17,8 +17,8 @@ use crate::lent_files::LentFiles;
 use crate::words::{NoStrings, strings_of_words};
 use boot_model::Booted;
 use boot_stages::boot;
+use program_args::{ArgsError, BootmemArgs, read_args};
 use program_run::{NoReport, Reason, no_report, read_boot_inputs};
-use program_args::{BootmemArgs, ArgsError, read_args};
 use std::alloc::Global;
 
 /// Returns what the boot with these words and files made.
@@ -30,7 +30,8 @@ use std::alloc::Global;
 /// - `Memory` if this program is out of memory.
 pub fn boot_lent(alloc: Global, words: &[Bytes<'_>], files: &[File<'_>]) -> Result<Booted, NoReport>
     ensures boots { IfOk result (λ booted.
-        IsBoot (read_lent_args (lent_words words.now)) (file_bytes (lent_files files.now)) (booted_view booted)) }
+        IsBoot (read_lent_args (lent_words words.now)) (file_bytes (lent_files files.now))
+        (booted_view booted)) }
     ensures memory { IfOk result (λ booted.
         IsStoredTable which.Memory booted.journal.items booted.store booted.heads.memory) }
     ensures fails { IfErr result (λ failure. FailsAs failure (outcome_of words.now files.now)) }
@@ -44,13 +45,19 @@ pub fn boot_lent(alloc: Global, words: &[Bytes<'_>], files: &[File<'_>]) -> Resu
 
 /// Returns what the boot with these words, which are UTF-8, and these files made. Errors are those
 /// of [`boot_lent`].
-fn boot_with_strings(alloc: Global, words: &[String], files: &[File<'_>]) -> Result<Booted, NoReport>
+fn boot_with_strings(
+    alloc: Global,
+    words: &[String],
+    files: &[File<'_>],
+) -> Result<Booted, NoReport>
     ensures boots { IfOk result (λ booted.
-        IsBoot (read_args (bytes_of_words words.now)) (file_bytes (lent_files files.now)) (booted_view booted)) }
+        IsBoot (read_args (bytes_of_words words.now)) (file_bytes (lent_files files.now))
+        (booted_view booted)) }
     ensures memory { IfOk result (λ booted.
         IsStoredTable which.Memory booted.journal.items booted.store booted.heads.memory) }
     ensures fails { IfErr result (λ failure.
-        FailsAs failure (bootmem_outcome (read_args (bytes_of_words words.now)) (file_bytes (lent_files files.now)))) }
+        FailsAs failure (bootmem_outcome (read_args (bytes_of_words words.now))
+        (file_bytes (lent_files files.now)))) }
 {
     match read_args(alloc, words) {
         Ok(wanted) => boot_with_args(alloc, &wanted, files),
@@ -61,13 +68,19 @@ fn boot_with_strings(alloc: Global, words: &[String], files: &[File<'_>]) -> Res
 
 /// Returns what the boot with these accepted words and these files made. Errors are those of
 /// [`boot_lent`].
-fn boot_with_args(alloc: Global, wanted: &BootmemArgs<'_>, files: &[File<'_>]) -> Result<Booted, NoReport>
+fn boot_with_args(
+    alloc: Global,
+    wanted: &BootmemArgs<'_>,
+    files: &[File<'_>],
+) -> Result<Booted, NoReport>
     ensures boots { IfOk result (λ booted.
-        IsBoot (Some (bootmem_args_view wanted.now)) (file_bytes (lent_files files.now)) (booted_view booted)) }
+        IsBoot (Some (bootmem_args_view wanted.now)) (file_bytes (lent_files files.now))
+        (booted_view booted)) }
     ensures memory { IfOk result (λ booted.
         IsStoredTable which.Memory booted.journal.items booted.store booted.heads.memory) }
     ensures fails { IfErr result (λ failure.
-        FailsAs failure (bootmem_outcome (Some (bootmem_args_view wanted.now)) (file_bytes (lent_files files.now)))) }
+        FailsAs failure (bootmem_outcome (Some (bootmem_args_view wanted.now))
+        (file_bytes (lent_files files.now)))) }
 {
     let inputs = read_boot_inputs(alloc, wanted, &mut LentFiles::new(files))?;
     match boot(alloc, inputs) {

@@ -1,6 +1,6 @@
 //! The files that the caller passes, as the program fetches them.
 
-ghost use Rattle.std.specs.Prelude.{◌≡◌, ℕ, ◌+◌, ◌-◌, ◌^◌, ◌<◌, ◌≤◌, ◌↔◌, List, length, Option, Some, OnOk, IfOk, IsErrOf, IsNone, find};
+ghost use Rattle.std.specs.Prelude.{◌≡◌, ℕ, ◌+◌, ◌-◌, ◌^◌, ◌<◌, ◌≤◌, ◌↔◌, length, Option, Some, IfOk, IsErrOf, IsNone, find};
 ghost use Rattle.std.specs.Option.{option_copied};
 ghost use Rattle.bm_io.specs.MemFiles.{file_bytes};
 ghost use Rattle.bootmem_c.specs.Lent.{lent_files};
@@ -60,7 +60,8 @@ impl<'a> Files for LentFiles<'a> {
     ///   one more would.
     fn fetch(&mut self, alloc: Global, name: &str, limit: u64) -> Result<Vec<u8>, Fetch>
         ensures bounded { IfOk result (λ bytes. length bytes.items ≤ limit) }
-        ensures told { IfOk result (λ bytes. file_bytes self.old.files name.now ≡ Some bytes.items) }
+        ensures told { IfOk result (λ bytes.
+            file_bytes self.old.files name.now ≡ Some bytes.items) }
         ensures failed { IsErrOf result Fetch.Failed → IsNone (file_bytes self.old.files name.now) }
         ensures too_long { IsErrOf result Fetch.TooLong ↔ IsLonger self.old.files name.now limit }
         ensures files { self.new.files ≡ self.old.files }

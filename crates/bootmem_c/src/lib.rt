@@ -5,8 +5,8 @@
 //! - [`run::bootmem_run`] is `run` of `program_run`, over words and files that the caller passes.
 //!   It writes the reports as text.
 //! - [`boot_values::bootmem_map`], [`boot_values::bootmem_crash`], [`boot_values::bootmem_memory`],
-//!   [`boot_values::bootmem_nodes`], [`boot_values::bootmem_zones`] and [`boot_values::bootmem_blocks`] return what the
-//!   boot of these words and files made, as values.
+//!   [`boot_values::bootmem_nodes`], [`boot_values::bootmem_zones`] and
+//!   [`boot_values::bootmem_blocks`] return what the boot of these words and files made, as values.
 //! - [`run::bootmem_version`] returns the library's version.
 //!
 //! All but the last return the exit status of `bootmem`: that of the outcome, or 7 if out of
@@ -19,11 +19,11 @@
 //! writing reports. In contracts, a name means the definition in `specs/`.
 #![tactic(auto)]
 
+mod boot_values;
 mod boots;
 mod crossing;
 mod lent_files;
 mod run;
 mod text_sink;
-mod boot_values;
 mod values;
 mod words;

@@ -30,15 +30,18 @@ pub extern "C" fn bootmem_run(
 
     // With status 0 `out` has the text of the outcome, and the four facts of the headline hold for
     // it. With any other status `out` has the empty text.
-    ensures written { result ≡ 0 → IsOkAnd (outcome_of words.now files.now) (λ text. CopiesText text out.old out.new) }
+    ensures written { result ≡ 0
+        → IsOkAnd (outcome_of words.now files.now) (λ text. CopiesText text out.old out.new) }
     ensures headline { result ≡ 0 → (text : List ℕ) × CopiesText text out.old out.new
-        × AppendsReports (read_lent_args (lent_words words.now)) (file_bytes (lent_files files.now)) (Some []) (Some text) }
+        × AppendsReports (read_lent_args (lent_words words.now)) (file_bytes (lent_files files.now))
+        (Some []) (Some text) }
     ensures unwritten { result ≢ 0 → CopiesText [] out.old out.new }
 
     // With status 0 `err` has the empty text. With 7 it has the line of out of memory, and with
     // any other status the whole line of the outcome.
     ensures silent { result ≡ 0 → CopiesText [] err.old err.new }
-    ensures line { result ≢ 0 → result ≢ 7 → CopiesText (call_line words.now files.now) err.old err.new }
+    ensures line { result ≢ 0 → result ≢ 7
+        → CopiesText (call_line words.now files.now) err.old err.new }
     ensures memory { result ≡ 7 → CopiesText memory_said err.old err.new }
 {
     let mut report = TextSink::new(alloc);
@@ -63,9 +66,11 @@ fn run_lent(
     requires no_line { line.old.text ≡ [] }
     requires not_short { line.old.is_short ≡ false }
     ensures status { (result ≡ outcome_status (outcome_of words.now files.now)) ⊎ (result ≡ 7) }
-    ensures written { result ≡ 0 → IsOkAnd (outcome_of words.now files.now) (λ text. report.new.text ≡ text) }
+    ensures written { result ≡ 0
+        → IsOkAnd (outcome_of words.now files.now) (λ text. report.new.text ≡ text) }
     ensures headline { result ≡ 0 → AppendsReports
-        (read_lent_args (lent_words words.now)) (file_bytes (lent_files files.now)) (Some []) (Some report.new.text) }
+        (read_lent_args (lent_words words.now)) (file_bytes (lent_files files.now)) (Some [])
+        (Some report.new.text) }
     ensures line { result ≢ 0 → result ≢ 7 → line.new.is_short ≡ false
         → line.new.text ≡ call_line words.now files.now }
 {

@@ -266,7 +266,8 @@ impl MemoryRange {
 /// Returns the records of the head's table as values for C. Fails only if out of memory.
 pub fn memory_values(alloc: Global, store: &Store, head: &Head) -> Result<Vec<MemoryRange>, Memory>
     requires { head.now.place + 24 * head.now.count < 2 ^ 64 }
-    ensures { IfOk result (λ values. values.items ≡ regions_at (byte_of store.now) head.now.place head.now.count) }
+    ensures { IfOk result (λ values.
+        values.items ≡ regions_at (byte_of store.now) head.now.place head.now.count) }
 {
     let mut values = Vec::new(alloc);
     for index in 0..head.count {

@@ -1,6 +1,6 @@
 //! The words that the caller passes.
 
-ghost use Rattle.std.specs.Prelude.{◌≡◌, map, string_bytes, IsUtf8, IfOk, IfErr, IsErrOf};
+ghost use Rattle.std.specs.Prelude.{◌≡◌, map, string_bytes, IsUtf8, IfOk, IsErrOf};
 ghost use Rattle.std.specs.List.{All};
 ghost use Rattle.bootmem_c.specs.Lent.{lent_words};
 

@@ -1,7 +1,7 @@
 //! The laws of this crate: the functions that list blocks return exactly the sets of frames that
 //! are blocks.
 
-ghost use Rattle.std.specs.Prelude.{◌≡◌, ◌⊎◌, ◌↔◌, ℕ, ◌/◌, ◌^◌, ◌<◌, ◌≤◌, Option, Some, None, List};
+ghost use Rattle.std.specs.Prelude.{◌≡◌, ◌⊎◌, ◌↔◌, ℕ, ◌/◌, ◌^◌, ◌<◌, ◌≤◌, Some, None};
 ghost use Rattle.bm_base.specs.declared.zone.Zone.{Zone as AnyZone};
 ghost use Rattle.bm_base.specs.Zones.{zone_of};
 ghost use Rattle.buddy_blocks.specs.declared.block.Block.{Block as AnyBlock};
@@ -23,11 +23,14 @@ pub fn sets_lie_in_one_zone()
 /// free. The list of blocks ascends, and has only blocks. It has all of them if the free frames
 /// are below [`crate::MAX_FRAMES`].
 pub fn listed_blocks_are_blocks()
-    ensures block { (f : Frames) (x : ℕ) (b : AnyBlock) → block_of f x ≡ Some b → IsBlock f b × IsInBlock b x }
-    ensures one { (f : Frames) (x : ℕ) (b : AnyBlock) → IsBlock f b → IsInBlock b x → block_of f x ≡ Some b }
+    ensures block { (f : Frames) (x : ℕ) (b : AnyBlock) → block_of f x ≡ Some b
+        → IsBlock f b × IsInBlock b x }
+    ensures one { (f : Frames) (x : ℕ) (b : AnyBlock) → IsBlock f b → IsInBlock b x
+        → block_of f x ≡ Some b }
     ensures none { (f : Frames) (x : ℕ) → block_of f x ≡ None → f x ≡ None }
     ensures sound { (f : Frames) (b : AnyBlock) → ListsBlock (blocks_of f) b → IsBlock f b }
-    ensures complete { (f : Frames) (b : AnyBlock) → NothingFrom MAX_FRAMES f → IsBlock f b → ListsBlock (blocks_of f) b }
+    ensures complete { (f : Frames) (b : AnyBlock) → NothingFrom MAX_FRAMES f → IsBlock f b
+        → ListsBlock (blocks_of f) b }
     ensures ascending { (f : Frames) → AscendFrom 0 (blocks_of f) }
 {}
 
@@ -35,7 +38,8 @@ pub fn listed_blocks_are_blocks()
 /// one up, for which a block exists there. It is the lowest block of its order. No block is picked
 /// exactly if there is no such block. All free frames must be below [`crate::MAX_FRAMES`].
 pub fn picked_block_is_least()
-    ensures picked { (f : Frames) (n : ℕ) (z : AnyZone) (order : ℕ) (b : AnyBlock) → NothingFrom MAX_FRAMES f →
+    ensures picked { (f : Frames) (n : ℕ) (z : AnyZone) (order : ℕ) (b : AnyBlock)
+        → NothingFrom MAX_FRAMES f →
         (picked_block f n z order ≡ Some b) ↔ IsPicked f n z order b }
     ensures none { (f : Frames) (n : ℕ) (z : AnyZone) (order : ℕ) → NothingFrom MAX_FRAMES f →
         (picked_block f n z order ≡ None) ↔ NoneServes f n z order }
@@ -48,6 +52,8 @@ pub fn rest_of_block_is_buddies()
     ensures left { (f : Frames) (order x : ℕ) → RemovesFrameSet f (without_set order x f) order x }
     ensures back { (f : Frames) (order x n : ℕ) → ((y : ℕ) → IsInSet order x y → f y ≡ None) →
         RemovesFrameSet (with_set order x n f) f order x }
-    ensures blocks { (f g : Frames) (order x : ℕ) (b c : AnyBlock) → RemovesFrameSet f g order x → IsBlock f b → IsInBlock b x →
-        order ≤ b.order → IsBlock g c ↔ ((IsBlock f c × (IsInBlock b c.first → ⊥)) ⊎ IsBuddy b order b.order x c) }
+    ensures blocks { (f g : Frames) (order x : ℕ) (b c : AnyBlock) → RemovesFrameSet f g order x
+        → IsBlock f b → IsInBlock b x →
+        order ≤ b.order
+        → IsBlock g c ↔ ((IsBlock f c × (IsInBlock b c.first → ⊥)) ⊎ IsBuddy b order b.order x c) }
 {}

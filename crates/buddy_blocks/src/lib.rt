@@ -13,7 +13,8 @@
 //! one node as there are. Blocks are computed on request, so that 16 TiB are one record and not
 //! four million.
 //!
-//! - [`blocks_of`] lists them, and [`block_rows`] lists them with equal consecutive blocks in one row.
+//! - [`blocks_of`] lists them, and [`block_rows`] lists them with equal consecutive blocks in one
+//!   row.
 //! - [`block_of`] finds the block that has a frame.
 //! - [`count_blocks`] counts those of a node, a zone and an order in a few steps for each run.
 //!
@@ -22,8 +23,8 @@
 //! these results with sets of frames. In contracts, a name means the definition in `specs/`.
 //!
 //! The crates above also find here what the page allocator does with blocks: which block serves a
-//! request (`specs/PickedBlock.antt`, [`picked_block_is_least`]), and how the blocks change when frames
-//! are allocated and freed (`specs/Buddies.antt`, [`rest_of_block_is_buddies`]).
+//! request (`specs/PickedBlock.antt`, [`picked_block_is_least`]), and how the blocks change when
+//! frames are allocated and freed (`specs/Buddies.antt`, [`rest_of_block_is_buddies`]).
 #![tactic(auto)]
 
 mod block;
@@ -36,8 +37,8 @@ mod set;
 pub use block::{Block, BlockRow, MAX_ORDER};
 pub use count::count_blocks;
 pub use laws::{
-    rest_of_block_is_buddies, listed_blocks_are_blocks, picked_block_is_least, sets_lie_in_one_zone,
+    listed_blocks_are_blocks, picked_block_is_least, rest_of_block_is_buddies, sets_lie_in_one_zone,
 };
-pub use list::{block_of, blocks_of, block_rows};
+pub use list::{block_of, block_rows, blocks_of};
 pub use run::{FrameRun, MAX_FRAMES};
 pub use set::zone_until;

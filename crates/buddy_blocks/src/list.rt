@@ -71,7 +71,8 @@ fn push_blocks(blocks: &mut Vec<Block>, first: u64, end: u64, node: u32) -> Resu
 pub fn block_rows(alloc: Global, runs: &[FrameRun]) -> Result<Vec<BlockRow>, Memory>
     requires runs { AreRuns runs.now }
     requires low { NothingFrom MAX_FRAMES (value_at runs.now) }
-    ensures blocks { IfOk result (λ rows. blocks_of_rows rows.items ≡ blocks_of (value_at runs.now)) }
+    ensures blocks { IfOk result (λ rows.
+        blocks_of_rows rows.items ≡ blocks_of (value_at runs.now)) }
     ensures longest { IfOk result (λ rows. AreRows rows.items) }
 {
     let mut rows = Vec::new(alloc);
@@ -90,9 +91,12 @@ pub fn block_rows(alloc: Global, runs: &[FrameRun]) -> Result<Vec<BlockRow>, Mem
 fn push_rows(rows: &mut Vec<BlockRow>, first: u64, end: u64, node: u32) -> Result<(), Memory>
     requires { first ≤ end }
     ensures blocks { OnOk result ((f : Frames) → IsNodeRun f first end node →
-        blocks_of_rows rows.new.items ≡ blocks_of_rows rows.old.items ++ blocks_from f first (end - first)) }
-    ensures longest { OnOk result ((f : Frames) → IsNodeRun f first end node → LastRowFulfils (EndsFree f) rows.old.items →
-        AreRows rows.old.items → LastRowFulfils (EndsFree f) rows.new.items × AreRows rows.new.items) }
+        blocks_of_rows rows.new.items ≡ blocks_of_rows rows.old.items
+        ++ blocks_from f first (end - first)) }
+    ensures longest { OnOk result ((f : Frames) → IsNodeRun f first end node
+        → LastRowFulfils (EndsFree f) rows.old.items →
+        AreRows rows.old.items → LastRowFulfils (EndsFree f) rows.new.items
+        × AreRows rows.new.items) }
 {
     let mut at = first;
     while at < end {

@@ -17,8 +17,8 @@ ghost use Rattle.buddy_blocks.specs.Buddies.{without_set, with_set};
 ghost use Rattle.free_areas.specs.Areas.{IndexesFreeBlocks};
 ghost use Rattle.buddy_handover.specs.BuddyView.{buddy_frames};
 
-use crate::cache::{index_after_free, index_after_alloc};
-use crate::runs::{remove_frames, insert_frames, set_around};
+use crate::cache::{index_after_alloc, index_after_free};
+use crate::runs::{insert_frames, remove_frames, set_around};
 use bm_base::{Memory, Range, Zone};
 use buddy_blocks::{Block, BlockRow, FrameRun, MAX_FRAMES, MAX_ORDER};
 use free_areas::Areas;
@@ -70,7 +70,8 @@ impl Model for Buddy {
     ghost view = { λ b. record { runs = b.runs.items; spare = b.spare } };
 
     ghost invariant = { λ b.
-        (vec_len b.runs + b.spare ≤ vec_capacity b.runs) × AreRuns b.runs.items × NothingFrom MAX_FRAMES (value_at b.runs.items)
+        (vec_len b.runs + b.spare ≤ vec_capacity b.runs) × AreRuns b.runs.items
+        × NothingFrom MAX_FRAMES (value_at b.runs.items)
         × IfSome b.areas (λ areas. IndexesFreeBlocks (value_at b.runs.items) areas) };
 }
 
@@ -138,7 +139,9 @@ impl Buddy {
     pub fn free_frames(&mut self, first: u64, count: u64, node: u32) -> Result<(), Memory>
         requires low { first + count ≤ MAX_FRAMES }
         requires held { (x : ℕ) → first ≤ x → x < first + count → buddy_frames self.old x ≡ None }
-        ensures runs { OnOk result (IsRunsOf (replace_in_range (record { base = first; size = count }) node (buddy_frames self.old)) self.new.runs) }
+        ensures runs { OnOk result
+            (IsRunsOf (replace_in_range (record { base = first; size = count }) node
+            (buddy_frames self.old)) self.new.runs) }
         ensures enough { 32 ≤ self.old.spare → IsOk result }
         ensures spare { OnOk result (self.new.spare ≡ max self.old.spare 2 - 2) }
         ensures err { OnErr result (self.new ≡ self.old) }
@@ -155,7 +158,9 @@ impl Buddy {
     /// then.
     pub(crate) fn mark_free(&mut self, first: u64, count: u64, node: u32) -> Result<(), Memory>
         requires low { first + count ≤ MAX_FRAMES }
-        ensures runs { OnOk result (IsRunsOf (replace_in_range (record { base = first; size = count }) node (buddy_frames self.old)) self.new.runs) }
+        ensures runs { OnOk result
+            (IsRunsOf (replace_in_range (record { base = first; size = count }) node
+            (buddy_frames self.old)) self.new.runs) }
         ensures memory { OnErr result (self.old.spare < 2) }
         ensures spare { OnOk result (self.new.spare ≡ max self.old.spare 2 - 2) }
         ensures err { OnErr result (self.new ≡ self.old) }
@@ -183,10 +188,14 @@ impl Buddy {
     /// Nothing has changed after either.
     pub fn take(&mut self, node: u32, zone: Zone, order: u32) -> Result<u64, Take>
         requires { order ≤ 10 }
-        ensures first { IfOk result (λ first. picked_first_frame (buddy_frames self.old) node zone order ≡ Some first) }
-        ensures runs { IfOk result (λ first. IsRunsOf (without_set order first (buddy_frames self.old)) self.new.runs) }
-        ensures none { IfErr result (λ refusal. refusal ≡ Take.NoBlock → picked_first_frame (buddy_frames self.old) node zone order ≡ None) }
-        ensures memory { IfErr result (λ refusal. refusal ≡ Take.Memory → IsSome (picked_first_frame (buddy_frames self.old) node zone order)) }
+        ensures first { IfOk result (λ first.
+            picked_first_frame (buddy_frames self.old) node zone order ≡ Some first) }
+        ensures runs { IfOk result (λ first.
+            IsRunsOf (without_set order first (buddy_frames self.old)) self.new.runs) }
+        ensures none { IfErr result (λ refusal. refusal ≡ Take.NoBlock
+            → picked_first_frame (buddy_frames self.old) node zone order ≡ None) }
+        ensures memory { IfErr result (λ refusal. refusal ≡ Take.Memory
+            → IsSome (picked_first_frame (buddy_frames self.old) node zone order)) }
         ensures err { OnErr result (self.new ≡ self.old) }
     {
         let Ok(areas) = self.take_or_make_index() else {
@@ -236,7 +245,8 @@ impl Buddy {
         requires aligned { first % 2 ^ order ≡ 0 }
         requires low { first + 2 ^ order ≤ MAX_FRAMES }
         requires held { (x : ℕ) → IsInSet order first x → buddy_frames self.old x ≡ None }
-        ensures runs { OnOk result (IsRunsOf (with_set order first node (buddy_frames self.old)) self.new.runs) }
+        ensures runs { OnOk result
+            (IsRunsOf (with_set order first node (buddy_frames self.old)) self.new.runs) }
         ensures err { OnErr result (self.new ≡ self.old) }
     {
         self.ready(ENTRIES)?;
@@ -280,7 +290,8 @@ impl Buddy {
     ///
     /// Out of memory.
     pub fn block_rows(&self) -> Result<Vec<BlockRow>, Memory>
-        ensures blocks { IfOk result (λ rows. blocks_of_rows rows.items ≡ blocks_of (buddy_frames self.now)) }
+        ensures blocks { IfOk result (λ rows.
+            blocks_of_rows rows.items ≡ blocks_of (buddy_frames self.now)) }
         ensures longest { IfOk result (λ rows. AreRows rows.items) }
     {
         buddy_blocks::block_rows(*self.runs.allocator(), &self.runs)

@@ -12,11 +12,18 @@ use free_areas::Areas;
 /// Returns the index after the first `2^order` frames of `block` have left it, or `None` if there
 /// is no memory for it. `behind` must be the block that has the frame after `block`, or `None` if
 /// that frame isn't free.
-pub fn index_after_alloc(areas: Areas, block: &Block, behind: Option<Block>, order: u32) -> Option<Areas>
+pub fn index_after_alloc(
+    areas: Areas,
+    block: &Block,
+    behind: Option<Block>,
+    order: u32,
+) -> Option<Areas>
     requires small { block.now.order ≤ 10 }
     requires low { block.now.first < MAX_FRAMES }
-    ensures { IfSome result (λ rest. (f g : Frames) → IndexesFreeBlocks f areas → RemovesFrameSet f g order block.now.first → IsBlock f block.now →
-        order ≤ block.now.order → behind ≡ block_of f (block.now.first + 2 ^ block.now.order) → IndexesFreeBlocks g rest) }
+    ensures { IfSome result (λ rest. (f g : Frames) → IndexesFreeBlocks f areas
+        → RemovesFrameSet f g order block.now.first → IsBlock f block.now →
+        order ≤ block.now.order → behind ≡ block_of f (block.now.first + 2 ^ block.now.order)
+        → IndexesFreeBlocks g rest) }
 {
     let mut areas = areas;
     match areas.split_block(block, behind, order, block.first) {
@@ -27,11 +34,18 @@ pub fn index_after_alloc(areas: Areas, block: &Block, behind: Option<Block>, ord
 
 /// Returns the index after `2^order` frames from `frame` on have come back into `block`, or `None`
 /// if there was no index or no block, or if there is no memory for it.
-pub fn index_after_free(areas: Option<Areas>, block: Option<Block>, order: u32, frame: u64) -> Option<Areas>
+pub fn index_after_free(
+    areas: Option<Areas>,
+    block: Option<Block>,
+    order: u32,
+    frame: u64,
+) -> Option<Areas>
     requires small { IfSome block (λ block. block.order ≤ 10) }
     requires low { frame < MAX_FRAMES }
-    ensures { IfSome result (λ all. (f g : Frames) → IfSome areas (λ areas. IndexesFreeBlocks g areas) → RemovesFrameSet f g order frame →
-        IfSome block (λ block. IsBlock f block × IsInBlock block frame × (order ≤ block.order)) → IndexesFreeBlocks f all) }
+    ensures { IfSome result (λ all. (f g : Frames)
+        → IfSome areas (λ areas. IndexesFreeBlocks g areas) → RemovesFrameSet f g order frame →
+        IfSome block (λ block. IsBlock f block × IsInBlock block frame × (order ≤ block.order))
+        → IndexesFreeBlocks f all) }
 {
     let mut areas = areas?;
     let block = block?;

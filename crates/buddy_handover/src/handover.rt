@@ -14,10 +14,10 @@ ghost use Rattle.buddy_handover.specs.Handover.{free_unclaimed_frames};
 use crate::buddy::Buddy;
 use bm_base::{FRAME_SIZE, Memory};
 use buddy_blocks::MAX_FRAMES;
+use memblock_frames::{frames_of_record, next_claimed_frames};
 use memblock_ranges::{Head, Heads};
 use phys_store::Store;
 use std::alloc::Global;
-use memblock_frames::{frames_of_record, next_claimed_frames};
 
 /// Returns the free frames by the bytes of both tables: all frames that are memory and have no
 /// reserved byte, each with the node of its memory record. The memory records must be whole frames
@@ -31,7 +31,8 @@ pub fn hand_over(alloc: Global, store: &Store, heads: &Heads) -> Result<Buddy, M
     requires whole { AreWholeFrames (records_of_head store.now heads.now.memory) }
     requires reserved { HasRecords store.now heads.now.reserved (2 ^ 64) }
     ensures { IfOk result (λ buddy. (frame : ℕ) → buddy_frames buddy frame ≡
-        free_node_in (value_at (records_of_head store.now heads.now.memory)) (value_at (records_of_head store.now heads.now.reserved)) frame) }
+        free_node_in (value_at (records_of_head store.now heads.now.memory))
+        (value_at (records_of_head store.now heads.now.reserved)) frame) }
 {
     let mut buddy = Buddy::new(alloc);
     let mut next = 0;
@@ -73,9 +74,11 @@ fn free_unclaimed(
     requires order { first ≤ end }
     requires low { end ≤ MAX_FRAMES }
     ensures free { IfOk result (λ next. (x : ℕ) →
-        buddy_frames buddy.new x ≡ free_unclaimed_frames first end node (value_at (records_of_head store.now reserved.now)) (buddy_frames buddy.old) x) }
+        buddy_frames buddy.new x ≡ free_unclaimed_frames first end node
+        (value_at (records_of_head store.now reserved.now)) (buddy_frames buddy.old) x) }
     ensures index { IfOk result (λ next. next ≤ reserved.now.count) }
-    ensures passed { IfOk result (λ next. IsPassed (records_of_head store.now reserved.now) next end) }
+    ensures passed { IfOk result (λ next.
+        IsPassed (records_of_head store.now reserved.now) next end) }
 {
     let mut next = index;
     let mut at = first;

@@ -20,7 +20,8 @@ pub fn insert_frames(runs: &mut Vec<FrameRun>, frames: &Range, node: u32)
     requires runs { AreRuns runs.old.items }
     requires within { NothingFrom MAX_FRAMES (value_at runs.old.items) }
     requires room { vec_len runs.old + 2 ≤ vec_capacity runs.old }
-    ensures runs { IsRunsOf (replace_in_range frames.now node (value_at runs.old.items)) runs.new.items }
+    ensures runs { IsRunsOf
+        (replace_in_range frames.now node (value_at runs.old.items)) runs.new.items }
     ensures within { NothingFrom MAX_FRAMES (value_at runs.new.items) }
     ensures len { vec_len runs.new ≤ vec_len runs.old + 2 }
     ensures capacity { vec_capacity runs.old ≤ vec_capacity runs.new }

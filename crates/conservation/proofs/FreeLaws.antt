@@ -20,7 +20,7 @@ use Rattle.memblock_frames.specs.declared.frames.TheConstants.{MAX_NODES}
 use Rattle.buddy_blocks.specs.declared.run.TheConstants.{MAX_FRAMES}
 use Rattle.buddy_blocks.specs.declared.block.Block.{Block}
 use Rattle.buddy_blocks.specs.Frames.{Frames}
-use Rattle.page_alloc.specs.Pages.{first_page_state as nothing_taken}
+use Rattle.page_alloc.specs.Pages.{first_page_state}
 use Rattle.slit_zonelists.specs.Near.{page_state_after}
 use Rattle.boot_model.specs.Boot.{InputsView, BootedView, handover_frames, reach, types_in_reach}
 use Rattle.boot_model.proofs.ReachLaws.{reach-small}
@@ -34,7 +34,7 @@ pub record IsTold (given : InputsView) (t : BootedView) : Type 0 where
   pub memory : (x : ℕ) → is_some (memory_of t.items x) ≡ is_usable_frame (types_in_reach given) (x / 4096)
   pub noded : HasNodes (reach given) (memory_of t.items)
   pub free : t.free ≡ handover_frames t.items
-  pub after : t.after ≡ page_state_after t.lists (nothing_taken t.free) given.page_lines
+  pub after : t.after ≡ page_state_after t.lists (first_page_state t.free) given.page_lines
 
 -- each byte of a frame has the frame's number
 number : (frame x : ℕ) → covers (bytes_of_frame frame) x ≡ true → x / 4096 ≡ frame

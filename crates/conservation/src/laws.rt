@@ -12,31 +12,37 @@ ghost use Rattle.conservation.specs.FramePlacesAfterPages.{AllInOneBlockOrHeld, 
 /// Law: each usable frame is either touched by a claim with a recorded owner and in no block, or
 /// untouched and in exactly one block.
 pub fn usable_frames_are_touched_or_in_one_block()
-    ensures { (given : InputsView) (told : BootedView) → whole_boot given ≡ Ok told → AllTouchedOrInOneBlock given told }
+    ensures { (given : InputsView) (told : BootedView) → whole_boot given ≡ Ok told
+        → AllTouchedOrInOneBlock given told }
 {}
 
 /// Law: each frame of a block is usable, and no claim touches it.
 pub fn no_other_frame_is_in_a_block()
-    ensures { (given : InputsView) (told : BootedView) → whole_boot given ≡ Ok told → NoOtherInABlock given told }
+    ensures { (given : InputsView) (told : BootedView) → whole_boot given ≡ Ok told
+        → NoOtherInABlock given told }
 {}
 
 /// Law: each block has an order of at most 10, begins at a multiple of its number of frames, and
 /// lies in one node and one zone.
 pub fn blocks_are_whole()
-    ensures { (given : InputsView) (told : BootedView) → whole_boot given ≡ Ok told → BlocksAreWhole given told }
+    ensures { (given : InputsView) (told : BootedView) → whole_boot given ≡ Ok told
+        → BlocksAreWhole given told }
 {}
 
 /// Law: no block of an order below 10 lies in a set of twice as many frames that could be a block
 /// too.
 pub fn blocks_are_maximal()
-    ensures { (given : InputsView) (told : BootedView) → whole_boot given ≡ Ok told → BlocksAreMaximal given told }
+    ensures { (given : InputsView) (told : BootedView) → whole_boot given ≡ Ok told
+        → BlocksAreMaximal given told }
 {}
 
 /// Law: after the page script each frame that was handed over is in exactly one block, or held by
 /// exactly one ID, and not both. No other frame is in a block or held.
 pub fn handed_frames_stay_in_one_block_or_held()
-    ensures each { (given : InputsView) (told : BootedView) → whole_boot given ≡ Ok told → HaveValidOrders given.page_lines → AllInOneBlockOrHeld told }
-    ensures others { (given : InputsView) (told : BootedView) → whole_boot given ≡ Ok told → HaveValidOrders given.page_lines → NoOtherInABlockOrHeld told }
+    ensures each { (given : InputsView) (told : BootedView) → whole_boot given ≡ Ok told
+        → HaveValidOrders given.page_lines → AllInOneBlockOrHeld told }
+    ensures others { (given : InputsView) (told : BootedView) → whole_boot given ≡ Ok told
+        → HaveValidOrders given.page_lines → NoOtherInABlockOrHeld told }
 {}
 
 /// Law: the map that a boot reports determines which frames are usable.

@@ -4,11 +4,12 @@
 //! one block of the buddy lists, and never both. No other frame lies in a block. Each block is
 //! aligned, in one node and one zone, and as great as it can be.
 //!
-//! - `specs/RecordedClaims.antt`: the claims that are still in force at the end, and the frames they
-//!   touch.
+//! - `specs/RecordedClaims.antt`: the claims that are still in force at the end, and the frames
+//!   they touch.
 //! - `specs/Headline.antt`: the four facts, over the inputs of a boot and what it reports.
 //! - `specs/ByMap.antt`: usable frames, by the map that a boot reports.
-//! - `specs/FramePlacesAfterPages.antt`: the place of each frame that was handed over, after the page script.
+//! - `specs/FramePlacesAfterPages.antt`: the place of each frame that was handed over, after the
+//!   page script.
 //!
 //! Usable frames are those of the finished map (`e820_model`). Owners are those of the journal
 //! (`memblock_model`), and blocks are those of the free frames (`buddy_blocks`). The functions

@@ -14,9 +14,9 @@ use Rattle.memblock_model.specs.Items.{memory_of}
 use Rattle.memblock_model.specs.Labels.{LabelView, plain_label, with_node}
 use Rattle.memblock_model.specs.Search.{fits, fits_in}
 use Rattle.boot_options.specs.declared.crash.CrashRange.{CrashRange}
-use Rattle.boot_options.specs.Crash.{CrashOptionView as Asked, no_crash, one_range}
+use Rattle.boot_options.specs.Crash.{CrashOptionView, no_crash, one_range}
 use Rattle.stage_steps.specs.Steps.{return_value}
-use Rattle.crash_kernel.specs.declared.request.Placement.TheVariants as spot
+use Rattle.crash_kernel.specs.declared.request.Placement.TheVariants as placement
 use Rattle.crash_kernel.specs.declared.crash.Crash.TheVariants as crash
 use Rattle.crash_kernel.specs.Total.{memory_bytes}
 use Rattle.crash_kernel.specs.Request.{request_for, is_in_total_range, size_for_total}
@@ -71,14 +71,14 @@ size_examples : (size_for_total 0x18000000 (middle ∷ (record { start = 0; end 
 size_examples = (refl, refl, refl)
 
 -- the high form counts only if the plain form requests no byte
-abbrev both_forms : Asked
+abbrev both_forms : CrashOptionView
 both_forms = record { plain = Some (one_range 0x4000000 0); high = Some 0x8000000; low = None }
 
-area_examples : (request_for 0x40000000 both_forms ≡ Some (record { size = 0x4000000; placement = spot.Automatic }))
+area_examples : (request_for 0x40000000 both_forms ≡ Some (record { size = 0x4000000; placement = placement.Automatic }))
     × (request_for 0x40000000 (record both_forms { plain = Some (one_range 0 0x2000000) })
-    ≡ Some (record { size = 0x8000000; placement = spot.High }))
+    ≡ Some (record { size = 0x8000000; placement = placement.High }))
     × (request_for 0x1000 (record both_forms { plain = Some (record { ranges = middle ∷ []; base = 0 }) })
-    ≡ Some (record { size = 0x8000000; placement = spot.High }))
+    ≡ Some (record { size = 0x8000000; placement = placement.High }))
     × (request_for 0x40000000 (record { plain = None; high = Some 0; low = Some 0x1000 }) ≡ None)
 unfolding request_for
 area_examples = (refl, refl, refl, refl)
@@ -97,7 +97,7 @@ noded_bytes = item.Mem (record { base = 0x100000; size = 3 }) ∷ (item.Node (re
 -- two bytes fit, and four don't; two don't fit if one is claimed or of another node, if the base
 -- isn't a multiple of 1 MiB, or if the range ends at 2^64
 fixed_examples : (fixed_range 0x100000 2 three ≡ Some (record { base = 0x100000; size = 2 }))
-    × (main_range 2 (spot.Fixed 0x100000) three ≡ Some (record { base = 0x100000; size = 2 }))
+    × (main_range 2 (placement.Fixed 0x100000) three ≡ Some (record { base = 0x100000; size = 2 }))
     × (fixed_range 0x100000 4 three ≡ None) × (fixed_range 0x100000 2 claimed_one ≡ None) × (fixed_range 0x100001 2 three ≡ None)
     × (fixed_range 0xFFFFFFFFFFF00000 0x100000 three ≡ None) × (fixed_range 0x100000 2 noded_bytes ≡ None)
 unfolding main_range fits fits_in each_in each_from
@@ -117,16 +117,16 @@ two_are_free = record {
 claimed_is_not_free : IsFreeMemory claimed_one two_bytes → ⊥
 claimed_is_not_free known = let free : Some owner.Initrd ≡ None = known.free 0x100001 refl in cc
 
-abbrev two_asked : Asked
+abbrev two_asked : CrashOptionView
 two_asked = record { plain = Some (one_range 2 0x100000); high = None; low = None }
 
-two_are_asked : (total : ℕ) → request_for total two_asked ≡ Some (record { size = 2; placement = spot.Fixed 0x100000 })
+two_are_asked : (total : ℕ) → request_for total two_asked ≡ Some (record { size = 2; placement = placement.Fixed 0x100000 })
 unfolding request_for
 two_are_asked total = let any : nat_le 0 total ≡ true = grind (arith, nat_tests) in rw any refl
 
 two_told : IsCrashArea two_asked three two_bytes None
 two_told = record {
-  placement = spot.Fixed 0x100000;
+  placement = placement.Fixed 0x100000;
   size = two_are_asked (memory_bytes (memory_of three));
   free = two_are_free;
   aligned = refl;

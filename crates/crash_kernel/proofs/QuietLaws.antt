@@ -8,7 +8,7 @@ use Rattle.growth_model.specs.Change.{RefusedGrowth}
 use Rattle.stage_steps.specs.Steps.{StageStep}
 use Rattle.stage_steps.specs.KeepsMemory.{KeepsMemory}
 use Rattle.stage_steps.proofs.QuietLaws.{quiet-bind, quiet-changes, quiet-returns, quiet-seen}
-use Rattle.boot_options.specs.Crash.{CrashOptionView as Asked}
+use Rattle.boot_options.specs.Crash.{CrashOptionView}
 use Rattle.crash_kernel.specs.declared.request.AreaRequest.{AreaRequest}
 use Rattle.crash_kernel.specs.declared.crash.Crash.{Crash}
 use Rattle.crash_kernel.specs.declared.crash.Crash.TheVariants as crash
@@ -40,7 +40,7 @@ quiet_with_area : (low : ℕ) (area : Option AreaRequest) → KeepsMemory (reser
 quiet_with_area low None = quiet-returns crash.Nothing
 quiet_with_area low (Some area) = quiet-bind _ _ (quiet-seen (main_range area.size area.placement)) (quiet_with_main area low)
 
-pub quiet-reserved : (asked : Asked) → KeepsMemory (reserve_crash_area asked)
+pub quiet-reserved : (asked : CrashOptionView) → KeepsMemory (reserve_crash_area asked)
 unfolding reserve_crash_area
 quiet-reserved asked =
     quiet-bind _ _ (quiet-seen (λ items. memory_bytes (memory_of items)))

@@ -16,7 +16,7 @@ use Rattle.stage_steps.specs.Steps.{StageStep, StepEffect, ◌>>=◌, items_afte
 use Rattle.stage_steps.specs.Requests.{make_change, fail_if_refused}
 use Rattle.stage_steps.proofs.DoingLaws.{ends-second, ends-first, ends-returns}
 use Rattle.stage_steps.proofs.RequestLaws.{ends-change}
-use Rattle.boot_options.specs.Crash.{CrashOptionView as Asked}
+use Rattle.boot_options.specs.Crash.{CrashOptionView}
 use Rattle.crash_kernel.specs.declared.request.AreaRequest.{AreaRequest}
 use Rattle.crash_kernel.specs.declared.crash.Crash.{Crash}
 use Rattle.crash_kernel.specs.declared.crash.Crash.TheVariants as crash
@@ -60,12 +60,12 @@ main-fails e old new low area main h =
     (λ done. if needs_low_part main low then reserve_low_part main low else return_value (crash.At main None)) h
 
 -- the rest of the stage after the total, the request and the range are known
-pub area-at : (items : List Item) (asked : Asked) (total : ℕ) (area : Option AreaRequest) → total ≡ memory_bytes (memory_of items)
+pub area-at : (items : List Item) (asked : CrashOptionView) (total : ℕ) (area : Option AreaRequest) → total ≡ memory_bytes (memory_of items)
     → area ≡ request_for total asked → reserve_crash_area asked items ≡ reserve_request (low_size asked) area items
 unfolding reserve_crash_area
 area-at items asked total area counted is = rw (is, counted) refl
 
-pub main-at : (items : List Item) (asked : Asked) (total : ℕ) (area : AreaRequest) (main : Option RangeView) → total ≡ memory_bytes (memory_of items)
+pub main-at : (items : List Item) (asked : CrashOptionView) (total : ℕ) (area : AreaRequest) (main : Option RangeView) → total ≡ memory_bytes (memory_of items)
     → Some area ≡ request_for total asked → main ≡ main_range area.size area.placement items
     → reserve_crash_area asked items ≡ claim_area area (low_size asked) main items
 main-at items asked total area main counted is found = rw (area-at items asked total (Some area) counted is, found) refl

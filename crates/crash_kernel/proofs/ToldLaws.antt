@@ -21,10 +21,10 @@ use Rattle.growth_model.proofs.FoundLaws.{found-fits, no_owner}
 use Rattle.growth_model.proofs.SeatLaws.{covers-from}
 use Rattle.stage_steps.specs.Steps.{StageStep, ◌>>=◌, items_after_step, continue_if_ok, return_value}
 use Rattle.stage_steps.specs.Requests.{make_change, fail_if_refused}
-use Rattle.boot_options.specs.Crash.{CrashOptionView as Asked}
+use Rattle.boot_options.specs.Crash.{CrashOptionView}
 use Rattle.crash_kernel.specs.declared.request.AreaRequest.{AreaRequest}
 use Rattle.crash_kernel.specs.declared.request.Placement.{Placement}
-use Rattle.crash_kernel.specs.declared.request.Placement.TheVariants as spot
+use Rattle.crash_kernel.specs.declared.request.Placement.TheVariants as placement
 use Rattle.crash_kernel.specs.declared.crash.Crash.{Crash}
 use Rattle.crash_kernel.specs.declared.crash.Crash.TheVariants as crash
 use Rattle.crash_kernel.specs.Total.{memory_bytes}
@@ -97,15 +97,15 @@ or_cases (Some x) b r h = inl h
 
 main_found : (items : List Item) (size : ℕ) (where_to : Placement) (r : RangeView) → main_range size where_to items ≡ Some r → IsMain items size r
 unfolding main_range
-main_found items size (spot.Fixed base) r is =
+main_found items size (placement.Fixed base) r is =
     fixed_by items size base
     ((base % 0x100000 == 0) && nat_lt (base + size) (2 ^ 64) && fits items (area_query size 1 base (base + size)) false base) r refl is
-main_found items size spot.Automatic r is =
+main_found items size placement.Automatic r is =
     elim (or_cases (best_range size 0x1000000 (2 ^ 32) items) (high_range size items) r is) as (λ _. IsMain items size r) [
       | inl low ↦ (best_found items size 0x1000000 (2 ^ 32) r low).main
       | inr high ↦ (best_found items size 0x1000000 (2 ^ 46) r high).main
     ]
-main_found items size spot.High r is = (best_found items size 0x1000000 (2 ^ 46) r is).main
+main_found items size placement.High r is = (best_found items size 0x1000000 (2 ^ 46) r is).main
 
 -- from the stage's outcome back to what it found: a refused change has no area
 abbrev ok : Crash → Result Crash RefusedGrowth
@@ -121,7 +121,7 @@ change_told change items next a = by (change items).refused where
   by (Some r) h = cc
 
 -- after the claim, by the range of the low part
-with_low_told : (asked : Asked) (items : List Item) (m main : RangeView) (low found : Option RangeView)
+with_low_told : (asked : CrashOptionView) (items : List Item) (m main : RangeView) (low found : Option RangeView)
     → low_range (low_size asked) (items_after_claim m items) ≡ found → needs_low_part m (low_size asked) ≡ true
     → (claim_low_part m found (items_after_claim m items)).answer ≡ Ok (crash.At main low) → HasLowPartIfNeeded asked items m low × (m ≡ main)
 unfolding low_range
@@ -139,7 +139,7 @@ with_low_told asked items m main low (Some l) is needs h =
     (rw (← there) (needs, record { size = found.main.sized; free = found.main.free; within = found.within }), same)
 
 -- by whether a low part is needed
-needs_told : (asked : Asked) (items : List Item) (m main : RangeView) (low : Option RangeView) (b : Bool) → needs_low_part m (low_size asked) ≡ b
+needs_told : (asked : CrashOptionView) (items : List Item) (m main : RangeView) (low : Option RangeView) (b : Bool) → needs_low_part m (low_size asked) ≡ b
     → ((if b then reserve_low_part m (low_size asked) else return_value (crash.At m None)) (items_after_claim m items)).answer ≡ Ok (crash.At main low)
     → HasLowPartIfNeeded asked items m low × (m ≡ main)
 unfolding reserve_low_part
@@ -153,11 +153,11 @@ needs_told asked items m main low false is h =
 
 -- an outcome without a range isn't an area
 unplaced_told : (s : Placement) (main : RangeView) (low : Option RangeView) → ok (search_failure s) ≡ Ok (crash.At main low) → ⊥
-unplaced_told (spot.Fixed base) main low h = cc
-unplaced_told spot.Automatic main low h = cc
-unplaced_told spot.High main low h = cc
+unplaced_told (placement.Fixed base) main low h = cc
+unplaced_told placement.Automatic main low h = cc
+unplaced_told placement.High main low h = cc
 
-main_told : (asked : Asked) (items : List Item) (area : AreaRequest) (main : RangeView) (low found : Option RangeView)
+main_told : (asked : CrashOptionView) (items : List Item) (area : AreaRequest) (main : RangeView) (low found : Option RangeView)
     → request_for (memory_bytes (memory_of items)) asked ≡ Some area → main_range area.size area.placement items ≡ found
     → (claim_area area (low_size asked) found items).answer ≡ Ok (crash.At main low) → IsCrashArea asked items main low
 main_told asked items area main low None asks is h = absurd (unplaced_told area.placement main low h)
@@ -175,14 +175,14 @@ main_told asked items area main low (Some m) asks is h =
       low_part = behind.0;
     })
 
-area_told : (asked : Asked) (items : List Item) (main : RangeView) (low : Option RangeView) (area : Option AreaRequest)
+area_told : (asked : CrashOptionView) (items : List Item) (main : RangeView) (low : Option RangeView) (area : Option AreaRequest)
     → request_for (memory_bytes (memory_of items)) asked ≡ area
     → (reserve_request (low_size asked) area items).answer ≡ Ok (crash.At main low) → IsCrashArea asked items main low
 area_told asked items main low None asks h = let told : ok crash.Nothing ≡ Ok (crash.At main low) = h in cc
 area_told asked items main low (Some area) asks h =
     main_told asked items area main low (main_range area.size area.placement items) asks refl h
 
-pub reserve_crash_area-told : (asked : Asked) (items : List Item) (main : RangeView) (low : Option RangeView)
+pub reserve_crash_area-told : (asked : CrashOptionView) (items : List Item) (main : RangeView) (low : Option RangeView)
     → (reserve_crash_area asked items).answer ≡ Ok (crash.At main low) → IsCrashArea asked items main low
 unfolding reserve_crash_area
 reserve_crash_area-told asked items main low h =

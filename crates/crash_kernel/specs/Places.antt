@@ -6,9 +6,9 @@ use Rattle.bm_base.specs.Range.{RangeView}
 use Rattle.memblock_model.specs.declared.query.Query.{Query}
 use Rattle.memblock_model.specs.declared.item.Item.{Item}
 use Rattle.memblock_model.specs.Search.{best_place, fits}
-use Rattle.boot_options.specs.Crash.{CrashOptionView as Asked}
+use Rattle.boot_options.specs.Crash.{CrashOptionView}
 use Rattle.crash_kernel.specs.declared.request.Placement.{Placement}
-use Rattle.crash_kernel.specs.declared.request.Placement.TheVariants as spot
+use Rattle.crash_kernel.specs.declared.request.Placement.TheVariants as placement
 use Rattle.crash_kernel.specs.declared.crash.Crash.{Crash}
 use Rattle.crash_kernel.specs.declared.crash.Crash.TheVariants as crash
 
@@ -33,18 +33,18 @@ high_range size items = best_range size 0x1000000 (2 ^ 46) items
 -- the range of the crash area: the requested one, or a free one; without `,high` memory below 4
 -- GiB (`CRASH_ADDR_LOW_MAX`) is searched first
 unfoldable pub main_range : ℕ → Placement → List Item → Option RangeView
-main_range size (spot.Fixed base) items = fixed_range base size items
-main_range size spot.Automatic items = option_or (best_range size 0x1000000 (2 ^ 32) items) (high_range size items)
-main_range size spot.High items = high_range size items
+main_range size (placement.Fixed base) items = fixed_range base size items
+main_range size placement.Automatic items = option_or (best_range size 0x1000000 (2 ^ 32) items) (high_range size items)
+main_range size placement.High items = high_range size items
 
 -- the outcome if no range was found
 abbrev pub search_failure : Placement → Crash
-search_failure (spot.Fixed base) = crash.InUse
-search_failure spot.Automatic = crash.NoArea
-search_failure spot.High = crash.NoArea
+search_failure (placement.Fixed base) = crash.InUse
+search_failure placement.Automatic = crash.NoArea
+search_failure placement.High = crash.NoArea
 
 -- the size of the low part: that of `SIZE,low`, else 256 MiB (`reserve_crashkernel_low`)
-abbrev pub low_size : Asked → ℕ
+abbrev pub low_size : CrashOptionView → ℕ
 low_size asked = unwrap_or asked.low 0x10000000
 
 -- whether the area needs a low part of that size: it lies at or above 4 GiB, and the size isn't 0

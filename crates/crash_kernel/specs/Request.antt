@@ -7,7 +7,7 @@ use Rattle.boot_options.specs.declared.crash.CrashRange.{CrashRange}
 use Rattle.boot_options.specs.Crash.{CrashOptionView, CrashPlainView, is_above}
 use Rattle.crash_kernel.specs.declared.request.AreaRequest.{AreaRequest}
 use Rattle.crash_kernel.specs.declared.request.Placement.{Placement}
-use Rattle.crash_kernel.specs.declared.request.Placement.TheVariants as spot
+use Rattle.crash_kernel.specs.declared.request.Placement.TheVariants as placement
 
 -- whether total memory is at least the start of the range, and below its end if it has one
 abbrev pub is_in_total_range : ℕ → CrashRange → Bool
@@ -24,7 +24,7 @@ request_of_size size where_to = if size == 0 then None else Some (record { size 
 
 -- base 0 leaves the place to the kernel
 abbrev pub placement_for : ℕ → Placement
-placement_for base = if base == 0 then spot.Automatic else spot.Fixed base
+placement_for base = if base == 0 then placement.Automatic else placement.Fixed base
 
 -- the area that the plain form requests (`SIZE`, `SIZE@BASE`, or ranges of total memory), and the
 -- high form (`SIZE,high`)
@@ -34,7 +34,7 @@ plain_request total (Some form) = request_of_size (size_for_total total form.ran
 
 abbrev pub high_request : Option ℕ → Option AreaRequest
 high_request None = None
-high_request (Some size) = request_of_size size spot.High
+high_request (Some size) = request_of_size size placement.High
 
 -- the high form counts only if the plain form requests nothing (`reserve_crashkernel`)
 unfoldable pub request_for : ℕ → CrashOptionView → Option AreaRequest

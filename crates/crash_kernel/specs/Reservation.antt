@@ -8,7 +8,7 @@ use Rattle.growth_model.specs.Growth.{claim_range, free_range}
 use Rattle.growth_model.specs.Change.{RefusedGrowth}
 use Rattle.stage_steps.specs.Steps.{StageStep, ◌>>=◌, return_value, read_items}
 use Rattle.stage_steps.specs.Requests.{make_change}
-use Rattle.boot_options.specs.Crash.{CrashOptionView as Asked}
+use Rattle.boot_options.specs.Crash.{CrashOptionView}
 use Rattle.crash_kernel.specs.declared.request.AreaRequest.{AreaRequest}
 use Rattle.crash_kernel.specs.declared.crash.Crash.{Crash}
 use Rattle.crash_kernel.specs.declared.crash.Crash.TheVariants as crash
@@ -45,7 +45,7 @@ reserve_request low (Some area) = do
   claim_area area low main
 
 -- computes the request from total memory, and reserves it (`reserve_crashkernel`)
-unfoldable pub reserve_crash_area : Asked → StageStep RefusedGrowth Crash
+unfoldable pub reserve_crash_area : CrashOptionView → StageStep RefusedGrowth Crash
 reserve_crash_area asked = do
   total ← read_items (λ items. memory_bytes (memory_of items))
   reserve_request (low_size asked) (request_for total asked)

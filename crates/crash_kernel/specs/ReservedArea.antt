@@ -10,7 +10,7 @@ use Rattle.growth_model.specs.Growth.{claim_range}
 use Rattle.growth_model.specs.Tables.{IsUnclaimed}
 use Rattle.stage_steps.specs.Steps.{items_after_step}
 use Rattle.stage_steps.specs.Requests.{make_change}
-use Rattle.boot_options.specs.Crash.{CrashOptionView as Asked}
+use Rattle.boot_options.specs.Crash.{CrashOptionView}
 use Rattle.crash_kernel.specs.declared.request.Placement.{Placement}
 use Rattle.crash_kernel.specs.Total.{memory_bytes}
 use Rattle.crash_kernel.specs.Request.{request_for}
@@ -29,20 +29,20 @@ items_after_claim main items = items_after_step items (make_change (claim_range 
 
 -- the low part has the requested size, ends at or below 4 GiB, and was still free after the area
 -- was claimed
-pub record IsLowPart (asked : Asked) (items : List Item) (main low : RangeView) : Type 0 where
+pub record IsLowPart (asked : CrashOptionView) (items : List Item) (main low : RangeView) : Type 0 where
   pub size : low.size ≡ low_size asked
   pub free : IsFreeMemory (items_after_claim main items) low
   pub within : end_of low ≤ 2 ^ 32
 
 -- an area has a low part if it needs one, and has none otherwise
-abbrev pub HasLowPartIfNeeded : Asked → List Item → RangeView → Option RangeView → Type 0
+abbrev pub HasLowPartIfNeeded : CrashOptionView → List Item → RangeView → Option RangeView → Type 0
 HasLowPartIfNeeded asked items main None = needs_low_part main (low_size asked) ≡ false
 HasLowPartIfNeeded asked items main (Some low) = (needs_low_part main (low_size asked) ≡ true) × IsLowPart asked items main low
 
 -- the area has the requested size, begins at a multiple of 1 MiB, and was free
-pub record IsCrashArea (asked : Asked) (items : List Item) (main : RangeView) (low : Option RangeView) : Type 0 where
+pub record IsCrashArea (asked : CrashOptionView) (items : List Item) (main : RangeView) (low : Option RangeView) : Type 0 where
   pub placement : Placement
-  pub size : request_for (memory_bytes (memory_of items)) asked ≡ Some (record { size = main.size; placement = spot })
+  pub size : request_for (memory_bytes (memory_of items)) asked ≡ Some (record { size = main.size; placement = placement })
   pub free : IsFreeMemory items main
   pub aligned : main.base % 0x100000 ≡ 0
   pub low_part : HasLowPartIfNeeded asked items main low

@@ -5,7 +5,7 @@ ghost use Rattle.std.specs.Prelude.{◌≡◌, Option, List, Ok};
 ghost use Rattle.bm_base.specs.Range.{RangeView};
 ghost use Rattle.memblock_model.specs.declared.item.Item.{Item as AnyItem};
 ghost use Rattle.memblock_model.specs.Items.{limit_of, memory_of};
-ghost use Rattle.boot_options.specs.Crash.{CrashOptionView as Asked};
+ghost use Rattle.boot_options.specs.Crash.{CrashOptionView};
 ghost use Rattle.stage_steps.specs.Steps.{items_after_step};
 ghost use Rattle.crash_kernel.specs.declared.crash.Crash.TheVariants as crash;
 ghost use Rattle.crash_kernel.specs.Reservation.{reserve_crash_area};
@@ -13,9 +13,9 @@ ghost use Rattle.crash_kernel.specs.ReservedArea.{IsCrashArea};
 
 /// Law: the stage changes neither memory nor the limit, whatever its outcome.
 pub fn reserve_keeps_memory_and_limit()
-    ensures memory { (asked : Asked) (items : List AnyItem) →
+    ensures memory { (asked : CrashOptionView) (items : List AnyItem) →
         memory_of (items_after_step items (reserve_crash_area asked items)) ≡ memory_of items }
-    ensures limit { (asked : Asked) (items : List AnyItem) →
+    ensures limit { (asked : CrashOptionView) (items : List AnyItem) →
         limit_of (items_after_step items (reserve_crash_area asked items)) ≡ limit_of items }
 {}
 
@@ -24,6 +24,8 @@ pub fn reserve_keeps_memory_and_limit()
 /// isn't 0. The low part was still free memory of one node once the area was claimed, and ends at
 /// or below 4 GiB.
 pub fn reserved_area_was_free()
-    ensures { (asked : Asked) (items : List AnyItem) (main : RangeView) (low : Option RangeView) →
-        (reserve_crash_area asked items).answer ≡ Ok (crash.At main low) → IsCrashArea asked items main low }
+    ensures { (asked : CrashOptionView) (items : List AnyItem) (main : RangeView)
+        (low : Option RangeView) →
+        (reserve_crash_area asked items).answer ≡ Ok (crash.At main low)
+        → IsCrashArea asked items main low }
 {}

@@ -16,17 +16,17 @@
 //! - `specs/ReservedArea.antt`: what is true of an area that was reserved.
 //!
 //! Later stages may rest on two laws. The stage changes neither memory nor the limit
-//! ([`reserve_keeps_memory_and_limit`]). An area that was reserved was free memory of the requested size
-//! ([`reserved_area_was_free`]). A law is an empty function whose contract is a proven fact. In
-//! contracts, a name means the definition in `specs/`.
+//! ([`reserve_keeps_memory_and_limit`]). An area that was reserved was free memory of the requested
+//! size ([`reserved_area_was_free`]). A law is an empty function whose contract is a proven fact.
+//! In contracts, a name means the definition in `specs/`.
 #![tactic(auto)]
 
-mod request;
 mod crash;
 mod laws;
 mod places;
+mod request;
 mod reservation;
 
 pub use crash::Crash;
-pub use laws::{reserved_area_was_free, reserve_keeps_memory_and_limit};
+pub use laws::{reserve_keeps_memory_and_limit, reserved_area_was_free};
 pub use reservation::reserve;

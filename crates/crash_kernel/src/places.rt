@@ -3,12 +3,11 @@
 //! allocates, so it can't run out of memory.
 
 ghost use Rattle.std.specs.Prelude.{◌≡◌, ℕ, ◌+◌, ◌^◌, ◌<◌, ◌≤◌, IfSome};
-ghost use Rattle.bm_base.specs.Range.{RangeView};
 ghost use Rattle.growth_model.specs.Tables.{HasBegun, TouchesNoTable};
 ghost use Rattle.crash_kernel.specs.Places.{best_range, fixed_range, low_range, main_range, needs_low_part, search_failure};
 
-use crate::request::{AreaRequest, Placement};
 use crate::crash::Crash;
+use crate::request::{AreaRequest, Placement};
 use bm_base::Range;
 use memblock_grow::Memblock;
 use memblock_model::Query;
@@ -30,25 +29,27 @@ const CRASH_ADDR_HIGH_MAX: u64 = 1 << 46;
 pub fn main_range(memblock: &Memblock, area: &AreaRequest) -> Option<Range>
     requires begun { HasBegun memblock.now.journal.items }
     requires some { 0 < area.now.size }
-    ensures range { result ≡ main_range area.now.size area.now.placement memblock.now.journal.items }
+    ensures range { result
+        ≡ main_range area.now.size area.now.placement memblock.now.journal.items }
     ensures some { IfSome result (λ range. 0 < range.size) }
-    ensures away { IfSome result (λ range. TouchesNoTable memblock.now.kernel range memblock.now.journal.items) }
+    ensures away { IfSome result (λ range.
+        TouchesNoTable memblock.now.kernel range memblock.now.journal.items) }
 {
     let size = area.size;
     match area.placement {
         Placement::Fixed(base) => fixed_range(memblock, base, size),
-        Placement::Automatic => best_range(memblock, size, CRASH_ALIGN, CRASH_ADDR_LOW_MAX).or_else(|| best_range(
-            memblock, size, CRASH_ALIGN, CRASH_ADDR_HIGH_MAX,
-        )),
+        Placement::Automatic => best_range(memblock, size, CRASH_ALIGN, CRASH_ADDR_LOW_MAX).or_else(
+            || best_range(memblock, size, CRASH_ALIGN, CRASH_ADDR_HIGH_MAX),
+        ),
         Placement::High => best_range(memblock, size, CRASH_ALIGN, CRASH_ADDR_HIGH_MAX),
     }
 }
 
 /// Returns the outcome if no free range fits an area with this placement.
 pub fn search_failure(placement: Placement) -> Crash
-    ensures { result ≡ search_failure spot }
+    ensures { result ≡ search_failure placement }
 {
-    match spot {
+    match placement {
         Placement::Fixed(_) => Crash::InUse,
         Placement::Automatic | Placement::High => Crash::NoArea,
     }
@@ -80,7 +81,8 @@ fn best_range(memblock: &Memblock, size: u64, lo: u64, hi: u64) -> Option<Range>
     requires some { 0 < size }
     ensures range { result ≡ best_range size lo hi memblock.now.journal.items }
     ensures some { IfSome result (λ range. 0 < range.size) }
-    ensures away { IfSome result (λ range. TouchesNoTable memblock.now.kernel range memblock.now.journal.items) }
+    ensures away { IfSome result (λ range.
+        TouchesNoTable memblock.now.kernel range memblock.now.journal.items) }
 {
     let query = Query {
         lo,
@@ -100,7 +102,8 @@ fn fixed_range(memblock: &Memblock, base: u64, size: u64) -> Option<Range>
     requires some { 0 < size }
     ensures range { result ≡ fixed_range base size memblock.now.journal.items }
     ensures some { IfSome result (λ range. 0 < range.size) }
-    ensures away { IfSome result (λ range. TouchesNoTable memblock.now.kernel range memblock.now.journal.items) }
+    ensures away { IfSome result (λ range.
+        TouchesNoTable memblock.now.kernel range memblock.now.journal.items) }
 {
     if base % SZ_1M != 0 {
         return None;

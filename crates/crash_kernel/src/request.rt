@@ -49,7 +49,10 @@ fn plain_request(total: u64, plain: &Option<CrashPlain>) -> Option<AreaRequest>
     ensures some { IfSome result (λ area. 0 < area.size) }
 {
     match plain {
-        Some(plain) => request_of_size(size_for_total(total, &plain.ranges), placement_for(plain.base)),
+        Some(plain) => request_of_size(
+            size_for_total(total, &plain.ranges),
+            placement_for(plain.base),
+        ),
         None => None,
     }
 }
@@ -64,13 +67,13 @@ fn high_request(high: Option<u64>) -> Option<AreaRequest>
 
 /// Returns an area of `size` bytes, or `None` if `size` is 0.
 fn request_of_size(size: u64, placement: Placement) -> Option<AreaRequest>
-    ensures area { result ≡ request_of_size size spot }
+    ensures area { result ≡ request_of_size size placement }
     ensures some { IfSome result (λ area. 0 < area.size) }
 {
     if size == 0 {
         return None;
     }
-    Some(AreaRequest { size, spot })
+    Some(AreaRequest { size, placement })
 }
 
 /// Returns the placement for the base of a plain form. Base 0 leaves the place to the kernel.

@@ -10,9 +10,9 @@ ghost use Rattle.boot_options.specs.Crash.{crash_option_view};
 ghost use Rattle.crash_kernel.specs.declared.crash.Crash.{Crash as AnyCrash};
 ghost use Rattle.crash_kernel.specs.Reservation.{reserve_low_part, reserve_crash_area};
 
-use crate::request::{request_for, total_memory};
 use crate::crash::Crash;
 use crate::places::{low_range, main_range, needs_low_part, search_failure};
+use crate::request::{request_for, total_memory};
 use bm_base::Range;
 use boot_options::CrashOption;
 use growth_model::Refusal;
@@ -36,10 +36,12 @@ const DEFAULT_LOW_SIZE: u64 = 1 << 28;
 /// - `Memory` if this program is out of memory.
 pub fn reserve(memblock: &mut Memblock, option: &CrashOption) -> Result<Crash, Refusal>
     requires begun { HasBegun memblock.old.journal.items }
-    ensures ends { EndsAsStage (reserve_crash_area (crash_option_view option.now)) refusal_for result
+    ensures ends { EndsAsStage
+        (reserve_crash_area (crash_option_view option.now)) refusal_for result
         memblock.old.journal.items memblock.new.journal.items }
     ensures idle { (crash : AnyCrash) →
-        reserve_crash_area (crash_option_view option.now) memblock.old.journal.items ≡ return_value crash memblock.old.journal.items → result ≡ Ok crash }
+        reserve_crash_area (crash_option_view option.now) memblock.old.journal.items
+        ≡ return_value crash memblock.old.journal.items → result ≡ Ok crash }
     ensures found { IfErr result (λ refusal. refusal ≢ refusals.NoGap) }
     ensures goes_on { ContinuesMemblock memblock.old memblock.new }
 {

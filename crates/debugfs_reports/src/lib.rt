@@ -8,10 +8,10 @@
 //! `report_text`.
 //!
 //! Two conditions must hold. The bytes at both heads are ascending lists of records
-//! (`specs/TableHeads.antt`); their flags and nodes may be any. The runs of the map ascend. Records and
-//! runs may touch and have the same value. The lines come from `report_memory` and `report_stages`,
-//! so here a report is a name and one call. Only the summary is counted here ([`summary_of`],
-//! `specs/Summary.antt`).
+//! (`specs/TableHeads.antt`); their flags and nodes may be any. The runs of the map ascend. Records
+//! and runs may touch and have the same value. The lines come from `report_memory` and
+//! `report_stages`, so here a report is a name and one call. Only the summary is counted here
+//! ([`summary_of`], `specs/Summary.antt`).
 //!
 //! A list of reports is a text of names with commas between them; a name may occur twice.
 //! [`are_reports`] tests whether each name is that of a report. It allocates nothing, so a list

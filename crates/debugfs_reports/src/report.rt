@@ -184,7 +184,8 @@ pub fn put_report(text: &mut Vec<u8>, report: Report, booted: &Booted) -> Result
 /// Appends the text of the summary.
 fn put_booted_summary(text: &mut Vec<u8>, booted: &Booted) -> Result<(), Memory>
     requires { Ascend booted.now.map.items }
-    ensures { OnOk result (text.new.items ≡ text.old.items ++ report_text Report.Summary (booted_view booted.now)) }
+    ensures { OnOk result
+        (text.new.items ≡ text.old.items ++ report_text Report.Summary (booted_view booted.now)) }
 {
     put_summary(text, &summary_of(booted)?)
 }

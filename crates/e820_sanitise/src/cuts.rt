@@ -8,7 +8,6 @@
 //! claims on an address don't depend on the order.
 
 ghost use Rattle.std.specs.Prelude.{◌≡◌, ℕ, ◌+◌, ◌^◌, ◌<◌, Option, [], ◌∷◌, ◌++◌, OnOk, OnErr, IfOk, IsOk, IsTrue};
-ghost use Rattle.bm_base.specs.Range.{end_of};
 ghost use Rattle.e820_model.specs.Claims.{EntriesFit, HasTypes, with_claims, claims_of_entries, after_edit, after_bios_trim};
 ghost use Rattle.e820_model.specs.declared.entry.Edit.TheVariants as edits;
 ghost use Rattle.e820_model.specs.Map.{AreClaims, claims_of};
@@ -25,7 +24,8 @@ use std::alloc::Global;
 ///
 /// - `Memory`: the program ran out of memory; the list is unchanged.
 fn push_between(claims: &mut Vec<Run>, from: u64, until: u64, kind: u32) -> Result<(), Memory>
-    ensures added { OnOk result (claims.new.items ≡ claims.old.items ++ claim_between from until kind) }
+    ensures added { OnOk result (claims.new.items
+        ≡ claims.old.items ++ claim_between from until kind) }
     ensures claims { 0 < kind → AreClaims claims.old.items → AreClaims claims.new.items }
     ensures err { OnErr result (claims.new.items ≡ claims.old.items) }
 {
@@ -46,7 +46,8 @@ fn push_between_if(
     until: u64,
     kind: Option<u32>,
 ) -> Result<(), Memory>
-    ensures { OnOk result (claims.new.items ≡ claims.old.items ++ claim_between_if_typed from until kind) }
+    ensures { OnOk result
+        (claims.new.items ≡ claims.old.items ++ claim_between_if_typed from until kind) }
 {
     let Some(kind) = kind else {
         return Ok(());
@@ -66,7 +67,8 @@ fn push_parts(
     inner: Option<u32>,
     claim: &Run,
 ) -> Result<(), Memory>
-    ensures { OnOk result (claims.new.items ≡ claims.old.items ++ parts_of_claim range.now inner claim.now) }
+    ensures { OnOk result
+        (claims.new.items ≡ claims.old.items ++ parts_of_claim range.now inner claim.now) }
 {
     if is_apart(range, claim) {
         claims.push(*claim)?;
@@ -82,7 +84,8 @@ fn push_parts(
 /// Tests whether the claim has addresses, and all of them lie below the range or all above it.
 /// Such a claim is its own only part.
 fn is_apart(range: &Range, claim: &Run) -> bool
-    ensures { IsTrue result → (inner : Option ℕ) → parts_of_claim range.now inner claim.now ≡ claim.now ∷ [] }
+    ensures { IsTrue result → (inner : Option ℕ)
+        → parts_of_claim range.now inner claim.now ≡ claim.now ∷ [] }
 {
     let start = claim.range.base;
     let end = claim.range.end();
@@ -132,7 +135,8 @@ fn type_inside(meant: Option<u32>, instead: Option<u32>, kind: u32) -> Option<u3
 /// - `Memory`: the program ran out of memory.
 fn push_entry(claims: &mut Vec<Run>, entry: &Entry) -> Result<(), Memory>
     requires { entry.now.addr + entry.now.size < 2 ^ 64 }
-    ensures added { OnOk result (claims.new.items ≡ claims.old.items ++ type_claim_of_entry entry.now) }
+    ensures added { OnOk result (claims.new.items
+        ≡ claims.old.items ++ type_claim_of_entry entry.now) }
     ensures claims { OnOk result (AreClaims claims.old.items → AreClaims claims.new.items) }
 {
     if entry.kind == 0 {
@@ -169,7 +173,8 @@ pub fn with_entries(alloc: Global, claims: &[Run], entries: &[Entry]) -> Result<
 pub fn edit_claims(claims: &mut Vec<Run>, edit: &Edit) -> Result<(), Memory>
     requires claims { AreClaims claims.old.items }
     requires types { HasTypes edit.now }
-    ensures same { OnOk result (claims_of claims.new.items ≡ after_edit edit.now (claims_of claims.old.items)) }
+    ensures same { OnOk result (claims_of claims.new.items
+        ≡ after_edit edit.now (claims_of claims.old.items)) }
     ensures claims { AreClaims claims.new.items }
     ensures err { OnErr result (claims.new.items ≡ claims.old.items) }
     ensures clear { edit.now ≡ edits.Clear → IsOk result }
@@ -213,7 +218,8 @@ fn replace_with_cut(
 /// - `Memory`: the program ran out of memory.
 pub fn trim_bios_claims(alloc: Global, claims: &[Run]) -> Result<Vec<Run>, Memory>
     requires { AreClaims claims.now }
-    ensures same { IfOk result (λ left. claims_of left.items ≡ after_bios_trim (claims_of claims.now)) }
+    ensures same { IfOk result (λ left.
+        claims_of left.items ≡ after_bios_trim (claims_of claims.now)) }
     ensures claims { IfOk result (λ left. AreClaims left.items) }
 {
     let first_page = Range {

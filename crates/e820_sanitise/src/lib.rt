@@ -46,6 +46,6 @@ mod stop;
 mod table;
 
 pub use e820_model::{E820_MAX_ENTRIES, Run};
-pub use table::{MapFault, Table};
 pub use frames::{is_memory, usable_frames};
 pub use stop::{MapStop, judge_frames};
+pub use table::{MapFault, Table};

@@ -52,10 +52,12 @@ impl From<Memory> for ExtFault {
 /// - `ExtHeader`, `ExtLength`, `EntryTooFar`: the first fault of the bytes, in this order.
 /// - `Memory`: the bytes are well-formed and have entries, but the program ran out of memory.
 pub fn read_ext(alloc: Global, bytes: &[u8]) -> Result<Vec<Entry>, ExtFault>
-    ensures fault { IfErr result (λ fault. fault ≢ ExtFault.Memory → ext_fault bytes.now ≡ Some fault) }
+    ensures fault { IfErr result (λ fault. fault ≢ ExtFault.Memory
+        → ext_fault bytes.now ≡ Some fault) }
     ensures well_formed { OnOk result (ext_fault bytes.now ≡ None) }
     ensures memory { IfErr result (λ fault. fault ≡ ExtFault.Memory → ext_fault bytes.now ≡ None) }
-    ensures some { IfErr result (λ fault. fault ≡ ExtFault.Memory → 0 < length (ext_entries_of bytes.now)) }
+    ensures some { IfErr result (λ fault. fault ≡ ExtFault.Memory
+        → 0 < length (ext_entries_of bytes.now)) }
     ensures value { IfOk result (λ entries. entries.items ≡ ext_entries_of bytes.now) }
     ensures space { IfOk result (λ entries. EntriesFit entries.items) }
 {

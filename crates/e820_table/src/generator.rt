@@ -1,9 +1,9 @@
 //! Makes tables of any size, the same ones each time. A real machine has a few dozen entries;
 //! these tables show how the memory set-up copes with thousands.
 
-ghost use Rattle.std.specs.Prelude.{◌≡◌, ℕ, ◌+◌, ◌*◌, ◌^◌, ◌<◌, ◌≤◌, [], ◌∷◌, ◌++◌, length, take, drop, min, None, IfOk, IsErr, OnOk};
+ghost use Rattle.std.specs.Prelude.{◌≡◌, ℕ, ◌+◌, ◌*◌, ◌^◌, ◌<◌, ◌≤◌, [], ◌∷◌, ◌++◌, length, take, drop, None, IfOk, IsErr, OnOk};
 ghost use Rattle.e820_model.specs.Claims.{EntriesFit};
-ghost use Rattle.e820_table.specs.Made.{frames_of_entry, made_entries, made_entry, next_generator_state};
+ghost use Rattle.e820_table.specs.Made.{made_entries, made_entry, next_generator_state};
 
 use crate::made_input::Made;
 use crate::zero_page::{ZERO_PAGE_ENTRIES, ZeroPage};

@@ -5,7 +5,6 @@
 //! (`early_reserve_initrd`), so the range here ends at the end of that frame.
 
 ghost use Rattle.std.specs.Prelude.{◌≡◌, ℕ, ◌+◌, ◌-◌, ◌*◌, ◌^◌, ◌<◌, ◌≤◌, length, IfErr, IfOk, OnErr, OnOk, IfSome, None, Some, SomeIff, true, false};
-ghost use Rattle.bm_base.specs.Range.{RangeView, end_of};
 ghost use Rattle.e820_table.specs.Initrd.{halves_at, initrd_of, is_initrd_too_far, reserved_initrd_range, to_frame_end, IsInitrd};
 ghost use Rattle.e820_table.specs.ZeroPage.{initrd_fault};
 
@@ -50,8 +49,10 @@ pub fn read_initrd(bytes: &[u8]) -> Result<Option<Range>, ZeroFault>
 /// - `InitrdTooFar`: there is an initrd, and `base + size` exceeds 2^64 - 4,096.
 fn place_initrd(loader: u8, base: u64, size: u64) -> Result<Option<Range>, ZeroFault>
     ensures fault { IfErr result (λ fault. fault ≡ ZeroFault.InitrdTooFar) }
-    ensures far { OnErr result (is_initrd_too_far loader (record { base = base; size = size }) ≡ true) }
-    ensures near { OnOk result (is_initrd_too_far loader (record { base = base; size = size }) ≡ false) }
+    ensures far { OnErr result (is_initrd_too_far loader (record { base = base; size = size })
+        ≡ true) }
+    ensures near { OnOk result (is_initrd_too_far loader (record { base = base; size = size })
+        ≡ false) }
     ensures value { IfOk result (λ initrd.
         initrd ≡ reserved_initrd_range loader (record { base = base; size = size })) }
     ensures frames { IfOk result (λ initrd. IfSome initrd IsInitrd) }

@@ -81,13 +81,13 @@ pub fn read_zero_page(bytes: &[u8]) -> Result<ZeroPage, ZeroFault>
     }
     let initrd = read_initrd(bytes)?;
     Ok(ZeroPage {
-        entries: read_ext_entries(bytes, count),
+        entries: read_zero_page_entries(bytes, count),
         initrd,
     })
 }
 
 /// Returns the first `count` entries of the page, at most 128.
-fn read_ext_entries(bytes: &[u8], count: u32) -> ArrayVec<Entry, ZERO_PAGE_ENTRIES>
+fn read_zero_page_entries(bytes: &[u8], count: u32) -> ArrayVec<Entry, ZERO_PAGE_ENTRIES>
     requires room { count ≤ 128 }
     requires whole { 0x2D0 + 20 * count ≤ length bytes.now }
     ensures { result.items ≡ first_entries 0x2D0 count bytes.now }

@@ -22,16 +22,19 @@ use bm_base::FRAME_SIZE;
 pub fn memory_is_usable_frames()
     ensures memory { (e : EarlyInputs) (map : List (RunOf ℕ)) (items : List AnyItem) → AreRuns map →
         carry_out_items (first_items e map) [] ≡ Ok items →
-        (x : ℕ) → memory_of items x ≡ mirrored_memory e.mirrors (usable_memory e.limit (value_at map)) x }
+        (x : ℕ) →
+        memory_of items x ≡ mirrored_memory e.mirrors (usable_memory e.limit (value_at map)) x }
     ensures limit { (e : EarlyInputs) (map : List (RunOf ℕ)) (items : List AnyItem) →
-        carry_out_items (first_items e map) [] ≡ Ok items → limit_of items ≡ memory_end e.limit (value_at map) }
+        carry_out_items (first_items e map) [] ≡ Ok items
+        → limit_of items ≡ memory_end e.limit (value_at map) }
 {}
 
 /// Law: all memory, mirrored or not, ends at or below the end of the last usable frame. That end
 /// is a multiple of the frame size and at most the limit of addresses. Unless it is 0, the frame
 /// before it is usable.
 pub fn memory_ends_within_reach()
-    ensures below { (limit : ℕ) (f : TypeAt) (mirrors : List FrameRange) (x : ℕ) (label : LabelView) →
+    ensures below { (limit : ℕ) (f : TypeAt) (mirrors : List FrameRange) (x : ℕ) (label : LabelView)
+        →
         mirrored_memory mirrors (usable_memory limit f) x ≡ Some label → x < memory_end limit f }
     ensures reached { (limit : ℕ) (f : TypeAt) → memory_end limit f ≤ limit }
     ensures whole { (limit : ℕ) (f : TypeAt) → memory_end limit f % FRAME_SIZE ≡ 0 }
@@ -43,12 +46,14 @@ pub fn memory_ends_within_reach()
 /// from the memory table.
 pub fn memory_ends_with_its_last_run()
     ensures { (limit : ℕ) (f : TypeAt) (mirrors : List FrameRange) (runs : List (RunOf LabelView)) →
-        IsRunsOf (mirrored_memory mirrors (usable_memory limit f)) runs → end_of_runs runs ≡ memory_end limit f }
+        IsRunsOf (mirrored_memory mirrors (usable_memory limit f)) runs
+        → end_of_runs runs ≡ memory_end limit f }
 {}
 
 /// Law: no item of the list has an empty range, if the kernel's image, the initrd and each range
 /// of mirrored frames aren't empty.
 pub fn first_items_have_bytes()
-    ensures { (e : EarlyInputs) (map : List (RunOf ℕ)) → 0 < e.kernel.size → IfSome e.initrd (λ range. 0 < range.size) →
+    ensures { (e : EarlyInputs) (map : List (RunOf ℕ)) → 0 < e.kernel.size
+        → IfSome e.initrd (λ range. 0 < range.size) →
         All (λ r. 0 < r.count) e.mirrors → AreRuns map → ItemsHaveBytes (first_items e map) }
 {}

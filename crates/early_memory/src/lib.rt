@@ -16,18 +16,18 @@
 //!    (`memblock_set_current_limit`), and the first MiB is claimed (`reserve_real_mode`).
 //!
 //! These items depend only on the inputs (`specs/EarlyInputs.antt`), so they are one list
-//! (`specs/FirstItems.antt`). Tables may have to grow when the list is carried out (`growth_model`).
-//! `specs/Memory.antt` defines the memory after it, byte by byte: the usable frames, some of them
-//! mirrored. The layers above may rest on these definitions and on the laws. A law is an empty
-//! function whose contract is a proven fact. In contracts, a name means the definition in
-//! `specs/`.
+//! (`specs/FirstItems.antt`). Tables may have to grow when the list is carried out
+//! (`growth_model`). `specs/Memory.antt` defines the memory after it, byte by byte: the usable
+//! frames, some of them mirrored. The layers above may rest on these definitions and on the laws. A
+//! law is an empty function whose contract is a proven fact. In contracts, a name means the
+//! definition in `specs/`.
 #![tactic(auto)]
 
 mod laws;
 mod low;
 
 pub use laws::{
-    memory_ends_with_its_last_run, memory_ends_within_reach, memory_is_usable_frames,
-    first_items_have_bytes,
+    first_items_have_bytes, memory_ends_with_its_last_run, memory_ends_within_reach,
+    memory_is_usable_frames,
 };
 pub use low::{ISA_END_ADDRESS, LOW_END};

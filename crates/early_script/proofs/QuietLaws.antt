@@ -8,7 +8,7 @@ use Rattle.memblock_model.specs.Items.{memory_of, limit_of}
 use Rattle.script_reader.specs.declared.act.Act.{Act}
 use Rattle.script_reader.specs.declared.act.Act.TheVariants as acts
 use Rattle.growth_model.specs.Requests.{StepsKeepMemory}
-use Rattle.growth_model.specs.Change.{ChangeEffect as Steps, items_after_change, no_change}
+use Rattle.growth_model.specs.Change.{ChangeEffect, items_after_change, no_change}
 use Rattle.growth_model.proofs.MemoryItemLaws.{quiet-take}
 use Rattle.growth_model.proofs.QuietLaws.{IsQuiet, claim_range-quiet, free_range-quiet, quiet-memory, quiet-limit}
 use Rattle.early_script.specs.declared.outcome.Outcome.{Outcome}
@@ -49,7 +49,7 @@ act_effect-quiet s bytes a = by_change _ no_change-quiet
 
 -- what quiet steps don't change, an act doesn't change, however it ends
 pub acts-keep : {X : Type 0} (f : List Item → X) →
-    ((items : List Item) (o : Steps) → StepsKeepMemory o.steps → f (items_after_change items o) ≡ f items) →
+    ((items : List Item) (o : ChangeEffect) → StepsKeepMemory o.steps → f (items_after_change items o) ≡ f items) →
     (r : Result Outcome Memory) (old new : ScriptState) (d : LineEffect) → IsQuietDeed d → EndsAsLine r old new d → f new.items ≡ f old.items
 acts-keep f keeps (Ok answer) old new d quiet acts =
     ap (λ (s : ScriptState). f s.items) acts.1 ∙ keeps old.items (d.change old.items) (quiet.change.each old.items)

@@ -11,8 +11,8 @@
 //! - [`Live`]: the live IDs, each with its range. Contracts see it as a list of them.
 //! - An ID is whole as long as no one else claims or frees a byte of its range. The journal
 //!   decides that by one look-up.
-//! - [`run_script_lines`] runs lines in order. [`split_at_sections`] returns the lines before and after
-//!   the one that places the sections.
+//! - [`run_script_lines`] runs lines in order. [`split_at_sections`] returns the lines before and
+//!   after the one that places the sections.
 //!
 //! The layer above may rest on this:
 //!
@@ -27,12 +27,12 @@
 //! definition in `specs/`.
 #![tactic(auto)]
 
+mod lines;
 mod live;
 mod outcome;
-mod lines;
 mod steps;
 
-pub use lines::{lines_leave_memory, scripts_place_once, run_script_lines, split_at_sections};
+pub use lines::{lines_leave_memory, run_script_lines, scripts_place_once, split_at_sections};
 pub use live::Live;
 pub use outcome::{Answer, Outcome};
 pub use script_reader::{Act, Line, ScriptFault, read_script};

@@ -2,7 +2,7 @@
 //! but the crates that do so aren't below this one. So the lines are split there, and the boot
 //! runs both parts.
 
-ghost use Rattle.std.specs.Prelude.{◌≡◌, ℕ, ◌+◌, ◌<◌, ◌≤◌, List, [], ◌∷◌, ◌++◌, OnOk, OnErr, vec_len, vec_capacity, Result, Ok};
+ghost use Rattle.std.specs.Prelude.{◌≡◌, ℕ, ◌+◌, ◌<◌, ◌≤◌, List, [], ◌∷◌, ◌++◌, OnOk, OnErr, Result, Ok};
 ghost use Rattle.std.specs.List.{All};
 ghost use Rattle.script_reader.specs.Forms.{HasBounds};
 ghost use Rattle.growth_model.specs.Tables.{HasBegun};
@@ -41,12 +41,17 @@ pub fn run_script_lines(
     requires begun { HasBegun mb.old.journal.items }
     requires run { All (λ l. CanBeRun l.act) lines.now }
     requires bounds { All (λ l. HasBounds l.act) lines.now }
-    ensures ok { OnOk result ((fills : List Fill) → AreBytesFromHistory mb.old.kernel mb.old.journal.items fills (memblock_bytes mb.old) →
-        HasReached (script_after_lines (script_so_far live.old mb.old fills answers.old.items) lines.now) live.new mb.new answers.new.items) }
-    ensures memory { OnErr result (ScriptRunsOut live.old mb.old answers.old lines.now live.new mb.new answers.new) }
-    ensures journal { (fills : List Fill) → AreBytesFromHistory mb.old.kernel mb.old.journal.items fills (memblock_bytes mb.old) →
+    ensures ok { OnOk result ((fills : List Fill)
+        → AreBytesFromHistory mb.old.kernel mb.old.journal.items fills (memblock_bytes mb.old) →
+        HasReached (script_after_lines (script_so_far live.old mb.old fills answers.old.items)
+        lines.now) live.new mb.new answers.new.items) }
+    ensures memory { OnErr result
+        (ScriptRunsOut live.old mb.old answers.old lines.now live.new mb.new answers.new) }
+    ensures journal { (fills : List Fill)
+        → AreBytesFromHistory mb.old.kernel mb.old.journal.items fills (memblock_bytes mb.old) →
         IsPrefixChain mb.old.journal.items mb.new.journal.items
-        (script_after_lines (script_so_far live.old mb.old fills answers.old.items) lines.now).state.items }
+        (script_after_lines
+        (script_so_far live.old mb.old fills answers.old.items) lines.now).state.items }
     ensures kernel { mb.new.kernel ≡ mb.old.kernel }
     ensures begun { HasBegun mb.new.journal.items }
     ensures still_ready { StayPrepared mb.old.tables.store mb.new.tables.store }
@@ -71,7 +76,8 @@ pub fn split_at_sections(lines: &[Line]) -> (&[Line], &[Line])
     ensures before { result.0.now ≡ before_sections lines.now }
     ensures behind { result.1.now ≡ lines_after_sections lines.now }
     ensures run { All (λ l. CanBeRun l.act) result.0.now × All (λ l. CanBeRun l.act) result.1.now }
-    ensures bounds { All (λ l. HasBounds l.act) result.0.now × All (λ l. HasBounds l.act) result.1.now }
+    ensures bounds { All (λ l. HasBounds l.act) result.0.now
+        × All (λ l. HasBounds l.act) result.1.now }
 {
     for (i, line) in lines.iter().enumerate() {
         if matches!(line.act, Act::Sections) {
@@ -84,14 +90,19 @@ pub fn split_at_sections(lines: &[Line]) -> (&[Line], &[Line])
 /// Law: a line leaves memory, its nodes and the limit unchanged, whatever its outcome, and also if
 /// this program is out of memory during it.
 pub fn lines_leave_memory()
-    ensures memory { (result : Result Outcome Memory) (old new : ScriptState) (bytes : ℕ → ℕ) (a : Act) →
-        EndsAsLine result old new (act_effect old bytes a) → memory_of new.items ≡ memory_of old.items }
-    ensures limit { (result : Result Outcome Memory) (old new : ScriptState) (bytes : ℕ → ℕ) (a : Act) →
-        EndsAsLine result old new (act_effect old bytes a) → limit_of new.items ≡ limit_of old.items }
+    ensures memory { (result : Result Outcome Memory) (old new : ScriptState) (bytes : ℕ
+        → ℕ) (a : Act) →
+        EndsAsLine result old new (act_effect old bytes a)
+        → memory_of new.items ≡ memory_of old.items }
+    ensures limit { (result : Result Outcome Memory) (old new : ScriptState) (bytes : ℕ
+        → ℕ) (a : Act) →
+        EndsAsLine result old new (act_effect old bytes a)
+        → limit_of new.items ≡ limit_of old.items }
 {}
 
 /// Law: a script that was read places the sections at most once, so each line after that one can
 /// be run.
 pub fn scripts_place_once()
-    ensures { (bytes : List ℕ) (lines : List Line) → script_of bytes ≡ Ok lines → PlacesSectionsOnce lines }
+    ensures { (bytes : List ℕ) (lines : List Line) → script_of bytes ≡ Ok lines
+        → PlacesSectionsOnce lines }
 {}

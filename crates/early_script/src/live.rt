@@ -11,7 +11,7 @@ ghost use Rattle.memblock_grow.specs.Continues.{ContinuesMemblock};
 ghost use Rattle.memblock_grow.specs.Invariant.{StayPrepared};
 
 use crate::outcome::Outcome;
-use crate::steps::{read_bytes_at, outcome_of_refusal, split_range, is_over_table};
+use crate::steps::{is_over_table, outcome_of_refusal, read_bytes_at, split_range};
 use bm_base::{Memory, Range};
 use memblock_grow::{Memblock, Request, no_items_no_change};
 use memblock_model::Owner;
@@ -40,8 +40,8 @@ impl Model for Live {
 }
 
 impl Live {
-    ghost use Rattle.early_script.specs.LiveView.{is_live as has_range, with_range};
-    ghost use Rattle.early_script.specs.Effects.{LineEffect as AnyDeed, EndsAsLine, CanBeRun, OnlyAnswers, byte_after_line, fills_after_line, answer_only, on_range_of_id, act_effect, alloc_effect, reserve_effect, free_effect, trim_effect, fill_effect};
+    ghost use Rattle.early_script.specs.LiveView.{is_live, with_range};
+    ghost use Rattle.early_script.specs.Effects.{LineEffect, EndsAsLine, CanBeRun, OnlyAnswers, byte_after_line, fills_after_line, answer_only, on_range_of_id, act_effect, alloc_effect, reserve_effect, free_effect, trim_effect, fill_effect};
     ghost use Rattle.early_script.specs.FromMemblock.{state_of_memblock, memblock_bytes};
 
     /// Creates a map without a live ID.
@@ -65,15 +65,21 @@ impl Live {
         requires begun { HasBegun mb.old.journal.items }
         requires run { CanBeRun line.now.act }
         requires bounds { HasBounds line.now.act }
-        ensures acts { EndsAsLine result (state_of_memblock self.old mb.old) (state_of_memblock self.new mb.new)
+        ensures acts { EndsAsLine result (state_of_memblock self.old mb.old)
+            (state_of_memblock self.new mb.new)
             (act_effect (state_of_memblock self.old mb.old) (memblock_bytes mb.old) line.now.act) }
         ensures answered { OnlyAnswers (state_of_memblock self.old mb.old)
-            (act_effect (state_of_memblock self.old mb.old) (memblock_bytes mb.old) line.now.act) → IsOk result }
-        ensures bytes { (x : ℕ) → memblock_bytes mb.new x ≡ byte_after_line result (state_of_memblock self.old mb.old) (state_of_memblock self.new mb.new)
-            (act_effect (state_of_memblock self.old mb.old) (memblock_bytes mb.old) line.now.act) x (memblock_bytes mb.old x) }
-        ensures holds { (fills : List Fill) → AreBytesFromHistory mb.old.kernel mb.old.journal.items fills (memblock_bytes mb.old) →
+            (act_effect (state_of_memblock self.old mb.old) (memblock_bytes mb.old) line.now.act)
+            → IsOk result }
+        ensures bytes { (x : ℕ) → memblock_bytes mb.new x ≡ byte_after_line result
+            (state_of_memblock self.old mb.old) (state_of_memblock self.new mb.new)
+            (act_effect (state_of_memblock self.old mb.old) (memblock_bytes mb.old) line.now.act) x
+            (memblock_bytes mb.old x) }
+        ensures holds { (fills : List Fill)
+            → AreBytesFromHistory mb.old.kernel mb.old.journal.items fills (memblock_bytes mb.old) →
             AreBytesFromHistory mb.new.kernel mb.new.journal.items
-            (fills_after_line result (act_effect (state_of_memblock self.old mb.old) (memblock_bytes mb.old) line.now.act) fills) (memblock_bytes mb.new) }
+            (fills_after_line result (act_effect (state_of_memblock self.old mb.old)
+            (memblock_bytes mb.old) line.now.act) fills) (memblock_bytes mb.new) }
         ensures still_ready { StayPrepared mb.old.tables.store mb.new.tables.store }
     {
         match line.act {
@@ -91,7 +97,8 @@ impl Live {
         requires begun { HasBegun mb.old.journal.items }
         requires some { 1 ≤ request.now.size }
         requires aligned { (k : ℕ) × (request.now.align ≡ 2 ^ k) }
-        ensures acts { EndsAsLine result (state_of_memblock self.old mb.old) (state_of_memblock self.new mb.new)
+        ensures acts { EndsAsLine result (state_of_memblock self.old mb.old)
+            (state_of_memblock self.new mb.new)
             (alloc_effect (state_of_memblock self.old mb.old) id request.now) }
         ensures goes_on { ContinuesMemblock mb.old mb.new }
     {
@@ -116,7 +123,8 @@ impl Live {
     fn reserve(&mut self, mb: &mut Memblock, id: u32, range: Range) -> Result<Outcome, Memory>
         requires begun { HasBegun mb.old.journal.items }
         requires some { 0 < range.size }
-        ensures acts { EndsAsLine result (state_of_memblock self.old mb.old) (state_of_memblock self.new mb.new)
+        ensures acts { EndsAsLine result (state_of_memblock self.old mb.old)
+            (state_of_memblock self.new mb.new)
             (reserve_effect (state_of_memblock self.old mb.old) id range) }
         ensures goes_on { ContinuesMemblock mb.old mb.new }
     {
@@ -138,7 +146,8 @@ impl Live {
 
     fn free(&mut self, mb: &mut Memblock, id: u32) -> Result<Outcome, Memory>
         requires { HasBegun mb.old.journal.items }
-        ensures acts { EndsAsLine result (state_of_memblock self.old mb.old) (state_of_memblock self.new mb.new)
+        ensures acts { EndsAsLine result (state_of_memblock self.old mb.old)
+            (state_of_memblock self.new mb.new)
             (free_effect (state_of_memblock self.old mb.old) id) }
         ensures goes_on { ContinuesMemblock mb.old mb.new }
     {
@@ -157,7 +166,8 @@ impl Live {
     fn trim(&mut self, mb: &mut Memblock, id: u32, keep: u64) -> Result<Outcome, Memory>
         requires begun { HasBegun mb.old.journal.items }
         requires some { 0 < keep }
-        ensures acts { EndsAsLine result (state_of_memblock self.old mb.old) (state_of_memblock self.new mb.new)
+        ensures acts { EndsAsLine result (state_of_memblock self.old mb.old)
+            (state_of_memblock self.new mb.new)
             (trim_effect (state_of_memblock self.old mb.old) id keep) }
         ensures goes_on { ContinuesMemblock mb.old mb.new }
     {
@@ -180,13 +190,17 @@ impl Live {
 
     fn fill(&mut self, mb: &mut Memblock, id: u32, byte: u8) -> Result<Outcome, Memory>
         requires { HasBegun mb.old.journal.items }
-        ensures acts { EndsAsLine result (state_of_memblock self.old mb.old) (state_of_memblock self.new mb.new)
+        ensures acts { EndsAsLine result (state_of_memblock self.old mb.old)
+            (state_of_memblock self.new mb.new)
             (fill_effect (state_of_memblock self.old mb.old) id byte) }
-        ensures bytes { (x : ℕ) → memblock_bytes mb.new x ≡ byte_after_line result (state_of_memblock self.old mb.old) (state_of_memblock self.new mb.new)
+        ensures bytes { (x : ℕ) → memblock_bytes mb.new x ≡ byte_after_line result
+            (state_of_memblock self.old mb.old) (state_of_memblock self.new mb.new)
             (fill_effect (state_of_memblock self.old mb.old) id byte) x (memblock_bytes mb.old x) }
-        ensures holds { (fills : List Fill) → AreBytesFromHistory mb.old.kernel mb.old.journal.items fills (memblock_bytes mb.old) →
+        ensures holds { (fills : List Fill)
+            → AreBytesFromHistory mb.old.kernel mb.old.journal.items fills (memblock_bytes mb.old) →
             AreBytesFromHistory mb.new.kernel mb.new.journal.items
-            (fills_after_line result (fill_effect (state_of_memblock self.old mb.old) id byte) fills) (memblock_bytes mb.new) }
+            (fills_after_line result (fill_effect (state_of_memblock self.old mb.old) id byte)
+            fills) (memblock_bytes mb.new) }
         ensures still_ready { StayPrepared mb.old.tables.store mb.new.tables.store }
     {
         no_items_no_change(mb);
@@ -203,7 +217,7 @@ impl Live {
 
     /// Tests whether the ID is live.
     fn is_live(&self, id: u32) -> bool
-        ensures { result ≡ has_range self.now id }
+        ensures { result ≡ is_live self.now id }
     {
         self.ids.contains_key(&id)
     }
@@ -226,11 +240,14 @@ impl Live {
     /// doesn't own all of its range.
     fn owned_range(&self, mb: &Memblock, id: u32) -> Result<Range, Outcome>
         requires { HasBegun mb.now.journal.items }
-        ensures range { IfOk result (λ range. (act_effect : RangeView → AnyDeed) → on_range_of_id (state_of_memblock self.now mb.now) id act_effect ≡ act_effect range) }
+        ensures range { IfOk result (λ range. (act_effect : RangeView → LineEffect)
+            → on_range_of_id (state_of_memblock self.now mb.now) id act_effect ≡ act_effect range) }
         ensures some { IfOk result (λ range. 0 < range.size) }
-        ensures away { IfOk result (λ range. TouchesNoTable mb.now.kernel range mb.now.journal.items) }
-        ensures outcome { IfErr result (λ outcome. (act_effect : RangeView → AnyDeed) →
-            on_range_of_id (state_of_memblock self.now mb.now) id act_effect ≡ answer_only (state_of_memblock self.now mb.now) outcome) }
+        ensures away { IfOk result (λ range.
+            TouchesNoTable mb.now.kernel range mb.now.journal.items) }
+        ensures outcome { IfErr result (λ outcome. (act_effect : RangeView → LineEffect) →
+            on_range_of_id (state_of_memblock self.now mb.now) id act_effect
+            ≡ answer_only (state_of_memblock self.now mb.now) outcome) }
     {
         let Some(range) = self.ids.get(&id).copied() else {
             return Err(Outcome::Unknown);

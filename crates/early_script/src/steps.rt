@@ -1,7 +1,7 @@
 //! The steps of a line that need no live ID. They are outside `Live`, so that their contracts are
 //! only about memblock or numbers.
 
-ghost use Rattle.std.specs.Prelude.{◌≡◌, ℕ, ◌+◌, ◌-◌, ◌^◌, ◌<◌, ◌≤◌, false, length, MatchOption};
+ghost use Rattle.std.specs.Prelude.{◌≡◌, ℕ, ◌+◌, ◌-◌, ◌^◌, ◌<◌, ◌≤◌, false, MatchOption};
 ghost use Rattle.phys_store.specs.Bytes.{bytes_at};
 ghost use Rattle.growth_model.specs.Tables.{HasBegun, TouchesNoTable};
 ghost use Rattle.growth_model.specs.Bytes.{Follows};
@@ -59,8 +59,10 @@ pub fn read_bytes_at(mb: &Memblock, at: u64, len: u32) -> Outcome
     requires begun { HasBegun mb.now.journal.items }
     requires few { len ≤ 64 }
     requires within { at + len < 2 ^ 64 }
-    ensures told { result ≡ outcomes.Bytes (record { items = bytes_at (memblock_bytes mb.now) at len }) }
-    ensures still { Follows mb.now.kernel mb.now.journal.items mb.now.journal.items (memblock_bytes mb.now) (memblock_bytes mb.now) }
+    ensures told { result
+        ≡ outcomes.Bytes (record { items = bytes_at (memblock_bytes mb.now) at len }) }
+    ensures still { Follows mb.now.kernel mb.now.journal.items mb.now.journal.items
+        (memblock_bytes mb.now) (memblock_bytes mb.now) }
 {
     no_items_no_change(mb);
     let mut room = [0u8; 64];

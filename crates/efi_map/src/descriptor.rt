@@ -55,9 +55,11 @@ impl Model for Descriptor {
 
     ghost Value = { AnyDescriptor };
 
-    ghost view = { λ d. record { kind = d.kind; base = d.base; pages = d.pages; attributes = d.attributes } };
+    ghost view = { λ d.
+        record { kind = d.kind; base = d.base; pages = d.pages; attributes = d.attributes } };
 
-    ghost inverse = { λ d. record { kind = d.kind; base = d.base; pages = d.pages; attributes = d.attributes } };
+    ghost inverse = { λ d.
+        record { kind = d.kind; base = d.base; pages = d.pages; attributes = d.attributes } };
 }
 
 /// Tests whether memory of this type is free once the firmware's boot services have ended.
@@ -94,7 +96,8 @@ impl Descriptor {
     /// Returns the addresses of the memory, or `None` if its first address plus its size in bytes
     /// exceeds 2^64 - 1.
     pub fn range(self) -> Option<Range>
-        ensures { SomeIff result (self.base + 4096 * self.pages < 2 ^ 64) (bytes_of_descriptor self) }
+        ensures { SomeIff result (self.base + 4096 * self.pages < 2 ^ 64)
+            (bytes_of_descriptor self) }
     {
         Range::new(self.base, self.pages.checked_mul(FRAME_SIZE)?)
     }

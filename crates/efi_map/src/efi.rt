@@ -1,6 +1,6 @@
 //! Reads the file: its header, its length, and the descriptors.
 
-ghost use Rattle.std.specs.Prelude.{◌≡◌, ◌≢◌, ℕ, ◌+◌, ◌*◌, ◌<◌, ◌≤◌, ◌^◌, length, map, IfOk, IfSome, IsErr, IsErrOf, IsOk, IsTrue, IsNone, SomeIff, None};
+ghost use Rattle.std.specs.Prelude.{◌≡◌, ◌≢◌, ℕ, ◌+◌, ◌*◌, ◌<◌, ◌≤◌, ◌^◌, length, map, IfOk, IfSome, IsErr, IsErrOf, IsOk, IsTrue, SomeIff, None};
 ghost use Rattle.bm_base.specs.Answers.{Answers};
 ghost use Rattle.e820_model.specs.Claims.{EntriesFit};
 ghost use Rattle.efi_map.specs.Descriptors.{entry_of_descriptor};
@@ -67,7 +67,9 @@ pub struct EfiMap {
 ///   memory.
 pub fn read_efi(alloc: Global, bytes: &[u8]) -> Result<EfiMap, EfiFault>
     requires { length bytes.now < 2 ^ 32 }
-    ensures answers { Answers EfiFault.Memory (λ efi. record { entries = efi.entries.items; mirrors = efi.mirrors.items }) result (efi_of bytes.now) }
+    ensures answers { Answers EfiFault.Memory (λ efi.
+        record { entries = efi.entries.items; mirrors = efi.mirrors.items }) result
+        (efi_of bytes.now) }
     ensures memory { IsErrOf result EfiFault.Memory → IsOk (efi_of bytes.now) }
     ensures some { IsErrOf result EfiFault.Memory → 0 < length (descriptors_of bytes.now) }
     ensures space { IfOk result (λ efi. EntriesFit efi.entries.items) }
@@ -103,7 +105,8 @@ fn count_descriptors(bytes: &[u8], stride: u32) -> Option<u32>
     requires few { length bytes.now < 2 ^ 32 }
     requires stride { stride ≡ descriptor_size bytes.now }
     requires some { 0 < stride }
-    ensures count { SomeIff result (IsTrue (has_efi_length bytes.now)) (descriptor_count bytes.now) }
+    ensures count { SomeIff result (IsTrue (has_efi_length bytes.now))
+        (descriptor_count bytes.now) }
     ensures whole { IfSome result (λ count. 8 + stride * count ≤ length bytes.now) }
 {
     let data = (bytes.len() - HEADER_BYTES) as u32;
@@ -147,8 +150,10 @@ fn read_descriptors(alloc: Global, bytes: &[u8], stride: u32, count: u32) -> Res
     requires stride { 40 ≤ stride }
     requires whole { 8 + stride * count ≤ length bytes.now }
     requires near { far_descriptor_from 0 (descriptors_from stride 0 count bytes.now) ≡ None }
-    ensures entries { IfOk result (λ efi. efi.entries.items ≡ map entry_of_descriptor (descriptors_from stride 0 count bytes.now)) }
-    ensures mirrors { IfOk result (λ efi. efi.mirrors.items ≡ mirrors_of_descriptors (descriptors_from stride 0 count bytes.now)) }
+    ensures entries { IfOk result (λ efi.
+        efi.entries.items ≡ map entry_of_descriptor (descriptors_from stride 0 count bytes.now)) }
+    ensures mirrors { IfOk result (λ efi.
+        efi.mirrors.items ≡ mirrors_of_descriptors (descriptors_from stride 0 count bytes.now)) }
     ensures some { IsErr result → 0 < count }
 {
     let mut entries = Vec::new(alloc);

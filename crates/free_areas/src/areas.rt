@@ -9,7 +9,9 @@ ghost use Rattle.buddy_blocks.specs.PickedBlock.{IsPicked, NoneServes};
 ghost use Rattle.buddy_blocks.specs.Buddies.{RemovesFrameSet};
 ghost use Rattle.free_areas.specs.Areas.{IndexesFreeBlocks};
 
-use crate::index::{lead_block, insert_block, insert_buddies, remove_buddies, remove_and_expose_next};
+use crate::index::{
+    insert_block, insert_buddies, lead_block, remove_and_expose_next, remove_buddies,
+};
 use bm_base::{Memory, Zone};
 use buddy_blocks::{Block, FrameRun, MAX_FRAMES, MAX_ORDER, block_rows};
 use std::alloc::Global;
@@ -58,7 +60,8 @@ impl Areas {
     pub fn find_picked_block(&self, node: u32, zone: Zone, order: u32) -> Option<Block>
         requires { order ≤ 10 }
         ensures { (f : Frames) → IndexesFreeBlocks f self.now →
-            MatchOption result (NoneServes f node zone order) (λ block. IsPicked f node zone order block) }
+            MatchOption result (NoneServes f node zone order) (λ block.
+            IsPicked f node zone order block) }
     {
         let from = Block {
             node,
@@ -91,8 +94,10 @@ impl Areas {
     ) -> Result<(), Memory>
         requires small { block.now.order ≤ 10 }
         requires low { frame < MAX_FRAMES }
-        ensures { OnOk result ((f g : Frames) → IndexesFreeBlocks f self.old → RemovesFrameSet f g order frame → IsBlock f block.now →
-            IsInBlock block.now frame → order ≤ block.now.order → behind ≡ block_of f (block.now.first + 2 ^ block.now.order) →
+        ensures { OnOk result ((f g : Frames) → IndexesFreeBlocks f self.old
+            → RemovesFrameSet f g order frame → IsBlock f block.now →
+            IsInBlock block.now frame → order ≤ block.now.order
+            → behind ≡ block_of f (block.now.first + 2 ^ block.now.order) →
             IndexesFreeBlocks g self.new) }
     {
         remove_and_expose_next(&mut self.blocks, block, behind)?;
@@ -108,7 +113,8 @@ impl Areas {
     pub fn merge_block(&mut self, block: &Block, order: u32, frame: u64) -> Result<(), Memory>
         requires small { block.now.order ≤ 10 }
         requires low { frame < MAX_FRAMES }
-        ensures { OnOk result ((f g : Frames) → IndexesFreeBlocks g self.old → RemovesFrameSet f g order frame → IsBlock f block.now →
+        ensures { OnOk result ((f g : Frames) → IndexesFreeBlocks g self.old
+            → RemovesFrameSet f g order frame → IsBlock f block.now →
             IsInBlock block.now frame → order ≤ block.now.order → IndexesFreeBlocks f self.new) }
     {
         remove_buddies(&mut self.blocks, block, order, frame);

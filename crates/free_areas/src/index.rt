@@ -3,7 +3,7 @@
 ghost use Rattle.std.specs.Prelude.{◌≡◌, ◌≢◌, ◌⊎◌, ◌↔◌, ℕ, ◌+◌, ◌*◌, ◌/◌, ◌^◌, ◌<◌, ◌≤◌, Some, None, OnOk, IfSome, IfNone};
 ghost use Rattle.buddy_blocks.specs.declared.block.Block.{Block as AnyBlock};
 ghost use Rattle.buddy_blocks.specs.BlockList.{ListsBlock};
-ghost use Rattle.buddy_blocks.specs.Buddies.{other_half, buddy_first, buddy_of};
+ghost use Rattle.buddy_blocks.specs.Buddies.{buddy_of};
 ghost use Rattle.free_areas.specs.Areas.{lead_block, AreLargestAlike, AddsBuddies, RemovesBuddies};
 
 use bm_base::Memory;
@@ -28,7 +28,8 @@ pub fn lead_block(row: &BlockRow) -> Block
 ///
 /// - `Memory`: the program ran out of memory.
 pub fn insert_block(blocks: &mut BTreeSet<Block>, block: Block) -> Result<(), Memory>
-    ensures { OnOk result ((b : AnyBlock) → ListsBlock blocks.new.keys b ↔ ((b ≡ block) ⊎ ListsBlock blocks.old.keys b)) }
+    ensures { OnOk result ((b : AnyBlock) → ListsBlock blocks.new.keys b
+        ↔ ((b ≡ block) ⊎ ListsBlock blocks.old.keys b)) }
 {
     blocks.insert(block)?;
     Ok(())
@@ -36,7 +37,8 @@ pub fn insert_block(blocks: &mut BTreeSet<Block>, block: Block) -> Result<(), Me
 
 /// Removes a key from the set.
 fn remove_block(blocks: &mut BTreeSet<Block>, block: &Block)
-    ensures { (b : AnyBlock) → ListsBlock blocks.new.keys b ↔ ((b ≢ block.now) × ListsBlock blocks.old.keys b) }
+    ensures { (b : AnyBlock) → ListsBlock blocks.new.keys b
+        ↔ ((b ≢ block.now) × ListsBlock blocks.old.keys b) }
 {
     let _ = blocks.remove(block);
 }
@@ -53,9 +55,12 @@ pub fn remove_and_expose_next(
     behind: Option<Block>,
 ) -> Result<(), Memory>
     ensures sound { OnOk result ((b : AnyBlock) → ListsBlock blocks.new.keys b →
-        ((b ≢ block.now) × ListsBlock blocks.old.keys b) ⊎ ((behind ≡ Some b) × AreLargestAlike block.now b)) }
-    ensures kept { OnOk result ((b : AnyBlock) → b ≢ block.now → ListsBlock blocks.old.keys b → ListsBlock blocks.new.keys b) }
-    ensures behind { OnOk result ((b : AnyBlock) → behind ≡ Some b → AreLargestAlike block.now b → ListsBlock blocks.new.keys b) }
+        ((b ≢ block.now) × ListsBlock blocks.old.keys b)
+        ⊎ ((behind ≡ Some b) × AreLargestAlike block.now b)) }
+    ensures kept { OnOk result ((b : AnyBlock) → b ≢ block.now → ListsBlock blocks.old.keys b
+        → ListsBlock blocks.new.keys b) }
+    ensures behind { OnOk result ((b : AnyBlock) → behind ≡ Some b → AreLargestAlike block.now b
+        → ListsBlock blocks.new.keys b) }
 {
     remove_block(blocks, block);
     match next_like_block(block, behind) {
@@ -78,7 +83,8 @@ pub fn insert_buddies(
 ) -> Result<(), Memory>
     requires small { block.now.order ≤ 10 }
     requires low { frame < MAX_FRAMES }
-    ensures { OnOk result (AddsBuddies block.now order block.now.order frame blocks.old.keys blocks.new.keys) }
+    ensures { OnOk result
+        (AddsBuddies block.now order block.now.order frame blocks.old.keys blocks.new.keys) }
 {
     for at in order..block.order {
         insert_block(blocks, buddy_of(block, at, frame))?;
@@ -103,7 +109,8 @@ pub fn remove_buddies(blocks: &mut BTreeSet<Block>, block: &Block, order: u32, f
 /// The index may lack that next block as long as it has the first of them.
 fn next_like_block(block: &Block, behind: Option<Block>) -> Option<Block>
     ensures some { IfSome result (λ next. (behind ≡ Some next) × AreLargestAlike block.now next) }
-    ensures none { IfNone result ((next : AnyBlock) → behind ≡ Some next → AreLargestAlike block.now next → ⊥) }
+    ensures none { IfNone result ((next : AnyBlock) → behind ≡ Some next
+        → AreLargestAlike block.now next → ⊥) }
 {
     behind.filter(|next| {
         block.order == MAX_ORDER

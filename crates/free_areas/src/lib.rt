@@ -3,9 +3,10 @@
 //! The kernel keeps a list of blocks for each order of each zone (`struct free_area`), so that it
 //! can serve a request without searching memory. Here the free frames are kept as runs
 //! (`buddy_blocks`), together with an index, [`Areas`]: an ordered set of blocks. The block for a
-//! request is the first one from a certain key on ([`Areas::find_picked_block`]). [`Areas::split_block`] updates the
-//! index when a set of frames is taken from a block (`expand`), and [`Areas::merge_block`] when one is
-//! freed (`__free_one_page`). Both look only at the blocks involved.
+//! request is the first one from a certain key on ([`Areas::find_picked_block`]).
+//! [`Areas::split_block`] updates the index when a set of frames is taken from a block (`expand`),
+//! and [`Areas::merge_block`] when one is freed (`__free_one_page`). Both look only at the blocks
+//! involved.
 //!
 //! Of consecutive blocks of the largest order in one node and zone, the set has at least the
 //! first. So 16 TiB in one piece are one key, and not four million.

@@ -1,9 +1,9 @@
 //! Laws about the byte at each address.
 //!
-//! `byte_from_history` computes it from the items and the fills. `byte_after` says how a call changes a byte,
-//! whatever it was before; contracts of calls use it. One law says that calls can follow one
-//! another, another that both definitions agree. So a caller can keep `AreBytesFromHistory` true from call to
-//! call and from fill to fill.
+//! `byte_from_history` computes it from the items and the fills. `byte_after` says how a call
+//! changes a byte, whatever it was before; contracts of calls use it. One law says that calls can
+//! follow one another, another that both definitions agree. So a caller can keep
+//! `AreBytesFromHistory` true from call to call and from fill to fill.
 //!
 //! A table hides the bytes below it until an item moves the table away. Only the laws about one
 //! table's own bytes need that the two tables are apart.
@@ -26,10 +26,13 @@ ghost use Rattle.growth_model.specs.Bytes.{table_for, table_byte_at, byte_with_t
 /// the items and fills give the byte of all items and the fills.
 pub fn byte_effects_compose()
     ensures after { (kernel : RangeView) (items more further : List Item) (x b : ℕ) →
-        byte_after kernel (items ++ more) ((items ++ more) ++ further) x (byte_after kernel items (items ++ more) x b)
+        byte_after kernel (items ++ more) ((items ++ more) ++ further) x
+        (byte_after kernel items (items ++ more) x b)
         ≡ byte_after kernel items ((items ++ more) ++ further) x b }
-    ensures byte { (kernel : RangeView) (items more : List Item) (fills : List Fill) (x : ℕ) → AreMadeBy (length items) fills →
-        byte_after kernel items (items ++ more) x (byte_from_history kernel items fills x) ≡ byte_from_history kernel (items ++ more) fills x }
+    ensures byte { (kernel : RangeView) (items more : List Item) (fills : List Fill) (x : ℕ)
+        → AreMadeBy (length items) fills →
+        byte_after kernel items (items ++ more) x (byte_from_history kernel items fills x)
+        ≡ byte_from_history kernel (items ++ more) fills x }
 {}
 
 /// Law: a fill that overlaps no table decides the bytes of its range, whatever was written there
@@ -37,7 +40,8 @@ pub fn byte_effects_compose()
 pub fn newest_fill_decides()
     ensures { (kernel : RangeView) (items : List Item) (fills : List Fill) (f : Fill) (x : ℕ) →
         f.at ≡ length items → TouchesNoTable kernel f.range items →
-        byte_from_history kernel items (fills ++ f ∷ []) x ≡ byte_after_fill f x (byte_from_history kernel items fills x) }
+        byte_from_history kernel items (fills ++ f ∷ []) x
+        ≡ byte_after_fill f x (byte_from_history kernel items fills x) }
 {}
 
 /// Law: calls and fills can follow one another. Two calls in turn change the bytes as one call
@@ -46,24 +50,37 @@ pub fn newest_fill_decides()
 pub fn bytes_follow_calls()
     ensures then { (kernel : RangeView) (items mid last : List Item) (f g h : ℕ → ℕ) →
         Follows kernel items mid f g → Follows kernel mid last g h → Follows kernel items last f h }
-    ensures spelled { (kernel : RangeView) (items longer : List Item) (f g : ℕ → ℕ) → Follows kernel items longer f g →
-        TablesAreEncoded (table_for which.Memory kernel longer) (table_for which.Reserved kernel longer) g }
-    ensures call { (kernel : RangeView) (items longer : List Item) (fills : List Fill) (f g : ℕ → ℕ) →
-        AreBytesFromHistory kernel items fills f → Follows kernel items longer f g → AreBytesFromHistory kernel longer fills g }
-    ensures fill { (kernel : RangeView) (items : List Item) (fills : List Fill) (fill : Fill) (f g : ℕ → ℕ) →
-        AreBytesFromHistory kernel items fills f → fill.at ≡ length items → TouchesNoTable kernel fill.range items →
-        ((x : ℕ) → g x ≡ byte_after_fill fill x (f x)) → AreBytesFromHistory kernel items (fills ++ fill ∷ []) g }
+    ensures spelled { (kernel : RangeView) (items longer : List Item) (f g : ℕ → ℕ)
+        → Follows kernel items longer f g →
+        TablesAreEncoded (table_for which.Memory kernel longer)
+        (table_for which.Reserved kernel longer) g }
+    ensures call { (kernel : RangeView) (items longer : List Item) (fills : List Fill) (f g : ℕ → ℕ)
+        →
+        AreBytesFromHistory kernel items fills f → Follows kernel items longer f g
+        → AreBytesFromHistory kernel longer fills g }
+    ensures fill { (kernel : RangeView) (items : List Item) (fills : List Fill) (fill : Fill)
+        (f g : ℕ → ℕ) →
+        AreBytesFromHistory kernel items fills f → fill.at ≡ length items
+        → TouchesNoTable kernel fill.range items →
+        ((x : ℕ) → g x ≡ byte_after_fill fill x (f x))
+        → AreBytesFromHistory kernel items (fills ++ fill ∷ []) g }
 {}
 
 /// Law: the bytes at the place of each table are the encoding of its records, byte by byte and as
 /// a list.
 pub fn tables_are_encoded()
-    ensures each { (w : Which) (kernel : RangeView) (items : List Item) (f : ℕ → ℕ) (x : ℕ) → TablesAreClaimed kernel items →
-        TablesAreEncoded (table_for which.Memory kernel items) (table_for which.Reserved kernel items) f →
-        covers (table_bytes w kernel items) x ≡ true → f x ≡ table_byte_at (table_for w kernel items) x }
-    ensures list { (w : Which) (kernel : RangeView) (items : List Item) (f : ℕ → ℕ) → TablesAreClaimed kernel items → TablesHaveRoom items →
-        TablesAreEncoded (table_for which.Memory kernel items) (table_for which.Reserved kernel items) f →
-        bytes_at f (table_place w kernel items) (24 * room_of w items) ≡ encode_table (records_of w items) (room_of w items) }
+    ensures each { (w : Which) (kernel : RangeView) (items : List Item) (f : ℕ → ℕ) (x : ℕ)
+        → TablesAreClaimed kernel items →
+        TablesAreEncoded (table_for which.Memory kernel items)
+        (table_for which.Reserved kernel items) f →
+        covers (table_bytes w kernel items) x ≡ true
+        → f x ≡ table_byte_at (table_for w kernel items) x }
+    ensures list { (w : Which) (kernel : RangeView) (items : List Item) (f : ℕ → ℕ)
+        → TablesAreClaimed kernel items → TablesHaveRoom items →
+        TablesAreEncoded (table_for which.Memory kernel items)
+        (table_for which.Reserved kernel items) f →
+        bytes_at f (table_place w kernel items) (24 * room_of w items)
+        ≡ encode_table (records_of w items) (room_of w items) }
 {}
 
 /// Law: if both tables are in the store afterwards, one equation gives each byte after an edit of
@@ -79,5 +96,6 @@ pub fn edits_give_each_byte()
         ((x : ℕ) → covers (bytes_in w new) x ≡ false → covers (bytes_in w old) x ≡ false →
         byte_of new.store x ≡ byte_of old.store x) →
         IsInStore new.memory new.store → IsInStore new.reserved new.store → (x : ℕ) →
-        byte_of new.store x ≡ byte_with_tables new.memory new.reserved x (byte_without_table (table_in w old) x (byte_of old.store x)) }
+        byte_of new.store x ≡ byte_with_tables new.memory new.reserved x
+        (byte_without_table (table_in w old) x (byte_of old.store x)) }
 {}

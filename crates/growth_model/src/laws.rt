@@ -1,13 +1,13 @@
 //! Laws of growth.
 //!
-//! A table is *seated* if it begins with a frame, and all its bytes are claimed, none of them by
-//! an allocation of the script. Both tables are seated if each is, they share no frame, and the
-//! kernel's image was claimed first (`TablesAreClaimed` in `specs/Tables.antt`). Each change keeps both
-//! tables seated wherever a call that makes it ends: after its last step, at a refusal, or before
-//! a step because this program is out of memory. These laws need neither the tables' bytes nor
-//! their records.
+//! A table is *seated* if it begins with a frame, and all its bytes are claimed, none of them by an
+//! allocation of the script. Both tables are seated if each is, they share no frame, and the
+//! kernel's image was claimed first (`TablesAreClaimed` in `specs/Tables.antt`). Each change keeps
+//! both tables seated wherever a call that makes it ends: after its last step, at a refusal, or
+//! before a step because this program is out of memory. These laws need neither the tables' bytes
+//! nor their records.
 
-ghost use Rattle.std.specs.Prelude.{◌≡◌, ◌⊎◌, ℕ, ◌+◌, ◌*◌, ◌%◌, ◌^◌, ◌<◌, ◌≤◌, Bool, false, Option, Some, None, IsSome, List, [], ◌∷◌, ◌++◌, Result, Ok, Err};
+ghost use Rattle.std.specs.Prelude.{◌≡◌, ◌⊎◌, ℕ, ◌+◌, ◌*◌, ◌%◌, ◌^◌, ◌<◌, ◌≤◌, Bool, false, Some, None, IsSome, List, [], ◌∷◌, ◌++◌, Result, Ok, Err};
 ghost use Rattle.bm_base.specs.Range.{RangeView, end_of};
 ghost use Rattle.bm_base.specs.declared.range.TheConstants.{FRAME_SIZE};
 ghost use Rattle.memblock_model.specs.declared.owner.Which.TheVariants as which;
@@ -31,10 +31,13 @@ ghost use Rattle.growth_model.specs.Room.{IsInAddressSpace, DoublesRoom, HasRoom
 /// Law: two calls in turn end as the two changes in turn: like the second if the first succeeds,
 /// else with the error of the first.
 pub fn successive_calls_compose()
-    ensures second { (result : Result (Unit {0}) Refusal) (old mid new : List Item) (first second : Change) →
-        EndsAsChange {T = Unit {0}} (Ok tt) old mid first → EndsAsChange result mid new second → EndsAsChange result old new (in_turn first second) }
+    ensures second { (result : Result (Unit {0}) Refusal) (old mid new : List Item)
+        (first second : Change) →
+        EndsAsChange {T = Unit {0}} (Ok tt) old mid first → EndsAsChange result mid new second
+        → EndsAsChange result old new (in_turn first second) }
     ensures first { (error : Refusal) (old new : List Item) (first second : Change) →
-        EndsAsChange {T = Unit {0}} (Err error) old new first → EndsAsChange {T = Unit {0}} (Err error) old new (in_turn first second) }
+        EndsAsChange {T = Unit {0}} (Err error) old new first
+        → EndsAsChange {T = Unit {0}} (Err error) old new (in_turn first second) }
 {}
 
 /// Law: the first claim, of the kernel's image for the kernel, needs no growth, and both tables
@@ -42,38 +45,55 @@ pub fn successive_calls_compose()
 pub fn first_claim_places_tables()
     ensures alone { (kernel : RangeView) → end_of kernel ≤ 2 ^ 64 →
         claim_range kernel owner.Kernel [] ≡ write_item (item.Claim kernel owner.Kernel) [] }
-    ensures placed { (kernel : RangeView) → IsKernelImage kernel → TablesAreClaimed kernel (item.Claim kernel owner.Kernel ∷ []) }
+    ensures placed { (kernel : RangeView) → IsKernelImage kernel
+        → TablesAreClaimed kernel (item.Claim kernel owner.Kernel ∷ []) }
 {}
 
 /// Law: from the first claim on, both tables are seated however an allowed claim ends, and however
 /// the free of a range ends that overlaps no table.
 pub fn claims_keep_places()
-    ensures claimed { (kernel : RangeView) (result : Result (Unit {0}) Refusal) (old new : List Item) (range : RangeView) (who : Owner) →
-        IsKernelImage kernel → end_of range ≤ 2 ^ 64 → (HasBegun old → TablesAreClaimed kernel old) → MayClaim kernel old range who →
-        EndsAsChange result old new (claim_range range who) → HasBegun new → TablesAreClaimed kernel new }
-    ensures freed { (kernel : RangeView) (result : Result (Unit {0}) Refusal) (old new : List Item) (range : RangeView) →
-        TablesAreClaimed kernel old → TouchesNoTable kernel range old → EndsAsChange result old new (free_range range) → TablesAreClaimed kernel new }
+    ensures claimed { (kernel : RangeView) (result : Result (Unit {0}) Refusal)
+        (old new : List Item) (range : RangeView) (who : Owner) →
+        IsKernelImage kernel → end_of range ≤ 2 ^ 64 → (HasBegun old → TablesAreClaimed kernel old)
+        → MayClaim kernel old range who →
+        EndsAsChange result old new (claim_range range who) → HasBegun new
+        → TablesAreClaimed kernel new }
+    ensures freed { (kernel : RangeView) (result : Result (Unit {0}) Refusal) (old new : List Item)
+        (range : RangeView) →
+        TablesAreClaimed kernel old → TouchesNoTable kernel range old
+        → EndsAsChange result old new (free_range range) → TablesAreClaimed kernel new }
 {}
 
 /// Law: both tables stay seated however a call ends that adds memory, gives it a node or makes it
 /// mirrored. They also stay seated after a trim, a new limit and a new search direction.
 pub fn memory_keeps_places()
-    ensures added { (kernel : RangeView) (result : Result (Unit {0}) Refusal) (old new : List Item) (range : RangeView) →
-        TablesAreClaimed kernel old → EndsAsChange result old new (add_range range) → TablesAreClaimed kernel new }
-    ensures noded { (kernel : RangeView) (result : Result (Unit {0}) Refusal) (old new : List Item) (range : RangeView) (node : ℕ) →
-        TablesAreClaimed kernel old → EndsAsChange result old new (set_range_node range node) → TablesAreClaimed kernel new }
-    ensures mirrored { (kernel : RangeView) (result : Result (Unit {0}) Refusal) (old new : List Item) (range : RangeView) →
-        TablesAreClaimed kernel old → EndsAsChange result old new (set_range_mirror range) → TablesAreClaimed kernel new }
-    ensures trim { (kernel : RangeView) (items : List Item) → TablesAreClaimed kernel items → TablesAreClaimed kernel (items ++ item.Trim ∷ []) }
-    ensures limit { (kernel : RangeView) (items : List Item) (at : ℕ) → TablesAreClaimed kernel items → TablesAreClaimed kernel (items ++ item.Limit at ∷ []) }
-    ensures upward { (kernel : RangeView) (items : List Item) (on : Bool) → TablesAreClaimed kernel items →
+    ensures added { (kernel : RangeView) (result : Result (Unit {0}) Refusal) (old new : List Item)
+        (range : RangeView) →
+        TablesAreClaimed kernel old → EndsAsChange result old new (add_range range)
+        → TablesAreClaimed kernel new }
+    ensures noded { (kernel : RangeView) (result : Result (Unit {0}) Refusal) (old new : List Item)
+        (range : RangeView) (node : ℕ) →
+        TablesAreClaimed kernel old → EndsAsChange result old new (set_range_node range node)
+        → TablesAreClaimed kernel new }
+    ensures mirrored { (kernel : RangeView) (result : Result (Unit {0}) Refusal)
+        (old new : List Item) (range : RangeView) →
+        TablesAreClaimed kernel old → EndsAsChange result old new (set_range_mirror range)
+        → TablesAreClaimed kernel new }
+    ensures trim { (kernel : RangeView) (items : List Item) → TablesAreClaimed kernel items
+        → TablesAreClaimed kernel (items ++ item.Trim ∷ []) }
+    ensures limit { (kernel : RangeView) (items : List Item) (at : ℕ)
+        → TablesAreClaimed kernel items → TablesAreClaimed kernel (items ++ item.Limit at ∷ []) }
+    ensures upward { (kernel : RangeView) (items : List Item) (on : Bool)
+        → TablesAreClaimed kernel items →
         TablesAreClaimed kernel (items ++ item.Upward on ∷ []) }
 {}
 
 /// Law: both tables stay seated however an allocation ends, for any owner.
 pub fn allocations_keep_places()
-    ensures { (kernel : RangeView) (result : Result ℕ Refusal) (old new : List Item) (request : Request) (who : Owner) →
-        TablesAreClaimed kernel old → Allocates result old new (place_for request old) request.size who → TablesAreClaimed kernel new }
+    ensures { (kernel : RangeView) (result : Result ℕ Refusal) (old new : List Item)
+        (request : Request) (who : Owner) →
+        TablesAreClaimed kernel old → Allocates result old new
+        (place_for request old) request.size who → TablesAreClaimed kernel new }
 {}
 
 /// Law: the place that a search finds is unclaimed, overlaps no table, and keeps to its bounds.
@@ -82,31 +102,42 @@ pub fn allocations_keep_places()
 /// growth of the memory table ends, that table is in its old place, or in a new one that ends at
 /// or below the limit.
 pub fn found_places_are_free()
-    ensures unclaimed { (items : List Item) (query : Query) (place : ℕ) → best_place items query ≡ Some place →
+    ensures unclaimed { (items : List Item) (query : Query) (place : ℕ)
+        → best_place items query ≡ Some place →
         IsUnclaimed (owner_of items) (record { base = place; size = query.size }) }
-    ensures away { (kernel : RangeView) (items : List Item) (query : Query) (place : ℕ) → TablesAreClaimed kernel items → best_place items query ≡ Some place →
+    ensures away { (kernel : RangeView) (items : List Item) (query : Query) (place : ℕ)
+        → TablesAreClaimed kernel items → best_place items query ≡ Some place →
         TouchesNoTable kernel (record { base = place; size = query.size }) items }
-    ensures allocated { (items : List Item) (request : Request) (place : ℕ) → place_for request items ≡ Some place →
+    ensures allocated { (items : List Item) (request : Request) (place : ℕ)
+        → place_for request items ≡ Some place →
         IsUnclaimed (owner_of items) (record { base = place; size = request.size }) }
-    ensures within { (items : List Item) (request : Request) (place : ℕ) → place_for request items ≡ Some place →
+    ensures within { (items : List Item) (request : Request) (place : ℕ)
+        → place_for request items ≡ Some place →
         place + request.size ≤ limit_of items }
-    ensures aligned { (avoid : RangeView) (room : ℕ) (items : List Item) (place : ℕ) → place_beside_range avoid room items ≡ Some place →
+    ensures aligned { (avoid : RangeView) (room : ℕ) (items : List Item) (place : ℕ)
+        → place_beside_range avoid room items ≡ Some place →
         place % FRAME_SIZE ≡ 0 }
-    ensures beside { (avoid : RangeView) (room : ℕ) (items : List Item) (place : ℕ) → place_beside_range avoid room items ≡ Some place →
+    ensures beside { (avoid : RangeView) (room : ℕ) (items : List Item) (place : ℕ)
+        → place_beside_range avoid room items ≡ Some place →
         AreDisjoint avoid (frames_for_bytes place (48 * room)) }
-    ensures below { (avoid : RangeView) (room : ℕ) (items : List Item) (place : ℕ) → place_beside_range avoid room items ≡ Some place →
+    ensures below { (avoid : RangeView) (room : ℕ) (items : List Item) (place : ℕ)
+        → place_beside_range avoid room items ≡ Some place →
         place + round_up_to_frames (48 * room) ≤ limit_of items }
-    ensures memory { (result : Result (Unit {0}) Refusal) (old new : List Item) (place : ℕ) → EndsAsChange result old new memory_growth →
+    ensures memory { (result : Result (Unit {0}) Refusal) (old new : List Item) (place : ℕ)
+        → EndsAsChange result old new memory_growth →
         moved_to which.Memory new ≡ Some place →
-        (moved_to which.Memory old ≡ Some place) ⊎ (place + round_up_to_frames (48 * room_of which.Memory old) ≤ limit_of old) }
+        (moved_to which.Memory old ≡ Some place)
+        ⊎ (place + round_up_to_frames (48 * room_of which.Memory old) ≤ limit_of old) }
 {}
 
 /// Law: a growth that isn't refused doubles its table's room, and adds at most two records: one
 /// for the claim of the new place, and one where the old place is freed.
 pub fn growth_doubles_room()
-    ensures reserved { (avoid : RangeView) (items : List Item) → IsInAddressSpace items → (reserved_growth avoid items).refused ≡ None →
+    ensures reserved { (avoid : RangeView) (items : List Item) → IsInAddressSpace items
+        → (reserved_growth avoid items).refused ≡ None →
         DoublesRoom which.Reserved items (items_after_change items (reserved_growth avoid items)) }
-    ensures memory { (items : List Item) → IsInAddressSpace items → (memory_growth items).refused ≡ None →
+    ensures memory { (items : List Item) → IsInAddressSpace items
+        → (memory_growth items).refused ≡ None →
         DoublesRoom which.Memory items (items_after_change items (memory_growth items)) }
 {}
 
@@ -116,14 +147,20 @@ pub fn growth_doubles_room()
 /// unclaimed range isn't refused if the reserved table has room, or finds a place apart from the
 /// range.
 pub fn two_growths_are_enough()
-    ensures claimed { (range : RangeView) (items : List Item) → IsInAddressSpace items → TablesHaveRoom items → end_of range ≤ 2 ^ 64 →
-        HasRoomAfter which.Reserved (count_uncovered_pieces which.Reserved range) (reserved_growth range) items }
-    ensures freed { (range : RangeView) (items : List Item) → IsInAddressSpace items → TablesHaveRoom items →
+    ensures claimed { (range : RangeView) (items : List Item) → IsInAddressSpace items
+        → TablesHaveRoom items → end_of range ≤ 2 ^ 64 →
+        HasRoomAfter which.Reserved (count_uncovered_pieces which.Reserved range)
+        (reserved_growth range) items }
+    ensures freed { (range : RangeView) (items : List Item) → IsInAddressSpace items
+        → TablesHaveRoom items →
         HasRoomAfter which.Reserved split_record_count (reserved_growth range) items }
-    ensures added { (range : RangeView) (items : List Item) → IsInAddressSpace items → TablesHaveRoom items → end_of range ≤ 2 ^ 64 →
+    ensures added { (range : RangeView) (items : List Item) → IsInAddressSpace items
+        → TablesHaveRoom items → end_of range ≤ 2 ^ 64 →
         HasRoomAfter which.Memory (count_uncovered_pieces which.Memory range) memory_growth items }
-    ensures labelled { (items : List Item) → IsInAddressSpace items → TablesHaveRoom items → HasRoomAfter which.Memory split_record_count memory_growth items }
-    ensures free { (kernel range : RangeView) (who : Owner) (items : List Item) → IsInAddressSpace items → TablesHaveRoom items → TablesAreClaimed kernel items →
+    ensures labelled { (items : List Item) → IsInAddressSpace items → TablesHaveRoom items
+        → HasRoomAfter which.Memory split_record_count memory_growth items }
+    ensures free { (kernel range : RangeView) (who : Owner) (items : List Item)
+        → IsInAddressSpace items → TablesHaveRoom items → TablesAreClaimed kernel items →
         0 < range.size → end_of range ≤ 2 ^ 64 → IsUnclaimed (owner_of items) range →
         (is_full which.Reserved (count_uncovered_pieces which.Reserved range) items ≡ false)
         ⊎ IsSome (place_beside_range range (room_of which.Reserved items) items) →

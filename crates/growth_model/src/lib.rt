@@ -33,11 +33,12 @@ mod memory_laws;
 mod refusal;
 
 pub use byte_laws::{
-    bytes_follow_calls, byte_effects_compose, edits_give_each_byte, newest_fill_decides, tables_are_encoded,
+    byte_effects_compose, bytes_follow_calls, edits_give_each_byte, newest_fill_decides,
+    tables_are_encoded,
 };
 pub use laws::{
-    allocations_keep_places, claims_keep_places, successive_calls_compose, first_claim_places_tables,
-    found_places_are_free, growth_doubles_room, memory_keeps_places, two_growths_are_enough,
+    allocations_keep_places, claims_keep_places, first_claim_places_tables, found_places_are_free,
+    growth_doubles_room, memory_keeps_places, successive_calls_compose, two_growths_are_enough,
 };
 pub use memblock_model::Request;
 pub use memory_laws::{claims_leave_memory, memory_items_decide, requested_items_make_memory};

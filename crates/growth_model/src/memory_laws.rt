@@ -3,8 +3,8 @@
 //! say that growth affects neither memory, nor its labels, nor the limit. So statements about
 //! memory don't mention growth.
 
-ghost use Rattle.std.specs.Prelude.{◌≡◌, ℕ, List, ◌++◌, take, Ok};
-ghost use Rattle.bm_base.specs.Range.{RangeView as AnyExtent};
+ghost use Rattle.std.specs.Prelude.{◌≡◌, ℕ, List, ◌++◌, Ok};
+ghost use Rattle.bm_base.specs.Range.{RangeView};
 ghost use Rattle.memblock_model.specs.declared.item.Item.{Item as AnyItem};
 ghost use Rattle.memblock_model.specs.declared.owner.Owner.{Owner as AnyOwner};
 ghost use Rattle.memblock_model.specs.Items.{limit_of, memory_of};
@@ -21,15 +21,16 @@ pub fn memory_items_decide()
 /// Law: growth, claims and frees write no item that changes memory, at whichever step they end. So
 /// memory and the limit are the same after them.
 pub fn claims_leave_memory()
-    ensures reserved { (avoid : AnyExtent) (items : List AnyItem) →
+    ensures reserved { (avoid : RangeView) (items : List AnyItem) →
         StepsKeepMemory (reserved_growth avoid items).steps }
     ensures memory { (items : List AnyItem) → StepsKeepMemory (memory_growth items).steps }
-    ensures claims { (range : AnyExtent) (who : AnyOwner) (items : List AnyItem) →
+    ensures claims { (range : RangeView) (who : AnyOwner) (items : List AnyItem) →
         StepsKeepMemory (claim_range range who items).steps }
-    ensures frees { (range : AnyExtent) (items : List AnyItem) → StepsKeepMemory (free_range range items).steps }
-    ensures claimed { (range : AnyExtent) (who : AnyOwner) (items : List AnyItem) →
+    ensures frees { (range : RangeView) (items : List AnyItem)
+        → StepsKeepMemory (free_range range items).steps }
+    ensures claimed { (range : RangeView) (who : AnyOwner) (items : List AnyItem) →
         memory_of (items_after_change items (claim_range range who items)) ≡ memory_of items }
-    ensures freed { (range : AnyExtent) (items : List AnyItem) →
+    ensures freed { (range : RangeView) (items : List AnyItem) →
         memory_of (items_after_change items (free_range range items)) ≡ memory_of items }
 {}
 

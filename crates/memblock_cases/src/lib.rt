@@ -22,13 +22,13 @@ mod of_early_script;
 #[cfg(test)]
 mod of_memblock_find;
 #[cfg(test)]
+mod of_memblock_frames;
+#[cfg(test)]
 mod of_memblock_grow;
 #[cfg(test)]
 mod of_memblock_model;
 #[cfg(test)]
 mod of_memblock_ranges;
-#[cfg(test)]
-mod of_srat_nodes;
 #[cfg(test)]
 mod of_numa_nodes;
 #[cfg(test)]
@@ -36,13 +36,13 @@ mod of_phys_store;
 #[cfg(test)]
 mod of_report_memory;
 #[cfg(test)]
+mod of_report_stages;
+#[cfg(test)]
 mod of_section_maps;
 #[cfg(test)]
 mod of_sparse_sections;
 #[cfg(test)]
-mod of_report_stages;
-#[cfg(test)]
-mod of_memblock_frames;
+mod of_srat_nodes;
 #[cfg(test)]
 mod of_zone_spans;
 #[cfg(test)]

@@ -271,6 +271,9 @@ fn items_stand_in_their_order(rt: HostRuntime) -> Result<(), Fail> {
     ];
     assert!(rt; journal.items() == items.as_slice());
     let text =
-        "Journal { items: [Limit { at: 1048576 }, Grown { which: Reserved, place: 20480, room: 256 }], owners: RunList { records: [OwnerRun { range: Range { base: 0, size: 0 }, owner: Kernel }, OwnerRun { range: Range { base: 0, size: 0 }, owner: Kernel }], front: 2 }, mirrors: false, spare: 0 }";
+        "Journal { items: [Limit { at: 1048576 }, Grown { which: Reserved, place: 20480, room: 256 \
+            }], owners: RunList { records: [OwnerRun { range: Range { base: 0, size: 0 }, owner: \
+            Kernel }, OwnerRun { range: Range { base: 0, size: 0 }, owner: Kernel }], front: 2 }, \
+            mirrors: false, spare: 0 }";
     compare_text(&rt, rt.alloc(), &journal, text)
 }

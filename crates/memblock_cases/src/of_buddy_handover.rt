@@ -1,19 +1,18 @@
 //! Handovers of whole machines, and frames that are freed in any order. All expected numbers are
 //! from outside.
-ghost use Rattle.std.specs.Prelude.{◌≡◌, ◌+◌, ◌^◌, ◌<◌, ◌≤◌, None, IsTrue};
-ghost use Rattle.buddy_handover.specs.BuddyView.{buddy_frames};
+ghost use Rattle.std.specs.Prelude.{◌≡◌, ◌+◌, ◌^◌, ◌<◌, ◌≤◌, None};
 
 use crate::ranges::{IN_TURN, MACHINE};
 use crate::tables::{cover, tables_of};
 use bm_base::{FRAME_SIZE, Memory, Zone};
 use buddy_handover::{Block, BlockRow, Buddy, MAX_FRAMES, hand_over};
+use memblock_frames::{has_records, has_whole_frames};
 use memblock_model::Which;
 use memblock_ranges::Heads;
 use phys_store::Store;
 use std::alloc::Global;
 use std::process::Abort;
 use std::test::Fail;
-use memblock_frames::{has_records, has_whole_frames};
 
 // Hands over, if the bytes are records.
 fn handed(alloc: Global, store: &Store, heads: &Heads) -> Result<Buddy, Fail> {

@@ -53,7 +53,10 @@ fn each_outcome(rt: HostRuntime) -> Result<(), Fail> {
     let outcomes = run(
         alloc,
         &mut memblock,
-        "alloc 1 64K 4096\nalloc 1 1 1\nreserve 2 0x3000000 8K\nreserve 3 0x2ffdfff 2\nreserve 4 0x3001000 4K\nfree 2\nfree 9\ntrim 1 64K\ntrim 1 4K\nalloc 5 4K 4096\nalloc 6 4K 4096 max 8K\nalloc 7 4K 4096 max 8191\nfill 4 0xab\npeek 0x3000fff 3\nreserve 8 0x4000000 65537\nfill 8 1\nfree 4\nfill 4 1",
+        "alloc 1 64K 4096\nalloc 1 1 1\nreserve 2 0x3000000 8K\nreserve 3 0x2ffdfff 2\n\
+            reserve 4 0x3001000 4K\nfree 2\nfree 9\ntrim 1 64K\ntrim 1 4K\nalloc 5 4K 4096\n\
+            alloc 6 4K 4096 max 8K\nalloc 7 4K 4096 max 8191\nfill 4 0xab\npeek 0x3000fff 3\n\
+            reserve 8 0x4000000 65537\nfill 8 1\nfree 4\nfill 4 1",
     )?;
     let told = bytes_told(&[0, 0xAB, 0xAB]).ok_or("no room")?;
     let want = [

@@ -1,11 +1,13 @@
 //! The frames of small tables, from their bytes.
 
 use crate::tables::tables_of;
+use memblock_frames::{
+    ClaimedFrames, RecordFrames, frames_of_record, has_records, next_claimed_frames,
+};
 use memblock_ranges::{Head, Heads};
 use phys_store::Store;
 use std::process::Abort;
 use std::test::Fail;
-use memblock_frames::{ClaimedFrames, RecordFrames, frames_of_record, has_records, next_claimed_frames};
 
 // Returns the frames of a record, if the bytes are records.
 fn frames(store: &Store, head: &Head, i: u64) -> Option<RecordFrames> {

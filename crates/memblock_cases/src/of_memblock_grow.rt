@@ -1,7 +1,7 @@
 //! A memblock through the early part of a boot: the items of the journal, the places of the
 //! tables, and the bytes that are read back. The expected values are from an implementation of the
 //! same rules in another language.
-ghost use Rattle.std.specs.Prelude.{◌≡◌, ◌^◌, ◌<◌, ◌≤◌, IsTrue};
+ghost use Rattle.std.specs.Prelude.{◌≡◌, ◌^◌, ◌<◌, ◌≤◌};
 ghost use Rattle.growth_model.specs.Tables.{HasBegun};
 
 use crate::machines::{has_begun, started};

@@ -2,7 +2,6 @@
 //! their parts.
 
 ghost use Rattle.std.specs.Prelude.{◌≡◌};
-ghost use Rattle.memblock_model.specs.declared.owner.Owner.{Owner as AnyOwner};
 
 use crate::ranges::bytes;
 use bm_base::Range;
@@ -162,7 +161,8 @@ fn values_print_their_parts(rt: HostRuntime) -> Result<(), Fail> {
     let text = format!(in rt.alloc(); "{query:?} {tag:?}")?;
     assert!(rt;
         text.as_str()
-            == "Query { lo: 1, hi: 9, size: 2, align: 1, node: Some(3) } Memory { node: Some(3), mirror: true }"
+            == "Query { lo: 1, hi: 9, size: 2, align: 1, node: Some(3) } Memory { node: Some(3), \
+                mirror: true }"
     );
     Ok(())
 }

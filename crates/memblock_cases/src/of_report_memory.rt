@@ -5,6 +5,7 @@ use bm_base::{Memory, Range};
 use boot_journal::{Item, Journal, Owner, Which};
 use boot_options::{CrashOption, CrashPlain, CrashRange, Edit, Options};
 use e820_model::Run;
+use memblock_frames::has_records;
 use memblock_ranges::{Head, Heads, Tables};
 use phys_store::Store;
 use report_memory::{
@@ -12,7 +13,6 @@ use report_memory::{
 };
 use std::alloc::Global;
 use std::test::Fail;
-use memblock_frames::has_records;
 
 const RAM: Range = Range {
     base: 0x10_0000,
@@ -37,8 +37,8 @@ fn map_and_options(rt: HostRuntime) -> Result<(), Fail> {
             },
         ],
     )?;
-    let want =
-        b"0x0000000000000000..0x00000000000fffff 4026531839 soft reserved\n0x0000000000100000..0x0000000007fdffff 1 usable\n";
+    let want = b"0x0000000000000000..0x00000000000fffff 4026531839 soft reserved\n\
+            0x0000000000100000..0x0000000007fdffff 1 usable\n";
     assert!(rt; text.as_slice() == want.as_slice());
 
     let change = Edit::Change {
@@ -71,8 +71,11 @@ fn map_and_options(rt: HostRuntime) -> Result<(), Fail> {
     };
     let mut text = Vec::new(alloc);
     put_options(&mut text, &options)?;
-    let want =
-        b"clear\nchange 2 1 0x0000000000000000..0x00000000000fffff\ncrash range 0x0000000000000000 0x0000000004000000 0x0000000000800000 base 0x0000000001000000\ncrash range 0x0000000004000000 - 0x0000000001000000 base 0x0000000001000000\ncrash high 0x0000000020000000\nnuma off\nefi add\n";
+    let want = b"clear\nchange 2 1 0x0000000000000000..0x00000000000fffff\n\
+            crash range 0x0000000000000000 0x0000000004000000 0x0000000000800000 base \
+            0x0000000001000000\n\
+            crash range 0x0000000004000000 - 0x0000000001000000 base 0x0000000001000000\n\
+            crash high 0x0000000020000000\nnuma off\nefi add\n";
     assert!(rt; text.as_slice() == want.as_slice());
     Ok(())
 }
@@ -277,14 +280,15 @@ fn journal_and_owners(rt: HostRuntime) -> Result<(), Fail> {
     })?;
     let mut text = Vec::new(rt.alloc());
     put_journal(&mut text, &journal)?;
-    let want =
-        b"1: claim kernel 0x0000000001000000..0x0000000002ffffff\n2: mem 0x0000000000100000..0x0000000007fdffff\n3: claim node-data 1 0x0000000000000000..0x00000000000fffff\n";
+    let want = b"1: claim kernel 0x0000000001000000..0x0000000002ffffff\n\
+            2: mem 0x0000000000100000..0x0000000007fdffff\n\
+            3: claim node-data 1 0x0000000000000000..0x00000000000fffff\n";
     assert!(rt; text.as_slice() == want.as_slice());
 
     let mut text = Vec::new(rt.alloc());
     put_owners(&mut text, &journal)?;
-    let want =
-        b"   0: 0x0000000000000000..0x00000000000fffff node-data 1\n   1: 0x0000000001000000..0x0000000002ffffff kernel\n";
+    let want = b"   0: 0x0000000000000000..0x00000000000fffff node-data 1\n   1: \
+            0x0000000001000000..0x0000000002ffffff kernel\n";
     assert!(rt; text.as_slice() == want.as_slice());
     Ok(())
 }
@@ -324,8 +328,8 @@ fn records_and_heads(rt: HostRuntime) -> Result<(), Fail> {
     };
     let mut text = Vec::new(rt.alloc());
     put_tables(&mut text, &heads)?;
-    let want =
-        b"memory place 0x0000000007fde000 room 256 records 202\nreserved place 0x0000000007fdb000 room 512 records 303\n";
+    let want = b"memory place 0x0000000007fde000 room 256 records 202\n\
+            reserved place 0x0000000007fdb000 room 512 records 303\n";
     assert!(rt; text.as_slice() == want.as_slice());
     Ok(())
 }
@@ -356,8 +360,8 @@ fn records_that_no_boot_writes(rt: HostRuntime) -> Result<(), Fail> {
         count: 2,
     };
     let text = records_text(rt.alloc(), &store, &head)?;
-    let want =
-        b"   0: 0x0000000000001000..0x0000000000001fff\n   1: 0x0000000000002000..0x0000000000002000\n";
+    let want = b"   0: 0x0000000000001000..0x0000000000001fff\n   1: \
+            0x0000000000002000..0x0000000000002000\n";
     assert!(rt; text.as_slice() == want.as_slice());
     Ok(())
 }

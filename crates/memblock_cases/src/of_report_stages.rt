@@ -9,12 +9,12 @@ use crash_kernel::Crash;
 use early_script::{Answer, Outcome};
 use memblock_model::Which;
 use numa_nodes::{Nodes, Why};
-use section_maps::Placed;
-use sparse_sections::{RootPlace, Roots};
 use report_stages::{
     Fullness, Summary, put_blocks, put_buddyinfo, put_crash, put_nodes, put_script, put_sections,
     put_summary, put_zones,
 };
+use section_maps::Placed;
+use sparse_sections::{RootPlace, Roots};
 use std::alloc::Global;
 use std::test::Fail;
 use zone_spans::Span;
@@ -80,8 +80,8 @@ fn nodes(rt: HostRuntime) -> Result<(), Fail> {
     };
     let mut text = Vec::new(rt.alloc());
     put_nodes(&mut text, &nodes, &journal)?;
-    let want =
-        b"numa not covered 256\ndomain 4 node 0\ndomain 2 node 1\nuncovered 3\nnode 1 0x0000000000000000..0x00000000000fffff\n";
+    let want = b"numa not covered 256\ndomain 4 node 0\ndomain 2 node 1\nuncovered 3\n\
+            node 1 0x0000000000000000..0x00000000000fffff\n";
     assert!(rt; text.as_slice() == want.as_slice());
     Ok(())
 }
@@ -137,7 +137,8 @@ fn crash(rt: HostRuntime) -> Result<(), Fail> {
     let rows = [
         (
             Crash::At { main, low },
-            "crash at 0x000000025f000000..0x000000027effffff\ncrash low 0x000000007b000000..0x000000007effffff\n",
+            "crash at 0x000000025f000000..0x000000027effffff\n\
+                crash low 0x000000007b000000..0x000000007effffff\n",
         ),
         (
             Crash::At { main, low: None },
@@ -185,8 +186,9 @@ fn sections(rt: HostRuntime) -> Result<(), Fail> {
     };
     let mut text = Vec::new(rt.alloc());
     put_sections(&mut text, &roots, &[first, second])?;
-    let want =
-        b"roots 0x0000000807ffc000\nroot 0 0x000000000ffff000\nroot 1 0x0000000807ffb000\nsection 3 node 1 map 0x000000000fc00000 usage 0x000000000fffefc0\nsection 256 node 1 map 0x0000000807c00000 usage 0x0000000807ffafc0\n";
+    let want = b"roots 0x0000000807ffc000\nroot 0 0x000000000ffff000\nroot 1 0x0000000807ffb000\n\
+            section 3 node 1 map 0x000000000fc00000 usage 0x000000000fffefc0\n\
+            section 256 node 1 map 0x0000000807c00000 usage 0x0000000807ffafc0\n";
     assert!(rt; text.as_slice() == want.as_slice());
     Ok(())
 }
@@ -214,20 +216,24 @@ fn zones_and_blocks(rt: HostRuntime) -> Result<(), Fail> {
 
     let mut text = Vec::new(rt.alloc());
     put_zones(&mut text, &spans, &buddy)?;
-    let want =
-        b"Node 1, zone DMA start 16 end 4096 present 4000 free 3\nNode 1, zone DMA32 start 4096 end 32768 present 28672 free 4\n";
+    let want = b"Node 1, zone DMA start 16 end 4096 present 4000 free 3\n\
+            Node 1, zone DMA32 start 4096 end 32768 present 28672 free 4\n";
     assert!(rt; text.as_slice() == want.as_slice());
 
     let mut text = Vec::new(rt.alloc());
     put_buddyinfo(&mut text, &spans, &buddy)?;
     let want =
-        b"Node 1, zone      DMA      1      1      0      0      0      0      0      0      0      0      0 \nNode 1, zone    DMA32      0      0      1      0      0      0      0      0      0      0      0 \n";
+        b"Node 1, zone      DMA      1      1      0      0      0      0      0      0      \
+            0      0      0 \n\
+            Node 1, zone    DMA32      0      0      1      0      0      0      0      0      \
+            0      0      0 \n";
     assert!(rt; text.as_slice() == want.as_slice());
 
     let mut text = Vec::new(rt.alloc());
     put_blocks(&mut text, &buddy)?;
     let want =
-        b"node 1 zone DMA order 0 0x0000000000ffd000\nnode 1 zone DMA order 1 0x0000000000ffe000\nnode 1 zone DMA32 order 2 0x0000000001000000\n";
+        b"node 1 zone DMA order 0 0x0000000000ffd000\nnode 1 zone DMA order 1 0x0000000000ffe000\n\
+            node 1 zone DMA32 order 2 0x0000000001000000\n";
     assert!(rt; text.as_slice() == want.as_slice());
     Ok(())
 }
@@ -272,8 +278,8 @@ fn summary(rt: HostRuntime) -> Result<(), Fail> {
     };
     let mut text = Vec::new(rt.alloc());
     put_summary(&mut text, &summary)?;
-    let want =
-        b"runs 1\nusable 4294967296\nfree 4294966272\nmemory records 1 room 128\nreserved records 257 room 512\nblocks 4194303\n";
+    let want = b"runs 1\nusable 4294967296\nfree 4294966272\nmemory records 1 room 128\n\
+            reserved records 257 room 512\nblocks 4194303\n";
     assert!(rt; text.as_slice() == want.as_slice());
     Ok(())
 }

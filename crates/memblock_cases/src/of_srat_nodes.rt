@@ -4,7 +4,7 @@ ghost use Rattle.std.specs.Prelude.{◌^◌, ◌<◌, length};
 use crate::domains::{block, table};
 use crate::ranges::{MACHINE, between};
 use address_runs::RunOf;
-use srat_nodes::{SratNodes, NodeRange, Why, judge_srat};
+use srat_nodes::{NodeRange, SratNodes, Why, judge_srat};
 use srat_reader::SratBlock;
 use std::alloc::Global;
 use std::test::Fail;

@@ -4,11 +4,11 @@ use crate::ranges::IN_TURN;
 use crate::tables::tables_of;
 use bm_base::{FRAME_SIZE, Zone};
 use buddy_blocks::MAX_FRAMES;
+use memblock_frames::{has_records, has_whole_frames};
 use memblock_ranges::Heads;
 use phys_store::Store;
 use std::alloc::Global;
 use std::test::Fail;
-use memblock_frames::{has_records, has_whole_frames};
 use zone_spans::{Span, spans};
 
 // Returns the spans, if the bytes are records.

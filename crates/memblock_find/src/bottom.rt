@@ -4,7 +4,7 @@
 ghost use Rattle.std.specs.Prelude.{◌≡◌, ◌≢◌, ℕ, ◌^◌, ◌≤◌, true, max, min, MatchOption, Option, Some, None};
 ghost use Rattle.address_runs.specs.Runs.{value_at};
 ghost use Rattle.address_runs.specs.Sweep.{Stays};
-ghost use Rattle.memblock_model.specs.Labels.{LabelView, Labels};
+ghost use Rattle.memblock_model.specs.Labels.{Labels};
 ghost use Rattle.memblock_model.specs.Search.{top_place_in};
 ghost use Rattle.memblock_find.specs.Unclaimed.{unclaimed_memory, ReachesUpTo};
 ghost use Rattle.memblock_find.specs.Places.{FitsBetween, NoPlaceBegins, IsBestFrom};
@@ -30,7 +30,13 @@ pub fn find_upward(tables: &Tables, query: &Query, mirror: bool) -> Option<u64>
     let high = query.hi;
     let mut cursor = cursor_from(&lists, query.lo.max(FRAME_SIZE));
     while cursor.at < high {
-        let place = place_from(query, mirror, cursor.unclaimed_label(), cursor.at, cursor.top());
+        let place = place_from(
+            query,
+            mirror,
+            cursor.unclaimed_label(),
+            cursor.at,
+            cursor.top(),
+        );
         if place.is_some() {
             return place;
         }
@@ -52,9 +58,11 @@ fn place_from(
     requires some { 1 ≤ query.now.size }
     requires aligned { (k : ℕ) × (query.now.align ≡ 2 ^ k) }
     requires window { max query.now.lo FRAME_SIZE ≤ from }
-    ensures { (memory reserved : Labels) → Stays (unclaimed_memory memory reserved) from until label →
+    ensures { (memory reserved : Labels) → Stays (unclaimed_memory memory reserved) from until label
+        →
         (label ≢ None → ReachesUpTo (unclaimed_memory memory reserved) from until label) →
-        MatchOption result (NoPlaceBegins mirror memory reserved query.now from until) (IsBestFrom mirror memory reserved query.now from) }
+        MatchOption result (NoPlaceBegins mirror memory reserved query.now from until)
+        (IsBestFrom mirror memory reserved query.now from) }
 {
     let Some(found) = label else {
         return None;
@@ -70,7 +78,8 @@ fn place_from(
 fn first_between(low: u64, high: u64, size: u64, align: u64) -> Option<u64>
     requires { (k : ℕ) × (align ≡ 2 ^ k) }
     ensures { MatchOption result ((b : ℕ) → FitsBetween low high size align b → ⊥)
-        (λ a. FitsBetween low high size align a × ((b : ℕ) → FitsBetween low high size align b → a ≤ b)) }
+        (λ a. FitsBetween low high size align a
+        × ((b : ℕ) → FitsBetween low high size align b → a ≤ b)) }
 {
     let top = high.checked_sub(size)?;
     let past = low & (align - 1);

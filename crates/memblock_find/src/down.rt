@@ -2,8 +2,6 @@
 //! each table finds the first record. After that the walk looks at each record once, except those
 //! that a search for a node, or for mirrored memory, passes over (`node.rt`).
 ghost use Rattle.std.specs.Prelude.{◌≡◌, ◌≢◌, ◌<◌, ◌≤◌, max, None};
-ghost use Rattle.address_runs.specs.Sweep.{Stays};
-ghost use Rattle.memblock_find.specs.Unclaimed.{unclaimed_in_tables, ReachesDownTo};
 ghost use Rattle.memblock_find.specs.Walk.{BeginAmong, BeginBelow, IsLookDown, IsWalkDownAt};
 
 use crate::cursor::{Cursor, Lists, Look};

@@ -35,11 +35,23 @@ impl Model for FreeRange {
 
     ghost Value = { RunOf LabelView };
 
-    ghost view = { λ r. record { base = r.range.base; size = r.range.size; value = record { node = node_of_field r.node; mirror = r.mirror } } };
+    ghost view = { λ r.
+        record {
+          base = r.range.base;
+          size = r.range.size;
+          value
+              = record { node = node_of_field r.node; mirror = r.mirror };
+        } };
 
     ghost invariant = { λ r. (r.range.base + r.range.size < 2 ^ 64) × (r.node ≤ 1024) };
 
-    ghost inverse = { λ r. record { range = record { base = r.base; size = r.size }; node = node_field r.value; mirror = r.value.mirror } };
+    ghost inverse = { λ r.
+        record {
+          range = record { base = r.base; size = r.size };
+          node = node_field r.value;
+          mirror
+              = r.value.mirror;
+        } };
 }
 
 impl FreeRange {
@@ -63,15 +75,18 @@ impl FreeRange {
 /// below it is unclaimed memory (`__next_mem_range_rev`). A run that continues above `below` is
 /// cut to end there.
 pub fn prev_free(tables: &Tables, below: u64) -> Option<FreeRange>
-    ensures { MatchOption result (Stays (unclaimed_in_tables tables.now) 0 below None) (IsRunBelow (unclaimed_in_tables tables.now) below) }
+    ensures { MatchOption result (Stays (unclaimed_in_tables tables.now) 0 below None)
+        (IsRunBelow (unclaimed_in_tables tables.now) below) }
 {
     prev_in(&lists_of(tables), below)
 }
 
 /// Like [`prev_free`], from the records of both tables.
 fn prev_in(lists: &Lists<'_>, below: u64) -> Option<FreeRange>
-    ensures { MatchOption result (Stays (unclaimed_memory (value_at lists.now.memory) (value_at lists.now.reserved)) 0 below None)
-        (IsRunBelow (unclaimed_memory (value_at lists.now.memory) (value_at lists.now.reserved)) below) }
+    ensures { MatchOption result (Stays
+        (unclaimed_memory (value_at lists.now.memory) (value_at lists.now.reserved)) 0 below None)
+        (IsRunBelow
+        (unclaimed_memory (value_at lists.now.memory) (value_at lists.now.reserved)) below) }
 {
     let mut cursor = cursor_below(lists, below);
     while cursor.at > 0 {
@@ -87,15 +102,18 @@ fn prev_in(lists: &Lists<'_>, below: u64) -> Option<FreeRange>
 /// there on is unclaimed memory (`__next_mem_range`). A run that begins below `from` is cut to
 /// begin there.
 pub fn next_free(tables: &Tables, from: u64) -> Option<FreeRange>
-    ensures { MatchOption result (NothingFrom from (unclaimed_in_tables tables.now)) (IsRunFrom (unclaimed_in_tables tables.now) from) }
+    ensures { MatchOption result (NothingFrom from (unclaimed_in_tables tables.now))
+        (IsRunFrom (unclaimed_in_tables tables.now) from) }
 {
     next_in(&lists_of(tables), from)
 }
 
 /// Like [`next_free`], from the records of both tables.
 fn next_in(lists: &Lists<'_>, from: u64) -> Option<FreeRange>
-    ensures { MatchOption result (NothingFrom from (unclaimed_memory (value_at lists.now.memory) (value_at lists.now.reserved)))
-        (IsRunFrom (unclaimed_memory (value_at lists.now.memory) (value_at lists.now.reserved)) from) }
+    ensures { MatchOption result (NothingFrom from
+        (unclaimed_memory (value_at lists.now.memory) (value_at lists.now.reserved)))
+        (IsRunFrom
+        (unclaimed_memory (value_at lists.now.memory) (value_at lists.now.reserved)) from) }
 {
     find_run_up(lists, cursor_from(lists, from)).run
 }
@@ -110,8 +128,10 @@ struct FoundRun {
 /// Walks up to the end of the first run of unclaimed memory, or to the highest address.
 fn find_run_up(lists: &Lists<'_>, from: Cursor) -> FoundRun
     requires { IsWalkUpAt lists.now.memory lists.now.reserved from }
-    ensures run { MatchOption result.run (NothingFrom from.at (unclaimed_memory (value_at lists.now.memory) (value_at lists.now.reserved)))
-        (IsRunFrom (unclaimed_memory (value_at lists.now.memory) (value_at lists.now.reserved)) from.at) }
+    ensures run { MatchOption result.run (NothingFrom from.at
+        (unclaimed_memory (value_at lists.now.memory) (value_at lists.now.reserved)))
+        (IsRunFrom
+        (unclaimed_memory (value_at lists.now.memory) (value_at lists.now.reserved)) from.at) }
     ensures at { IfSome result.run (λ r. result.cursor.at ≡ run_end r) }
     ensures order { from.at ≤ result.cursor.at }
     ensures up { IsWalkUpAt lists.now.memory lists.now.reserved result.cursor }
@@ -143,7 +163,8 @@ impl<'a> Model for FreeRuns<'a> {
 
     ghost Value = { FreeRunsView };
 
-    ghost view = { λ w. record { memory = w.lists.memory; reserved = w.lists.reserved; at = w.cursor.at } };
+    ghost view = { λ w.
+        record { memory = w.lists.memory; reserved = w.lists.reserved; at = w.cursor.at } };
 
     ghost invariant = { λ w. IsWalkUpAt w.lists.memory w.lists.reserved w.cursor };
 }
@@ -151,7 +172,13 @@ impl<'a> Model for FreeRuns<'a> {
 impl FreeRuns<'_> {
     /// Starts a walk at the address.
     pub fn from(tables: &Tables, at: u64) -> FreeRuns<'_>
-        ensures { result ≡ record { memory = tables.now.memory.records; reserved = tables.now.reserved.records; at = at } }
+        ensures { result
+            ≡ record {
+              memory = tables.now.memory.records;
+              reserved
+                  = tables.now.reserved.records;
+              at = at;
+            } }
     {
         let lists = lists_of(tables);
         let cursor = cursor_from(&lists, at);
@@ -161,7 +188,8 @@ impl FreeRuns<'_> {
     /// Returns the next run: the one that [`next_free`] returns for the address that the walk has
     /// reached. The walk then continues at the run's end.
     pub fn next_run(&mut self) -> Option<FreeRange>
-        ensures run { MatchOption result (NothingFrom self.old.at (unclaimed_in_walk self.old)) (IsRunFrom (unclaimed_in_walk self.old) self.old.at) }
+        ensures run { MatchOption result (NothingFrom self.old.at (unclaimed_in_walk self.old))
+            (IsRunFrom (unclaimed_in_walk self.old) self.old.at) }
         ensures at { IfSome result (λ r. self.new.at ≡ run_end r) }
         ensures order { self.old.at ≤ self.new.at }
         ensures memory { self.new.memory ≡ self.old.memory }

@@ -17,23 +17,34 @@ ghost use Rattle.memblock_find.specs.Unclaimed.{unclaimed_memory, unclaimed_in_t
 /// owner.
 pub fn searches_follow_the_items()
     ensures best { (items : List Item) (t : TablesView) (q : AnyQuery) →
-        NothingFrom (2 ^ 64) (table_of which.Memory items) → NothingFrom (2 ^ 64) (table_of which.Reserved items) →
-        t.memory.records ≡ records_of which.Memory items → t.reserved.records ≡ records_of which.Reserved items →
-        best_place_in (upward_of items) (value_at t.memory.records) (value_at t.reserved.records) q ≡ best_place items q }
+        NothingFrom (2 ^ 64) (table_of which.Memory items)
+        → NothingFrom (2 ^ 64) (table_of which.Reserved items) →
+        t.memory.records ≡ records_of which.Memory items
+        → t.reserved.records ≡ records_of which.Reserved items →
+        best_place_in (upward_of items) (value_at t.memory.records) (value_at t.reserved.records) q
+        ≡ best_place items q }
     ensures top { (items : List Item) (t : TablesView) (q : AnyQuery) (mirror : Bool) →
-        NothingFrom (2 ^ 64) (table_of which.Memory items) → NothingFrom (2 ^ 64) (table_of which.Reserved items) →
-        t.memory.records ≡ records_of which.Memory items → t.reserved.records ≡ records_of which.Reserved items →
-        top_place_in (record { mirror = mirror; up = upward_of items }) (value_at t.memory.records) (value_at t.reserved.records) q ≡
+        NothingFrom (2 ^ 64) (table_of which.Memory items)
+        → NothingFrom (2 ^ 64) (table_of which.Reserved items) →
+        t.memory.records ≡ records_of which.Memory items
+        → t.reserved.records ≡ records_of which.Reserved items →
+        top_place_in (record { mirror = mirror; up = upward_of items }) (value_at t.memory.records)
+        (value_at t.reserved.records) q ≡
         top_place items q mirror }
     ensures free { (items : List Item) (t : TablesView) →
-        NothingFrom (2 ^ 64) (table_of which.Memory items) → NothingFrom (2 ^ 64) (table_of which.Reserved items) →
-        t.memory.records ≡ records_of which.Memory items → t.reserved.records ≡ records_of which.Reserved items →
-        unclaimed_in_tables t ≡ unclaimed_memory (table_of which.Memory items) (table_of which.Reserved items) }
+        NothingFrom (2 ^ 64) (table_of which.Memory items)
+        → NothingFrom (2 ^ 64) (table_of which.Reserved items) →
+        t.memory.records ≡ records_of which.Memory items
+        → t.reserved.records ≡ records_of which.Reserved items →
+        unclaimed_in_tables t
+        ≡ unclaimed_memory (table_of which.Memory items) (table_of which.Reserved items) }
 {}
 
 /// Law: there is at most one highest run below an address, and at most one lowest run from an
 /// address on.
 pub fn free_runs_are_unique()
-    ensures below { (f : Labels) (below : ℕ) (r s : RunOf LabelView) → IsRunBelow f below r → IsRunBelow f below s → r ≡ s }
-    ensures from { (f : Labels) (from : ℕ) (r s : RunOf LabelView) → IsRunFrom f from r → IsRunFrom f from s → r ≡ s }
+    ensures below { (f : Labels) (below : ℕ) (r s : RunOf LabelView) → IsRunBelow f below r
+        → IsRunBelow f below s → r ≡ s }
+    ensures from { (f : Labels) (from : ℕ) (r s : RunOf LabelView) → IsRunFrom f from r
+        → IsRunFrom f from s → r ≡ s }
 {}

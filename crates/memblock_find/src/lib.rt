@@ -12,10 +12,10 @@
 //!   one after another, and searches only once.
 //!
 //! Contracts define the result of [`find`] by `top_place_in` of `memblock_model`, applied to the
-//! labels that the records give each address. `specs/Unclaimed.antt` defines unclaimed memory and its
-//! runs. The layer above may rest on these definitions, and on the laws of `src/laws.rt`. A law is
-//! an empty function whose contract is a proven fact. In contracts, a name means the definition in
-//! `specs/`.
+//! labels that the records give each address. `specs/Unclaimed.antt` defines unclaimed memory and
+//! its runs. The layer above may rest on these definitions, and on the laws of `src/laws.rt`. A law
+//! is an empty function whose contract is a proven fact. In contracts, a name means the definition
+//! in `specs/`.
 //!
 //! A walk reads the records in place, and only those that it passes. So a search costs two binary
 //! searches and the records between the end of the window where it begins and the place that it

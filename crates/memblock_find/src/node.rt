@@ -30,7 +30,8 @@ pub fn is_allowed_label(mirror: bool, node: Option<u32>, label: Label) -> bool
 fn count_to_last_allowed(records: &Records<'_>, count: u64, mirror: bool, node: Option<u32>) -> u64
     requires { count ≤ length records.now }
     ensures within { result ≤ count }
-    ensures passed { (i : ℕ) → result ≤ i → i < count → is_allowed_label mirror node (Some (nth_record records.now i).value) ≡ false }
+    ensures passed { (i : ℕ) → result ≤ i → i < count
+        → is_allowed_label mirror node (Some (nth_record records.now i).value) ≡ false }
 {
     let mut left = count;
     while left > 0 {
@@ -76,7 +77,8 @@ impl Cursor {
         requires narrow { is_allowed_label mirror node None ≡ false }
         requires down { IsWalkDownAt lists.now.memory lists.now.reserved self.now }
         ensures order { result.at ≤ self.now.memory.bound }
-        ensures passed { NoAddressIsAllowed mirror (value_at lists.now.memory) node result.at self.now.memory.bound }
+        ensures passed { NoAddressIsAllowed mirror
+            (value_at lists.now.memory) node result.at self.now.memory.bound }
         ensures down { IsWalkDownAt lists.now.memory lists.now.reserved result }
     {
         let count = count_to_last_allowed(&lists.memory, self.memory.slot, mirror, node);
@@ -94,7 +96,8 @@ impl Cursor {
         requires narrow { is_allowed_label mirror node None ≡ false }
         requires down { IsWalkDownAt lists.now.memory lists.now.reserved self.now }
         ensures order { result.at ≤ max self.now.memory.bound self.now.reserved.bound }
-        ensures passed { NoAddressIsAllowed mirror (value_at lists.now.memory) node result.at (max self.now.memory.bound self.now.reserved.bound) }
+        ensures passed { NoAddressIsAllowed mirror (value_at lists.now.memory) node result.at
+            (max self.now.memory.bound self.now.reserved.bound) }
         ensures down { IsWalkDownAt lists.now.memory lists.now.reserved result }
     {
         if self.is_allowed(mirror, node) {

@@ -6,7 +6,7 @@
 ghost use Rattle.std.specs.Prelude.{◌≡◌, ◌≢◌, ℕ, ◌^◌, ◌≤◌, false, max, MatchOption, Option, Some, None};
 ghost use Rattle.address_runs.specs.Runs.{value_at};
 ghost use Rattle.address_runs.specs.Sweep.{Stays};
-ghost use Rattle.memblock_model.specs.Labels.{LabelView, Labels};
+ghost use Rattle.memblock_model.specs.Labels.{Labels};
 ghost use Rattle.memblock_model.specs.Search.{top_place_in};
 ghost use Rattle.memblock_find.specs.Unclaimed.{unclaimed_memory, ReachesDownTo};
 ghost use Rattle.memblock_find.specs.Places.{FitsBetween, NoPlaceEnds, IsBestBy};
@@ -28,7 +28,8 @@ use memblock_ranges::Tables;
 pub fn find(tables: &Tables, query: &Query, mode: Mode) -> Option<u64>
     requires some { 1 ≤ query.now.size }
     requires aligned { (k : ℕ) × (query.now.align ≡ 2 ^ k) }
-    ensures { result ≡ top_place_in mode (value_at tables.now.memory.records) (value_at tables.now.reserved.records) query.now }
+    ensures { result ≡ top_place_in mode (value_at tables.now.memory.records)
+        (value_at tables.now.reserved.records) query.now }
 {
     let Mode { mirror, up } = mode;
     if up {
@@ -45,7 +46,8 @@ pub fn find(tables: &Tables, query: &Query, mode: Mode) -> Option<u64>
 fn find_in(lists: &Lists<'_>, query: &Query) -> Option<u64>
     requires some { 1 ≤ query.now.size }
     requires aligned { (k : ℕ) × (query.now.align ≡ 2 ^ k) }
-    ensures { result ≡ top_place_in (record { mirror = false; up = false }) (value_at lists.now.memory) (value_at lists.now.reserved) query.now }
+    ensures { result ≡ top_place_in (record { mirror = false; up = false })
+        (value_at lists.now.memory) (value_at lists.now.reserved) query.now }
 {
     let low = query.lo.max(FRAME_SIZE);
     let end = end_of_records(&lists.memory, lists.memory.count());
@@ -83,9 +85,11 @@ pub fn place_in_run(
     requires aligned { (k : ℕ) × (query.now.align ≡ 2 ^ k) }
     requires low { low ≡ max query.now.lo FRAME_SIZE }
     requires window { until ≤ query.now.hi }
-    ensures { (memory reserved : Labels) → Stays (unclaimed_memory memory reserved) from until label →
+    ensures { (memory reserved : Labels) → Stays (unclaimed_memory memory reserved) from until label
+        →
         (label ≢ None → ReachesDownTo (unclaimed_memory memory reserved) from until label) →
-        MatchOption result (NoPlaceEnds mirror memory reserved query.now from until) (IsBestBy mirror memory reserved query.now until) }
+        MatchOption result (NoPlaceEnds mirror memory reserved query.now from until)
+        (IsBestBy mirror memory reserved query.now until) }
 {
     let Some(found) = label else {
         return None;
@@ -101,7 +105,8 @@ pub fn place_in_run(
 fn last_between(low: u64, high: u64, size: u64, align: u64) -> Option<u64>
     requires { (k : ℕ) × (align ≡ 2 ^ k) }
     ensures { MatchOption result ((b : ℕ) → FitsBetween low high size align b → ⊥)
-        (λ a. FitsBetween low high size align a × ((b : ℕ) → FitsBetween low high size align b → b ≤ a)) }
+        (λ a. FitsBetween low high size align a
+        × ((b : ℕ) → FitsBetween low high size align b → b ≤ a)) }
 {
     let top = high.checked_sub(size)?;
     let place = top - (top & (align - 1));

@@ -14,7 +14,8 @@ const RECORD_SIZE: u64 = 24;
 
 /// Tests whether the head has room for its records, and all of that room is below 2^64.
 fn head_has_room(head: &Head) -> bool
-    ensures { IsTrue result ↔ (head.now.count ≤ head.now.room) × (head.now.place + 24 * head.now.room < 2 ^ 64) }
+    ensures { IsTrue result ↔ (head.now.count ≤ head.now.room)
+        × (head.now.place + 24 * head.now.room < 2 ^ 64) }
 {
     let Some(size) = head.room.checked_mul(RECORD_SIZE) else {
         return false;
@@ -24,7 +25,8 @@ fn head_has_room(head: &Head) -> bool
 
 /// Tests whether the record isn't empty, begins at or above `from`, and ends at or below `bound`.
 fn is_in_place(region: &Region, from: u64, bound: u64) -> bool
-    ensures { IsTrue result ↔ (from ≤ region.now.base) × (0 < region.now.size) × (region.now.base + region.now.size ≤ bound) }
+    ensures { IsTrue result ↔ (from ≤ region.now.base) × (0 < region.now.size)
+        × (region.now.base + region.now.size ≤ bound) }
 {
     match region.base.checked_add(region.size) {
         Some(end) => from <= region.base && region.base < end && end <= bound,
@@ -34,7 +36,8 @@ fn is_in_place(region: &Region, from: u64, bound: u64) -> bool
 
 /// Tests whether the record begins and ends at the border of a frame.
 fn is_whole_frames(region: &Region) -> bool
-    ensures { IsTrue result ↔ (region.now.base % FRAME_SIZE ≡ 0) × (region.now.size % FRAME_SIZE ≡ 0) }
+    ensures { IsTrue result ↔ (region.now.base % FRAME_SIZE ≡ 0)
+        × (region.now.size % FRAME_SIZE ≡ 0) }
 {
     region.base % FRAME_SIZE == 0 && region.size % FRAME_SIZE == 0
 }

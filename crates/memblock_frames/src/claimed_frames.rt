@@ -37,7 +37,8 @@ pub fn next_claimed_frames(store: &Store, head: &Head, index: u64, at: u64) -> C
     ensures behind { at < result.end }
     ensures some { result.first ≤ result.end }
     ensures not_empty { result.first < 2 ^ 52 → result.first < result.end }
-    ensures unclaimed { (x : ℕ) → at ≤ x → x < result.first → x < 2 ^ 52 → is_unclaimed (value_at (records_of_head store.now head.now)) x ≡ true }
+    ensures unclaimed { (x : ℕ) → at ≤ x → x < result.first → x < 2 ^ 52
+        → is_unclaimed (value_at (records_of_head store.now head.now)) x ≡ true }
     ensures claimed { (x : ℕ) → result.first ≤ x → x < result.end → x < 2 ^ 52 →
         is_unclaimed (value_at (records_of_head store.now head.now)) x ≡ false }
 {

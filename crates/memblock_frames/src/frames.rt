@@ -31,7 +31,8 @@ pub struct RecordFrames {
 pub fn frames_of_record(store: &Store, head: &Head, i: u64) -> RecordFrames
     requires table { HasRecords store.now head.now (2 ^ 64) }
     requires within { i < head.now.count }
-    ensures { (r : RunOf LabelView) → result ≡ frames_of_record (get_or (records_of_head store.now head.now) i r) }
+    ensures { (r : RunOf LabelView)
+        → result ≡ frames_of_record (get_or (records_of_head store.now head.now) i r) }
 {
     let region = region_at(store, head, i);
     let last = region.base + (region.size - 1);

@@ -16,15 +16,20 @@ ghost use Rattle.memblock_frames.specs.HeadRecords.{HasRecords, AreWholeFrames};
 /// or below a bound if the table has nothing from there on. They are whole frames if the table has
 /// the same value for all bytes of a frame.
 pub fn stored_records_give_table_frames()
-    ensures records { (t : TableView) (store : List ExtentView) → IsInStore t store → HasRecords store (head_of t) (2 ^ 64) }
-    ensures below { (t : TableView) (store : List ExtentView) (bound : ℕ) → IsInStore t store → NothingFrom bound (value_at t.records) →
+    ensures records { (t : TableView) (store : List ExtentView) → IsInStore t store
+        → HasRecords store (head_of t) (2 ^ 64) }
+    ensures below { (t : TableView) (store : List ExtentView) (bound : ℕ) → IsInStore t store
+        → NothingFrom bound (value_at t.records) →
         HasRecords store (head_of t) bound }
     ensures whole { (t : TableView) (store : List ExtentView) → IsInStore t store →
         ((x : ℕ) → value_at t.records x ≡ value_at t.records (FRAME_SIZE * (x / FRAME_SIZE))) →
         AreWholeFrames (records_of_head store (head_of t)) }
     ensures node { (t : TableView) (store : List ExtentView) (frame : ℕ) → IsInStore t store →
-        node_of_frame (value_at (records_of_head store (head_of t))) frame ≡ node_of_frame (value_at t.records) frame }
-    ensures free { (memory reserved : TableView) (store : List ExtentView) (frame : ℕ) → IsInStore memory store → IsInStore reserved store →
-        free_node_in (value_at (records_of_head store (head_of memory))) (value_at (records_of_head store (head_of reserved))) frame
+        node_of_frame (value_at (records_of_head store (head_of t))) frame
+        ≡ node_of_frame (value_at t.records) frame }
+    ensures free { (memory reserved : TableView) (store : List ExtentView) (frame : ℕ)
+        → IsInStore memory store → IsInStore reserved store →
+        free_node_in (value_at (records_of_head store (head_of memory)))
+        (value_at (records_of_head store (head_of reserved))) frame
         ≡ free_node_in (value_at memory.records) (value_at reserved.records) frame }
 {}

@@ -2,8 +2,9 @@
 //!
 //! At the end of the early boot, the bytes of memory and the two table heads contain both tables;
 //! no other copy is needed or made. The page allocator and the zones read the tables record by
-//! record, as frames (`for_each_free_mem_range`, `for_each_mem_pfn_range`). [`frames_of_record`] returns
-//! the frames that overlap a record, and [`next_claimed_frames`] the next frames that overlap some record.
+//! record, as frames (`for_each_free_mem_range`, `for_each_mem_pfn_range`). [`frames_of_record`]
+//! returns the frames that overlap a record, and [`next_claimed_frames`] the next frames that
+//! overlap some record.
 //!
 //! `specs/HeadRecords.antt` defines when the bytes at a head are an ascending list of records
 //! (`HasRecords`). That is weaker than what memblock ensures, since records may touch and have the

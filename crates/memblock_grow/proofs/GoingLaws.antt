@@ -1,5 +1,5 @@
--- `ContinuesMemblock` from call to call, and after a call that only reads. The place that a search found, and
--- a range that was claimed, overlap no table.
+-- `ContinuesMemblock` from call to call, and after a call that only reads. The place that a search
+-- found, and a range that was claimed, overlap no table.
 use Rattle.std.proofs.Common.{◌≡◌, ℕ, Option, Some, None, List, [], ◌∷◌, ◌++◌, Result, Ok, Err, IfSome, OnOk, refl, sym, ◌∙◌, subst}
 use Rattle.bm_base.specs.Range.{RangeView}
 use Rattle.phys_store.specs.Bytes.{byte_of}

@@ -10,8 +10,8 @@
 //!
 //! [`Memblock`] is the one value that the layers above use. They may rest on this:
 //!
-//! - Each call that changes memory keeps `GoesOn` (`specs/Continues.antt`). The kernel's image stays
-//!   where it is, each byte is what the items say, and prepared addresses stay prepared.
+//! - Each call that changes memory keeps `GoesOn` (`specs/Continues.antt`). The kernel's image
+//!   stays where it is, each byte is what the items say, and prepared addresses stay prepared.
 //! - After each call both tables are those of the items and are encoded in their bytes. They lie
 //!   in claimed memory, apart from each other (`IsMemblock` in `specs/Invariant.antt`).
 //! - A call prepares the frames that tables grew into, and no other address. Only `new` prepares
@@ -37,5 +37,5 @@ mod stop;
 mod table_laws;
 
 pub use growth_model::{Refusal, Request};
-pub use memblock::{no_items_no_change, Memblock};
+pub use memblock::{Memblock, no_items_no_change};
 pub use stop::{Section, StageStop, What};

@@ -9,7 +9,7 @@
 //! A call that allocates memory of this program may run out of memory at any step. It then stops
 //! before that step, with the invariant intact.
 
-ghost use Rattle.std.specs.Prelude.{◌≡◌, ℕ, ◌+◌, ◌-◌, ◌*◌, ◌^◌, ◌<◌, ◌≤◌, ◌↔◌, ◌||◌, Bool, false, max, Some, [], ◌++◌, length, OnOk, OnErr, IfOk, IfSome, IsOk, IsTrue};
+ghost use Rattle.std.specs.Prelude.{◌≡◌, ℕ, ◌+◌, ◌-◌, ◌*◌, ◌^◌, ◌<◌, ◌≤◌, ◌↔◌, ◌||◌, false, max, Some, [], ◌++◌, length, OnOk, OnErr, IfOk, IfSome, IsOk, IsTrue};
 ghost use Rattle.bm_base.specs.Range.{covers};
 ghost use Rattle.address_runs.specs.Edits.{NothingFrom};
 ghost use Rattle.phys_store.specs.Bytes.{ArePrepared, byte_of, is_prepared_at, bytes_at};
@@ -21,11 +21,11 @@ ghost use Rattle.memblock_model.specs.Tables.{records_of, room_of, table_place, 
 ghost use Rattle.memblock_model.specs.Search.{best_place};
 ghost use Rattle.memblock_ranges.specs.Encoding.{encode_table};
 ghost use Rattle.memblock_ranges.specs.Tables.{head_of, IsInStore, HaveNoNode};
-ghost use Rattle.growth_model.specs.Growth.{claim_range, free_range, add_range, set_range_node, set_range_mirror, count_uncovered_pieces, split_record_count, is_full as is_full_by};
+ghost use Rattle.growth_model.specs.Growth.{claim_range, free_range, add_range, set_range_node, set_range_mirror, count_uncovered_pieces, split_record_count, is_full};
 ghost use Rattle.growth_model.specs.Ends.{EndsAsChange, Allocates};
 ghost use Rattle.growth_model.specs.Request.{place_for};
 ghost use Rattle.growth_model.specs.Tables.{TablesAreSound, IsKernelImage, HasBegun, TouchesNoTable, MayClaim};
-ghost use Rattle.growth_model.specs.Bytes.{table_for, TablesAreEncoded, byte_from_history as byte_by, byte_after_fill, Follows};
+ghost use Rattle.growth_model.specs.Bytes.{table_for, TablesAreEncoded, byte_from_history, byte_after_fill};
 ghost use Rattle.memblock_grow.specs.Continues.{AppendsItem, ContinuesMemblock};
 ghost use Rattle.memblock_grow.specs.Invariant.{StayPrepared};
 ghost use Rattle.memblock_grow.specs.Prepared.{Prepares, PreparesBy};
@@ -81,9 +81,11 @@ impl Memblock {
         requires { IsKernelImage kernel }
         ensures kernel { IfOk result (λ m. m.kernel ≡ kernel) }
         ensures journal { IfOk result (λ m. m.journal ≡ record { items = []; spare = 0 }) }
-        ensures bytes { IfOk result (λ m. (x : ℕ) → byte_of m.tables.store x ≡ byte_by kernel [] [] x) }
+        ensures bytes { IfOk result (λ m. (x : ℕ)
+            → byte_of m.tables.store x ≡ byte_from_history kernel [] [] x) }
         ensures prepared { IfOk result (λ m. (x : ℕ) → is_prepared_at m.tables.store x
-            ≡ (covers (table_bytes tables_of.Reserved kernel []) x || covers (table_bytes tables_of.Memory kernel []) x)) }
+            ≡ (covers (table_bytes tables_of.Reserved kernel []) x
+            || covers (table_bytes tables_of.Memory kernel []) x)) }
     {
         let journal = Journal::new(alloc);
         let tables = Tables::new(alloc, kernel)?;
@@ -130,13 +132,17 @@ impl Memblock {
     pub fn claim(&mut self, range: Range, owner: Owner) -> Result<(), Refusal>
         requires some { 0 < range.size }
         requires may { MayClaim self.old.kernel self.old.journal.items range owner }
-        ensures ends { EndsAsChange result self.old.journal.items self.new.journal.items (claim_range range owner) }
+        ensures ends { EndsAsChange result self.old.journal.items self.new.journal.items
+            (claim_range range owner) }
         ensures goes_on { ContinuesMemblock self.old self.new }
-        ensures away { HasBegun self.old.journal.items → TouchesNoTable self.old.kernel range self.old.journal.items →
+        ensures away { HasBegun self.old.journal.items
+            → TouchesNoTable self.old.kernel range self.old.journal.items →
             OnOk result (TouchesNoTable self.new.kernel range self.new.journal.items) }
-        ensures prepared { Prepares self.old.journal.items self.new.journal.items self.old.tables.store self.new.tables.store }
+        ensures prepared { Prepares self.old.journal.items self.new.journal.items
+            self.old.tables.store self.new.tables.store }
         ensures ready { 0 < self.old.journal.spare →
-            is_full_by tables_of.Reserved (count_uncovered_pieces tables_of.Reserved range) self.old.journal.items ≡ false →
+            is_full tables_of.Reserved
+            (count_uncovered_pieces tables_of.Reserved range) self.old.journal.items ≡ false →
             IsOk result × (self.new.journal.spare ≡ self.old.journal.spare - 1) }
     {
         range_end_fits(&range);
@@ -155,10 +161,13 @@ impl Memblock {
         requires some { 0 < range.size }
         requires begun { HasBegun self.old.journal.items }
         requires away { TouchesNoTable self.old.kernel range self.old.journal.items }
-        ensures ends { EndsAsChange result self.old.journal.items self.new.journal.items (free_range range) }
+        ensures ends { EndsAsChange result self.old.journal.items self.new.journal.items
+            (free_range range) }
         ensures goes_on { ContinuesMemblock self.old self.new }
-        ensures prepared { Prepares self.old.journal.items self.new.journal.items self.old.tables.store self.new.tables.store }
-        ensures ready { 0 < self.old.journal.spare → is_full_by tables_of.Reserved split_record_count self.old.journal.items ≡ false →
+        ensures prepared { Prepares self.old.journal.items self.new.journal.items
+            self.old.tables.store self.new.tables.store }
+        ensures ready { 0 < self.old.journal.spare
+            → is_full tables_of.Reserved split_record_count self.old.journal.items ≡ false →
             IsOk result × (self.new.journal.spare ≡ self.old.journal.spare - 1) }
     {
         reserved::free(&mut self.journal, &mut self.tables, self.aim, range)
@@ -176,11 +185,14 @@ impl Memblock {
     pub fn add_memory(&mut self, range: Range) -> Result<(), Refusal>
         requires some { 0 < range.size }
         requires begun { HasBegun self.old.journal.items }
-        ensures ends { EndsAsChange result self.old.journal.items self.new.journal.items (add_range range) }
+        ensures ends { EndsAsChange result self.old.journal.items self.new.journal.items
+            (add_range range) }
         ensures goes_on { ContinuesMemblock self.old self.new }
-        ensures prepared { PreparesBy result self.old.journal.items self.new.journal.items self.old.tables.store self.new.tables.store }
+        ensures prepared { PreparesBy result self.old.journal.items self.new.journal.items
+            self.old.tables.store self.new.tables.store }
         ensures ready { 0 < self.old.journal.spare →
-            is_full_by tables_of.Memory (count_uncovered_pieces tables_of.Memory range) self.old.journal.items ≡ false →
+            is_full tables_of.Memory
+            (count_uncovered_pieces tables_of.Memory range) self.old.journal.items ≡ false →
             IsOk result × (self.new.journal.spare ≡ self.old.journal.spare - 1) }
     {
         memory::add_memory(&mut self.journal, &mut self.tables, self.aim, range)
@@ -199,10 +211,13 @@ impl Memblock {
         requires some { 0 < range.size }
         requires node { node < 1024 }
         requires begun { HasBegun self.old.journal.items }
-        ensures ends { EndsAsChange result self.old.journal.items self.new.journal.items (set_range_node range node) }
+        ensures ends { EndsAsChange result self.old.journal.items self.new.journal.items
+            (set_range_node range node) }
         ensures goes_on { ContinuesMemblock self.old self.new }
-        ensures prepared { PreparesBy result self.old.journal.items self.new.journal.items self.old.tables.store self.new.tables.store }
-        ensures ready { 0 < self.old.journal.spare → is_full_by tables_of.Memory split_record_count self.old.journal.items ≡ false →
+        ensures prepared { PreparesBy result self.old.journal.items self.new.journal.items
+            self.old.tables.store self.new.tables.store }
+        ensures ready { 0 < self.old.journal.spare
+            → is_full tables_of.Memory split_record_count self.old.journal.items ≡ false →
             IsOk result × (self.new.journal.spare ≡ self.old.journal.spare - 1) }
     {
         memory::set_node(&mut self.journal, &mut self.tables, self.aim, range, node)
@@ -220,10 +235,13 @@ impl Memblock {
     pub fn set_mirror(&mut self, range: Range) -> Result<(), Refusal>
         requires some { 0 < range.size }
         requires begun { HasBegun self.old.journal.items }
-        ensures ends { EndsAsChange result self.old.journal.items self.new.journal.items (set_range_mirror range) }
+        ensures ends { EndsAsChange result self.old.journal.items self.new.journal.items
+            (set_range_mirror range) }
         ensures goes_on { ContinuesMemblock self.old self.new }
-        ensures prepared { PreparesBy result self.old.journal.items self.new.journal.items self.old.tables.store self.new.tables.store }
-        ensures ready { 0 < self.old.journal.spare → is_full_by tables_of.Memory split_record_count self.old.journal.items ≡ false →
+        ensures prepared { PreparesBy result self.old.journal.items self.new.journal.items
+            self.old.tables.store self.new.tables.store }
+        ensures ready { 0 < self.old.journal.spare
+            → is_full tables_of.Memory split_record_count self.old.journal.items ≡ false →
             IsOk result × (self.new.journal.spare ≡ self.old.journal.spare - 1) }
     {
         memory::set_mirror(&mut self.journal, &mut self.tables, self.aim, range)
@@ -238,7 +256,8 @@ impl Memblock {
         requires { HasBegun self.old.journal.items }
         ensures appends { AppendsItem result item.Trim self.old self.new }
         ensures goes_on { ContinuesMemblock self.old self.new }
-        ensures prepared { (x : ℕ) → is_prepared_at self.new.tables.store x ≡ is_prepared_at self.old.tables.store x }
+        ensures prepared { (x : ℕ)
+            → is_prepared_at self.new.tables.store x ≡ is_prepared_at self.old.tables.store x }
     {
         self.journal.push(Item::Trim)?;
         self.tables.trim();
@@ -289,7 +308,8 @@ impl Memblock {
         requires aligned { (k : ℕ) × (query.now.align ≡ 2 ^ k) }
         ensures place { result ≡ best_place self.now.journal.items query.now }
         ensures away { HasBegun self.now.journal.items → IfSome result (λ base.
-            TouchesNoTable self.now.kernel (record { base = base; size = query.now.size }) self.now.journal.items) }
+            TouchesNoTable self.now.kernel
+            (record { base = base; size = query.now.size }) self.now.journal.items) }
     {
         places::best_place_in_tables(&self.journal, &self.tables, self.aim.upward, query)
     }
@@ -311,10 +331,14 @@ impl Memblock {
             (place_for request.now self.old.journal.items) request.now.size owner }
         ensures inside { IfOk result (λ base. base + request.now.size < 2 ^ 64) }
         ensures goes_on { ContinuesMemblock self.old self.new }
-        ensures prepared { Prepares self.old.journal.items self.new.journal.items self.old.tables.store self.new.tables.store }
-        ensures ready { (place : ℕ) → place_for request.now self.old.journal.items ≡ Some place → 0 < self.old.journal.spare →
-            is_full_by tables_of.Reserved (count_uncovered_pieces tables_of.Reserved (record { base = place; size = request.now.size }))
-            self.old.journal.items ≡ false → IsOk result × (self.new.journal.spare ≡ self.old.journal.spare - 1) }
+        ensures prepared { Prepares self.old.journal.items self.new.journal.items
+            self.old.tables.store self.new.tables.store }
+        ensures ready { (place : ℕ) → place_for request.now self.old.journal.items ≡ Some place
+            → 0 < self.old.journal.spare →
+            is_full tables_of.Reserved (count_uncovered_pieces tables_of.Reserved
+            (record { base = place; size = request.now.size }))
+            self.old.journal.items ≡ false → IsOk result
+            × (self.new.journal.spare ≡ self.old.journal.spare - 1) }
     {
         request::allocate(
             &mut self.journal,
@@ -336,11 +360,15 @@ impl Memblock {
         ensures kernel { self.new.kernel ≡ self.old.kernel }
         ensures journal { self.new.journal ≡ self.old.journal }
         ensures ok { OnOk result ((x : ℕ) → byte_of self.new.tables.store x ≡
-            byte_after_fill (record { range = range; byte = byte; at = length self.old.journal.items }) x (byte_of self.old.tables.store x)) }
+            byte_after_fill
+            (record { range = range; byte = byte; at = length self.old.journal.items }) x
+            (byte_of self.old.tables.store x)) }
         ensures err { OnErr result (self.new ≡ self.old) }
-        ensures prepared { OnOk result ((x : ℕ) → is_prepared_at self.new.tables.store x ≡ (covers range x || is_prepared_at self.old.tables.store x)) }
+        ensures prepared { OnOk result ((x : ℕ) → is_prepared_at self.new.tables.store x
+            ≡ (covers range x || is_prepared_at self.old.tables.store x)) }
         ensures still_ready { StayPrepared self.old.tables.store self.new.tables.store }
-        ensures memory { OnErr result (ArePrepared self.old.tables.store range.base range.size → ⊥) }
+        ensures memory { OnErr result (ArePrepared self.old.tables.store range.base range.size
+            → ⊥) }
     {
         self.tables.prepare(range)?;
         self.tables.fill(range, byte);
@@ -357,8 +385,10 @@ impl Memblock {
 
     /// Tests whether an address of the range belongs to a table.
     pub fn touches_table(&self, range: Range) -> bool
-        ensures touches { IsTrue result ↔ TouchesTable self.now.kernel range self.now.journal.items }
-        ensures away { result ≡ false → TouchesNoTable self.now.kernel range self.now.journal.items }
+        ensures touches { IsTrue result
+            ↔ TouchesTable self.now.kernel range self.now.journal.items }
+        ensures away { result ≡ false
+            → TouchesNoTable self.now.kernel range self.now.journal.items }
     {
         self.tables.overlaps_table(range)
     }
@@ -366,7 +396,8 @@ impl Memblock {
     /// Returns the journal of what happened to memory.
     pub fn journal(&self) -> &Journal
         ensures journal { result.now ≡ self.now.journal }
-        ensures sound { HasBegun self.now.journal.items → TablesAreSound self.now.kernel self.now.journal.items }
+        ensures sound { HasBegun self.now.journal.items
+            → TablesAreSound self.now.kernel self.now.journal.items }
     {
         &self.journal
     }
@@ -374,14 +405,19 @@ impl Memblock {
     /// Returns both tables, which are those of the items. All memory ends at or below 2^64.
     pub fn tables(&self) -> &Tables
         ensures tables { result.now ≡ self.now.tables }
-        ensures memory { result.now.memory ≡ table_for tables_of.Memory self.now.kernel self.now.journal.items }
-        ensures reserved { result.now.reserved ≡ table_for tables_of.Reserved self.now.kernel self.now.journal.items }
+        ensures memory { result.now.memory
+            ≡ table_for tables_of.Memory self.now.kernel self.now.journal.items }
+        ensures reserved { result.now.reserved
+            ≡ table_for tables_of.Reserved self.now.kernel self.now.journal.items }
         ensures within { NothingFrom (2 ^ 64) (memory_of self.now.journal.items) }
-        ensures bytes { TablesAreEncoded result.now.memory result.now.reserved (byte_of result.now.store) }
+        ensures bytes { TablesAreEncoded result.now.memory result.now.reserved
+            (byte_of result.now.store) }
         ensures still { ContinuesMemblock self.now self.now }
-        ensures spelled { (w : AnyWhich) → bytes_at (byte_of self.now.tables.store) (table_place w self.now.kernel self.now.journal.items)
+        ensures spelled { (w : AnyWhich) → bytes_at (byte_of self.now.tables.store)
+            (table_place w self.now.kernel self.now.journal.items)
             (24 * room_of w self.now.journal.items)
-            ≡ encode_table (records_of w self.now.journal.items) (room_of w self.now.journal.items) }
+            ≡ encode_table (records_of w self.now.journal.items)
+            (room_of w self.now.journal.items) }
     {
         tables_are_in_store(&self.tables);
         &self.tables
@@ -390,12 +426,20 @@ impl Memblock {
     /// Takes the memblock apart into the bytes, the heads of the tables in them, and the journal.
     pub fn into_parts(self) -> (Store, Heads, Journal)
         ensures store { result.0 ≡ self.tables.store }
-        ensures heads { result.1 ≡ record { memory = head_of self.tables.memory; reserved = head_of self.tables.reserved } }
+        ensures heads { result.1
+            ≡ record {
+              memory = head_of self.tables.memory;
+              reserved = head_of
+                  self.tables.reserved;
+            } }
         ensures journal { result.2 ≡ self.journal }
-        ensures memory { IsInStore (table_for tables_of.Memory self.kernel self.journal.items) result.0 }
-        ensures reserved { IsInStore (table_for tables_of.Reserved self.kernel self.journal.items) result.0 }
+        ensures memory { IsInStore
+            (table_for tables_of.Memory self.kernel self.journal.items) result.0 }
+        ensures reserved { IsInStore
+            (table_for tables_of.Reserved self.kernel self.journal.items) result.0 }
         ensures plain { HaveNoNode (records_of tables_of.Reserved self.journal.items) }
-        ensures sound { HasBegun self.journal.items → TablesAreSound self.kernel self.journal.items }
+        ensures sound { HasBegun self.journal.items
+            → TablesAreSound self.kernel self.journal.items }
     {
         let Memblock {
             kernel: _,
@@ -426,7 +470,8 @@ fn memblock_is_four_parts(rt: HostRuntime) -> Result<(), std::test::Fail> {
     Ok(())
 }
 
-/// Law: `ContinuesMemblock` holds from a memblock to itself, since without new items no byte changes.
+/// Law: `ContinuesMemblock` holds from a memblock to itself, since without new items no byte
+/// changes.
 pub fn no_items_no_change(memblock: &Memblock)
     ensures { ContinuesMemblock memblock.now memblock.now }
 {

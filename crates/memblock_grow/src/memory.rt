@@ -3,21 +3,21 @@
 //! The new place is claimed like any other range, so the reserved table may have to grow first. It
 //! may also have to grow when the old place is freed. If that growth is refused, the old place
 //! stays claimed and the call continues (`memblock_double_array` ignores it).
-ghost use Rattle.std.specs.Prelude.{◌≡◌, ◌⊎◌, ◌+◌, ◌-◌, ◌<◌, ◌≤◌, false, OnOk, OnErr, IsOk, IfSome, length};
+ghost use Rattle.std.specs.Prelude.{◌≡◌, ◌⊎◌, ◌+◌, ◌-◌, ◌<◌, ◌≤◌, false, OnOk, OnErr, IsOk, IfSome};
 ghost use Rattle.phys_store.specs.Bytes.{ArePrepared};
 ghost use Rattle.memblock_model.specs.declared.owner.Which.TheVariants as tables_of;
 ghost use Rattle.memblock_model.specs.declared.owner.Owner.TheVariants as owners;
 ghost use Rattle.memblock_model.specs.Items.{owner_of};
 ghost use Rattle.growth_model.specs.Change.{if_due};
-ghost use Rattle.growth_model.specs.Growth.{memory_growth, make_table_room, claim_range, add_range, set_range_node, set_range_mirror, count_uncovered_pieces, split_record_count, free_old_place as left_by, is_full as is_full_by};
+ghost use Rattle.growth_model.specs.Growth.{memory_growth, make_table_room, claim_range, add_range, set_range_node, set_range_mirror, count_uncovered_pieces, split_record_count, free_old_place, is_full};
 ghost use Rattle.growth_model.specs.Ends.{EndsAsChange};
 ghost use Rattle.growth_model.specs.Tables.{HasBegun, IsUnclaimed};
 ghost use Rattle.memblock_grow.specs.Invariant.{IsSomeMemblock, AllowsFree, KeepsTables, KeepsBytes};
 ghost use Rattle.memblock_grow.specs.Prepared.{Prepares, PreparesWith, PreparesBy};
 ghost use Rattle.memblock_grow.specs.NewRecords.{new_records_by_items, HasRoomFor, RangeEndsInSpace};
 
-use crate::places::{AllocSettings, old_place_frames, table_frames_between};
 use crate::new_records::{MaxNewRecords, lacks_room};
+use crate::places::{AllocSettings, old_place_frames, table_frames_between};
 use crate::reserved::{claim, free, may_claim};
 use crate::table_laws::tables_are_in_store;
 use bm_base::Range;
@@ -36,10 +36,11 @@ fn free_old_place(
     requires begun { HasBegun journal.old.items }
     requires some { IfSome old (λ range. 0 < range.size) }
     requires away { IfSome old (λ range. AllowsFree journal.old.items tables.old aim range) }
-    ensures ends { EndsAsChange result journal.old.items journal.new.items (left_by old) }
+    ensures ends { EndsAsChange result journal.old.items journal.new.items (free_old_place old) }
     ensures kept { KeepsTables journal.old.items tables.old journal.new.items tables.new aim }
     ensures bytes { KeepsBytes journal.old.items tables.old journal.new.items tables.new aim }
-    ensures prepared { Prepares journal.old.items journal.new.items tables.old.store tables.new.store }
+    ensures prepared { Prepares journal.old.items journal.new.items tables.old.store
+        tables.new.store }
     ensures memory { tables.new.memory ≡ tables.old.memory }
 {
     let Some(range) = old else { return Ok(()) };
@@ -62,13 +63,17 @@ fn claim_new_place(
     requires kept { IsSomeMemblock journal.old.items tables.old aim }
     requires begun { HasBegun journal.old.items }
     requires free { IsUnclaimed (owner_of journal.old.items) place }
-    ensures ends { EndsAsChange result journal.old.items journal.new.items (claim_range place (owners.Table tables_of.Memory)) }
+    ensures ends { EndsAsChange result journal.old.items journal.new.items
+        (claim_range place (owners.Table tables_of.Memory)) }
     ensures kept { KeepsTables journal.old.items tables.old journal.new.items tables.new aim }
     ensures bytes { KeepsBytes journal.old.items tables.old journal.new.items tables.new aim }
     ensures memory { tables.new.memory ≡ tables.old.memory }
-    ensures prepared { OnOk result (PreparesWith place journal.old.items journal.new.items tables.old.store tables.new.store) }
-    ensures err { OnErr result (PreparesBy result journal.old.items journal.new.items tables.old.store tables.new.store) }
-    ensures first { (journal.new.items ≡ journal.old.items) ⊎ ArePrepared tables.new.store place.base place.size }
+    ensures prepared { OnOk result
+        (PreparesWith place journal.old.items journal.new.items tables.old.store tables.new.store) }
+    ensures err { OnErr result
+        (PreparesBy result journal.old.items journal.new.items tables.old.store tables.new.store) }
+    ensures first { (journal.new.items ≡ journal.old.items)
+        ⊎ ArePrepared tables.new.store place.base place.size }
 {
     may_claim(journal, tables, aim, place)?;
     tables.prepare(place)?;
@@ -76,16 +81,22 @@ fn claim_new_place(
 }
 
 /// Doubles the memory table's room, at the best place below the limit (`memblock_double_array`).
-fn grow_memory(journal: &mut Journal, tables: &mut Tables, aim: AllocSettings) -> Result<(), Refusal>
+fn grow_memory(
+    journal: &mut Journal,
+    tables: &mut Tables,
+    aim: AllocSettings,
+) -> Result<(), Refusal>
     requires kept { IsSomeMemblock journal.old.items tables.old aim }
     requires begun { HasBegun journal.old.items }
     ensures ends { EndsAsChange result journal.old.items journal.new.items memory_growth }
     ensures kept { KeepsTables journal.old.items tables.old journal.new.items tables.new aim }
     ensures bytes { KeepsBytes journal.old.items tables.old journal.new.items tables.new aim }
-    ensures prepared { PreparesBy result journal.old.items journal.new.items tables.old.store tables.new.store }
+    ensures prepared { PreparesBy result journal.old.items journal.new.items tables.old.store
+        tables.new.store }
 {
     let head = tables.head(Which::Memory);
-    let Some(place) = table_frames_between(journal, tables, aim.upward, head.room, 0, aim.limit) else {
+    let Some(place) = table_frames_between(journal, tables, aim.upward, head.room, 0, aim.limit)
+    else {
         return Err(Refusal::NoGapForTable {
             which: Which::Memory,
             room: head.room,
@@ -113,10 +124,12 @@ fn grow_memory_if_full(
     requires kept { IsSomeMemblock journal.old.items tables.old aim }
     requires begun { HasBegun journal.old.items }
     ensures ends { EndsAsChange result journal.old.items journal.new.items
-        (if_due (is_full_by tables_of.Memory (new_records_by_items tables_of.Memory more.now)) memory_growth) }
+        (if_due (is_full tables_of.Memory (new_records_by_items tables_of.Memory more.now))
+        memory_growth) }
     ensures kept { KeepsTables journal.old.items tables.old journal.new.items tables.new aim }
     ensures bytes { KeepsBytes journal.old.items tables.old journal.new.items tables.new aim }
-    ensures prepared { PreparesBy result journal.old.items journal.new.items tables.old.store tables.new.store }
+    ensures prepared { PreparesBy result journal.old.items journal.new.items tables.old.store
+        tables.new.store }
     ensures within { RangeEndsInSpace more.now }
     ensures idle { HasRoomFor more.now tables.old.memory →
         IsOk result × (journal.new ≡ journal.old) × (tables.new ≡ tables.old) }
@@ -139,10 +152,12 @@ fn make_memory_room(
     requires kept { IsSomeMemblock journal.old.items tables.old aim }
     requires begun { HasBegun journal.old.items }
     ensures ends { EndsAsChange result journal.old.items journal.new.items
-        (make_table_room tables_of.Memory (new_records_by_items tables_of.Memory more.now) memory_growth) }
+        (make_table_room tables_of.Memory
+        (new_records_by_items tables_of.Memory more.now) memory_growth) }
     ensures kept { KeepsTables journal.old.items tables.old journal.new.items tables.new aim }
     ensures bytes { KeepsBytes journal.old.items tables.old journal.new.items tables.new aim }
-    ensures prepared { PreparesBy result journal.old.items journal.new.items tables.old.store tables.new.store }
+    ensures prepared { PreparesBy result journal.old.items journal.new.items tables.old.store
+        tables.new.store }
     ensures room { OnOk result (HasRoomFor more.now tables.new.memory) }
     ensures idle { HasRoomFor more.now tables.old.memory →
         IsOk result × (journal.new ≡ journal.old) × (tables.new ≡ tables.old) }
@@ -166,8 +181,10 @@ pub fn add_memory(
     ensures ends { EndsAsChange result journal.old.items journal.new.items (add_range range) }
     ensures kept { KeepsTables journal.old.items tables.old journal.new.items tables.new aim }
     ensures bytes { KeepsBytes journal.old.items tables.old journal.new.items tables.new aim }
-    ensures prepared { PreparesBy result journal.old.items journal.new.items tables.old.store tables.new.store }
-    ensures ready { 0 < journal.old.spare → is_full_by tables_of.Memory (count_uncovered_pieces tables_of.Memory range) journal.old.items ≡ false →
+    ensures prepared { PreparesBy result journal.old.items journal.new.items tables.old.store
+        tables.new.store }
+    ensures ready { 0 < journal.old.spare → is_full tables_of.Memory
+        (count_uncovered_pieces tables_of.Memory range) journal.old.items ≡ false →
         IsOk result × (journal.new.spare ≡ journal.old.spare - 1) }
 {
     make_memory_room(journal, tables, aim, &MaxNewRecords::PiecesOf(range))?;
@@ -191,11 +208,14 @@ pub fn set_node(
     requires node { node < 1024 }
     requires kept { IsSomeMemblock journal.old.items tables.old aim }
     requires begun { HasBegun journal.old.items }
-    ensures ends { EndsAsChange result journal.old.items journal.new.items (set_range_node range node) }
+    ensures ends { EndsAsChange result journal.old.items journal.new.items
+        (set_range_node range node) }
     ensures kept { KeepsTables journal.old.items tables.old journal.new.items tables.new aim }
     ensures bytes { KeepsBytes journal.old.items tables.old journal.new.items tables.new aim }
-    ensures prepared { PreparesBy result journal.old.items journal.new.items tables.old.store tables.new.store }
-    ensures ready { 0 < journal.old.spare → is_full_by tables_of.Memory split_record_count journal.old.items ≡ false →
+    ensures prepared { PreparesBy result journal.old.items journal.new.items tables.old.store
+        tables.new.store }
+    ensures ready { 0 < journal.old.spare
+        → is_full tables_of.Memory split_record_count journal.old.items ≡ false →
         IsOk result × (journal.new.spare ≡ journal.old.spare - 1) }
 {
     make_memory_room(journal, tables, aim, &MaxNewRecords::Two)?;
@@ -217,11 +237,14 @@ pub fn set_mirror(
     requires some { 0 < range.size }
     requires kept { IsSomeMemblock journal.old.items tables.old aim }
     requires begun { HasBegun journal.old.items }
-    ensures ends { EndsAsChange result journal.old.items journal.new.items (set_range_mirror range) }
+    ensures ends { EndsAsChange result journal.old.items journal.new.items
+        (set_range_mirror range) }
     ensures kept { KeepsTables journal.old.items tables.old journal.new.items tables.new aim }
     ensures bytes { KeepsBytes journal.old.items tables.old journal.new.items tables.new aim }
-    ensures prepared { PreparesBy result journal.old.items journal.new.items tables.old.store tables.new.store }
-    ensures ready { 0 < journal.old.spare → is_full_by tables_of.Memory split_record_count journal.old.items ≡ false →
+    ensures prepared { PreparesBy result journal.old.items journal.new.items tables.old.store
+        tables.new.store }
+    ensures ready { 0 < journal.old.spare
+        → is_full tables_of.Memory split_record_count journal.old.items ≡ false →
         IsOk result × (journal.new.spare ≡ journal.old.spare - 1) }
 {
     make_memory_room(journal, tables, aim, &MaxNewRecords::Two)?;

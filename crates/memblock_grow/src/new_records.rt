@@ -22,7 +22,8 @@ pub enum MaxNewRecords {
 /// Tests whether the table's records and `more` further ones exceed its room.
 pub fn lacks_room(tables: &Tables, which: Which, more: &MaxNewRecords) -> bool
     ensures full { result ≡
-        nat_lt (room_in which tables.now) (length (records_in which tables.now) + new_records_in_table more.now (table_in which tables.now)) }
+        nat_lt (room_in which tables.now) (length (records_in which tables.now)
+        + new_records_in_table more.now (table_in which tables.now)) }
     ensures within { RangeEndsInSpace more.now }
 {
     let head = tables.head(which);

@@ -48,7 +48,12 @@ fn mirrored_place(journal: &Journal, tables: &Tables, upward: bool, query: &Quer
 }
 
 /// Returns the best place: the top one in mirrored memory, or in any memory if none fits there.
-pub fn best_place_in_tables(journal: &Journal, tables: &Tables, upward: bool, query: &Query) -> Option<u64>
+pub fn best_place_in_tables(
+    journal: &Journal,
+    tables: &Tables,
+    upward: bool,
+    query: &Query,
+) -> Option<u64>
     requires some { 1 ≤ query.now.size }
     requires aligned { (k : ℕ) × (query.now.align ≡ 2 ^ k) }
     requires mirrors { MirrorsComeFromItems journal.now.items tables.now }

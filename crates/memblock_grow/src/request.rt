@@ -8,8 +8,8 @@
 //! `memblock_alloc_internal`).
 ghost use Rattle.std.specs.Prelude.{◌≡◌, ℕ, ◌+◌, ◌-◌, ◌^◌, ◌<◌, ◌≤◌, true, false, Some, IsOk, IfOk};
 ghost use Rattle.memblock_model.specs.declared.owner.Which.TheVariants as tables_of;
-ghost use Rattle.growth_model.specs.Growth.{count_uncovered_pieces, is_full as is_full_by};
-ghost use Rattle.growth_model.specs.Request.{attempt as attempt_by, node_attempts, attempts_from, attempts, place_for as place_by};
+ghost use Rattle.growth_model.specs.Growth.{count_uncovered_pieces, is_full};
+ghost use Rattle.growth_model.specs.Request.{attempt, node_attempts, attempts_from, attempts, place_for};
 ghost use Rattle.growth_model.specs.Ends.{Allocates};
 ghost use Rattle.growth_model.specs.Tables.{HasBegun};
 ghost use Rattle.memblock_grow.specs.Invariant.{IsSomeMemblock, KeepsTables, KeepsBytes};
@@ -35,7 +35,8 @@ fn place_of_attempt(
 ) -> Option<u64>
     requires some { 1 ≤ request.now.size }
     requires aligned { (k : ℕ) × (request.now.align ≡ 2 ^ k) }
-    ensures { result ≡ top_place_in_tables tables.now aim.upward (attempt_by request.now aim.limit lo mirror node) }
+    ensures { result
+        ≡ top_place_in_tables tables.now aim.upward (attempt request.now aim.limit lo mirror node) }
 {
     let AllocSettings { limit, upward } = aim;
     let query = Query {
@@ -51,10 +52,17 @@ fn place_of_attempt(
 
 /// Returns the top place from `lo` on, on the request's node and then, unless only that one is
 /// allowed, on any.
-fn place_in(tables: &Tables, request: &Request, aim: AllocSettings, lo: u64, mirror: bool) -> Option<u64>
+fn place_in(
+    tables: &Tables,
+    request: &Request,
+    aim: AllocSettings,
+    lo: u64,
+    mirror: bool,
+) -> Option<u64>
     requires some { 1 ≤ request.now.size }
     requires aligned { (k : ℕ) × (request.now.align ≡ 2 ^ k) }
-    ensures { result ≡ first_place_in_tables tables.now aim.upward (node_attempts request.now aim.limit lo mirror) }
+    ensures { result ≡ first_place_in_tables tables.now aim.upward
+        (node_attempts request.now aim.limit lo mirror) }
 {
     let place = place_of_attempt(tables, request, aim, lo, mirror, request.node);
     if place.is_some() || request.node.is_none() || request.exact {
@@ -75,7 +83,8 @@ fn mirrored_place(
     requires some { 1 ≤ request.now.size }
     requires aligned { (k : ℕ) × (request.now.align ≡ 2 ^ k) }
     requires mirrors { MirrorsComeFromItems journal.now.items tables.now }
-    ensures { result ≡ first_place_in_tables tables.now aim.upward (node_attempts request.now aim.limit lo true) }
+    ensures { result ≡ first_place_in_tables tables.now aim.upward
+        (node_attempts request.now aim.limit lo true) }
 {
     if !journal.has_mirrors() {
         return None;
@@ -94,7 +103,8 @@ fn first_place(
     requires some { 1 ≤ request.now.size }
     requires aligned { (k : ℕ) × (request.now.align ≡ 2 ^ k) }
     requires mirrors { MirrorsComeFromItems journal.now.items tables.now }
-    ensures { result ≡ first_place_in_tables tables.now aim.upward (attempts_from request.now aim.limit lo) }
+    ensures { result
+        ≡ first_place_in_tables tables.now aim.upward (attempts_from request.now aim.limit lo) }
 {
     if let Some(place) = mirrored_place(journal, tables, request, aim, lo) {
         return Some(place);
@@ -104,11 +114,17 @@ fn first_place(
 
 /// Returns the place that the first round finds, from the request's minimum on, or else the
 /// second, from 0 on.
-fn place_for(journal: &Journal, tables: &Tables, request: &Request, aim: AllocSettings) -> Option<u64>
+fn place_for(
+    journal: &Journal,
+    tables: &Tables,
+    request: &Request,
+    aim: AllocSettings,
+) -> Option<u64>
     requires some { 1 ≤ request.now.size }
     requires aligned { (k : ℕ) × (request.now.align ≡ 2 ^ k) }
     requires mirrors { MirrorsComeFromItems journal.now.items tables.now }
-    ensures { result ≡ first_place_in_tables tables.now aim.upward (attempts request.now aim.limit) }
+    ensures { result
+        ≡ first_place_in_tables tables.now aim.upward (attempts request.now aim.limit) }
 {
     let place = first_place(journal, tables, request, aim, request.min);
     if place.is_some() || request.min == 0 {
@@ -131,13 +147,17 @@ pub fn allocate(
     requires aligned { (k : ℕ) × (request.now.align ≡ 2 ^ k) }
     requires kept { IsSomeMemblock journal.old.items tables.old aim }
     requires begun { HasBegun journal.old.items }
-    ensures ends { Allocates result journal.old.items journal.new.items (place_by request.now journal.old.items) request.now.size owner }
+    ensures ends { Allocates result journal.old.items journal.new.items
+        (place_for request.now journal.old.items) request.now.size owner }
     ensures inside { IfOk result (λ base. base + request.now.size < 2 ^ 64) }
     ensures kept { KeepsTables journal.old.items tables.old journal.new.items tables.new aim }
     ensures bytes { KeepsBytes journal.old.items tables.old journal.new.items tables.new aim }
-    ensures prepared { Prepares journal.old.items journal.new.items tables.old.store tables.new.store }
-    ensures ready { (place : ℕ) → place_by request.now journal.old.items ≡ Some place → 0 < journal.old.spare →
-        is_full_by tables_of.Reserved (count_uncovered_pieces tables_of.Reserved (record { base = place; size = request.now.size })) journal.old.items ≡ false →
+    ensures prepared { Prepares journal.old.items journal.new.items tables.old.store
+        tables.new.store }
+    ensures ready { (place : ℕ) → place_for request.now journal.old.items ≡ Some place
+        → 0 < journal.old.spare →
+        is_full tables_of.Reserved (count_uncovered_pieces tables_of.Reserved
+        (record { base = place; size = request.now.size })) journal.old.items ≡ false →
         IsOk result × (journal.new.spare ≡ journal.old.spare - 1) }
 {
     let Some(base) = place_for(journal, tables, request, aim) else {

@@ -3,21 +3,21 @@
 //! A growth avoids the range that is to be claimed or freed, so that the table never moves into
 //! it. The new place is claimed like any other range, and the old one is freed. A claim doubles
 //! the table's room up to twice before it writes its item.
-ghost use Rattle.std.specs.Prelude.{◌≡◌, ◌≢◌, ◌+◌, ◌-◌, ◌<◌, ◌≤◌, false, None, Err, OnOk, OnErr, IsOk, length};
+ghost use Rattle.std.specs.Prelude.{◌≡◌, ◌≢◌, ◌+◌, ◌-◌, ◌<◌, ◌≤◌, false, None, Err, OnOk, OnErr, IsOk};
 ghost use Rattle.memblock_model.specs.declared.owner.Owner.{Owner as ModelOwner};
 ghost use Rattle.memblock_model.specs.Items.{owner_of};
 ghost use Rattle.memblock_model.specs.declared.owner.Which.TheVariants as tables_of;
 ghost use Rattle.growth_model.specs.declared.refusal.Refusal.TheVariants as refusals;
 ghost use Rattle.growth_model.specs.Change.{if_due};
-ghost use Rattle.growth_model.specs.Growth.{reserved_growth, make_table_room, claim_range, free_range, count_uncovered_pieces, split_record_count, is_full as is_full_by};
+ghost use Rattle.growth_model.specs.Growth.{reserved_growth, make_table_room, claim_range, free_range, count_uncovered_pieces, split_record_count, is_full};
 ghost use Rattle.growth_model.specs.Ends.{EndsAsChange};
 ghost use Rattle.growth_model.specs.Tables.{HasBegun, IsUnclaimed};
 ghost use Rattle.memblock_grow.specs.Invariant.{IsSomeMemblock, AllowsClaim, AllowsFree, KeepsTables, KeepsBytes};
 ghost use Rattle.memblock_grow.specs.Prepared.{Prepares};
 ghost use Rattle.memblock_grow.specs.NewRecords.{new_records_by_items, HasRoomFor, RangeEndsInSpace};
 
-use crate::places::{AllocSettings, old_place_frames, table_frames_beside};
 use crate::new_records::{MaxNewRecords, lacks_room};
+use crate::places::{AllocSettings, old_place_frames, table_frames_beside};
 use crate::table_laws::tables_are_in_store;
 use bm_base::Range;
 use boot_journal::{Item, Journal, Owner, Which};
@@ -40,7 +40,8 @@ fn grow_reserved(
     ensures ends { EndsAsChange result journal.old.items journal.new.items (reserved_growth avoid) }
     ensures kept { KeepsTables journal.old.items tables.old journal.new.items tables.new aim }
     ensures bytes { KeepsBytes journal.old.items tables.old journal.new.items tables.new aim }
-    ensures prepared { Prepares journal.old.items journal.new.items tables.old.store tables.new.store }
+    ensures prepared { Prepares journal.old.items journal.new.items tables.old.store
+        tables.new.store }
     ensures memory { tables.new.memory ≡ tables.old.memory }
 {
     let head = tables.head(Which::Reserved);
@@ -88,10 +89,12 @@ fn grow_reserved_if_full(
 ) -> Result<(), Refusal>
     requires { IsSomeMemblock journal.old.items tables.old aim }
     ensures ends { EndsAsChange result journal.old.items journal.new.items
-        (if_due (is_full_by tables_of.Reserved (new_records_by_items tables_of.Reserved more.now)) (reserved_growth avoid)) }
+        (if_due (is_full tables_of.Reserved (new_records_by_items tables_of.Reserved more.now))
+        (reserved_growth avoid)) }
     ensures kept { KeepsTables journal.old.items tables.old journal.new.items tables.new aim }
     ensures bytes { KeepsBytes journal.old.items tables.old journal.new.items tables.new aim }
-    ensures prepared { Prepares journal.old.items journal.new.items tables.old.store tables.new.store }
+    ensures prepared { Prepares journal.old.items journal.new.items tables.old.store
+        tables.new.store }
     ensures memory { tables.new.memory ≡ tables.old.memory }
     ensures within { RangeEndsInSpace more.now }
     ensures idle { HasRoomFor more.now tables.old.reserved →
@@ -115,10 +118,12 @@ fn make_reserved_room(
 ) -> Result<(), Refusal>
     requires { IsSomeMemblock journal.old.items tables.old aim }
     ensures ends { EndsAsChange result journal.old.items journal.new.items
-        (make_table_room tables_of.Reserved (new_records_by_items tables_of.Reserved more.now) (reserved_growth avoid)) }
+        (make_table_room tables_of.Reserved (new_records_by_items tables_of.Reserved more.now)
+        (reserved_growth avoid)) }
     ensures kept { KeepsTables journal.old.items tables.old journal.new.items tables.new aim }
     ensures bytes { KeepsBytes journal.old.items tables.old journal.new.items tables.new aim }
-    ensures prepared { Prepares journal.old.items journal.new.items tables.old.store tables.new.store }
+    ensures prepared { Prepares journal.old.items journal.new.items tables.old.store
+        tables.new.store }
     ensures memory { tables.new.memory ≡ tables.old.memory }
     ensures room { OnOk result (HasRoomFor more.now tables.new.reserved) }
     ensures idle { HasRoomFor more.now tables.old.reserved →
@@ -135,13 +140,20 @@ fn make_reserved_room(
 /// # Errors
 ///
 /// `NoGapForTable` if the claim would be refused.
-pub fn may_claim(journal: &Journal, tables: &Tables, aim: AllocSettings, range: Range) -> Result<(), Refusal>
+pub fn may_claim(
+    journal: &Journal,
+    tables: &Tables,
+    aim: AllocSettings,
+    range: Range,
+) -> Result<(), Refusal>
     requires some { 0 < range.size }
     requires kept { IsSomeMemblock journal.now.items tables.now aim }
     requires begun { HasBegun journal.now.items }
     requires free { IsUnclaimed (owner_of journal.now.items) range }
-    ensures ok { (who : ModelOwner) → OnOk result ((claim_range range who journal.now.items).refused ≡ None) }
-    ensures refused { (who : ModelOwner) → OnErr result (EndsAsChange result journal.now.items journal.now.items (claim_range range who)) }
+    ensures ok { (who : ModelOwner)
+        → OnOk result ((claim_range range who journal.now.items).refused ≡ None) }
+    ensures refused { (who : ModelOwner) → OnErr result
+        (EndsAsChange result journal.now.items journal.now.items (claim_range range who)) }
     ensures short { result ≢ Err refusals.Memory }
 {
     if !lacks_room(tables, Which::Reserved, &MaxNewRecords::PiecesOf(range)) {
@@ -168,12 +180,15 @@ pub fn claim(
 ) -> Result<(), Refusal>
     requires some { 0 < range.size }
     requires may { AllowsClaim journal.old.items tables.old aim range owner }
-    ensures ends { EndsAsChange result journal.old.items journal.new.items (claim_range range owner) }
+    ensures ends { EndsAsChange result journal.old.items journal.new.items
+        (claim_range range owner) }
     ensures kept { KeepsTables journal.old.items tables.old journal.new.items tables.new aim }
     ensures bytes { KeepsBytes journal.old.items tables.old journal.new.items tables.new aim }
-    ensures prepared { Prepares journal.old.items journal.new.items tables.old.store tables.new.store }
+    ensures prepared { Prepares journal.old.items journal.new.items tables.old.store
+        tables.new.store }
     ensures memory { tables.new.memory ≡ tables.old.memory }
-    ensures ready { 0 < journal.old.spare → is_full_by tables_of.Reserved (count_uncovered_pieces tables_of.Reserved range) journal.old.items ≡ false →
+    ensures ready { 0 < journal.old.spare → is_full tables_of.Reserved
+        (count_uncovered_pieces tables_of.Reserved range) journal.old.items ≡ false →
         IsOk result × (journal.new.spare ≡ journal.old.spare - 1) }
 {
     make_reserved_room(journal, tables, aim, range, &MaxNewRecords::PiecesOf(range))?;
@@ -198,9 +213,11 @@ pub fn free(
     ensures ends { EndsAsChange result journal.old.items journal.new.items (free_range range) }
     ensures kept { KeepsTables journal.old.items tables.old journal.new.items tables.new aim }
     ensures bytes { KeepsBytes journal.old.items tables.old journal.new.items tables.new aim }
-    ensures prepared { Prepares journal.old.items journal.new.items tables.old.store tables.new.store }
+    ensures prepared { Prepares journal.old.items journal.new.items tables.old.store
+        tables.new.store }
     ensures memory { tables.new.memory ≡ tables.old.memory }
-    ensures ready { 0 < journal.old.spare → is_full_by tables_of.Reserved split_record_count journal.old.items ≡ false →
+    ensures ready { 0 < journal.old.spare
+        → is_full tables_of.Reserved split_record_count journal.old.items ≡ false →
         IsOk result × (journal.new.spare ≡ journal.old.spare - 1) }
 {
     make_reserved_room(journal, tables, aim, range, &MaxNewRecords::Two)?;

@@ -19,13 +19,14 @@ use Rattle.memblock_model.proofs.SameLaws.{owner_tells}
 abbrev pub bytes : ℕ → ℕ → RangeView
 bytes base size = record { base = base; size = size }
 
--- a range of one byte isn't empty; the range of no item may be: memory, a node, a claim, a free, a mirror
+-- a range of one byte isn't empty; the range of no item may be: memory, a node, a claim, a free, a
+-- mirror
 item_examples : (ItemHasBytes (item.Mem (bytes 7 1))) × (ItemHasBytes (item.Mem (bytes 7 0)) → ⊥) × (ItemHasBytes (item.Node (bytes 7 0) 1) → ⊥)
     × (ItemHasBytes (item.Claim (bytes 7 0) owner.Kernel) → ⊥) × (ItemHasBytes (item.Free (bytes 7 0)) → ⊥) × (ItemHasBytes (item.Mirror (bytes 7 0)) → ⊥)
 item_examples = (omega arith, λ some. omega arith, λ some. omega arith, λ some. omega arith, λ some. omega arith, λ some. omega arith)
 
--- the newest item that covers a byte decides: a claim over a claim, and a byte that only the older claim covers; a free after a claim, a
--- claim after a free
+-- the newest item that covers a byte decides: a claim over a claim, and a byte that only the older
+-- claim covers; a free after a claim, a claim after a free
 owner_of_examples : (owner_of (item.Claim (bytes 0 8) owner.Kernel ∷ (item.Claim (bytes 4 8) owner.Low1M ∷ [])) 5 ≡ Some owner.Low1M)
     × (owner_of (item.Claim (bytes 0 8) owner.Kernel ∷ (item.Claim (bytes 4 8) owner.Low1M ∷ [])) 3 ≡ Some owner.Kernel)
     × (owner_of (item.Claim (bytes 0 8) owner.Kernel ∷ (item.Free (bytes 4 2) ∷ [])) 5 ≡ None)
@@ -43,7 +44,8 @@ owner_stays_examples : (owner_of (item.Claim (bytes 0 8) owner.Kernel ∷ memory
     × (owner_of memory_alone 5 ≡ None)
 owner_stays_examples = (refl, refl)
 
--- memory keeps its node when it is added again, and new memory has none; a node for bytes that aren't memory changes nothing
+-- memory keeps its node when it is added again, and new memory has none; a node for bytes that
+-- aren't memory changes nothing
 tag_of_examples : (tag_of (item.Mem (bytes 0 8) ∷ (item.Node (bytes 0 4) 1 ∷ (item.Mem (bytes 0 16) ∷ []))) 3 ≡ tag.Memory (Some 1) false)
     × (tag_of (item.Mem (bytes 0 8) ∷ (item.Node (bytes 0 4) 1 ∷ (item.Mem (bytes 0 16) ∷ []))) 9 ≡ tag.Memory None false)
     × (tag_of (item.Node (bytes 0 4) 1 ∷ []) 3 ≡ tag.Absent)
@@ -58,7 +60,8 @@ memory_of_examples : (memory_of (item.Mem (bytes 0 8) ∷ (item.Node (bytes 0 8)
     ≡ Some (with_mirror (with_node (Some 2) plain_label)))
 memory_of_examples = (refl, refl, refl)
 
--- a mirror marks only memory of its range; it stays under a later node, and if memory is added again
+-- a mirror marks only memory of its range; it stays under a later node, and if memory is added
+-- again
 mirror_examples : (tag_of (item.Mirror (bytes 0 4) ∷ []) 3 ≡ tag.Absent)
     × (tag_of (item.Mem (bytes 0 8) ∷ (item.Mirror (bytes 0 4) ∷ (item.Node (bytes 0 8) 1 ∷ []))) 3 ≡ tag.Memory (Some 1) true)
     × (tag_of (item.Mem (bytes 0 8) ∷ (item.Mirror (bytes 0 4) ∷ (item.Node (bytes 0 8) 1 ∷ []))) 4 ≡ tag.Memory (Some 1) false)
@@ -74,7 +77,8 @@ owners_alone = item.Claim (bytes 0 8) owner.Kernel
 memory_stays_examples : (tag_of (item.Mem (bytes 0 8) ∷ owners_alone) 3 ≡ tag.Memory None false) × (tag_of owners_alone 5 ≡ tag.Absent)
 memory_stays_examples = (refl, refl)
 
--- a frame stays if it is all memory with one label; it goes if a byte is missing, if it is mirrored in part, or if it has two nodes
+-- a frame stays if it is all memory with one label; it goes if a byte is missing, if it is mirrored
+-- in part, or if it has two nodes
 trim_examples : (tag_of (item.Mem (bytes 0 4096) ∷ (item.Trim ∷ [])) 5 ≡ tag.Memory None false)
     × (tag_of (item.Mem (bytes 0 4095) ∷ (item.Trim ∷ [])) 5 ≡ tag.Absent)
     × (tag_of (item.Mem (bytes 0 4096) ∷ (item.Mirror (bytes 0 100) ∷ (item.Trim ∷ []))) 5 ≡ tag.Absent)

@@ -33,8 +33,9 @@ pairs lo hi = record { lo = lo; hi = hi; size = 2; align = 2; node = Some 1 }
 abbrev any_pairs : Query
 any_pairs = record { lo = 0; hi = 4200; size = 2; align = 1; node = None }
 
--- above the claim; not over it, not in the other node, not in the first frame, not at an odd address, but there where any will
--- do; not half in node 1 and half in node 2; not where there is no memory
+-- above the claim; not over it, not in the other node, not in the first frame, not at an odd
+-- address, but there where any will do; not half in node 1 and half in node 2; not where there is
+-- no memory
 fits_in_examples : (fits_in false memory claimed (pairs 0 4200) 4102 ≡ true) × (fits_in false memory claimed (pairs 0 4200) 4100 ≡ false)
     × (fits_in false memory claimed (pairs 0 4200) 4104 ≡ false) × (fits_in false memory claimed (pairs 0 4200) 4094 ≡ false)
     × (fits_in false memory claimed (pairs 0 4200) 4097 ≡ false) × (fits_in false memory claimed any_pairs 4097 ≡ true)

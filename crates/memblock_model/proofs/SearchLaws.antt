@@ -288,7 +288,8 @@ pub top_place_in-fails : (mode : Mode) (memory reserved : Labels) (q : Query)
 unfolding top_place_in
 top_place_in-fails mode memory reserved q none = outermost_below-fails mode.up (fits_in mode.mirror memory reserved q) (2 ^ 64) none
 
--- to show that an address is the top place: it is the last one that fits, or the first if the search goes up
+-- to show that an address is the top place: it is the last one that fits, or the first if the
+-- search goes up
 pub top_place_in-last : (mirror : Bool) (memory reserved : Labels) (q : Query) (a : ℕ) → IsLastBelow (fits_in mirror memory reserved q) (2 ^ 64) a
     → top_place_in (record { mirror = mirror; up = false }) memory reserved q ≡ Some a
 unfolding top_place_in

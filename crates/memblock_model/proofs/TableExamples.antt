@@ -18,7 +18,8 @@ use Rattle.memblock_model.proofs.ItemExamples.{bytes}
 abbrev seventh : LabelView
 seventh = with_node (Some 7) plain_label
 
--- what the two tables say after one journal: byte 3 is claimed memory of node 7, byte 1 is memory without a node
+-- what the two tables say after one journal: byte 3 is claimed memory of node 7, byte 1 is memory
+-- without a node
 abbrev few : List Item
 few = item.Mem (bytes 1 4) ∷ (item.Node (bytes 3 2) 7 ∷ (item.Claim (bytes 2 2) owner.Kernel ∷ []))
 

@@ -1,4 +1,5 @@
--- What a list of items, oldest first, makes of memory. An item that a definition doesn't name changes nothing there.
+-- What a list of items, oldest first, makes of memory. An item that a definition doesn't name
+-- changes nothing there.
 use Rattle.std.specs.Prelude.{ℕ, ◌<◌, Bool, false, if◌then◌else◌, Option, Some, None, List, [], ◌∷◌, fold}
 use Rattle.address_runs.specs.Runs.{RunOf, runs_of}
 use Rattle.address_runs.specs.Edits.{cover_range, uncover_range, relabel_range, replace_in_range, agree}
@@ -41,11 +42,13 @@ no_owners x = None
 abbrev pub owner_of : List Item → Owners
 owner_of items = fold owners_after no_owners items
 
--- a byte keeps what it carries if all bytes of its frame carry the same, and else carries nothing (`memblock_trim_memory`)
+-- a byte keeps what it carries if all bytes of its frame carry the same, and else carries nothing
+-- (`memblock_trim_memory`)
 unfoldable pub trim_frames : Labels → Labels
 trim_frames f x = if each_in (frame_around x) (λ y. agree same_label (f y) (f x)) then f x else None
 
--- memory and its labels after an item (`memblock_add`, `memblock_trim_memory`, `memblock_set_node`, `memblock_mark_mirror`)
+-- memory and its labels after an item (`memblock_add`, `memblock_trim_memory`, `memblock_set_node`,
+-- `memblock_mark_mirror`)
 abbrev pub memory_after : Labels → Item → Labels
 memory_after f (item.Mem range) = cover_range range plain_label f
 memory_after f item.Trim = trim_frames f
@@ -60,12 +63,14 @@ no_memory x = None
 abbrev pub memory_of : List Item → Labels
 memory_of items = fold memory_after no_memory items
 
--- what the items make of each byte: no memory, or memory with its node, if it has one, and whether it is mirrored
+-- what the items make of each byte: no memory, or memory with its node, if it has one, and whether
+-- it is mirrored
 abbrev pub tag_of : List Item → ℕ → Tag
 tag_of items x = tag_for (memory_of items x)
 
--- the limit of allocations: 0 at first, then the newest one (`memblock.current_limit`). A query doesn't know it: an allocation searches
--- below the smaller of the limit and its own maximum (`memblock_find_in_range_node`)
+-- the limit of allocations: 0 at first, then the newest one (`memblock.current_limit`). A query
+-- doesn't know it: an allocation searches below the smaller of the limit and its own maximum
+-- (`memblock_find_in_range_node`)
 abbrev pub limit_after : ℕ → Item → ℕ
 limit_after l (item.Limit at) = at
 limit_after l i = l
@@ -73,7 +78,8 @@ limit_after l i = l
 abbrev pub limit_of : List Item → ℕ
 limit_of items = fold limit_after 0 items
 
--- whether a search takes the lowest address: no at first, then as the newest item says (`memblock_set_bottom_up`)
+-- whether a search takes the lowest address: no at first, then as the newest item says
+-- (`memblock_set_bottom_up`)
 abbrev pub upward_after : Bool → Item → Bool
 upward_after up (item.Upward on) = on
 upward_after up i = up

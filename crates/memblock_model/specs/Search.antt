@@ -1,5 +1,6 @@
--- The places that fit a query, and the one that a search returns (`memblock_find_in_range_node`): the highest or the lowest
--- (`__memblock_find_range_top_down`, `__memblock_find_range_bottom_up`), in mirrored memory first (`choose_memblock_flags`).
+-- The places that fit a query, and the one that a search returns (`memblock_find_in_range_node`):
+-- the highest or the lowest (`__memblock_find_range_top_down`, `__memblock_find_range_bottom_up`),
+-- in mirrored memory first (`choose_memblock_flags`).
 use Rattle.std.specs.Prelude.{ℕ, zero, suc, ◌+◌, ◌%◌, ◌^◌, ◌==◌, Bool, true, false, ◌&&◌, nat_le, is_some, is_none, if◌then◌else◌, Option, Some, None, List}
 use Rattle.std.specs.Option.{option_or}
 use Rattle.address_runs.specs.Edits.{agree}
@@ -24,7 +25,8 @@ unfoldable pub first_below : (ℕ → Bool) → ℕ → Option ℕ
 first_below p zero = None
 first_below p (suc n) = option_or (first_below p n) (if p n then Some n else None)
 
--- the least number below n that passes the test if the flag is true (the search goes up), else the greatest such number
+-- the least number below n that passes the test if the flag is true (the search goes up), else the
+-- greatest such number
 abbrev pub outermost_below : Bool → (ℕ → Bool) → ℕ → Option ℕ
 outermost_below true p n = first_below p n
 outermost_below false p n = last_below p n
@@ -41,9 +43,9 @@ is_allowed_mirror false carried = true
 is_allowed_mirror true None = false
 is_allowed_mirror true (Some label) = label.mirror
 
--- whether a place fits that begins at the address: the address is aligned and at or above the window's start and the second frame; the
--- place ends in the window; all its bytes are unclaimed memory of one label; and that label has the query's node, and is mirrored if
--- `mirror` is set
+-- whether a place fits that begins at the address: the address is aligned and at or above the
+-- window's start and the second frame; the place ends in the window; all its bytes are unclaimed
+-- memory of one label; and that label has the query's node, and is mirrored if `mirror` is set
 unfoldable pub fits_in : Bool → Labels → Labels → Query → ℕ → Bool
 fits_in mirror memory reserved q a =
     (a % q.align == 0) && nat_le q.lo a && nat_le FRAME_SIZE a && nat_le (a + q.size) q.hi
@@ -54,7 +56,8 @@ fits_in mirror memory reserved q a =
 unfoldable pub top_place_in : Mode → Labels → Labels → Query → Option ℕ
 top_place_in mode memory reserved q = outermost_below mode.up (fits_in mode.mirror memory reserved q) (2 ^ 64)
 
--- the top place in mirrored memory, or in any memory if none fits there. If nothing is mirrored, nothing fits there
+-- the top place in mirrored memory, or in any memory if none fits there. If nothing is mirrored,
+-- nothing fits there
 unfoldable pub best_place_in : Bool → Labels → Labels → Query → Option ℕ
 best_place_in up memory reserved q =
     option_or (top_place_in (record { mirror = true; up = up }) memory reserved q) (top_place_in (record { mirror = false; up = up }) memory reserved q)

@@ -1,4 +1,5 @@
--- memblock's two tables after a list of items (`struct memblock_type`): their records, their room and their places.
+-- memblock's two tables after a list of items (`struct memblock_type`): their records, their room
+-- and their places.
 use Rattle.std.specs.Prelude.{ℕ, ◌-◌, ◌*◌, if◌then◌else◌, Option, Some, None, List, fold, length, unwrap_or}
 use Rattle.bm_base.specs.Range.{RangeView, end_of}
 use Rattle.bm_base.specs.declared.range.TheConstants.{FRAME_SIZE}
@@ -26,7 +27,8 @@ abbrev pub table_of : Which → List Item → Labels
 table_of which.Memory items = memory_of items
 table_of which.Reserved items = reserved_labels (owner_of items)
 
--- what the reserved table says after an item: a claim covers its range, whoever owned the bytes before
+-- what the reserved table says after an item: a claim covers its range, whoever owned the bytes
+-- before
 abbrev pub reserved_after : Labels → Item → Labels
 reserved_after f (item.Claim range owner) = cover_range range plain_label f
 reserved_after f (item.Free range) = uncover_range range f
@@ -45,11 +47,13 @@ records_for f = runs_of same_label f
 unfoldable pub records_of : Which → List Item → List (RunOf LabelView)
 records_of w items = records_for (table_of w items)
 
--- the number of records that covering the range adds before any are merged (`memblock_add_range`, its count)
+-- the number of records that covering the range adds before any are merged (`memblock_add_range`,
+-- its count)
 unfoldable pub uncovered_run_count : RangeView → Labels → ℕ
 uncovered_run_count r f = length (records_for (gaps_in_range r plain_label f))
 
--- the number of records that a table has room for: 128 (`INIT_MEMBLOCK_REGIONS`), doubled with each growth, whatever number the item has
+-- the number of records that a table has room for: 128 (`INIT_MEMBLOCK_REGIONS`), doubled with each
+-- growth, whatever number the item has
 abbrev pub room_after : Which → ℕ → Item → ℕ
 room_after w n (item.Grown which place room) = if same_which w which then 2 * n else n
 room_after w n i = n
@@ -65,8 +69,9 @@ moved_after w o i = o
 abbrev pub moved_to : Which → List Item → Option ℕ
 moved_to w items = fold (moved_after w) None items
 
--- the first address of the table: one of the last two frames of the kernel's image. The kernel has its arrays in its image too
--- (`memblock_memory_init_regions`, `memblock_reserved_init_regions`); these places are a choice of this project
+-- the first address of the table: one of the last two frames of the kernel's image. The kernel has
+-- its arrays in its image too (`memblock_memory_init_regions`, `memblock_reserved_init_regions`);
+-- these places are a choice of this project
 abbrev pub built_in_place : Which → RangeView → ℕ
 built_in_place which.Memory kernel = end_of kernel - 2 * FRAME_SIZE
 built_in_place which.Reserved kernel = end_of kernel - FRAME_SIZE

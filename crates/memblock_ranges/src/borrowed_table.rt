@@ -17,7 +17,8 @@ use run_edits::{Rows, Slots};
 pub struct TableRef<'a> {
     pub store: &'a Store,
     pub head: &'a Head,
-    ghost table: { IsTable (byte_of store.now) (is_prepared_at store.now) head.now.place head.now.room head.now.count } by { Prim.hlevel props },
+    ghost table: { IsTable (byte_of store.now) (is_prepared_at store.now) head.now.place
+        head.now.room head.now.count } by { Prim.hlevel props },
 }
 
 /// A table in the store, borrowed for editing.
@@ -25,7 +26,8 @@ pub struct TableRef<'a> {
 pub struct TableMut<'a> {
     pub store: &'a mut Store,
     pub head: &'a mut Head,
-    ghost table: { IsTable (byte_of store.now) (is_prepared_at store.now) head.now.place head.now.room head.now.count } by { Prim.hlevel props },
+    ghost table: { IsTable (byte_of store.now) (is_prepared_at store.now) head.now.place
+        head.now.room head.now.count } by { Prim.hlevel props },
 }
 
 /// Returns the record in slot `i`.
@@ -71,13 +73,14 @@ impl Rows<Record> for TableMut<'_> {
 
 #[tactic(auto, using(crate::proofs::LentLaws::count_is))]
 impl Slots<Record> for TableMut<'_> {
-    ghost use Rattle.std.specs.Prelude.{◌≡◌, ◌≤◌, List, [], ◌∷◌, ℕ};
-    ghost use Rattle.std.proofs.Common.{refl, sym, ◌∙◌, subst, ap};
+    ghost use Rattle.std.specs.Prelude.{◌≡◌, ◌≤◌, [], ◌∷◌, ℕ};
+    ghost use Rattle.std.proofs.Common.{refl, sym, ◌∙◌, subst};
     ghost use Rattle.memblock_ranges.specs.Tables.{UneditedPart, unedited_part};
 
     ghost room = { λ l. l.head.now.room };
 
-    ghost keeps = { λ l m. (m.store.ghost_name ≡ l.store.ghost_name) × (m.head.ghost_name ≡ l.head.ghost_name)
+    ghost keeps = { λ l m. (m.store.ghost_name ≡ l.store.ghost_name)
+        × (m.head.ghost_name ≡ l.head.ghost_name)
         × (unedited_part m.store.now m.head.now ≡ unedited_part l.store.now l.head.now) };
 
     fn put(&mut self, i: u64, item: Record) {
@@ -113,7 +116,9 @@ impl Slots<Record> for TableMut<'_> {
 
     ghost keeps_itself = { λ l. (refl, refl, refl) };
 
-    ghost keeps_on = { λ l m n first second. (second.0 ∙ first.0, second.1 ∙ first.1, second.2 ∙ first.2) };
+    ghost keeps_on = { λ l m n first second.
+        (second.0 ∙ first.0, second.1 ∙ first.1, second.2 ∙ first.2) };
 
-    ghost keeps_room = { λ l m kept k few. subst (λ (o : UneditedPart). k ≤ o.room) (sym kept.2) few };
+    ghost keeps_room = { λ l m kept k few.
+        subst (λ (o : UneditedPart). k ≤ o.room) (sym kept.2) few };
 }

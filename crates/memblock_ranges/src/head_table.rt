@@ -22,7 +22,8 @@ pub fn relocate(store: &mut Store, head: &mut Head, place: u64)
     requires table { HasTable store.old head.old }
     requires small { place + 48 * head.old.room < 2 ^ 64 }
     requires prepared { ArePrepared store.old place (48 * head.old.room) }
-    requires apart { ¬ Meet (bytes_of_head head.old) (record { base = place; size = 48 * head.old.room }) }
+    requires apart { ¬ Meet (bytes_of_head head.old)
+        (record { base = place; size = 48 * head.old.room }) }
     ensures { MovesTable store.old store.new head.old head.new place }
 {
     let Head {
@@ -53,8 +54,10 @@ pub fn relocate(store: &mut Store, head: &mut Head, place: u64)
 pub fn region(store: &Store, head: &Head, i: u64) -> Region
     requires table { HasTable store.now head.now }
     requires within { i < length (records_of_head store.now head.now) }
-    ensures region { (r : RunOf LabelView) → result ≡ region_of (get_or (records_of_head store.now head.now) i r) }
-    ensures fits { (r : RunOf LabelView) → FitsRecord (get_or (records_of_head store.now head.now) i r) }
+    ensures region { (r : RunOf LabelView)
+        → result ≡ region_of (get_or (records_of_head store.now head.now) i r) }
+    ensures fits { (r : RunOf LabelView)
+        → FitsRecord (get_or (records_of_head store.now head.now) i r) }
 {
     let seen = TableRef { store, head };
     region_of(&seen.get(i))

@@ -15,11 +15,14 @@ ghost use Rattle.memblock_ranges.specs.Steps.{EndsInSpace};
 /// (counted by `memblock_add_range`). Uncovering a range adds at most one record, giving it a node
 /// at most two (`memblock_isolate_range`), and trimming none.
 pub fn edits_add_few_records()
-    ensures covered { (r : RangeView) (label : LabelView) (f : Labels) → end_of r ≤ 2 ^ 64 → NothingFrom (2 ^ 64) f →
-        length (records_for (cover_range r label f)) ≤ length (records_for f) + uncovered_run_count r f }
+    ensures covered { (r : RangeView) (label : LabelView) (f : Labels) → end_of r ≤ 2 ^ 64
+        → NothingFrom (2 ^ 64) f →
+        length (records_for (cover_range r label f))
+        ≤ length (records_for f) + uncovered_run_count r f }
     ensures uncovered { (r : RangeView) (f : Labels) → NothingFrom (2 ^ 64) f →
         length (records_for (uncover_range r f)) ≤ length (records_for f) + 1 }
-    ensures relabelled { (r : RangeView) (change : LabelView → LabelView) (f : Labels) → NothingFrom (2 ^ 64) f →
+    ensures relabelled { (r : RangeView) (change : LabelView → LabelView) (f : Labels)
+        → NothingFrom (2 ^ 64) f →
         length (records_for (relabel_range r change f)) ≤ length (records_for f) + 2 }
     ensures trimmed { (f : Labels) → NothingFrom (2 ^ 64) f →
         length (records_for (trim_frames f)) ≤ length (records_for f) }
@@ -45,5 +48,6 @@ pub fn edits_follow_the_items()
         old ≡ records_of w items → table_after w (table_of w items) i ≡ table_of w items →
         old ≡ records_of w (items ++ i ∷ []) }
     ensures within { (w : Which) (items : List Item) (i : Item) → EndsInSpace i →
-        NothingFrom (2 ^ 64) (table_of w items) → NothingFrom (2 ^ 64) (table_of w (items ++ i ∷ [])) }
+        NothingFrom (2 ^ 64) (table_of w items)
+        → NothingFrom (2 ^ 64) (table_of w (items ++ i ∷ [])) }
 {}

@@ -28,10 +28,10 @@
 //! table equal to that of a list of items.
 #![tactic(auto)]
 
-mod changes;
-mod laws;
-mod head_table;
 mod borrowed_table;
+mod changes;
+mod head_table;
+mod laws;
 mod pieces;
 mod record;
 mod records;

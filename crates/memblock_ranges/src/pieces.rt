@@ -1,13 +1,13 @@
 //! Counts how many records covering a range would add, as the first round of `memblock_add_range`
 //! does.
-ghost use Rattle.std.specs.Prelude.{◌≡◌, Bool, true, false, ◌&&◌, ◌||◌, not, if◌then◌else◌};
+ghost use Rattle.std.specs.Prelude.{◌≡◌, ◌&&◌, ◌||◌, not, if◌then◌else◌};
 ghost use Rattle.address_runs.specs.Runs.{value_at};
 ghost use Rattle.memblock_model.specs.Tables.{uncovered_run_count};
 ghost use Rattle.memblock_ranges.specs.Tables.{AreRecords};
 
 use crate::record::Record;
 use bm_base::Range;
-use run_edits::{Rows, value_and_end, seek, skip_ended};
+use run_edits::{Rows, seek, skip_ended, value_and_end};
 
 /// Counts the runs of the range's bytes that the table doesn't cover.
 pub fn count_pieces<T: Rows<Record>>(table: &T, range: &Range) -> u64

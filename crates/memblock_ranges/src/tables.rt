@@ -1,22 +1,21 @@
 //! Both tables in one store. Each edit of a table's records borrows the store and that table's
 //! head, and passes a change of one address's label to the sweep of `run_edits`. The other table
 //! is unchanged.
-ghost use Rattle.std.specs.Prelude.{◌≡◌, ℕ, ◌+◌, ◌-◌, ◌*◌, ◌^◌, ◌<◌, ◌≤◌, ◌↔◌, ◌||◌, Bool, true, false, Some, [], length, get_or, OnOk, OnErr, IfOk, IsTrue};
+ghost use Rattle.std.specs.Prelude.{◌≡◌, ℕ, ◌+◌, ◌-◌, ◌*◌, ◌^◌, ◌<◌, ◌≤◌, ◌↔◌, ◌||◌, true, false, Some, [], length, get_or, OnOk, OnErr, IfOk, IsTrue};
 ghost use Rattle.bm_base.specs.Range.{covers, end_of, Meet};
 ghost use Rattle.phys_store.specs.Bytes.{byte_of, is_prepared_at, ArePrepared, WritesBytes, bytes_at};
 ghost use Rattle.address_runs.specs.Runs.{RunOf, value_at};
 ghost use Rattle.address_runs.specs.Edits.{cover_range, uncover_range, relabel_range};
-ghost use Rattle.memblock_model.specs.declared.owner.Which.{Which as AnyWhich};
 ghost use Rattle.memblock_model.specs.declared.owner.Which.TheVariants as which;
 ghost use Rattle.memblock_model.specs.Labels.{LabelView, with_node, with_mirror};
 ghost use Rattle.memblock_model.specs.Items.{trim_frames};
 ghost use Rattle.memblock_model.specs.Tables.{records_for, uncovered_run_count, built_in_place};
 ghost use Rattle.memblock_ranges.specs.Encoding.{label_of, region_of, FitsRecord};
-ghost use Rattle.memblock_ranges.specs.Tables.{table_in, other_in, records_in, place_in, room_in, bytes_of, bytes_in, head_of, OverlapsTable, IsInStore, IsNodeOf, HaveNoNode};
+ghost use Rattle.memblock_ranges.specs.Tables.{table_in, other_in, records_in, room_in, bytes_of, bytes_in, head_of, OverlapsTable, IsInStore, IsNodeOf, HaveNoNode};
 
+use crate::borrowed_table::{TableMut, TableRef};
 use crate::changes::{SetMirror, SetNode};
 use crate::head_table;
-use crate::borrowed_table::{TableMut, TableRef};
 use crate::pieces::count_pieces;
 use crate::record::label_of;
 use crate::records::Records;
@@ -63,11 +62,14 @@ impl Tables {
     #[tactic(auto, using(crate::proofs::NewLaws::first_table))]
     pub fn new(alloc: Global, kernel: Range) -> Result<Tables, Memory>
         requires { 8192 ≤ kernel.size }
-        ensures memory { IfOk result (λ t. t.memory ≡ record { records = []; place = built_in_place which.Memory kernel; room = 128 }) }
-        ensures reserved { IfOk result (λ t. t.reserved ≡ record { records = []; place = built_in_place which.Reserved kernel; room = 128 }) }
+        ensures memory { IfOk result (λ t. t.memory
+            ≡ record { records = []; place = built_in_place which.Memory kernel; room = 128 }) }
+        ensures reserved { IfOk result (λ t. t.reserved
+            ≡ record { records = []; place = built_in_place which.Reserved kernel; room = 128 }) }
         ensures bytes { IfOk result (λ t. (x : ℕ) → byte_of t.store x ≡ 0) }
         ensures ready { IfOk result (λ t. (x : ℕ) →
-            is_prepared_at t.store x ≡ (covers (bytes_in which.Reserved t) x || covers (bytes_in which.Memory t) x)) }
+            is_prepared_at t.store x
+            ≡ (covers (bytes_in which.Reserved t) x || covers (bytes_in which.Memory t) x)) }
     {
         let heads = Heads {
             memory: built_in(kernel, 2),
@@ -97,7 +99,8 @@ impl Tables {
     /// table's count. Its end is below 2^64, and its node at most 1,024, which means none.
     pub fn region(&self, which: Which, i: u64) -> Region
         requires { i < length (records_in which self.now) }
-        ensures region { (r : RunOf LabelView) → result ≡ region_of (get_or (records_in which self.now) i r) }
+        ensures region { (r : RunOf LabelView)
+            → result ≡ region_of (get_or (records_in which self.now) i r) }
         ensures fits { (r : RunOf LabelView) → FitsRecord (get_or (records_in which self.now) i r) }
     {
         match which {
@@ -146,13 +149,17 @@ impl Tables {
     pub fn insert(&mut self, which: Which, range: Range, node: u32)
         requires some { 0 < range.size }
         requires node { IsNodeOf which node }
-        requires room { length (records_in which self.old) + uncovered_run_count range (value_at (records_in which self.old)) ≤ room_in which self.old }
+        requires room { length (records_in which self.old) + uncovered_run_count range
+            (value_at (records_in which self.old)) ≤ room_in which self.old }
         ensures table { table_in which self.new ≡ record (table_in which self.old) {
-          records = records_for (cover_range range (label_of 0 node) (value_at (records_in which self.old)));
+          records = records_for
+              (cover_range range (label_of 0 node) (value_at (records_in which self.old)));
         } }
         ensures other { other_in which self.new ≡ other_in which self.old }
-        ensures elsewhere { (x : ℕ) → covers (bytes_in which self.old) x ≡ false → byte_of self.new.store x ≡ byte_of self.old.store x }
-        ensures ready { (x : ℕ) → is_prepared_at self.new.store x ≡ is_prepared_at self.old.store x }
+        ensures elsewhere { (x : ℕ) → covers (bytes_in which self.old) x ≡ false
+            → byte_of self.new.store x ≡ byte_of self.old.store x }
+        ensures ready { (x : ℕ)
+            → is_prepared_at self.new.store x ≡ is_prepared_at self.old.store x }
     {
         range_end_fits(&range);
         let change = Cover(label_of(0, node));
@@ -183,8 +190,10 @@ impl Tables {
           records = records_for (uncover_range range (value_at (records_in which self.old)));
         } }
         ensures other { other_in which self.new ≡ other_in which self.old }
-        ensures elsewhere { (x : ℕ) → covers (bytes_in which self.old) x ≡ false → byte_of self.new.store x ≡ byte_of self.old.store x }
-        ensures ready { (x : ℕ) → is_prepared_at self.new.store x ≡ is_prepared_at self.old.store x }
+        ensures elsewhere { (x : ℕ) → covers (bytes_in which self.old) x ≡ false
+            → byte_of self.new.store x ≡ byte_of self.old.store x }
+        ensures ready { (x : ℕ)
+            → is_prepared_at self.new.store x ≡ is_prepared_at self.old.store x }
     {
         match which {
             Which::Memory => {
@@ -219,11 +228,14 @@ impl Tables {
         requires node { node < 1024 }
         requires room { length self.old.memory.records + 2 ≤ self.old.memory.room }
         ensures memory { self.new.memory ≡ record self.old.memory {
-          records = records_for (relabel_range range (with_node (Some node)) (value_at self.old.memory.records));
+          records = records_for
+              (relabel_range range (with_node (Some node)) (value_at self.old.memory.records));
         } }
         ensures reserved { self.new.reserved ≡ self.old.reserved }
-        ensures elsewhere { (x : ℕ) → covers (bytes_of self.old.memory) x ≡ false → byte_of self.new.store x ≡ byte_of self.old.store x }
-        ensures ready { (x : ℕ) → is_prepared_at self.new.store x ≡ is_prepared_at self.old.store x }
+        ensures elsewhere { (x : ℕ) → covers (bytes_of self.old.memory) x ≡ false
+            → byte_of self.new.store x ≡ byte_of self.old.store x }
+        ensures ready { (x : ℕ)
+            → is_prepared_at self.new.store x ≡ is_prepared_at self.old.store x }
     {
         let mut live = TableMut {
             store: &mut self.store,
@@ -241,11 +253,14 @@ impl Tables {
     pub fn set_mirror(&mut self, range: Range)
         requires { length self.old.memory.records + 2 ≤ self.old.memory.room }
         ensures memory { self.new.memory ≡ record self.old.memory {
-          records = records_for (relabel_range range with_mirror (value_at self.old.memory.records));
+          records = records_for
+              (relabel_range range with_mirror (value_at self.old.memory.records));
         } }
         ensures reserved { self.new.reserved ≡ self.old.reserved }
-        ensures elsewhere { (x : ℕ) → covers (bytes_of self.old.memory) x ≡ false → byte_of self.new.store x ≡ byte_of self.old.store x }
-        ensures ready { (x : ℕ) → is_prepared_at self.new.store x ≡ is_prepared_at self.old.store x }
+        ensures elsewhere { (x : ℕ) → covers (bytes_of self.old.memory) x ≡ false
+            → byte_of self.new.store x ≡ byte_of self.old.store x }
+        ensures ready { (x : ℕ)
+            → is_prepared_at self.new.store x ≡ is_prepared_at self.old.store x }
     {
         let mut live = TableMut {
             store: &mut self.store,
@@ -260,10 +275,15 @@ impl Tables {
     /// Cuts memory to whole frames: a byte keeps its label if all bytes of its frame have it, and
     /// else is no longer memory (`memblock_trim_memory`).
     pub fn trim(&mut self)
-        ensures memory { self.new.memory ≡ record self.old.memory { records = records_for (trim_frames (value_at self.old.memory.records)) } }
+        ensures memory { self.new.memory ≡ record self.old.memory {
+          records = records_for
+              (trim_frames (value_at self.old.memory.records));
+        } }
         ensures reserved { self.new.reserved ≡ self.old.reserved }
-        ensures elsewhere { (x : ℕ) → covers (bytes_of self.old.memory) x ≡ false → byte_of self.new.store x ≡ byte_of self.old.store x }
-        ensures ready { (x : ℕ) → is_prepared_at self.new.store x ≡ is_prepared_at self.old.store x }
+        ensures elsewhere { (x : ℕ) → covers (bytes_of self.old.memory) x ≡ false
+            → byte_of self.new.store x ≡ byte_of self.old.store x }
+        ensures ready { (x : ℕ)
+            → is_prepared_at self.new.store x ≡ is_prepared_at self.old.store x }
     {
         let mut live = TableMut {
             store: &mut self.store,
@@ -282,7 +302,8 @@ impl Tables {
         ensures memory { self.new.memory ≡ self.old.memory }
         ensures reserved { self.new.reserved ≡ self.old.reserved }
         ensures bytes { (x : ℕ) → byte_of self.new.store x ≡ byte_of self.old.store x }
-        ensures ready { OnOk result ((x : ℕ) → is_prepared_at self.new.store x ≡ (covers range x || is_prepared_at self.old.store x)) }
+        ensures ready { OnOk result ((x : ℕ) →
+            is_prepared_at self.new.store x ≡ (covers range x || is_prepared_at self.old.store x)) }
         ensures err { OnErr result (self.new.store ≡ self.old.store) }
         ensures wants { OnErr result (ArePrepared self.old.store range.base range.size → ⊥) }
     {
@@ -295,13 +316,18 @@ impl Tables {
     pub fn relocate(&mut self, which: Which, place: u64)
         requires small { place + 48 * room_in which self.old < 2 ^ 64 }
         requires prepared { ArePrepared self.old.store place (48 * room_in which self.old) }
-        requires apart { ¬ OverlapsTable self.old (record { base = place; size = 48 * room_in which self.old }) }
-        ensures table { table_in which self.new ≡ record (table_in which self.old) { place = place; room = 2 * room_in which self.old } }
+        requires apart { ¬ OverlapsTable self.old
+            (record { base = place; size = 48 * room_in which self.old }) }
+        ensures table { table_in which self.new ≡ record
+            (table_in which self.old) { place = place; room = 2 * room_in which self.old } }
         ensures other { other_in which self.new ≡ other_in which self.old }
-        ensures left { (x : ℕ) → covers (bytes_in which self.old) x ≡ true → byte_of self.new.store x ≡ 0 }
-        ensures elsewhere { (x : ℕ) → covers (bytes_in which self.new) x ≡ false → covers (bytes_in which self.old) x ≡ false →
+        ensures left { (x : ℕ) → covers (bytes_in which self.old) x ≡ true
+            → byte_of self.new.store x ≡ 0 }
+        ensures elsewhere { (x : ℕ) → covers (bytes_in which self.new) x ≡ false
+            → covers (bytes_in which self.old) x ≡ false →
             byte_of self.new.store x ≡ byte_of self.old.store x }
-        ensures ready { (x : ℕ) → is_prepared_at self.new.store x ≡ is_prepared_at self.old.store x }
+        ensures ready { (x : ℕ)
+            → is_prepared_at self.new.store x ≡ is_prepared_at self.old.store x }
     {
         match which {
             Which::Memory => {
@@ -328,7 +354,8 @@ impl Tables {
         requires apart { ¬ OverlapsTable self.old range }
         ensures memory { self.new.memory ≡ self.old.memory }
         ensures reserved { self.new.reserved ≡ self.old.reserved }
-        ensures bytes { WritesBytes self.old.store self.new.store range.base range.size (λ _. byte) }
+        ensures bytes { WritesBytes self.old.store self.new.store range.base range.size (λ _.
+            byte) }
     {
         self.store.fill(range, byte);
     }
@@ -345,7 +372,8 @@ impl Tables {
     #[tactic(auto, using(crate::proofs::TableSpelling::head_is))]
     pub fn into_parts(self) -> (Store, Heads)
         ensures store { result.0 ≡ self.store }
-        ensures heads { result.1 ≡ record { memory = head_of self.memory; reserved = head_of self.reserved } }
+        ensures heads { result.1
+            ≡ record { memory = head_of self.memory; reserved = head_of self.reserved } }
         ensures memory { IsInStore self.memory result.0 }
         ensures reserved { IsInStore self.reserved result.0 }
         ensures plain { HaveNoNode self.reserved.records }
@@ -360,7 +388,8 @@ impl Tables {
 fn built_in(kernel: Range, frames: u64) -> Head
     requires size { 8192 ≤ kernel.size }
     requires frames { frames ≤ 2 }
-    ensures head { result ≡ record { place = end_of kernel - FRAME_SIZE * frames; room = 128; count = 0 } }
+    ensures head { result
+        ≡ record { place = end_of kernel - FRAME_SIZE * frames; room = 128; count = 0 } }
     ensures small { end_of kernel < 2 ^ 64 }
 {
     Head {

@@ -15,10 +15,12 @@ use run_edits::{Slots, emit};
 /// Returns where the whole frames of the range begin and end. If it has none, the first address
 /// isn't below the second.
 fn whole_frame_bounds(range: &Range) -> (u64, u64)
-    ensures start { result.0 < result.1 → result.0 ≡ range.now.base + (FRAME_SIZE - range.now.base % FRAME_SIZE) % FRAME_SIZE }
+    ensures start { result.0 < result.1
+        → result.0 ≡ range.now.base + (FRAME_SIZE - range.now.base % FRAME_SIZE) % FRAME_SIZE }
     ensures until { result.1 ≡ end_of range.now - end_of range.now % FRAME_SIZE }
     ensures none { result.1 ≤ result.0 →
-        end_of range.now - end_of range.now % FRAME_SIZE ≤ range.now.base + (FRAME_SIZE - range.now.base % FRAME_SIZE) % FRAME_SIZE }
+        end_of range.now - end_of range.now % FRAME_SIZE
+        ≤ range.now.base + (FRAME_SIZE - range.now.base % FRAME_SIZE) % FRAME_SIZE }
 {
     let end = range.end();
     let until = end - end % FRAME_SIZE;

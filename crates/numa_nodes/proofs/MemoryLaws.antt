@@ -17,7 +17,7 @@ use Rattle.memblock_model.specs.Labels.{LabelView, Labels, with_node}
 use Rattle.growth_model.specs.Requests.{StepsKeepMemory}
 use Rattle.growth_model.specs.Growth.{make_table_room, memory_growth, set_range_node, split_record_count}
 use Rattle.growth_model.specs.Change.{ChangeEffect, RefusedGrowth, followed_by, write_item}
-use Rattle.growth_model.specs.Change.{items_after_change as after_change}
+use Rattle.growth_model.specs.Change.{items_after_change}
 use Rattle.growth_model.proofs.QuietLaws.{memory_growth-quiet, quiet-grown}
 use Rattle.memblock_grow.specs.declared.stop.What.TheVariants as what
 use Rattle.stage_steps.specs.Causes.{StageCause}
@@ -50,7 +50,7 @@ set_block_node-by : (P : List Item → Type 0) (b : NumaBlock) (items : List Ite
     → ((growth items).refused ≢ None → P (append_groups items (growth items).steps)) → P (items_after_step items (set_block_node tt b items))
 unfolding set_range_node
 set_block_node-by P b items =
-    set_block_node-cases P (growth items) (growth items).refused items (after_change items (growth items)) (item.Node (extent_of b) b.value)
+    set_block_node-cases P (growth items) (growth items).refused items (items_after_change items (growth items)) (item.Node (extent_of b) b.value)
 
 none-refused : (first second : ChangeEffect) (r : Option RefusedGrowth) → first.refused ≡ r
     → stop_if_refused (followed_by first r second).refused ≡ Ok tt → r ≡ None
@@ -76,7 +76,7 @@ set_block_node-memory b items answered =
     set_block_node-by (λ (is : List Item). memory_of is ≡ relabel_range (extent_of b) (with_node (Some b.value)) (memory_of items)) b items
     (node-item b items)
     (λ refused. absurd (refused (none-refused (growth items)
-    (write_item (item.Node (extent_of b) b.value) (after_change items (growth items))) (growth items).refused refl answered)))
+    (write_item (item.Node (extent_of b) b.value) (items_after_change items (growth items))) (growth items).refused refl answered)))
 
 map-some : (change : LabelView → LabelView) (o : Option LabelView) → is_some (option_map change o) ≡ is_some o
 map-some change None = refl

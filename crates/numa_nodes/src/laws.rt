@@ -15,7 +15,8 @@ ghost use Rattle.numa_nodes.specs.Assignment.{NodesView, assign_nodes, is_of_nod
 /// stage returns.
 pub fn assign_keeps_memory_and_limit()
     ensures memory { (table : Option SratView) (off : Bool) (items : List AnyItem) (x : ℕ) →
-        is_some (memory_of (items_after_step items (assign_nodes table off items)) x) ≡ is_some (memory_of items x) }
+        is_some (memory_of (items_after_step items (assign_nodes table off items)) x)
+        ≡ is_some (memory_of items x) }
     ensures limit { (table : Option SratView) (off : Bool) (items : List AnyItem) →
         limit_of (items_after_step items (assign_nodes table off items)) ≡ limit_of items }
 {}
@@ -24,13 +25,17 @@ pub fn assign_keeps_memory_and_limit()
 /// the same label. This holds if memory was whole frames, each with one label, and ended at or
 /// below the limit. The nodes that the stage returns are those that have memory.
 pub fn all_memory_gets_nodes()
-    ensures noded { (reach : ℕ) (table : Option SratView) (off : Bool) (items : List AnyItem) (noded : NodesView) →
-        (assign_nodes table off items).answer ≡ Ok noded → reach ≤ 2 ^ 64 → IsSameInFrames (memory_of items) →
+    ensures noded { (reach : ℕ) (table : Option SratView) (off : Bool) (items : List AnyItem)
+        (noded : NodesView) →
+        (assign_nodes table off items).answer ≡ Ok noded → reach ≤ 2 ^ 64
+        → IsSameInFrames (memory_of items) →
         NothingFrom reach (memory_of items) → NothingFrom (limit_of items) (memory_of items) →
         HasNodes reach (memory_of (items_after_step items (assign_nodes table off items))) }
-    ensures nodes { (table : Option SratView) (off : Bool) (items : List AnyItem) (noded : NodesView) →
+    ensures nodes { (table : Option SratView) (off : Bool) (items : List AnyItem)
+        (noded : NodesView) →
         (assign_nodes table off items).answer ≡ Ok noded →
-        noded.with_memory ≡ nodes_with_memory (memory_of (items_after_step items (assign_nodes table off items))) }
+        noded.with_memory
+        ≡ nodes_with_memory (memory_of (items_after_step items (assign_nodes table off items))) }
 {}
 
 /// Law: a node is listed exactly if it is below 1,024 and some byte of memory has it; and the list

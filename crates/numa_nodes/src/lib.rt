@@ -26,6 +26,6 @@ mod laws;
 mod memory;
 mod stage;
 
-pub use laws::{listed_nodes_have_memory, assign_keeps_memory_and_limit, all_memory_gets_nodes};
+pub use laws::{all_memory_gets_nodes, assign_keeps_memory_and_limit, listed_nodes_have_memory};
 pub use srat_nodes::Why;
 pub use stage::{Nodes, assign};

@@ -19,7 +19,7 @@ use bm_base::{Memory, Range};
 use boot_journal::{Owner, Which};
 use growth_model::Request;
 use memblock_grow::Memblock;
-use srat_nodes::{SratNodes, NodeRange, Why, judge_srat};
+use srat_nodes::{NodeRange, SratNodes, Why, judge_srat};
 use srat_reader::Srat;
 use stage_steps::{StageStop, What, place_or_stop, set_node_or_stop};
 use std::alloc::Global;
@@ -65,7 +65,8 @@ pub fn assign(
     requires begun { HasBegun memblock.old.journal.items }
     requires limit { 0 < limit_of memblock.old.journal.items }
     requires few { ForSome srat (λ table. length table.now.blocks.items < 2 ^ 32) }
-    ensures ends { EndsAsStage (assign_nodes (option_map srat_view (option_copied srat.entry)) off) stage_stop (view_of_result nodes_view result)
+    ensures ends { EndsAsStage (assign_nodes (option_map srat_view (option_copied srat.entry)) off)
+        stage_stop (view_of_result nodes_view result)
         memblock.old.journal.items memblock.new.journal.items }
     ensures goes_on { ContinuesMemblock memblock.old memblock.new }
 {
@@ -75,10 +76,16 @@ pub fn assign(
 }
 
 /// Like [`assign`], after the table of domains has been judged.
-fn assign_nodes_by(alloc: Global, memblock: &mut Memblock, found: SratNodes) -> Result<Nodes, StageStop>
+fn assign_nodes_by(
+    alloc: Global,
+    memblock: &mut Memblock,
+    found: SratNodes,
+) -> Result<Nodes, StageStop>
     requires begun { HasBegun memblock.old.journal.items }
-    requires ranges { CanGetNodes (node_ranges (limit_of memblock.old.journal.items) (srat_nodes_view found)) }
-    ensures ends { EndsAsStage (assign_nodes_by (srat_nodes_view found)) stage_stop (view_of_result nodes_view result)
+    requires ranges { CanGetNodes
+        (node_ranges (limit_of memblock.old.journal.items) (srat_nodes_view found)) }
+    ensures ends { EndsAsStage (assign_nodes_by (srat_nodes_view found)) stage_stop
+        (view_of_result nodes_view result)
         memblock.old.journal.items memblock.new.journal.items }
     ensures goes_on { GoesFurther memblock.old memblock.new }
 {

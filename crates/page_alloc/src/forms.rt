@@ -5,12 +5,12 @@ ghost use Rattle.std.specs.Prelude.{◌≡◌, IfOk, IfErr};
 ghost use Rattle.script_reader.specs.Numbers.{IsOfWords};
 ghost use Rattle.text_words.specs.Words.{words_in};
 ghost use Rattle.text_words.specs.declared.separators.Separators.TheVariants as separators;
-ghost use Rattle.page_alloc.specs.Forms.{zone_named as zone_of_name, pages_line as pages_of, near_line as near_of, give_line as give_of, page_act_by_name as named_line};
+ghost use Rattle.page_alloc.specs.Forms.{zone_named, pages_line, near_line, give_line, page_act_by_name};
 ghost use Rattle.page_alloc.specs.Pages.{HasValidOrder};
 
 use crate::act::PageAct;
 use bm_base::Zone;
-use script_reader::{GREATEST_ID, GREATEST_NODE, Wrong, number_within, first_word, one_word};
+use script_reader::{GREATEST_ID, GREATEST_NODE, Wrong, first_word, number_within, one_word};
 
 /// The largest order of a block.
 const GREATEST_ORDER: u64 = 10;
@@ -22,7 +22,7 @@ const GREATEST_ORDER: u64 = 10;
 /// - `Form`: the words have no form.
 /// - `Number`: the words have a form, but a number is malformed or above its limit.
 pub fn page_act_by_name(name: &[u8], rest: &[u8]) -> Result<PageAct, Wrong>
-    ensures value { result ≡ named_line name.now (words_in separators.Script rest.now) }
+    ensures value { result ≡ page_act_by_name name.now (words_in separators.Script rest.now) }
     ensures order { IfOk result HasValidOrder }
     ensures of_words { IfErr result IsOfWords }
 {
@@ -44,7 +44,7 @@ pub fn page_act_by_name(name: &[u8], rest: &[u8]) -> Result<PageAct, Wrong>
 ///
 /// - `Form`: there is no zone of this name.
 fn zone_named(word: &[u8]) -> Result<Zone, Wrong>
-    ensures value { result ≡ zone_of_name word.now }
+    ensures value { result ≡ zone_named word.now }
     ensures of_words { IfErr result IsOfWords }
 {
     if word == b"DMA".as_slice() {
@@ -61,7 +61,7 @@ fn zone_named(word: &[u8]) -> Result<Zone, Wrong>
 
 /// Reads `ID ORDER NODE ZONE`, the words of a `pages` line after the first.
 fn pages_line(text: &[u8]) -> Result<PageAct, Wrong>
-    ensures value { result ≡ pages_of (words_in separators.Script text.now) }
+    ensures value { result ≡ pages_line (words_in separators.Script text.now) }
     ensures order { IfOk result HasValidOrder }
     ensures of_words { IfErr result IsOfWords }
 {
@@ -82,7 +82,7 @@ fn pages_line(text: &[u8]) -> Result<PageAct, Wrong>
 
 /// Reads `ID ORDER NODE`, the words of a `near` line after the first.
 fn near_line(text: &[u8]) -> Result<PageAct, Wrong>
-    ensures value { result ≡ near_of (words_in separators.Script text.now) }
+    ensures value { result ≡ near_line (words_in separators.Script text.now) }
     ensures order { IfOk result HasValidOrder }
     ensures of_words { IfErr result IsOfWords }
 {
@@ -97,7 +97,7 @@ fn near_line(text: &[u8]) -> Result<PageAct, Wrong>
 
 /// Reads `ID`, the only word of a `give` line after the first.
 fn give_line(text: &[u8]) -> Result<PageAct, Wrong>
-    ensures value { result ≡ give_of (words_in separators.Script text.now) }
+    ensures value { result ≡ give_line (words_in separators.Script text.now) }
     ensures order { IfOk result HasValidOrder }
     ensures of_words { IfErr result IsOfWords }
 {

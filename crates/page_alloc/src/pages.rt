@@ -3,7 +3,7 @@
 ghost use Rattle.std.specs.Prelude.{◌≡◌, ◌⊎◌, ◌+◌, ◌*◌, ◌^◌, ◌<◌, ◌≤◌, IfOk, OnErr};
 ghost use Rattle.buddy_handover.specs.BuddyView.{buddy_frames};
 ghost use Rattle.page_alloc.specs.declared.act.PageAct.TheVariants as act;
-ghost use Rattle.page_alloc.specs.PagesView.{held_in, page_state_of};
+ghost use Rattle.page_alloc.specs.PagesView.{page_state_of};
 ghost use Rattle.page_alloc.specs.Pages.{first_page_state, page_step, HasValidOrder, IsPagesOrGive, NeedsMemory};
 
 use crate::act::{PageAct, PageLine};
@@ -31,7 +31,8 @@ impl Model for Pages {
 
     ghost view = { λ p. record { buddy = p.buddy; ids = p.ids.entries } };
 
-    ghost invariant = { λ p. AreHeldApart (page_state_of (record { buddy = p.buddy; ids = p.ids.entries })) };
+    ghost invariant = { λ p.
+        AreHeldApart (page_state_of (record { buddy = p.buddy; ids = p.ids.entries })) };
 }
 
 impl Pages {
@@ -77,9 +78,12 @@ impl Pages {
         zone: Zone,
     ) -> Result<PageOutcome, Memory>
         requires { order ≤ 10 }
-        ensures ok { IfOk result (λ outcome. (outcome, page_state_of self.new) ≡ page_step (page_state_of self.old) (act.Pages id order node zone)) }
-        ensures memory { OnErr result (NeedsMemory (page_step (page_state_of self.old) (act.Pages id order node zone)).0) }
-        ensures refused { IfOk result (λ outcome. (outcome ≡ PageOutcome.Taken) ⊎ (outcome ≡ PageOutcome.NoBlock) → self.new ≡ self.old) }
+        ensures ok { IfOk result (λ outcome. (outcome, page_state_of self.new)
+            ≡ page_step (page_state_of self.old) (act.Pages id order node zone)) }
+        ensures memory { OnErr result
+            (NeedsMemory (page_step (page_state_of self.old) (act.Pages id order node zone)).0) }
+        ensures refused { IfOk result (λ outcome.
+            (outcome ≡ PageOutcome.Taken) ⊎ (outcome ≡ PageOutcome.NoBlock) → self.new ≡ self.old) }
         ensures err { OnErr result (self.new ≡ self.old) }
     {
         let Ok(entry) = self.ids.entry(id) else {
@@ -108,8 +112,10 @@ impl Pages {
     ///
     /// - `Memory`: the program ran out of memory. Nothing has changed, and the ID holds frames.
     fn free_held_frames(&mut self, id: u32) -> Result<PageOutcome, Memory>
-        ensures ok { IfOk result (λ outcome. (outcome, page_state_of self.new) ≡ page_step (page_state_of self.old) (act.Give id)) }
-        ensures memory { OnErr result (NeedsMemory (page_step (page_state_of self.old) (act.Give id)).0) }
+        ensures ok { IfOk result (λ outcome.
+            (outcome, page_state_of self.new) ≡ page_step (page_state_of self.old) (act.Give id)) }
+        ensures memory { OnErr result
+            (NeedsMemory (page_step (page_state_of self.old) (act.Give id)).0) }
         ensures err { OnErr result (self.new ≡ self.old) }
     {
         let Some(held) = self.held(id) else {
@@ -130,8 +136,10 @@ impl Pages {
     pub fn run_line(&mut self, line: &PageLine) -> Result<PageOutcome, Memory>
         requires order { HasValidOrder line.now.act }
         requires plain { IsPagesOrGive line.now.act }
-        ensures ok { IfOk result (λ outcome. (outcome, page_state_of self.new) ≡ page_step (page_state_of self.old) line.now.act) }
-        ensures memory { OnErr result (NeedsMemory (page_step (page_state_of self.old) line.now.act).0) }
+        ensures ok { IfOk result (λ outcome.
+            (outcome, page_state_of self.new) ≡ page_step (page_state_of self.old) line.now.act) }
+        ensures memory { OnErr result
+            (NeedsMemory (page_step (page_state_of self.old) line.now.act).0) }
         ensures err { OnErr result (self.new ≡ self.old) }
     {
         match line.act {

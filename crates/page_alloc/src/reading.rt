@@ -4,11 +4,11 @@ ghost use Rattle.std.specs.Prelude.{◌≡◌, ◌<◌, ◌^◌, length, Err, If
 ghost use Rattle.bm_base.specs.Answers.{Answers};
 ghost use Rattle.script_reader.specs.Numbers.{IsOfWords};
 ghost use Rattle.page_alloc.specs.Pages.{HaveValidOrders};
-ghost use Rattle.page_alloc.specs.Reading.{page_script_fault_at as line_fault, page_lines_of};
+ghost use Rattle.page_alloc.specs.Reading.{page_script_fault_at, page_lines_of};
 
 use crate::act::{PageAct, PageLine};
 use crate::forms::page_act_by_name;
-use script_reader::{ScriptLine, LinesError, Wrong, read_lines};
+use script_reader::{LinesError, ScriptLine, Wrong, read_lines};
 use std::alloc::Global;
 
 /// The reason why a page script is refused. `line` is the number of the lowest line that has a
@@ -63,7 +63,8 @@ impl ScriptLine for PageLine {
 /// - `Memory`: no line has a fault and some line has a command, but the program ran out of memory.
 pub fn read_pages(alloc: Global, bytes: &[u8]) -> Result<Vec<PageLine>, PageFault>
     requires { length bytes.now < 2 ^ 32 }
-    ensures answers { Answers PageFault.Memory (λ lines. lines.items) result (page_lines_of bytes.now) }
+    ensures answers { Answers PageFault.Memory (λ lines.
+        lines.items) result (page_lines_of bytes.now) }
     ensures memory { result ≡ Err PageFault.Memory →
         IsOkAnd (page_lines_of bytes.now) (λ lines. 0 < length lines) }
     ensures orders { IfOk result (λ lines. HaveValidOrders lines.items) }
@@ -79,7 +80,7 @@ pub fn read_pages(alloc: Global, bytes: &[u8]) -> Result<Vec<PageLine>, PageFaul
 /// `Number` can be wrong.
 fn page_script_fault_at(line: u32, wrong: Wrong) -> PageFault
     requires { IsOfWords wrong }
-    ensures { result ≡ line_fault line wrong }
+    ensures { result ≡ page_script_fault_at line wrong }
 {
     match wrong {
         Wrong::Form => PageFault::BadLine { line },

@@ -10,6 +10,6 @@ mod of_free_areas;
 #[cfg(test)]
 mod of_page_alloc;
 #[cfg(test)]
-mod of_slit_zonelists;
-#[cfg(test)]
 mod of_report_stages;
+#[cfg(test)]
+mod of_slit_zonelists;

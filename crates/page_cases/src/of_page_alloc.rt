@@ -34,7 +34,8 @@ fn each_outcome(rt: HostRuntime) -> Result<(), Fail> {
     let answers = run(
         rt.alloc(),
         &mut pages,
-        b"pages 1 0 0 DMA\npages 2 9 0 DMA\n# of another node\npages 3 10 1 DMA\npages 1 0 0 DMA\ngive 1\ngive 1\n",
+        b"pages 1 0 0 DMA\npages 2 9 0 DMA\n# of another node\npages 3 10 1 DMA\npages 1 0 0 DMA\n\
+            give 1\ngive 1\n",
     )?;
     let want = [
         (1, PageOutcome::At(0x10_0000)),

@@ -7,8 +7,8 @@ ghost use Rattle.slit_zonelists.specs.SlitView.{slit_view, IsSquare};
 
 use bm_base::{Memory, Zone};
 use page_alloc::{PageAnswer, PageOutcome};
-use slit_zonelists::{Lists, Slit};
 use report_stages::{put_pages, put_zonelists};
+use slit_zonelists::{Lists, Slit};
 use std::alloc::Global;
 use std::test::Fail;
 use zone_spans::Span;

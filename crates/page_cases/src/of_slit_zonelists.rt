@@ -13,8 +13,8 @@ use std::test::Fail;
 use zone_spans::Span;
 
 /// The SLIT of `examples/srat-slit`.
-const THREE_DOMAINS: [u8; 53] =
-    *b"SLIT5\0\0\0\x01\x90CORPUSBOOTMEM \x01\0\0\0TEST\x01\0\0\0\x03\0\0\0\0\0\0\0\x0a\x1e\x14\x1e\x0a\x14\x14\x14\x0a";
+const THREE_DOMAINS: [u8; 53] = *b"SLIT5\0\0\0\x01\x90CORPUSBOOTMEM \
+        \x01\0\0\0TEST\x01\0\0\0\x03\0\0\0\0\0\0\0\x0a\x1e\x14\x1e\x0a\x14\x14\x14\x0a";
 
 /// Returns a table of one domain, with this first byte of the signature, stated length and
 /// checksum. `low` and `high` are the lowest and the highest byte of its number of domains.

@@ -1,7 +1,7 @@
 //! Reads and writes the extents of a store, without allocating. Each call finds the extent that
 //! has the first address. Extents don't touch, so that extent has the whole of a prepared range,
 //! and no call continues in another extent.
-ghost use Rattle.std.specs.Prelude.{◌≡◌, MatchOption, Some, None, get_or, ℕ, ◌+◌, ◌-◌, ◌^◌, ◌<◌, ◌≤◌, ◌↔◌, Bool, true, ◌||◌, nat_le, min, max, map, length, slice_index, position, IsTrue};
+ghost use Rattle.std.specs.Prelude.{◌≡◌, MatchOption, Some, None, get_or, ℕ, ◌+◌, ◌-◌, ◌^◌, ◌<◌, ◌≤◌, ◌↔◌, true, ◌||◌, nat_le, min, max, map, length, slice_index, position, IsTrue};
 ghost use Rattle.phys_store.specs.Bytes.{end_of_extent, is_in_extent, byte_of, ArePrepared, WritesBytes, bytes_at};
 ghost use Rattle.phys_store.specs.Extents.{extent_view, nth_extent, AreApart};
 
@@ -47,8 +47,10 @@ fn is_in_extent(extent: &Extent, address: u64) -> bool
 pub fn first_reaching(extents: &[Extent], address: u64) -> usize
     requires { AreApart 0 (map extent_view extents.now) }
     ensures most { result ≤ length extents.now }
-    ensures below { (i : ℕ) → i < result → end_of_extent (nth_extent (map extent_view extents.now) i) < address }
-    ensures reaches { result < length extents.now → address ≤ end_of_extent (nth_extent (map extent_view extents.now) result) }
+    ensures below { (i : ℕ) → i < result
+        → end_of_extent (nth_extent (map extent_view extents.now) i) < address }
+    ensures reaches { result < length extents.now
+        → address ≤ end_of_extent (nth_extent (map extent_view extents.now) result) }
 {
     let mut low = 0;
     let mut high = extents.len();
@@ -84,8 +86,8 @@ fn index_by_linear_search(extents: &[Extent], address: u64) -> Option<usize>
     extents.iter().position(|e| is_in_extent(e, address))
 }
 
-/// Like [`index_of_extent`], by binary search. Only the first extent that ends at or above the address
-/// can have it: if that one ends exactly there, the next begins above.
+/// Like [`index_of_extent`], by binary search. Only the first extent that ends at or above the
+/// address can have it: if that one ends exactly there, the next begins above.
 // A function of its own, so that the linear search is small enough to be inlined.
 #[inline(never)]
 fn index_by_binary_search(extents: &[Extent], address: u64) -> Option<usize>
@@ -103,8 +105,10 @@ fn index_by_binary_search(extents: &[Extent], address: u64) -> Option<usize>
 /// Returns the extent that has this address, or `None` if no extent has it.
 fn extent_at(extents: &[Extent], address: u64) -> Option<&Extent>
     requires { AreApart 0 (map extent_view extents.now) }
-    ensures { MatchOption result (position (λ e. is_in_extent (extent_view e) address) extents.now ≡ None) (λ e. (i : ℕ) ×
-        (position (λ d. is_in_extent (extent_view d) address) extents.now ≡ Some i) × (e.now ≡ get_or extents.now i e.now)) }
+    ensures { MatchOption result (position (λ e. is_in_extent (extent_view e) address) extents.now
+        ≡ None) (λ e. (i : ℕ) ×
+        (position (λ d. is_in_extent (extent_view d) address) extents.now ≡ Some i)
+        × (e.now ≡ get_or extents.now i e.now)) }
 {
     if extents.len() > FEW {
         return extent_by_binary_search(extents, address);
@@ -117,8 +121,10 @@ fn extent_at(extents: &[Extent], address: u64) -> Option<&Extent>
 #[inline(never)]
 fn extent_by_binary_search(extents: &[Extent], address: u64) -> Option<&Extent>
     requires { AreApart 0 (map extent_view extents.now) }
-    ensures { MatchOption result (position (λ e. is_in_extent (extent_view e) address) extents.now ≡ None) (λ e. (i : ℕ) ×
-        (position (λ d. is_in_extent (extent_view d) address) extents.now ≡ Some i) × (e.now ≡ get_or extents.now i e.now)) }
+    ensures { MatchOption result (position (λ e. is_in_extent (extent_view e) address) extents.now
+        ≡ None) (λ e. (i : ℕ) ×
+        (position (λ d. is_in_extent (extent_view d) address) extents.now ≡ Some i)
+        × (e.now ≡ get_or extents.now i e.now)) }
 {
     let i = index_by_binary_search(extents, address)?;
     Some(&extents[i])
@@ -169,7 +175,8 @@ pub fn write(extents: &mut [Extent], at: u64, bytes: &[u8])
     requires apart { AreApart 0 (map extent_view extents.old) }
     requires prepared { ArePrepared (map extent_view extents.old) at (length bytes.now) }
     ensures apart { AreApart 0 (map extent_view extents.new) }
-    ensures wrote { WritesBytes (map extent_view extents.old) (map extent_view extents.new) at (length bytes.now) (slice_index bytes.now) }
+    ensures wrote { WritesBytes (map extent_view extents.old) (map extent_view extents.new) at
+        (length bytes.now) (slice_index bytes.now) }
 {
     if let Some(i) = index_of_extent(extents, at) {
         let extent = &mut extents[i];
@@ -183,7 +190,8 @@ pub fn fill(extents: &mut [Extent], range: Range, byte: u8)
     requires apart { AreApart 0 (map extent_view extents.old) }
     requires prepared { ArePrepared (map extent_view extents.old) range.base range.size }
     ensures apart { AreApart 0 (map extent_view extents.new) }
-    ensures wrote { WritesBytes (map extent_view extents.old) (map extent_view extents.new) range.base range.size (λ _. byte) }
+    ensures wrote { WritesBytes (map extent_view extents.old)
+        (map extent_view extents.new) range.base range.size (λ _. byte) }
 {
     if let Some(i) = index_of_extent(extents, range.base) {
         let extent = &mut extents[i];
@@ -196,9 +204,11 @@ pub fn fill(extents: &mut [Extent], range: Range, byte: u8)
 /// addresses of both ranges, and those between them, must be prepared.
 pub fn move_bytes(extents: &mut [Extent], from: u64, to: u64, count: u64)
     requires apart { AreApart 0 (map extent_view extents.old) }
-    requires prepared { ArePrepared (map extent_view extents.old) (min from to) (max from to - min from to + count) }
+    requires prepared { ArePrepared (map extent_view extents.old) (min from to)
+        (max from to - min from to + count) }
     ensures apart { AreApart 0 (map extent_view extents.new) }
-    ensures wrote { WritesBytes (map extent_view extents.old) (map extent_view extents.new) to count (λ k. byte_of (map extent_view extents.old) (from + k)) }
+    ensures wrote { WritesBytes (map extent_view extents.old) (map extent_view extents.new) to count
+        (λ k. byte_of (map extent_view extents.old) (from + k)) }
 {
     if let Some(i) = index_of_extent(extents, from.min(to)) {
         let extent = &mut extents[i];
@@ -222,7 +232,8 @@ pub fn copy_bytes(extents: &mut [Extent], from: u64, to: u64, count: u64)
     requires written { ArePrepared (map extent_view extents.old) to count }
     requires disjoint { IsTrue (nat_le (from + count) to || nat_le (to + count) from) }
     ensures apart { AreApart 0 (map extent_view extents.new) }
-    ensures wrote { WritesBytes (map extent_view extents.old) (map extent_view extents.new) to count (λ k. byte_of (map extent_view extents.old) (from + k)) }
+    ensures wrote { WritesBytes (map extent_view extents.old) (map extent_view extents.new) to count
+        (λ k. byte_of (map extent_view extents.old) (from + k)) }
 {
     let mut chunk = [0; CHUNK];
     let mut done = 0;

@@ -27,11 +27,13 @@ struct TouchedExtents {
 /// range make up.
 fn touched_extents(extents: &[Extent], range: Range) -> TouchedExtents
     requires { AreApart 0 (map extent_view extents.now) }
-    ensures joins { TouchRange (map extent_view extents.now) result.first result.behind result.low result.high }
+    ensures joins { TouchRange
+        (map extent_view extents.now) result.first result.behind result.low result.high }
     ensures low { result.low ≤ range.base }
     ensures high { end_of range ≤ result.high }
     ensures small { result.high < 2 ^ 64 }
-    ensures ready { (x : ℕ) → result.low ≤ x → x < result.high → IsTrue (covers range x || is_prepared_at (map extent_view extents.now) x) }
+    ensures ready { (x : ℕ) → result.low ≤ x → x < result.high
+        → IsTrue (covers range x || is_prepared_at (map extent_view extents.now) x) }
 {
     let first = first_reaching(extents, range.base);
     let mut behind = first;
@@ -59,7 +61,8 @@ fn touched_extents(extents: &[Extent], range: Range) -> TouchedExtents
 fn insert_extent(extents: &mut Vec<Extent>, first: usize, low: u64, high: u64) -> Result<(), Memory>
     requires order { low ≤ high }
     requires most { first ≤ length extents.old.items }
-    ensures ok { OnOk result (map extent_view extents.new.items ≡ merge_extents (map extent_view extents.old.items) first first low high) }
+    ensures ok { OnOk result (map extent_view extents.new.items
+        ≡ merge_extents (map extent_view extents.old.items) first first low high) }
     ensures err { OnErr result (extents.new.items ≡ extents.old.items) }
 {
     let bytes = vec![in *extents.allocator(); 0; (high - low) as usize]?;
@@ -114,7 +117,8 @@ fn append_zeros(bytes: &mut Vec<u8>, count: usize) -> Result<(), Memory>
 /// - `Memory`: the program ran out of memory; the bytes are unchanged.
 fn append_from(bytes: &mut Vec<u8>, from: usize) -> Result<(), Memory>
     requires { from ≤ length bytes.old.items }
-    ensures ok { OnOk result (bytes.new.items ≡ bytes.old.items ++ slice_range bytes.old.items from (length bytes.old.items)) }
+    ensures ok { OnOk result (bytes.new.items ≡ bytes.old.items
+        ++ slice_range bytes.old.items from (length bytes.old.items)) }
     ensures err { OnErr result (bytes.new.items ≡ bytes.old.items) }
 {
     let nothing = Vec::new(*bytes.allocator());
@@ -181,7 +185,8 @@ fn widen(extent: &mut Extent, low: u64, high: u64) -> Result<(), Memory>
     requires low { low ≤ extent.old.base }
     requires high { end_of_extent (extent_view extent.old) ≤ high }
     requires small { high < 2 ^ 64 }
-    ensures ok { OnOk result (extent_view extent.new ≡ merged_extent (extent_view extent.old ∷ []) low high) }
+    ensures ok { OnOk result (extent_view extent.new
+        ≡ merged_extent (extent_view extent.old ∷ []) low high) }
     ensures err { OnErr result (extent_view extent.new ≡ extent_view extent.old) }
 {
     let down = (extent.base - low) as usize;
@@ -206,10 +211,13 @@ fn bytes_of(extent: &Extent) -> &[u8]
 /// Copies the bytes of the other extents into this one, which must contain all their addresses.
 fn absorb(extent: &mut Extent, others: &[Extent])
     requires some { 0 < length (extent_view extent.old).bytes }
-    requires low { (i : ℕ) → i < length others.now → extent.old.base ≤ (nth_extent (map extent_view others.now) i).base }
-    requires high { (i : ℕ) → i < length others.now → end_of_extent (nth_extent (map extent_view others.now) i) ≤ end_of_extent (extent_view extent.old) }
+    requires low { (i : ℕ) → i < length others.now
+        → extent.old.base ≤ (nth_extent (map extent_view others.now) i).base }
+    requires high { (i : ℕ) → i < length others.now → end_of_extent
+        (nth_extent (map extent_view others.now) i) ≤ end_of_extent (extent_view extent.old) }
     ensures { extent_view extent.new ≡
-        merged_extent (map extent_view others.now ++ extent_view extent.old ∷ []) extent.old.base (end_of_extent (extent_view extent.old)) }
+        merged_extent (map extent_view others.now ++ extent_view extent.old ∷ []) extent.old.base
+        (end_of_extent (extent_view extent.old)) }
 {
     let mut i = others.len();
     while i > 0 {
@@ -225,7 +233,8 @@ fn absorb(extent: &mut Extent, others: &[Extent])
 fn replace(extents: &mut Vec<Extent>, first: usize, behind: usize, extent: Extent)
     requires some { first < behind }
     requires most { behind ≤ length extents.old.items }
-    ensures { extents.new.items ≡ take first extents.old.items ++ extent ∷ drop behind extents.old.items }
+    ensures { extents.new.items ≡ take first extents.old.items
+        ++ extent ∷ drop behind extents.old.items }
 {
     extents[first] = extent;
     for _gone in first + 1..behind {
@@ -252,8 +261,10 @@ fn merge_touched(
     requires joins { TouchRange (map extent_view extents.old.items) first behind low high }
     requires some { first < behind }
     requires small { high < 2 ^ 64 }
-    ensures ok { OnOk result (map extent_view extents.new.items ≡ merge_extents (map extent_view extents.old.items) first behind low high) }
-    ensures err { OnErr result (map extent_view extents.new.items ≡ map extent_view extents.old.items) }
+    ensures ok { OnOk result (map extent_view extents.new.items
+        ≡ merge_extents (map extent_view extents.old.items) first behind low high) }
+    ensures err { OnErr result (map extent_view extents.new.items
+        ≡ map extent_view extents.old.items) }
 {
     let kept = largest(extents, first, behind);
     widen(&mut extents[kept], low, high)?;
@@ -276,12 +287,15 @@ fn merge_touched(
 ///   unchanged.
 fn merge_or_insert(extents: &mut Vec<Extent>, reach: TouchedExtents) -> Result<(), Memory>
     requires apart { AreApart 0 (map extent_view extents.old.items) }
-    requires joins { TouchRange (map extent_view extents.old.items) reach.first reach.behind reach.low reach.high }
+    requires joins { TouchRange
+        (map extent_view extents.old.items) reach.first reach.behind reach.low reach.high }
     requires order { reach.low ≤ reach.high }
     requires small { reach.high < 2 ^ 64 }
     ensures ok { OnOk result
-        (map extent_view extents.new.items ≡ merge_extents (map extent_view extents.old.items) reach.first reach.behind reach.low reach.high) }
-    ensures err { OnErr result (map extent_view extents.new.items ≡ map extent_view extents.old.items) }
+        (map extent_view extents.new.items ≡ merge_extents
+        (map extent_view extents.old.items) reach.first reach.behind reach.low reach.high) }
+    ensures err { OnErr result (map extent_view extents.new.items
+        ≡ map extent_view extents.old.items) }
 {
     let TouchedExtents {
         first,
@@ -305,11 +319,15 @@ fn merge_or_insert(extents: &mut Vec<Extent>, reach: TouchedExtents) -> Result<(
 pub fn prepare(extents: &mut Vec<Extent>, range: Range) -> Result<(), Memory>
     requires { AreApart 0 (map extent_view extents.old.items) }
     ensures apart { AreApart 0 (map extent_view extents.new.items) }
-    ensures bytes { (x : ℕ) → byte_of (map extent_view extents.new.items) x ≡ byte_of (map extent_view extents.old.items) x }
+    ensures bytes { (x : ℕ) → byte_of (map extent_view extents.new.items) x
+        ≡ byte_of (map extent_view extents.old.items) x }
     ensures ready { OnOk result ((x : ℕ) →
-        is_prepared_at (map extent_view extents.new.items) x ≡ (covers range x || is_prepared_at (map extent_view extents.old.items) x)) }
-    ensures err { OnErr result (map extent_view extents.new.items ≡ map extent_view extents.old.items) }
-    ensures memory { OnErr result (ArePrepared (map extent_view extents.old.items) range.base range.size → ⊥) }
+        is_prepared_at (map extent_view extents.new.items) x
+        ≡ (covers range x || is_prepared_at (map extent_view extents.old.items) x)) }
+    ensures err { OnErr result (map extent_view extents.new.items
+        ≡ map extent_view extents.old.items) }
+    ensures memory { OnErr result
+        (ArePrepared (map extent_view extents.old.items) range.base range.size → ⊥) }
 {
     if are_prepared(extents, range) {
         return Ok(());

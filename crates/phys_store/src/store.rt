@@ -1,7 +1,7 @@
 //! The store as its callers see it: at every address a byte, and whether it is prepared. Each
 //! method makes one call to `extents` or `prepare`. The invariant of the type is that the extents
 //! don't touch.
-ghost use Rattle.std.specs.Prelude.{◌≡◌, ℕ, ◌+◌, ◌-◌, ◌^◌, ◌<◌, ◌≤◌, ◌↔◌, Bool, true, ◌||◌, nat_le, min, max, List, [], length, slice_index, IsTrue, OnOk, OnErr};
+ghost use Rattle.std.specs.Prelude.{◌≡◌, ℕ, ◌+◌, ◌-◌, ◌^◌, ◌<◌, ◌≤◌, ◌↔◌, ◌||◌, nat_le, min, max, List, [], length, slice_index, IsTrue, OnOk, OnErr};
 ghost use Rattle.bm_base.specs.Range.{covers};
 ghost use Rattle.phys_store.specs.Bytes.{byte_of, is_prepared_at, ArePrepared, WritesBytes, bytes_at};
 
@@ -50,7 +50,8 @@ impl Store {
     ///   prepared already.
     pub fn prepare(&mut self, range: Range) -> Result<(), Memory>
         ensures bytes { (x : ℕ) → byte_of self.new x ≡ byte_of self.old x }
-        ensures ready { OnOk result ((x : ℕ) → is_prepared_at self.new x ≡ (covers range x || is_prepared_at self.old x)) }
+        ensures ready { OnOk result ((x : ℕ) →
+            is_prepared_at self.new x ≡ (covers range x || is_prepared_at self.old x)) }
         ensures err { OnErr result (self.new ≡ self.old) }
         ensures memory { OnErr result (ArePrepared self.old range.base range.size → ⊥) }
     {

@@ -12,7 +12,7 @@ use Rattle.program_args.specs.Grammar.{is_faultless, bootmem_command}
 use Rattle.program_args.specs.Kernel.{default_kernel, image_if_allowed, kernel_range_in, kernel_range_of}
 use Rattle.program_args.specs.Mirrors.{are_mirror_pieces, mirrors_of_value}
 use Rattle.program_args.specs.Range.{base_size_range}
-use Rattle.program_args.specs.Spelling.{Spelling, two_word_option, flag, spelled_values, is_flag, one_word_option, named, words_of_spellings, default_value}
+use Rattle.program_args.specs.Spelling.{Spelling, two_word_option, spelled_values, is_flag, one_word_option, named, words_of_spellings, default_value}
 use Rattle.program_args.specs.Args.{BootmemArgsView, read_args}
 
 -- what a command line asks for, with the names of files listed
@@ -128,8 +128,8 @@ faults_of_words : (is_faultless (codes "--report=map" ∷ codes "--report=map" �
 unfolding bootmem_command clap_on_literals
 faults_of_words = (refl, refl, refl, refl, refl, refl, refl, refl, refl, refl, refl, refl)
 
--- taken by the command, but refused: no source of entries, an extension alone, two sources, a made table with an
--- extension, an empty list of reports, a kernel below 1 MiB
+-- taken by the command, but refused: no source of entries, an extension alone, two sources, a made
+-- table with an extension, an empty list of reports, a kernel below 1 MiB
 refused_for_what_they_ask : (is_faultless [] ≡ true) × (read_args [] ≡ None) × (read_args (codes "--e820ext=e" ∷ []) ≡ None)
     × (read_args (codes "--make=5" ∷ codes "--report=map" ∷ codes "zp" ∷ []) ≡ None)
     × (read_args (codes "--make=5" ∷ codes "--report=map" ∷ codes "--e820ext=e" ∷ []) ≡ None)

@@ -19,9 +19,9 @@ use Rattle.program_args.specs.Grammar.{is_faultless, bootmem_command}
 use Rattle.program_args.specs.Kernel.{kernel_range_of}
 use Rattle.program_args.specs.Mirrors.{mirrors_of_value}
 
--- `named` gives the name of each input's file, if it has one; `inputs_without_files` has the inputs that the
--- command line itself gives; `made` is the number of entries of a made table, if one is made in
--- place of a zero page
+-- `named` gives the name of each input's file, if it has one; `inputs_without_files` has the inputs
+-- that the command line itself gives; `made` is the number of entries of a made table, if one is
+-- made in place of a zero page
 pub record BootmemArgsView : Type 0 where
   pub named : FileNames
   pub begun : InputsView

@@ -6,8 +6,8 @@ use Rattle.std.specs.Str.{bytes_eq}
 use Rattle.program_args.specs.Grammar.{has_value, is_flag_action, options}
 use Rattle.program_args.specs.Args.{ArgValues}
 
--- `two_word_option` is an option with its value in the next word, `one_word_option` one with its value after `=`,
--- `flag` a flag, and `named` the name of the zero page
+-- `two_word_option` is an option with its value in the next word, `one_word_option` one with its
+-- value after `=`, `flag` a flag, and `named` the name of the zero page
 pub data Spelling : Type 0 where
   two_word_option : List ℕ → List ℕ → Spelling
   one_word_option : List ℕ → List ℕ → Spelling

@@ -1,7 +1,7 @@
 //! The number of entries of a made table, from the value of `--make`. `made` of `e820_table`
 //! requires a number within these bounds, so they are checked here.
 
-ghost use Rattle.std.specs.Prelude.{◌≡◌, IfSome, IsTrue};
+ghost use Rattle.std.specs.Prelude.{◌≡◌, IfSome};
 ghost use Rattle.std.specs.Option.{option_copied};
 ghost use Rattle.program_args.specs.Entries.{IsEntryCount, are_digits, entry_count_in, made_entry_count};
 

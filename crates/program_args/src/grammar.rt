@@ -43,8 +43,10 @@ const OPTIONS: [(&str, ArgAction); 13] = [
 pub fn match_words<'w>(alloc: Global, words: &'w [String]) -> Result<ArgMatches<'w>, ArgsError>
     ensures matches { IfOk result (λ matches.
         rows_of (found_of matches) ≡ matches_of bootmem_command (bytes_of_words words.entry.now)) }
-    ensures faultless { OnOk result (fault_of bootmem_command (bytes_of_words words.entry.now) ≡ []) }
-    ensures refused { IsErrOf result ArgsError.Usage → fault_of bootmem_command (bytes_of_words words.entry.now) ≢ [] }
+    ensures faultless { OnOk result (fault_of bootmem_command (bytes_of_words words.entry.now)
+        ≡ []) }
+    ensures refused { IsErrOf result ArgsError.Usage
+        → fault_of bootmem_command (bytes_of_words words.entry.now) ≢ [] }
 {
     let command = bootmem_command(alloc)?;
     match command.try_get_matches_from(words) {
@@ -103,7 +105,8 @@ fn with_options<'w>(
     options: &[(&'w str, ArgAction)],
 ) -> Result<Command<'w>, Memory>
     ensures { IfOk result (λ made.
-        app_of made ≡ fold (λ app option. with_option app (option.0.now, option.1)) (app_of command.entry) options.now) }
+        app_of made ≡ fold (λ app option. with_option app (option.0.now, option.1))
+        (app_of command.entry) options.now) }
 {
     let mut made = command;
     let mut rest = options;
@@ -121,7 +124,8 @@ fn with_option<'w>(
     name: &'w str,
     action: ArgAction,
 ) -> Result<Command<'w>, Memory>
-    ensures { IfOk result (λ made. app_of made ≡ with_option (app_of command.entry) (name.entry.now, action)) }
+    ensures { IfOk result (λ made.
+        app_of made ≡ with_option (app_of command.entry) (name.entry.now, action)) }
 {
     let option = Arg::new(alloc, name).long(name).action(action);
     Ok(command.arg(option)?)
@@ -134,7 +138,8 @@ fn with_positional<'w>(
     command: Command<'w>,
     name: &'w str,
 ) -> Result<Command<'w>, Memory>
-    ensures { IfOk result (λ made. app_of made ≡ with_positional (app_of command.entry) name.entry.now) }
+    ensures { IfOk result (λ made.
+        app_of made ≡ with_positional (app_of command.entry) name.entry.now) }
 {
     let word = Arg::new(alloc, name).action(ArgAction::Set);
     Ok(command.arg(word)?)

@@ -27,12 +27,12 @@
 //! definition in `specs/`.
 #![tactic(auto)]
 
+mod args;
 mod entries;
 mod grammar;
 mod kernel;
 mod mirrors;
 mod reader;
-mod args;
 
-pub use reader::{ArgsError, read_args, ranges_give_whole_frames, spelled_args_are_read};
 pub use args::BootmemArgs;
+pub use reader::{ArgsError, ranges_give_whole_frames, read_args, spelled_args_are_read};

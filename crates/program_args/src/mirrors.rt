@@ -14,9 +14,9 @@ ghost use Rattle.program_args.specs.Range.{base_size_range};
 use crate::reader::ArgsError;
 use bm_base::{Memory, Range};
 use boot_model::mirrors_are_whole_frames;
+use boot_options::read_whole_size;
 use std::alloc::Global;
 use text_words::{Separators, next_part, split_once};
-use boot_options::read_whole_size;
 
 /// The greatest number of ranges in the list.
 const MOST_RANGES: usize = 64;
@@ -32,7 +32,8 @@ pub fn mirrors_of_value(alloc: Global, value: Option<&str>) -> Result<Vec<Range>
     ensures value { Answers ArgsError.Memory (λ ranges. ranges.items) result
         (or_refused (mirrors_of_value (option_copied value.entry))) }
     ensures facts { IfOk result (λ ranges. All IsMirror ranges.items) }
-    ensures memory { IsErrOf result ArgsError.Memory → IsSome (mirrors_of_value (option_copied value.entry)) }
+    ensures memory { IsErrOf result ArgsError.Memory
+        → IsSome (mirrors_of_value (option_copied value.entry)) }
 {
     let Some(list) = value else {
         return Ok(Vec::new(alloc));

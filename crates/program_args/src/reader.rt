@@ -2,7 +2,7 @@
 //! values. What the values mean is checked here, after `clap` has taken the words.
 
 ghost use Rattle.std.specs.Prelude.{◌≡◌, IsErrOf, IsSome, ℕ, ◌+◌, ◌*◌, ◌/◌, ◌≤◌, ◌↔◌, List};
-ghost use Rattle.std.specs.Option.{option_copied, option_map};
+ghost use Rattle.std.specs.Option.{option_copied};
 ghost use Rattle.clap.specs.Words.{found_of, rows_of};
 ghost use Rattle.bm_base.specs.Answers.{Answers};
 ghost use Rattle.program_args.specs.Answers.{or_refused};
@@ -13,15 +13,15 @@ ghost use Rattle.bm_base.specs.Frames.{frames_within};
 ghost use Rattle.program_args.specs.Mirrors.{LiesInRange};
 ghost use Rattle.program_args.specs.Spelling.{AreSpellings, Spelling, spelled_values, words_of_spellings};
 
+use crate::args::BootmemArgs;
 use crate::entries::made_entry_count;
-use crate::grammar::{is_on, match_words, arg_value_in};
+use crate::grammar::{arg_value_in, is_on, match_words};
 use crate::kernel::kernel_range_of;
 use crate::mirrors::mirrors_of_value;
-use crate::args::BootmemArgs;
-use bm_base::{Width, Memory};
+use bm_base::{Memory, Width};
 use clap::ArgMatches;
 use debugfs_reports::are_reports;
-use std::alloc::{Global, AllocError};
+use std::alloc::{AllocError, Global};
 
 /// Why reading the command line failed.
 #[derive(Clone, Copy, Debug, PartialEq, Eq)]
@@ -59,7 +59,8 @@ const DEFAULT_LIST: &str = "buddyinfo";
 /// - [`ArgsError::Usage`] exactly if the words aren't accepted, unless memory runs out first.
 /// - [`ArgsError::Memory`] if this program is out of memory, which may happen for any words.
 pub fn read_args<'w>(alloc: Global, words: &'w [String]) -> Result<BootmemArgs<'w>, ArgsError>
-    ensures { Answers ArgsError.Memory bootmem_args_view result (or_refused (read_args (bytes_of_words words.entry.now))) }
+    ensures { Answers ArgsError.Memory bootmem_args_view result
+        (or_refused (read_args (bytes_of_words words.entry.now))) }
 {
     args_from_values(alloc, match_words(alloc, words)?)
 }
@@ -97,10 +98,14 @@ fn width_in(matches: &ArgMatches<'_>) -> Width
 /// - [`ArgsError::Usage`] exactly if a value is refused, or the first entries don't have one
 ///   source.
 /// - [`ArgsError::Memory`] if this program is out of memory; never if anything is refused.
-fn args_from_values<'w>(alloc: Global, matches: ArgMatches<'w>) -> Result<BootmemArgs<'w>, ArgsError>
+fn args_from_values<'w>(
+    alloc: Global,
+    matches: ArgMatches<'w>,
+) -> Result<BootmemArgs<'w>, ArgsError>
     ensures value { Answers ArgsError.Memory bootmem_args_view result
         (or_refused (args_from_values (arg_value_in (rows_of (found_of matches.entry))))) }
-    ensures memory { IsErrOf result ArgsError.Memory → IsSome (args_from_values (arg_value_in (rows_of (found_of matches.entry)))) }
+    ensures memory { IsErrOf result ArgsError.Memory
+        → IsSome (args_from_values (arg_value_in (rows_of (found_of matches.entry)))) }
 {
     if !has_source(&matches) {
         return Err(ArgsError::Usage);
@@ -124,7 +129,8 @@ fn args_from_values<'w>(alloc: Global, matches: ArgMatches<'w>) -> Result<Bootme
 
 /// Returns the list of requested reports, if each name in it is that of a report.
 fn report_list_in<'w>(matches: &ArgMatches<'w>) -> Option<&'w str>
-    ensures { option_copied result ≡ report_list_in (arg_value_in (rows_of (found_of matches.now))) }
+    ensures { option_copied result
+        ≡ report_list_in (arg_value_in (rows_of (found_of matches.now))) }
 {
     let list = arg_value_in(matches, "report").unwrap_or(DEFAULT_LIST);
     if are_reports(list.as_bytes()) {
@@ -139,7 +145,8 @@ fn report_list_in<'w>(matches: &ArgMatches<'w>) -> Option<&'w str>
 /// name of the zero page, no argument twice. The value of an option is the next word or follows
 /// `=`. Neither the name nor a value that is the next word begins with a hyphen.
 pub fn spelled_args_are_read()
-    ensures { (spellings : List Spelling) → AreSpellings spellings → read_args (words_of_spellings spellings) ≡ args_from_values (spelled_values spellings) }
+    ensures { (spellings : List Spelling) → AreSpellings spellings
+        → read_args (words_of_spellings spellings) ≡ args_from_values (spelled_values spellings) }
 {}
 
 /// Law: an address lies in the mirrored frames of a range exactly if each byte of its frame lies

@@ -32,9 +32,9 @@ mod of_e820_table;
 #[cfg(test)]
 mod of_efi_map;
 #[cfg(test)]
-mod of_program_run;
-#[cfg(test)]
 mod of_program_args;
+#[cfg(test)]
+mod of_program_run;
 #[cfg(test)]
 mod of_run_edits;
 #[cfg(test)]

@@ -7,7 +7,7 @@ ghost use Rattle.bm_io.specs.MemFiles.{file_views, HaveOwnNames};
 use crate::common::{KERNEL, SMALLEST_SRAT, file};
 use bm_base::Width;
 use bm_io::{Fetch, Files, MemFile, MemFiles};
-use boot_inputs::{Fault, Input, Names, NoInputs, InputsReason, read_inputs};
+use boot_inputs::{Fault, Input, InputsReason, Names, NoInputs, read_inputs};
 use boot_model::Inputs;
 use boot_options::OptionFault;
 use e820_table::{ExtFault, ZeroFault};

@@ -201,7 +201,9 @@ fn crash_areas(rt: HostRuntime) -> Result<(), Fail> {
             ),
         ),
         (
-            b"crashkernel=0,low crashkernel=1M crashkernel=1,high crashkernel=2,high -- crashkernel=3,low".as_slice(),
+            b"crashkernel=0,low crashkernel=1M crashkernel=1,high crashkernel=2,high -- \
+                crashkernel=3,low"
+                .as_slice(),
             (Some((1, whole(MIB), 0)), Some(2), Some(0)),
         ),
     ];

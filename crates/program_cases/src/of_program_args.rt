@@ -5,7 +5,7 @@
 use bm_base::Width;
 use boot_inputs::{Input, Names};
 use boot_model::Inputs;
-use program_args::{BootmemArgs, ArgsError, read_args};
+use program_args::{ArgsError, BootmemArgs, read_args};
 use std::alloc::Global;
 use std::process::Abort;
 use std::test::Fail;

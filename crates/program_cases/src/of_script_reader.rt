@@ -7,8 +7,8 @@ use std::test::Fail;
 
 #[test]
 fn each_form(rt: HostRuntime) -> Result<(), Fail> {
-    let text =
-        "# a comment\nalloc 1 64K 4096\nalloc 0x2 1 1 min 1M max 2M node 3 exact\n\n \treserve 3 0x1000 8K\r\nfree 1\ntrim 3 1\nfill 2 0xff\nsections\npeek 0 64";
+    let text = "# a comment\nalloc 1 64K 4096\nalloc 0x2 1 1 min 1M max 2M node 3 exact\n\
+            \n \treserve 3 0x1000 8K\r\nfree 1\ntrim 3 1\nfill 2 0xff\nsections\npeek 0 64";
     let any = Request {
         size: 65_536,
         align: 4_096,

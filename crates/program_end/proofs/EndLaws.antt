@@ -1,5 +1,5 @@
 -- What follows from a program's exit status.
-use Rattle.std.proofs.Common.{◌≡◌, ◌≢◌, ℕ, List, Option, Some, None, Result, Ok, Err, refl, inl, inr, ap, arith}
+use Rattle.std.proofs.Common.{◌≡◌, ◌≢◌, ℕ, List, Option, Result, Ok, Err, arith}
 use Rattle.std.specs.Prelude.{IfSome, IsNone, IsOkAnd, ◌⊎◌}
 use Rattle.std.specs.Io.KnownBytes.{Appends}
 use Rattle.bm_io.specs.Counts.{Rose}

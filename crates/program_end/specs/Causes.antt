@@ -1,7 +1,7 @@
 -- Causes of errors. These facts hold whether or not the files' contents are known. `before` and
 -- `now` give for each file name its counter of faults (`faults` of `Files`), before the call and
 -- after it.
-use Rattle.std.specs.Prelude.{◌≡◌, ℕ, List, Option, Some, None, Result, Ok, Err, IsNone, IsSome}
+use Rattle.std.specs.Prelude.{◌≡◌, ℕ, List, Option, Some, None, Ok, Err, IsNone, IsSome}
 use Rattle.bm_io.specs.Counts.{Rose}
 use Rattle.program_end.specs.Program.{Program}
 use Rattle.program_end.specs.Status.{End}

@@ -8,8 +8,8 @@
 //!
 //! - [`Reason`], [`NoResult`] and [`Failure`] are the ways to fail.
 //! - [`exit_status`] is the exit status of each end: 2 to 7 for failures, 0 or 8 for a result.
-//! - [`Lines`] has the texts that differ between the programs. [`put_end_line`] puts the one line of a
-//!   failure to the error output.
+//! - [`Lines`] has the texts that differ between the programs. [`put_end_line`] puts the one line
+//!   of a failure to the error output.
 //!
 //! The layer above states what its calls do by two relations. `Fetches` (`specs/Fetches.antt`)
 //! says how a call that fetches files may end, `Writes` (`specs/Ends.antt`) how a call that writes
@@ -23,4 +23,4 @@ mod failure;
 mod lines;
 
 pub use failure::{Failure, NoResult, Reason, exit_status};
-pub use lines::{Lines, put_line, put_end_line};
+pub use lines::{Lines, put_end_line, put_line};

@@ -46,7 +46,8 @@ pub fn put_end_line<E: Sink, I: Copy, F: Copy, C: Copy, L: Lines<I, F, C>>(
     lines: &L,
     end: Result<u8, Failure<Reason<I, F, C>>>,
 )
-    ensures { PutsEndLine E.Sink (failure_line L.program_name (L.file_name lines.now) L.fault_line L.cause_line) err.old err.new end }
+    ensures { PutsEndLine E.Sink (failure_line L.program_name
+        (L.file_name lines.now) L.fault_line L.cause_line) err.old err.new end }
 {
     if let Err(failure) = end {
         put_failure_line(err, lines, failure);
@@ -59,7 +60,8 @@ fn put_failure_line<E: Sink, I: Copy, F: Copy, C: Copy, L: Lines<I, F, C>>(
     lines: &L,
     failure: Failure<Reason<I, F, C>>,
 )
-    ensures { PutsLine E.Sink err.old err.new (failure_line L.program_name (L.file_name lines.now) L.fault_line L.cause_line failure) }
+    ensures { PutsLine E.Sink err.old err.new
+        (failure_line L.program_name (L.file_name lines.now) L.fault_line L.cause_line failure) }
 {
     match failure {
         Failure::NoResult(NoResult::Reason(reason)) => put_reason_line(err, lines, reason),
@@ -73,7 +75,8 @@ fn put_reason_line<E: Sink, I: Copy, F: Copy, C: Copy, L: Lines<I, F, C>>(
     lines: &L,
     reason: Reason<I, F, C>,
 )
-    ensures { PutsLine E.Sink err.old err.new (reason_line L.program_name (L.file_name lines.now) L.fault_line L.cause_line reason) }
+    ensures { PutsLine E.Sink err.old err.new
+        (reason_line L.program_name (L.file_name lines.now) L.fault_line L.cause_line reason) }
 {
     match reason {
         Reason::Usage => put_line(err, &[L::program(), ": usage\n"]),

@@ -7,7 +7,7 @@ use Rattle.boot_inputs.specs.Faults.{diagnostic_of}
 use Rattle.boot_inputs.specs.Input.{input_word}
 use Rattle.boot_inputs.specs.Reason.{InputsReason}
 use Rattle.program_end.specs.declared.failure.Failure.{Failure}
-use Rattle.program_end.specs.Line.{failure_line as end_line, memory_line}
+use Rattle.program_end.specs.Line.{failure_line, memory_line}
 use Rattle.memblock_model.specs.declared.owner.Which.{Which}
 use Rattle.memblock_model.specs.declared.owner.Which.TheVariants as which
 use Rattle.memblock_grow.specs.declared.stop.What.{What}
@@ -78,4 +78,4 @@ bootmem_name = codes "bootmem"
 
 -- the line of a failure; file names are those of the accepted command line
 abbrev pub bootmem_failure_line : Option BootmemArgsView → Failure InputsReason → List ℕ
-bootmem_failure_line accepted failure = end_line bootmem_name (input_file_text accepted) input_fault_line stop_cause_line failure
+bootmem_failure_line accepted failure = failure_line bootmem_name (input_file_text accepted) input_fault_line stop_cause_line failure

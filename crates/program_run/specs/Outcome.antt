@@ -1,6 +1,6 @@
 -- The outcome of the program: what the command line and the contents of the files determine.
 -- `held` gives the bytes of each file.
-use Rattle.std.specs.Prelude.{ℕ, List, drop, take, Option, Some, None, Result, Ok, Err}
+use Rattle.std.specs.Prelude.{ℕ, List, drop, take, Option, Some, None, Result, Ok}
 use Rattle.bm_base.specs.ResultSteps.{◌>>=◌, with_error}
 use Rattle.e820_table.specs.Made.{made_entries}
 use Rattle.boot_inputs.specs.Reason.{InputsReason}

@@ -32,8 +32,10 @@ pub fn read_boot_inputs<F: Files>(
     files: &mut F,
 ) -> Result<Inputs, NoInputs>
     ensures fetches { IfSome (F.holds files.old) (λ held.
-        Fetches input_place inputs_view result (read_boot_inputs held (bootmem_args_view wanted.now))) }
-    ensures cause { IfErr result (IsFileError (F.faults files.old) (F.faults files.new) (bootmem_args_view wanted.now).named) }
+        Fetches input_place inputs_view result
+        (read_boot_inputs held (bootmem_args_view wanted.now))) }
+    ensures cause { IfErr result (IsFileError (F.faults files.old) (F.faults files.new)
+        (bootmem_args_view wanted.now).named) }
 {
     let Ok(begun) = wanted.command_line_inputs(alloc) else {
         return Err(NoInputs::Memory);
@@ -50,7 +52,8 @@ pub fn read_boot_inputs<F: Files>(
 /// entries.
 fn with_made_table(alloc: Global, inputs: Inputs, entries: Option<u32>) -> Result<Inputs, Memory>
     requires few { IfSome entries IsEntryCount }
-    ensures made { IfOk result (λ given. inputs_view given ≡ with_made_table entries (inputs_view inputs)) }
+    ensures made { IfOk result (λ given.
+        inputs_view given ≡ with_made_table entries (inputs_view inputs)) }
     ensures many { IsErr result → IsSomeAnd entries (λ n. 128 < n) }
 {
     match entries {
@@ -63,7 +66,8 @@ fn with_made_table(alloc: Global, inputs: Inputs, entries: Option<u32>) -> Resul
 /// (2 to 3000). The inputs then have no initrd. Runs out of memory only for more than 128 entries.
 fn with_made_entries(alloc: Global, inputs: Inputs, count: u32) -> Result<Inputs, Memory>
     requires few { IsEntryCount count }
-    ensures made { IfOk result (λ given. inputs_view given ≡ with_made_table (Some count) (inputs_view inputs)) }
+    ensures made { IfOk result (λ given.
+        inputs_view given ≡ with_made_table (Some count) (inputs_view inputs)) }
     ensures many { IsErr result → 128 < count }
 {
     let made = made(alloc, count)?;

@@ -20,9 +20,9 @@
 #![tactic(auto)]
 
 mod inputs;
-mod program;
 mod lines;
+mod program;
 
 pub use boot_inputs::InputsReason;
-pub use program::{Failure, NoReport, no_report, run};
 pub use inputs::read_boot_inputs;
+pub use program::{Failure, NoReport, no_report, run};

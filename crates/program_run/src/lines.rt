@@ -12,8 +12,8 @@ use boot_model::Cause;
 use itoa::Buffer;
 use memblock_grow::What;
 use memblock_model::Which;
-use program_end::{Lines, put_line};
 use program_args::BootmemArgs;
+use program_end::{Lines, put_line};
 
 /// The lines of `bootmem`'s failures. `wanted` is the accepted command line, which names the
 /// files; `None` if the command line isn't accepted.
@@ -25,7 +25,8 @@ pub struct BootmemLines<'a, 'w> {
 impl<'a, 'w> Lines<Input, Fault, Cause> for BootmemLines<'a, 'w> {
     ghost program_name = { bootmem_name };
 
-    ghost file_name = { λ lines input. input_file_text (option_map (λ wanted. bootmem_args_view wanted.now) lines.wanted) input };
+    ghost file_name = { λ lines input.
+        input_file_text (option_map (λ wanted. bootmem_args_view wanted.now) lines.wanted) input };
 
     ghost fault_line = { input_fault_line };
 
@@ -98,7 +99,11 @@ fn put_stop_cause_line<E: Sink>(err: &mut E, cause: Cause)
             put_line(err, &["bootmem: stopped: ", runs, " map runs\n"])
         }
         Cause::NoPlace { what } => put_no_place_line(err, what),
-        Cause::NoTablePlace { which, room } => put_no_table_place_line(err, table_name(which), room),
+        Cause::NoTablePlace { which, room } => put_no_table_place_line(
+            err,
+            table_name(which),
+            room,
+        ),
     }
 }
 

@@ -31,8 +31,8 @@ use boot_inputs::{InputsReason, NoInputs};
 use boot_model::{Inputs, Stop};
 use boot_stages::boot;
 use debugfs_reports::{render_all, reports_in};
+use program_args::{ArgsError, BootmemArgs, read_args};
 use program_end::{exit_status, put_end_line};
-use program_args::{BootmemArgs, ArgsError, read_args};
 use std::alloc::Global;
 
 /// Why there is no report: a reason, or out of memory.
@@ -68,8 +68,8 @@ pub fn no_report(stop: Stop) -> NoReport
 /// `out` may have the first part of the text.
 ///
 /// `holds` gives what each file contains, if the type of `files` knows it, as that of files in
-/// memory does. For the files of the operating system it is `None`. The clauses on `bootmem_outcome` then
-/// say nothing, but it is the same generic code that runs.
+/// memory does. For the files of the operating system it is `None`. The clauses on
+/// `bootmem_outcome` then say nothing, but it is the same generic code that runs.
 pub fn run<F: Files, S: Sink, E: Sink>(
     alloc: Global,
     words: &[String],
@@ -82,7 +82,8 @@ pub fn run<F: Files, S: Sink, E: Sink>(
     ensures usage { result ≡ 2 → IsNone (read_args (bytes_of_words words.now)) }
     ensures refused { IsNone (read_args (bytes_of_words words.now)) → (result ≡ 2) ⊎ (result ≡ 7) }
     ensures unread { result ≡ 3 → (input : AnyInput)
-        × InputFaultsRose bootmem (F.faults files.old) (F.faults files.new) (read_args (bytes_of_words words.now)) input }
+        × InputFaultsRose bootmem (F.faults files.old) (F.faults files.new)
+        (read_args (bytes_of_words words.now)) input }
     ensures unwritten { result ≡ 4 → Rose (S.faults out.old) (S.faults out.new) }
 
     // What stays as it was, even if the files' contents are unknown: the files and `out` if the
@@ -96,7 +97,8 @@ pub fn run<F: Files, S: Sink, E: Sink>(
     // In this boot each usable frame is touched by a claim with a recorded owner, or is in exactly
     // one block; no other frame is in a block.
     ensures headline { result ≡ 0 → IfSome (F.holds files.old) (λ held.
-        AppendsReports (read_args (bytes_of_words words.now)) held (S.written out.old) (S.written out.new)) }
+        AppendsReports (read_args (bytes_of_words words.now)) held (S.written out.old)
+        (S.written out.new)) }
 
     // If the files' contents are known, the status and the output are those of the outcome.
     ensures answers { IfSome (F.holds files.old) (λ held.
@@ -122,15 +124,18 @@ pub fn run<F: Files, S: Sink, E: Sink>(
         → bootmem_outcome (read_args (bytes_of_words words.now)) held ≡ Ok text
         → ¬ Rose (S.faults out.old) (S.faults out.new)
         → ((input : AnyInput)
-        → ¬ InputFaultsRose bootmem (F.faults files.old) (F.faults files.new) (read_args (bytes_of_words words.now)) input)
+        → ¬ InputFaultsRose bootmem (F.faults files.old) (F.faults files.new)
+        (read_args (bytes_of_words words.now)) input)
         → (result ≡ 0) ⊎ (result ≡ 7)) }
 
     // What `err` has: nothing with status 0, else the line of a failure with this status. The
     // failure has its cause and fits the outcome.
     ensures silent { result ≡ 0 → err.new ≡ err.old }
     ensures line { result ≢ 0 → (failure : AnyFailure AnyReason) × (result ≡ failure_status failure)
-        × PutsLine E.Sink err.old err.new (bootmem_failure_line (read_args (bytes_of_words words.now)) failure)
-        × FailureHasCause bootmem (F.faults files.old) (F.faults files.new) (read_args (bytes_of_words words.now)) failure
+        × PutsLine E.Sink err.old err.new
+        (bootmem_failure_line (read_args (bytes_of_words words.now)) failure)
+        × FailureHasCause bootmem (F.faults files.old) (F.faults files.new)
+        (read_args (bytes_of_words words.now)) failure
         × IfSome (F.holds files.old) (λ held.
         FitsFailure bootmem failure (bootmem_outcome (read_args (bytes_of_words words.now)) held)) }
 {
@@ -147,13 +152,16 @@ fn run_to_end<F: Files, S: Sink, E: Sink>(
     out: &mut S,
     err: &mut E,
 ) -> Result<u8, Failure>
-    ensures writes { IfSome (F.holds files.old) (λ held. WritesOutcome bootmem (S.written out.old) (S.written out.new) result
+    ensures writes { IfSome (F.holds files.old) (λ held.
+        WritesOutcome bootmem (S.written out.old) (S.written out.new) result
         (bootmem_outcome (read_args (bytes_of_words words.now)) held)) }
-    ensures cause { EndHasCause bootmem (F.faults files.old) (F.faults files.new) (read_args (bytes_of_words words.now)) result }
+    ensures cause { EndHasCause bootmem (F.faults files.old) (F.faults files.new)
+        (read_args (bytes_of_words words.now)) result }
     ensures unfetched { IsNone (read_args (bytes_of_words words.now)) → files.new ≡ files.old }
     ensures unput { IsNone (read_args (bytes_of_words words.now)) → out.new ≡ out.old }
     ensures output { WritingHasCause S.Sink out.old out.new result }
-    ensures told { PutsEndLine E.Sink (bootmem_failure_line (read_args (bytes_of_words words.now))) err.old err.new result }
+    ensures told { PutsEndLine E.Sink
+        (bootmem_failure_line (read_args (bytes_of_words words.now))) err.old err.new result }
 {
     match read_args(alloc, words) {
         Ok(wanted) => {
@@ -192,9 +200,11 @@ fn write_reports<F: Files, S: Sink>(
     files: &mut F,
     out: &mut S,
 ) -> Result<u8, Failure>
-    ensures writes { IfSome (F.holds files.old) (λ held. WritesOutcome bootmem (S.written out.old) (S.written out.new) result
+    ensures writes { IfSome (F.holds files.old) (λ held.
+        WritesOutcome bootmem (S.written out.old) (S.written out.new) result
         (bootmem_outcome (Some (bootmem_args_view wanted.now)) held)) }
-    ensures cause { EndHasCause bootmem (F.faults files.old) (F.faults files.new) (Some (bootmem_args_view wanted.now)) result }
+    ensures cause { EndHasCause bootmem (F.faults files.old) (F.faults files.new)
+        (Some (bootmem_args_view wanted.now)) result }
     ensures output { WritingHasCause S.Sink out.old out.new result }
 {
     let texts = make_texts(alloc, wanted, files)?;
@@ -209,10 +219,12 @@ fn make_texts<F: Files>(
     files: &mut F,
 ) -> Result<Vec<Vec<u8>>, NoReport>
     ensures fetches { IfSome (F.holds files.old) (λ held.
-        Fetches input_place (λ bytes_of_words. flat_map (λ text. text.items) bytes_of_words.items) result
+        Fetches input_place (λ bytes_of_words.
+        flat_map (λ text. text.items) bytes_of_words.items) result
         (bootmem_outcome (Some (bootmem_args_view wanted.now)) held)) }
     ensures cause { IfErr result
-        (ErrorHasCause bootmem (F.faults files.old) (F.faults files.new) (Some (bootmem_args_view wanted.now))) }
+        (ErrorHasCause bootmem (F.faults files.old) (F.faults files.new)
+        (Some (bootmem_args_view wanted.now))) }
 {
     let inputs = read_boot_inputs(alloc, wanted, files)?;
     reports_on_boot(alloc, inputs, wanted.list)
@@ -221,9 +233,11 @@ fn make_texts<F: Files>(
 /// Boots with these inputs and returns the texts of the listed reports. `list` has the names of
 /// reports, separated by commas.
 fn reports_on_boot(alloc: Global, inputs: Inputs, list: &str) -> Result<Vec<Vec<u8>>, NoReport>
-    ensures fetches { Fetches input_place (λ bytes_of_words. flat_map (λ text. text.items) bytes_of_words.items) result
+    ensures fetches { Fetches input_place (λ bytes_of_words.
+        flat_map (λ text. text.items) bytes_of_words.items) result
         (reports_on_boot (reports_in list.now) (inputs_view inputs)) }
-    ensures cause { (before now : List ℕ → ℕ) (asked : Asked) → IfErr result (ErrorHasCause bootmem before now (Some asked)) }
+    ensures cause { (before now : List ℕ → ℕ) (asked : Asked)
+        → IfErr result (ErrorHasCause bootmem before now (Some asked)) }
 {
     let booted = match boot(alloc, inputs) {
         Ok(booted) => booted,

@@ -2,8 +2,8 @@
 //! style of the files in `/sys/kernel/debug`.
 //!
 //! Each report consists of three things: the definition of a line in `specs/`, which can be
-//! compared with the documentation of the formats; the function that writes this line; and one
-//! call of [`put_indexed_lines`]. That function takes the one for a line, and is proved once for all
+//! compared with the documentation of the formats; the function that writes this line; and one call
+//! of [`put_indexed_lines`]. That function takes the one for a line, and is proved once for all
 //! lists. Each `put_` function appends the text of one report:
 //!
 //! - [`put_map`]: the runs of the map

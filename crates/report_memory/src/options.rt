@@ -84,7 +84,8 @@ fn put_crash_lines(text: &mut Vec<u8>, crash: &CrashOption) -> Result<(), Memory
 
 /// Appends a line for each range of the plain form, if it is given.
 fn put_plain_lines(text: &mut Vec<u8>, plain: &Option<CrashPlain>) -> Result<(), Memory>
-    ensures { PutsText text.old text.new result (plain_lines (option_map crash_plain_view plain.now)) }
+    ensures { PutsText text.old text.new result
+        (plain_lines (option_map crash_plain_view plain.now)) }
 {
     match plain {
         Some(plain) => {
@@ -108,7 +109,8 @@ fn put_crash_range(
     range: &CrashRange,
     base: u64,
 ) -> Result<(), Memory>
-    ensures { PutsText text.old text.new result (word.now ++ crash_range_text range.now ++ codes " base " ++ hex_text base ++ codes "\n") }
+    ensures { PutsText text.old text.new result (word.now
+        ++ crash_range_text range.now ++ codes " base " ++ hex_text base ++ codes "\n") }
 {
     put_text(text, word)?;
     put_crash_bounds(text, range)?;

@@ -21,7 +21,8 @@ use phys_store::Store;
 /// - `Memory`: the program ran out of memory; the text is incomplete.
 pub fn put_records(text: &mut Vec<u8>, store: &Store, head: &Head) -> Result<(), Memory>
     requires { HasRecords store.now head.now (2 ^ 64) }
-    ensures { PutsText text.old text.new result (records_text (records_of_head store.now head.now)) }
+    ensures { PutsText text.old text.new result
+        (records_text (records_of_head store.now head.now)) }
 {
     for index in 0..head.count {
         put_record_line(text, index, &region_at(store, head, index))?;

@@ -29,7 +29,8 @@ const LONGEST_LINE: usize = 56;
 ///
 /// - `Memory`: the program ran out of memory; the text is incomplete.
 pub fn put_blocks(text: &mut Vec<u8>, buddy: &Buddy) -> Result<(), Memory>
-    ensures { OnOk result (text.new.items ≡ text.old.items ++ blocks_text (buddy_frames buddy.now)) }
+    ensures { OnOk result
+        (text.new.items ≡ text.old.items ++ blocks_text (buddy_frames buddy.now)) }
 {
     let rows = buddy.block_rows()?;
     text.reserve(count_blocks(&rows) as usize * LONGEST_LINE)?;

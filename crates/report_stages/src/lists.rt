@@ -29,7 +29,8 @@ pub fn put_zonelists(text: &mut Vec<u8>, lists: &Lists) -> Result<(), Memory>
 
 /// Appends the line of each of these nodes. Also allocates the list of each node.
 fn put_zonelist_lines(text: &mut Vec<u8>, nodes: &[u32], lists: &Lists) -> Result<(), Memory>
-    ensures { OnOk result (text.new.items ≡ text.old.items ++ indexed_lines (zonelist_line lists.now) 0 nodes.now) }
+    ensures { OnOk result
+        (text.new.items ≡ text.old.items ++ indexed_lines (zonelist_line lists.now) 0 nodes.now) }
 {
     put_indexed_lines(text, nodes, |text: &mut Vec<u8>, index: u64, node: &u32| {
         put_zonelist_line(text, index, node, lists)
@@ -61,8 +62,14 @@ fn put_slit_use(text: &mut Vec<u8>, used: SlitUse) -> Result<(), Memory>
 }
 
 /// Appends the line of a node: its number, and the zones of its list. Also allocates that list.
-fn put_zonelist_line(text: &mut Vec<u8>, index: u64, node: &u32, lists: &Lists) -> Result<(), Memory>
-    ensures { OnOk result (text.new.items ≡ text.old.items ++ zonelist_line lists.now index node.now) }
+fn put_zonelist_line(
+    text: &mut Vec<u8>,
+    index: u64,
+    node: &u32,
+    lists: &Lists,
+) -> Result<(), Memory>
+    ensures { OnOk result
+        (text.new.items ≡ text.old.items ++ zonelist_line lists.now index node.now) }
 {
     put_word_dec(text, b"Node ", u64::from(*node))?;
     put_text(text, b":")?;

@@ -10,7 +10,7 @@ use crate::words::put_word_dec;
 use bm_base::{Memory, put_text};
 use boot_journal::{Item, Journal};
 use numa_nodes::{Nodes, Why};
-use report_memory::{put_item, put_indexed_lines};
+use report_memory::{put_indexed_lines, put_item};
 
 /// Appends why the SRAT is or isn't used, the domain of each node, the number of frames that no
 /// block covers, and a line for each journal item that gives a range its node.
@@ -19,7 +19,8 @@ use report_memory::{put_item, put_indexed_lines};
 ///
 /// - `Memory`: the program ran out of memory; the text is incomplete.
 pub fn put_nodes(text: &mut Vec<u8>, nodes: &Nodes, journal: &Journal) -> Result<(), Memory>
-    ensures { PutsText text.old text.new result (nodes_text (nodes_view nodes.now) journal.now.items) }
+    ensures { PutsText text.old text.new result
+        (nodes_text (nodes_view nodes.now) journal.now.items) }
 {
     put_srat_use_line(text, &nodes.why)?;
     put_indexed_lines(text, &nodes.domains, put_domain_line)?;

@@ -18,7 +18,8 @@ use sparse_sections::{RootPlace, Roots};
 /// - `Memory`: the program ran out of memory; the text is incomplete.
 pub fn put_sections(text: &mut Vec<u8>, roots: &Roots, placed: &[Placed]) -> Result<(), Memory>
     ensures { PutsText text.old text.new result
-        (sections_text (record { table = roots.now.table; roots = roots.now.roots.items }) placed.now) }
+        (sections_text
+        (record { table = roots.now.table; roots = roots.now.roots.items }) placed.now) }
 {
     put_roots(text, roots)?;
     put_indexed_lines(text, placed, put_section_line)?;
@@ -27,7 +28,8 @@ pub fn put_sections(text: &mut Vec<u8>, roots: &Roots, placed: &[Placed]) -> Res
 
 /// Appends the line of the table of roots, and one for each root.
 fn put_roots(text: &mut Vec<u8>, roots: &Roots) -> Result<(), Memory>
-    ensures { PutsText text.old text.new result (roots_text (record { table = roots.now.table; roots = roots.now.roots.items })) }
+    ensures { PutsText text.old text.new result
+        (roots_text (record { table = roots.now.table; roots = roots.now.roots.items })) }
 {
     put_word_hex(text, b"roots ", roots.table)?;
     put_text(text, b"\n")?;

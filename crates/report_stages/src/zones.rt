@@ -35,7 +35,8 @@ pub fn put_zones(text: &mut Vec<u8>, spans: &[Span], buddy: &Buddy) -> Result<()
 ///
 /// - `Memory`: the program ran out of memory; the text is incomplete.
 pub fn put_buddyinfo(text: &mut Vec<u8>, spans: &[Span], buddy: &Buddy) -> Result<(), Memory>
-    ensures { PutsText text.old text.new result (buddyinfo_text (buddy_frames buddy.now) spans.now) }
+    ensures { PutsText text.old text.new result
+        (buddyinfo_text (buddy_frames buddy.now) spans.now) }
 {
     put_indexed_lines(text, spans, |text: &mut Vec<u8>, index: u64, span: &Span| {
         put_buddyinfo_line(text, index, span, buddy)
@@ -56,21 +57,32 @@ pub fn zone_name(zone: Zone) -> &'static str
 /// Appends the line of a span: its bounds, the number of its frames, and the number of these that
 /// are free.
 fn put_zone_line(text: &mut Vec<u8>, index: u64, span: &Span, buddy: &Buddy) -> Result<(), Memory>
-    ensures { PutsText text.old text.new result (zone_line (blocks_of (buddy_frames buddy.now)) index span.now) }
+    ensures { PutsText text.old text.new result
+        (zone_line (blocks_of (buddy_frames buddy.now)) index span.now) }
 {
     put_node_zone(text, span.node)?;
     put_text(text, zone_name(span.zone).as_bytes())?;
     put_word_dec(text, b" start ", span.start)?;
     put_word_dec(text, b" end ", span.end)?;
     put_word_dec(text, b" present ", span.present)?;
-    put_word_dec(text, b" free ", free_frames_in_zone(buddy, span.node, span.zone))?;
+    put_word_dec(
+        text,
+        b" free ",
+        free_frames_in_zone(buddy, span.node, span.zone),
+    )?;
     put_text(text, b"\n")
 }
 
 /// Appends the line of a span: the number of free blocks of each order.
 #[tactic(auto, unfolding(crate::specs::ZonesText::buddyinfo_line))]
-fn put_buddyinfo_line(text: &mut Vec<u8>, index: u64, span: &Span, buddy: &Buddy) -> Result<(), Memory>
-    ensures { PutsText text.old text.new result (buddyinfo_line (blocks_of (buddy_frames buddy.now)) index span.now) }
+fn put_buddyinfo_line(
+    text: &mut Vec<u8>,
+    index: u64,
+    span: &Span,
+    buddy: &Buddy,
+) -> Result<(), Memory>
+    ensures { PutsText text.old text.new result
+        (buddyinfo_line (blocks_of (buddy_frames buddy.now)) index span.now) }
 {
     put_node_zone(text, span.node)?;
     put_padded_zone(text, span.zone)?;
@@ -100,7 +112,8 @@ fn put_padded_zone(text: &mut Vec<u8>, zone: Zone) -> Result<(), Memory>
 /// Appends the number of free blocks of each order in this node and zone.
 #[tactic(auto, unfolding(crate::specs::ZonesText::block_counts_text))]
 fn put_block_counts(text: &mut Vec<u8>, span: &Span, buddy: &Buddy) -> Result<(), Memory>
-    ensures { PutsText text.old text.new result (block_counts_text (blocks_of (buddy_frames buddy.now)) span.now.node span.now.zone) }
+    ensures { PutsText text.old text.new result
+        (block_counts_text (blocks_of (buddy_frames buddy.now)) span.now.node span.now.zone) }
 {
     for order in 0..=MAX_ORDER {
         put_block_count(text, buddy.count(span.node, span.zone, order))?;

@@ -14,7 +14,7 @@ ghost use Rattle.run_edits.specs.Ends.{HasRoomToEdit};
 
 use crate::change::Change;
 use crate::laws::range_end_fits;
-use crate::reading::{first_ending_from, value_and_end, peek, skip_ended};
+use crate::reading::{first_ending_from, peek, skip_ended, value_and_end};
 use crate::slots::{Rows, Slots};
 use address_runs::{Stretch, agree};
 use bm_base::Range;

@@ -27,5 +27,5 @@ mod slots;
 pub use change::{Change, Cover, Replace, Uncover};
 pub use edits::{amend, emit, rewrite};
 pub use laws::{edits_add_few, range_end_fits};
-pub use reading::{has_value_throughout, value_and_end, seek, skip_ended, value_at};
+pub use reading::{has_value_throughout, seek, skip_ended, value_and_end, value_at};
 pub use slots::{Rows, Slots};

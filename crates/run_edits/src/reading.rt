@@ -68,7 +68,11 @@ pub fn skip_ended<S: Stretch, T: Rows<S>>(table: &T, read: u64, at: u64) -> u64
 
 /// Returns what the address `from` carries, and the first address above it that carries something
 /// else (2^64 - 1 if no record is left). The records are read from index `read` on.
-pub fn value_and_end<S: Stretch, T: Rows<S>>(table: &T, read: u64, from: u64) -> (Option<S::Value>, u64)
+pub fn value_and_end<S: Stretch, T: Rows<S>>(
+    table: &T,
+    read: u64,
+    from: u64,
+) -> (Option<S::Value>, u64)
     ensures value { (f : ℕ → Option S.Value) → IsRestFrom f from (drop read (T.list table.now)) →
         result.0 ≡ f from }
     ensures stays { (f : ℕ → Option S.Value) → IsRestFrom f from (drop read (T.list table.now)) →

@@ -8,7 +8,7 @@ use Rattle.script_reader.specs.declared.fault.Wrong.TheVariants as wrong
 use Rattle.script_reader.specs.declared.fault.ScriptFault.TheVariants as faults
 use Rattle.script_reader.specs.Numbers.{Words, number_if_whole, number_in_word, number_if_within, number_within, optional_number, check_power_of_two, check_not_zero, range_or_fault}
 use Rattle.script_reader.specs.Forms.{greatest_u64, greatest_id, greatest_node, greatest_byte, greatest_len, alloc_line, reserve_line, free_line, trim_line, fill_line, peek_line, act_by_name, HasBounds}
-use Rattle.script_reader.specs.Grammar.{HasNoCommand, no_words as no_word, comment, IsWithin, front_value, value_of_word, HasLineForm, SpellsNumbers, HasWordsFault}
+use Rattle.script_reader.specs.Grammar.{HasNoCommand, no_words, comment, IsWithin, front_value, value_of_word, HasLineForm, SpellsNumbers, HasWordsFault}
 use Rattle.script_reader.specs.Spelling.{no_node, near_node, exact_node, alloc, trim, peek, sections, HasLineNumbers, act_of_form, IsAligned, HasSize, IsInSpace, script_grammar, SpellsAct, Fails}
 use Rattle.script_reader.specs.ScriptSpelling.{HasSectionsLine, LineHasAct, LineHasFault, LinesHaveActs, IsFirstLineFault}
 use Rattle.script_reader.proofs.StepLaws.{words_spelled}
@@ -89,7 +89,7 @@ spelled_words =
 
 -- a line without words, and a comment, have no command
 passed_over : HasNoCommand [] × HasNoCommand (codes "#free" ∷ codes "1" ∷ [])
-passed_over = (no_word, comment (codes "free") (codes "1" ∷ []))
+passed_over = (no_words, comment (codes "free") (codes "1" ∷ []))
 
 -- any word may stand for a number: here `max` is a lower limit, and then the key after it
 any_word_for_a_number :

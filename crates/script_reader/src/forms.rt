@@ -1,17 +1,17 @@
 //! Reads the words of one line. The first selects the form; the steps of each form are in the order
 //! of the faults.
 
-ghost use Rattle.std.specs.Prelude.{◌≡◌, ℕ, ◌<◌, ◌≤◌, ◌^◌, List, length, Option, Some, Ok, Err, MatchResult, IfOk, IfErr, IfSome};
+ghost use Rattle.std.specs.Prelude.{◌≡◌, ℕ, ◌<◌, ◌≤◌, ◌^◌, Option, Some, Ok, Err, MatchResult, IfOk};
 ghost use Rattle.std.specs.Option.{option_map};
 ghost use Rattle.text_words.specs.Words.{words_in};
 ghost use Rattle.text_words.specs.declared.separators.Separators.TheVariants as separators;
-ghost use Rattle.script_reader.specs.Forms.{AllocWords as SaidWords, alloc_words as words_of_alloc, optional_exact as exact_word, alloc_line as alloc_of, reserve_line as reserve_of, free_line as free_of, trim_line as trim_of, fill_line as fill_of, peek_line as peek_of, sections_line as sections_of, act_by_name as named_line, HasBounds};
+ghost use Rattle.script_reader.specs.Forms.{alloc_words, optional_exact, alloc_line, reserve_line, free_line, trim_line, fill_line, peek_line, sections_line, act_by_name, HasBounds};
 
 use crate::act::Act;
 use crate::fault::Wrong;
 use crate::words::{
-    number_within, first_word, expect_no_words, number_in_word, one_word, word_after_key, optional_number, check_power_of_two, range_or_fault,
-    check_not_zero, three_words, two_words,
+    check_not_zero, check_power_of_two, expect_no_words, first_word, number_in_word, number_within,
+    one_word, optional_number, range_or_fault, three_words, two_words, word_after_key,
 };
 use memblock_model::Request;
 use std::marker::Model;
@@ -25,7 +25,7 @@ use text_words::{Separators, next_word};
 /// - `Form`: there is no command of this name, or the words don't have its form.
 /// - Any other fault of the words.
 pub fn act_by_name(seen: bool, name: &[u8], rest: &[u8]) -> Result<Act, Wrong>
-    ensures value { result ≡ named_line seen name.now (words_in separators.Script rest.now) }
+    ensures value { result ≡ act_by_name seen name.now (words_in separators.Script rest.now) }
     ensures bounds { IfOk result HasBounds }
 {
     if name == b"alloc".as_slice() {
@@ -71,7 +71,7 @@ struct AllocWords<'a> {
 /// - `Form`: the words don't have this form.
 fn alloc_words(text: &[u8]) -> Result<AllocWords<'_>, Wrong>
     ensures { MatchResult result
-        (λ said. words_of_alloc (words_in separators.Script text.now) ≡ Ok (record {
+        (λ said. alloc_words (words_in separators.Script text.now) ≡ Ok (record {
           id = said.id.now;
           size = said.size.now;
           align = said.align.now;
@@ -80,7 +80,7 @@ fn alloc_words(text: &[u8]) -> Result<AllocWords<'_>, Wrong>
           node = option_map (λ word. word.now) said.node;
           exact = said.exact;
         }))
-        (λ wrong. words_of_alloc (words_in separators.Script text.now) ≡ Err wrong) }
+        (λ wrong. alloc_words (words_in separators.Script text.now) ≡ Err wrong) }
 {
     let (id, rest) = first_word(text)?;
     let (size, rest) = first_word(rest)?;
@@ -104,7 +104,8 @@ fn alloc_words(text: &[u8]) -> Result<AllocWords<'_>, Wrong>
 /// Tests whether `exact` comes next, and returns the rest of the text after it. Without a node the
 /// answer is false, and the text is unchanged.
 fn optional_exact<'a>(node: Option<&'a [u8]>, text: &'a [u8]) -> (bool, &'a [u8])
-    ensures { exact_word (option_map (λ word. word.now) node.entry) (words_in separators.Script text.now)
+    ensures { optional_exact (option_map (λ word. word.now) node.entry)
+        (words_in separators.Script text.now)
         ≡ (result.0, words_in separators.Script result.1.now) }
 {
     if node.is_none() {
@@ -117,7 +118,7 @@ fn optional_exact<'a>(node: Option<&'a [u8]>, text: &'a [u8]) -> (bool, &'a [u8]
 }
 
 fn alloc_line(text: &[u8]) -> Result<Act, Wrong>
-    ensures value { result ≡ alloc_of (words_in separators.Script text.now) }
+    ensures value { result ≡ alloc_line (words_in separators.Script text.now) }
     ensures bounds { IfOk result HasBounds }
 {
     let said = alloc_words(text)?;
@@ -153,7 +154,7 @@ const GREATEST_BYTE: u64 = 255;
 const GREATEST_LEN: u64 = 64;
 
 fn reserve_line(text: &[u8]) -> Result<Act, Wrong>
-    ensures value { result ≡ reserve_of (words_in separators.Script text.now) }
+    ensures value { result ≡ reserve_line (words_in separators.Script text.now) }
     ensures bounds { IfOk result HasBounds }
 {
     let (id, base, size) = three_words(text)?;
@@ -165,7 +166,7 @@ fn reserve_line(text: &[u8]) -> Result<Act, Wrong>
 }
 
 fn free_line(text: &[u8]) -> Result<Act, Wrong>
-    ensures value { result ≡ free_of (words_in separators.Script text.now) }
+    ensures value { result ≡ free_line (words_in separators.Script text.now) }
     ensures bounds { IfOk result HasBounds }
 {
     let id = number_within(GREATEST_ID, one_word(text)?)? as u32;
@@ -173,7 +174,7 @@ fn free_line(text: &[u8]) -> Result<Act, Wrong>
 }
 
 fn trim_line(text: &[u8]) -> Result<Act, Wrong>
-    ensures value { result ≡ trim_of (words_in separators.Script text.now) }
+    ensures value { result ≡ trim_line (words_in separators.Script text.now) }
     ensures bounds { IfOk result HasBounds }
 {
     let (id, keep) = two_words(text)?;
@@ -183,7 +184,7 @@ fn trim_line(text: &[u8]) -> Result<Act, Wrong>
 }
 
 fn fill_line(text: &[u8]) -> Result<Act, Wrong>
-    ensures value { result ≡ fill_of (words_in separators.Script text.now) }
+    ensures value { result ≡ fill_line (words_in separators.Script text.now) }
     ensures bounds { IfOk result HasBounds }
 {
     let (id, byte) = two_words(text)?;
@@ -193,7 +194,7 @@ fn fill_line(text: &[u8]) -> Result<Act, Wrong>
 }
 
 fn peek_line(text: &[u8]) -> Result<Act, Wrong>
-    ensures value { result ≡ peek_of (words_in separators.Script text.now) }
+    ensures value { result ≡ peek_line (words_in separators.Script text.now) }
     ensures bounds { IfOk result HasBounds }
 {
     let (at, len) = two_words(text)?;
@@ -207,7 +208,7 @@ fn peek_line(text: &[u8]) -> Result<Act, Wrong>
 }
 
 fn sections_line(seen: bool, text: &[u8]) -> Result<Act, Wrong>
-    ensures value { result ≡ sections_of seen (words_in separators.Script text.now) }
+    ensures value { result ≡ sections_line seen (words_in separators.Script text.now) }
     ensures bounds { IfOk result HasBounds }
 {
     expect_no_words(text)?;

@@ -4,12 +4,12 @@
 //! Only the list of lines allocates. If memory runs out, the rest of the script is still read, so
 //! that a fault in any line is found.
 
-ghost use Rattle.std.specs.Prelude.{◌≡◌, ℕ, ◌<◌, ◌^◌, List, ◌++◌, length, All, option_to_list, Err, IfOk, IfErr, IsErr, IsSome, IfSome, IsOkAnd, ◌⊎◌};
+ghost use Rattle.std.specs.Prelude.{◌≡◌, ℕ, ◌<◌, ◌^◌, ◌++◌, length, All, option_to_list, Err, IfOk, IfErr, IsErr, IsSome, IfSome, IsOkAnd, ◌⊎◌};
 ghost use Rattle.bm_base.specs.Answers.{Answers};
 ghost use Rattle.bm_base.specs.ResultSteps.{with_error};
 ghost use Rattle.text_words.specs.Words.{words_in};
 ghost use Rattle.text_words.specs.declared.separators.Separators.TheVariants as separators;
-ghost use Rattle.script_reader.specs.Lines.{ScriptKind, CanBe, read_line, has_once_command as once_seen, script_line_at as line_of, lines_of};
+ghost use Rattle.script_reader.specs.Lines.{ScriptKind, CanBe, read_line, has_once_command, script_line_at as line_of, lines_of};
 
 use crate::fault::Wrong;
 use crate::words::is_comment;
@@ -133,7 +133,7 @@ fn read_line<L: ScriptLine>(seen: bool, text: &[u8]) -> Result<Option<L::Act>, W
 
 /// Tests whether this line or an earlier one has the command that may occur only once.
 fn has_once_command<L: ScriptLine>(seen: bool, act: &Option<L::Act>) -> bool
-    ensures { result ≡ once_seen L.kind seen act.now }
+    ensures { result ≡ has_once_command L.kind seen act.now }
 {
     match act {
         Some(act) => seen || L::is_once(act),

@@ -3,12 +3,12 @@
 ghost use Rattle.std.specs.Prelude.{◌≡◌, ℕ, ◌<◌, ◌^◌, length, All, Err, IfOk, IsOkAnd};
 ghost use Rattle.bm_base.specs.Answers.{Answers};
 ghost use Rattle.script_reader.specs.Forms.{HasBounds};
-ghost use Rattle.script_reader.specs.Script.{script_fault_at as line_fault, script_of};
+ghost use Rattle.script_reader.specs.Script.{script_fault_at, script_of};
 
 use crate::act::{Act, Line};
 use crate::fault::{ScriptFault, Wrong};
 use crate::forms::act_by_name;
-use crate::lines::{ScriptLine, LinesError, read_lines};
+use crate::lines::{LinesError, ScriptLine, read_lines};
 use std::alloc::Global;
 
 impl ScriptLine for Line {
@@ -64,7 +64,7 @@ pub fn read_script(alloc: Global, bytes: &[u8]) -> Result<Vec<Line>, ScriptFault
 
 /// Returns the fault of a script for what is wrong with the line of this number.
 fn script_fault_at(line: u32, wrong: Wrong) -> ScriptFault
-    ensures { result ≡ line_fault line wrong }
+    ensures { result ≡ script_fault_at line wrong }
 {
     match wrong {
         Wrong::Form => ScriptFault::BadLine { line },

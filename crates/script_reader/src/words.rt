@@ -4,13 +4,13 @@
 //! line. A step that fails returns what is wrong with the line. The order of the steps in
 //! `crate::forms` decides which fault is reported.
 
-ghost use Rattle.std.specs.Prelude.{◌≡◌, ℕ, ◌<◌, ◌≤◌, ◌^◌, List, [], ◌∷◌, length, Option, Ok, Err, MatchResult, OnOk, IfOk, IfErr, IsTrue};
+ghost use Rattle.std.specs.Prelude.{◌≡◌, ℕ, ◌<◌, ◌≤◌, ◌^◌, [], ◌∷◌, Option, Ok, Err, MatchResult, IfOk, IfErr, IsTrue};
 ghost use Rattle.std.specs.Int.{is_power_of_two};
 ghost use Rattle.std.specs.Option.{option_map};
 ghost use Rattle.text_words.specs.Words.{words_in};
 ghost use Rattle.text_words.specs.declared.separators.Separators.TheVariants as separators;
-ghost use Rattle.script_reader.specs.Numbers.{IsOfWords, expect_no_words as has_no_words, first_word as front_word, one_word as single_word, two_words as pair_of_words, three_words as triple_of_words, word_after_key as optional_word, number_in_word as number_of, number_within as bounded_number, optional_number as optional_number_of, check_power_of_two as power_of, check_not_zero as some_of, range_or_fault as range_of};
-ghost use Rattle.script_reader.specs.Lines.{is_comment as begins_comment};
+ghost use Rattle.script_reader.specs.Numbers.{IsOfWords, expect_no_words, first_word, one_word, two_words, three_words, word_after_key, number_in_word, number_within, optional_number, check_power_of_two, check_not_zero, range_or_fault};
+ghost use Rattle.script_reader.specs.Lines.{is_comment};
 
 use crate::fault::Wrong;
 use bm_base::{Range, read_size};
@@ -18,7 +18,7 @@ use text_words::{Separators, next_word};
 
 /// Tests whether a line with this first word is a comment.
 pub fn is_comment(word: &[u8]) -> bool
-    ensures { result ≡ begins_comment word.now }
+    ensures { result ≡ is_comment word.now }
 {
     word.first() == Some(&b'#')
 }
@@ -29,7 +29,7 @@ pub fn is_comment(word: &[u8]) -> bool
 ///
 /// - `Form`: there is another word.
 pub fn expect_no_words(text: &[u8]) -> Result<(), Wrong>
-    ensures value { result ≡ has_no_words (words_in separators.Script text.now) }
+    ensures value { result ≡ expect_no_words (words_in separators.Script text.now) }
     ensures of_words { IfErr result IsOfWords }
 {
     match next_word(text, Separators::Script) {
@@ -45,9 +45,9 @@ pub fn expect_no_words(text: &[u8]) -> Result<(), Wrong>
 /// - `Form`: there is no word.
 pub fn first_word(text: &[u8]) -> Result<(&[u8], &[u8]), Wrong>
     ensures value { MatchResult result
-        (λ found. front_word (words_in separators.Script text.now)
+        (λ found. first_word (words_in separators.Script text.now)
         ≡ Ok (found.0.now, words_in separators.Script found.1.now))
-        (λ wrong. front_word (words_in separators.Script text.now) ≡ Err wrong) }
+        (λ wrong. first_word (words_in separators.Script text.now) ≡ Err wrong) }
     ensures of_words { IfErr result IsOfWords }
 {
     next_word(text, Separators::Script).ok_or(Wrong::Form)
@@ -60,8 +60,8 @@ pub fn first_word(text: &[u8]) -> Result<(&[u8], &[u8]), Wrong>
 /// - `Form`: there is no word, or more than one.
 pub fn one_word(text: &[u8]) -> Result<&[u8], Wrong>
     ensures value { MatchResult result
-        (λ word. single_word (words_in separators.Script text.now) ≡ Ok word.now)
-        (λ wrong. single_word (words_in separators.Script text.now) ≡ Err wrong) }
+        (λ word. one_word (words_in separators.Script text.now) ≡ Ok word.now)
+        (λ wrong. one_word (words_in separators.Script text.now) ≡ Err wrong) }
     ensures of_words { IfErr result IsOfWords }
 {
     let (word, rest) = first_word(text)?;
@@ -76,8 +76,8 @@ pub fn one_word(text: &[u8]) -> Result<&[u8], Wrong>
 /// - `Form`: there aren't exactly two words.
 pub fn two_words(text: &[u8]) -> Result<(&[u8], &[u8]), Wrong>
     ensures { MatchResult result
-        (λ words. pair_of_words (words_in separators.Script text.now) ≡ Ok (words.0.now, words.1.now))
-        (λ wrong. pair_of_words (words_in separators.Script text.now) ≡ Err wrong) }
+        (λ words. two_words (words_in separators.Script text.now) ≡ Ok (words.0.now, words.1.now))
+        (λ wrong. two_words (words_in separators.Script text.now) ≡ Err wrong) }
 {
     let (first, rest) = first_word(text)?;
     let second = one_word(rest)?;
@@ -91,9 +91,9 @@ pub fn two_words(text: &[u8]) -> Result<(&[u8], &[u8]), Wrong>
 /// - `Form`: there aren't exactly three words.
 pub fn three_words(text: &[u8]) -> Result<(&[u8], &[u8], &[u8]), Wrong>
     ensures { MatchResult result
-        (λ words. triple_of_words (words_in separators.Script text.now)
+        (λ words. three_words (words_in separators.Script text.now)
         ≡ Ok (words.0.now, words.1.now, words.2.now))
-        (λ wrong. triple_of_words (words_in separators.Script text.now) ≡ Err wrong) }
+        (λ wrong. three_words (words_in separators.Script text.now) ≡ Err wrong) }
 {
     let (first, rest) = first_word(text)?;
     let (second, third) = two_words(rest)?;
@@ -103,7 +103,7 @@ pub fn three_words(text: &[u8]) -> Result<(&[u8], &[u8], &[u8]), Wrong>
 /// If the text starts with `key WORD`, returns WORD and the rest of the text. Else returns `None`
 /// and the text unchanged.
 pub fn word_after_key<'a>(key: &[u8], text: &'a [u8]) -> (Option<&'a [u8]>, &'a [u8])
-    ensures { optional_word key.now (words_in separators.Script text.now)
+    ensures { word_after_key key.now (words_in separators.Script text.now)
         ≡ (option_map (λ word. word.now) result.0, words_in separators.Script result.1.now) }
 {
     let Some((word, rest)) = next_word(text, Separators::Script) else {
@@ -124,7 +124,7 @@ pub fn word_after_key<'a>(key: &[u8], text: &'a [u8]) -> (Option<&'a [u8]>, &'a 
 ///
 /// - `Number`: the word isn't entirely a number.
 pub fn number_in_word(word: &[u8]) -> Result<u64, Wrong>
-    ensures value { result ≡ number_of word.now }
+    ensures value { result ≡ number_in_word word.now }
     ensures of_words { IfErr result IsOfWords }
 {
     match read_size(word) {
@@ -139,7 +139,7 @@ pub fn number_in_word(word: &[u8]) -> Result<u64, Wrong>
 ///
 /// - `Number`: the word isn't entirely a number, or the number is above `most`.
 pub fn number_within(most: u64, word: &[u8]) -> Result<u64, Wrong>
-    ensures value { result ≡ bounded_number most word.now }
+    ensures value { result ≡ number_within most word.now }
     ensures bound { IfOk result (λ n. n ≤ most) }
     ensures of_words { IfErr result IsOfWords }
 {
@@ -156,7 +156,7 @@ pub fn number_within(most: u64, word: &[u8]) -> Result<u64, Wrong>
 ///
 /// - `Number`: the word isn't entirely a number, or the number is above `most`.
 pub fn optional_number(most: u64, word: Option<&[u8]>) -> Result<Option<u64>, Wrong>
-    ensures value { result ≡ optional_number_of most (option_map (λ word. word.now) word.entry) }
+    ensures value { result ≡ optional_number most (option_map (λ word. word.now) word.entry) }
     ensures bound { IfOk result (λ found. (n : ℕ) → found ≡ Some n → n ≤ most) }
 {
     match word {
@@ -171,7 +171,7 @@ pub fn optional_number(most: u64, word: Option<&[u8]>) -> Result<Option<u64>, Wr
 ///
 /// - `Align`: it isn't a power of two.
 pub fn check_power_of_two(value: u64) -> Result<u64, Wrong>
-    ensures value { result ≡ power_of value }
+    ensures value { result ≡ check_power_of_two value }
     ensures power { IfOk result (λ n. IsTrue (is_power_of_two n)) }
 {
     if !value.is_power_of_two() {
@@ -186,7 +186,7 @@ pub fn check_power_of_two(value: u64) -> Result<u64, Wrong>
 ///
 /// - `ZeroSize`: it is 0.
 pub fn check_not_zero(value: u64) -> Result<u64, Wrong>
-    ensures value { result ≡ some_of value }
+    ensures value { result ≡ check_not_zero value }
     ensures some { IfOk result (λ n. 0 < n) }
 {
     if value == 0 {
@@ -201,7 +201,7 @@ pub fn check_not_zero(value: u64) -> Result<u64, Wrong>
 ///
 /// - `TooFar`: `base + size` exceeds 2^64 - 1.
 pub fn range_or_fault(base: u64, size: u64) -> Result<Range, Wrong>
-    ensures { result ≡ range_of base size }
+    ensures { result ≡ range_or_fault base size }
 {
     Range::new(base, size).ok_or(Wrong::TooFar)
 }

@@ -2,7 +2,6 @@
 -- `__populate_section_memmap`).
 use Rattle.std.specs.Prelude.{ℕ, ◌+◌, ◌*◌, ◌==◌, Bool, true, false, if◌then◌else◌, Some, None, List, [], ◌∷◌, ◌++◌, length}
 use Rattle.memblock_model.specs.declared.owner.Owner.TheVariants as owner
-use Rattle.growth_model.specs.declared.refusal.Refusal.{Refusal}
 use Rattle.memblock_model.specs.declared.query.Request.{Request}
 use Rattle.memblock_grow.specs.declared.stop.Section.{Section}
 use Rattle.memblock_grow.specs.declared.stop.What.TheVariants as what

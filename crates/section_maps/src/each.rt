@@ -20,7 +20,8 @@ use stage_steps::{Section, StageStop, What, place_or_stop};
 /// Allocates the map of one section, and returns its address.
 fn place_map(memblock: &mut Memblock, section: &Section) -> Result<u64, StageStop>
     requires { HasBegun memblock.old.journal.items }
-    ensures ends { EndsAsStage (place_or_stop (what.Map section.now.number) (map_request 1 section.now.node false) (owner.Map section.now.number)) stage_stop result
+    ensures ends { EndsAsStage (place_or_stop (what.Map section.now.number)
+        (map_request 1 section.now.node false) (owner.Map section.now.number)) stage_stop result
         memblock.old.journal.items memblock.new.journal.items }
     ensures goes_on { ContinuesMemblock memblock.old memblock.new }
 {
@@ -40,7 +41,8 @@ pub fn place_each_map(
     requires begun { HasBegun memblock.old.journal.items }
     requires room { vec_len placed.old + length sections.now ≤ vec_capacity placed.old }
     requires usage { usage + 40 * length sections.now < 2 ^ 64 }
-    ensures ends { EndsAsStage (place_each_map usage placed.old.items sections.now) stage_stop (view_of_result (λ _. placed.new.items) result)
+    ensures ends { EndsAsStage (place_each_map usage placed.old.items sections.now) stage_stop
+        (view_of_result (λ _. placed.new.items) result)
         memblock.old.journal.items memblock.new.journal.items }
     ensures len { vec_len placed.new ≤ vec_len placed.old + length sections.now }
     ensures capacity { vec_capacity placed.old ≤ vec_capacity placed.new }

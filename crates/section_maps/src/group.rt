@@ -38,8 +38,10 @@ fn place_group_maps(
     requires few { length sections.now ≤ 2 ^ 32 }
     requires room { vec_len placed.old + length sections.now ≤ vec_capacity placed.old }
     requires usage { usage + 40 * length sections.now < 2 ^ 64 }
-    ensures ends { EndsAsStage (or_else (place_map_buffer usage placed.old.items first.now sections.now)
-        (place_each_map usage placed.old.items sections.now)) stage_stop (view_of_result (λ _. placed.new.items) result)
+    ensures ends { EndsAsStage
+        (or_else (place_map_buffer usage placed.old.items first.now sections.now)
+        (place_each_map usage placed.old.items sections.now)) stage_stop
+        (view_of_result (λ _. placed.new.items) result)
         memblock.old.journal.items memblock.new.journal.items }
     ensures len { vec_len placed.new ≤ vec_len placed.old + length sections.now }
     ensures capacity { vec_capacity placed.old ≤ vec_capacity placed.new }
@@ -68,7 +70,8 @@ pub fn place_group(
     requires some { 1 ≤ length sections.now }
     requires few { length sections.now ≤ 2 ^ 32 }
     requires room { vec_len placed.old + length sections.now ≤ vec_capacity placed.old }
-    ensures ends { EndsAsStage (place_group placed.old.items first.now sections.now) stage_stop (view_of_result (λ _. placed.new.items) result)
+    ensures ends { EndsAsStage (place_group placed.old.items first.now sections.now) stage_stop
+        (view_of_result (λ _. placed.new.items) result)
         memblock.old.journal.items memblock.new.journal.items }
     ensures len { vec_len placed.new ≤ vec_len placed.old + length sections.now }
     ensures capacity { vec_capacity placed.old ≤ vec_capacity placed.new }

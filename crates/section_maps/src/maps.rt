@@ -53,7 +53,8 @@ pub fn place_maps(
 ) -> Result<Vec<Placed>, StageStop>
     requires begun { HasBegun memblock.old.journal.items }
     requires ascend { AllPairs (λ s t. s.number < t.number) sections.now }
-    ensures ends { EndsAsStage (place_maps sections.now) stage_stop (view_of_result (λ placed. placed.items) result)
+    ensures ends { EndsAsStage (place_maps sections.now) stage_stop
+        (view_of_result (λ placed. placed.items) result)
         memblock.old.journal.items memblock.new.journal.items }
     ensures goes_on { ContinuesMemblock memblock.old memblock.new }
 {

@@ -34,7 +34,13 @@ pub fn empty_section_list(alloc: Global, count: usize) -> Result<Vec<Placed>, Me
 pub fn push_placed(placed: &mut Vec<Placed>, section: &Section, map: u64, usage: u64)
     requires room { vec_len placed.old < vec_capacity placed.old }
     ensures placed { placed.new.items ≡ placed.old.items
-        ++ record { section = section.now.number; node = section.now.node; map = map; usage = usage } ∷ [] }
+        ++ record {
+          section = section.now.number;
+          node = section.now.node;
+          map = map;
+          usage
+              = usage;
+        } ∷ [] }
     ensures len { vec_len placed.new ≤ vec_len placed.old + 1 }
     ensures capacity { vec_capacity placed.old ≤ vec_capacity placed.new }
 {
@@ -56,7 +62,8 @@ pub fn push_consecutive_places(placed: &mut Vec<Placed>, sections: &[Section], u
     requires room { vec_len placed.old + length sections.now ≤ vec_capacity placed.old }
     requires usage { usage + 40 * length sections.now < 2 ^ 64 }
     requires map { map + 0x200000 * length sections.now < 2 ^ 64 }
-    ensures placed { placed.new.items ≡ placed.old.items ++ consecutive_places usage map sections.now }
+    ensures placed { placed.new.items ≡ placed.old.items
+        ++ consecutive_places usage map sections.now }
     ensures len { vec_len placed.new ≤ vec_len placed.old + length sections.now }
     ensures capacity { vec_capacity placed.old ≤ vec_capacity placed.new }
 {

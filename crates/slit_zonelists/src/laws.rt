@@ -1,6 +1,6 @@
 //! Laws about the definitions, and about the state after any lines.
 
-ghost use Rattle.std.specs.Prelude.{◌≡◌, ℕ, ◌<◌, true, false, List, Option, Some, None, IsSome, IfSome, map};
+ghost use Rattle.std.specs.Prelude.{◌≡◌, ℕ, ◌<◌, false, List, Option, Some, None, IsSome, IfSome, map};
 ghost use Rattle.std.specs.List.{All};
 ghost use Rattle.std.specs.List.Sorted.{IsPermutation};
 ghost use Rattle.address_runs.specs.Edits.{NothingFrom};
@@ -23,26 +23,34 @@ use buddy_blocks::MAX_FRAMES;
 /// Law: the reported bad cell is the first one, by row and then by column. If none is reported, no
 /// cell is bad.
 pub fn bad_cells_are_the_least()
-    ensures some { (m : SlitView) (row column : ℕ) → first_bad_cell m ≡ Some (row, column) → IsLeastBad m row column }
-    ensures none { (m : SlitView) (row column : ℕ) → first_bad_cell m ≡ None → row < m.count → column < m.count → is_bad_cell m row column ≡ false }
+    ensures some { (m : SlitView) (row column : ℕ) → first_bad_cell m ≡ Some (row, column)
+        → IsLeastBad m row column }
+    ensures none { (m : SlitView) (row column : ℕ) → first_bad_cell m ≡ None → row < m.count
+        → column < m.count → is_bad_cell m row column ≡ false }
 {}
 
 /// Law: the list of a node has one zone for each span, ordered by the distance of its node, then
 /// by that node's number, then Normal before DMA32 before DMA.
 pub fn lists_have_each_zone_in_order()
-    ensures each { (slit : Option SlitView) (domains : List ℕ) (spans : List AnySpan) (node : ℕ) → IfSome slit HasBytes →
-        IsPermutation (map zone_of_span spans) (zones_of (zonelists_from_slit slit domains spans) node) }
+    ensures each { (slit : Option SlitView) (domains : List ℕ) (spans : List AnySpan) (node : ℕ)
+        → IfSome slit HasBytes →
+        IsPermutation (map zone_of_span spans)
+        (zones_of (zonelists_from_slit slit domains spans) node) }
     ensures order { (slit : Option SlitView) (domains : List ℕ) (spans : List AnySpan) (node : ℕ) →
-        IsByDistance (zonelists_from_slit slit domains spans) node (zones_of (zonelists_from_slit slit domains spans) node) }
+        IsByDistance (zonelists_from_slit slit domains spans) node
+        (zones_of (zonelists_from_slit slit domains spans) node) }
 {}
 
 /// Law: a request near a node, for an ID that holds nothing, is the same request to the first zone
 /// in the node's list that has a block of the order or a greater one. If no zone has one, the
 /// outcome is `NoBlock`. If the ID already holds something, it is `Taken`.
 pub fn near_takes_from_the_first_zone()
-    ensures first { (k : ListsView) (s : PageState) (id order node : ℕ) (z : AnyZone) → s.held id ≡ None → IsFirstZone s order (zones_of k node) z →
-        page_step_by_distance k s (act.Near id order node) ≡ page_step s (act.Pages id order z.node z.zone) }
-    ensures none { (k : ListsView) (s : PageState) (id order node : ℕ) → s.held id ≡ None → All (λ z. has_block s order z ≡ false) (zones_of k node) →
+    ensures first { (k : ListsView) (s : PageState) (id order node : ℕ) (z : AnyZone)
+        → s.held id ≡ None → IsFirstZone s order (zones_of k node) z →
+        page_step_by_distance k s (act.Near id order node)
+        ≡ page_step s (act.Pages id order z.node z.zone) }
+    ensures none { (k : ListsView) (s : PageState) (id order node : ℕ) → s.held id ≡ None
+        → All (λ z. has_block s order z ≡ false) (zones_of k node) →
         page_step_by_distance k s (act.Near id order node) ≡ (outcomes.NoBlock, s) }
     ensures taken { (k : ListsView) (s : PageState) (id order node : ℕ) → IsSome (s.held id) →
         page_step_by_distance k s (act.Near id order node) ≡ (outcomes.Taken, s) }
@@ -51,8 +59,10 @@ pub fn near_takes_from_the_first_zone()
 /// Law: after any lines each frame that was free at the beginning is in exactly one block or held
 /// by exactly one ID. No other frame is in a block or held.
 pub fn frames_stay_in_one_block_or_held()
-    ensures one { (k : ListsView) (f : Frames) (lines : List AnyLine) (x n : ℕ) → NothingFrom MAX_FRAMES f → HaveValidOrders lines → f x ≡ Some n →
+    ensures one { (k : ListsView) (f : Frames) (lines : List AnyLine) (x n : ℕ)
+        → NothingFrom MAX_FRAMES f → HaveValidOrders lines → f x ≡ Some n →
         IsInOneBlockOrHeld (page_state_after k (first_page_state f) lines) x }
-    ensures other { (k : ListsView) (f : Frames) (lines : List AnyLine) (x : ℕ) → NothingFrom MAX_FRAMES f → HaveValidOrders lines → f x ≡ None →
+    ensures other { (k : ListsView) (f : Frames) (lines : List AnyLine) (x : ℕ)
+        → NothingFrom MAX_FRAMES f → HaveValidOrders lines → f x ≡ None →
         IsInNoBlockNorHeld (page_state_after k (first_page_state f) lines) x }
 {}

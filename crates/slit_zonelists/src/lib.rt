@@ -22,22 +22,22 @@
 //! `specs/`, here or in a crate below.
 #![tactic(auto)]
 
-mod near_request;
 mod buckets;
 mod laws;
 mod lists;
+mod near_request;
 mod order;
 mod run;
 mod table;
 mod uses;
 
-pub use near_request::near;
-pub use order::ListZone;
 pub use laws::{
     bad_cells_are_the_least, frames_stay_in_one_block_or_held, lists_have_each_zone_in_order,
     near_takes_from_the_first_zone,
 };
 pub use lists::Lists;
+pub use near_request::near;
+pub use order::ListZone;
 pub use run::run_page_lines;
 pub use table::{Slit, SlitFault, read_slit};
 pub use uses::SlitUse;

@@ -7,8 +7,8 @@ ghost use Rattle.page_alloc.specs.Pages.{NeedsMemory};
 ghost use Rattle.slit_zonelists.specs.Lists.{zones_of};
 ghost use Rattle.slit_zonelists.specs.Near.{first_zone, take_from_zone, page_step_by_distance};
 
-use crate::order::ListZone;
 use crate::lists::Lists;
+use crate::order::ListZone;
 use bm_base::Memory;
 use page_alloc::{PageOutcome, Pages};
 
@@ -33,9 +33,12 @@ pub fn near(
     node: u32,
 ) -> Result<PageOutcome, Memory>
     requires { order ≤ 10 }
-    ensures ok { IfOk result (λ outcome. (outcome, page_state_of pages.new) ≡ page_step_by_distance lists.now (page_state_of pages.old) (act.Near id order node)) }
-    ensures memory { OnErr result (NeedsMemory (page_step_by_distance lists.now (page_state_of pages.old) (act.Near id order node)).0) }
-    ensures refused { IfOk result (λ outcome. (outcome ≡ PageOutcome.Taken) ⊎ (outcome ≡ PageOutcome.NoBlock) → pages.new ≡ pages.old) }
+    ensures ok { IfOk result (λ outcome. (outcome, page_state_of pages.new)
+        ≡ page_step_by_distance lists.now (page_state_of pages.old) (act.Near id order node)) }
+    ensures memory { OnErr result (NeedsMemory
+        (page_step_by_distance lists.now (page_state_of pages.old) (act.Near id order node)).0) }
+    ensures refused { IfOk result (λ outcome. (outcome ≡ PageOutcome.Taken)
+        ⊎ (outcome ≡ PageOutcome.NoBlock) → pages.new ≡ pages.old) }
     ensures err { OnErr result (pages.new ≡ pages.old) }
 {
     if pages.held(id).is_some() {
@@ -54,11 +57,17 @@ pub fn near(
 /// # Errors
 ///
 /// Out of memory, exactly if some zone in the list has such a block.
-pub fn outcome_without_list(pages: &Pages, lists: &Lists, order: u32, node: u32) -> Result<PageOutcome, Memory>
+pub fn outcome_without_list(
+    pages: &Pages,
+    lists: &Lists,
+    order: u32,
+    node: u32,
+) -> Result<PageOutcome, Memory>
     requires { order ≤ 10 }
     ensures none { IfOk result (λ outcome. (outcome ≡ PageOutcome.NoBlock)
         × (first_zone (page_state_of pages.now) order (zones_of lists.now node) ≡ None)) }
-    ensures memory { OnErr result (IsSome (first_zone (page_state_of pages.now) order (zones_of lists.now node))) }
+    ensures memory { OnErr result
+        (IsSome (first_zone (page_state_of pages.now) order (zones_of lists.now node))) }
 {
     for entry in lists.zones() {
         if pages.buddy().has_block(entry.node, entry.zone, order) {
@@ -84,10 +93,12 @@ pub fn take_from_first_zone(
 ) -> Result<PageOutcome, Memory>
     requires order { order ≤ 10 }
     requires none { (page_state_of pages.old).held id ≡ None }
-    ensures ok { IfOk result (λ outcome. (outcome, page_state_of pages.new) ≡ take_from_zone (page_state_of pages.old) id order
+    ensures ok { IfOk result (λ outcome.
+        (outcome, page_state_of pages.new) ≡ take_from_zone (page_state_of pages.old) id order
         (first_zone (page_state_of pages.old) order zones.now)) }
     ensures memory { OnErr result (IsSome (first_zone (page_state_of pages.old) order zones.now)) }
-    ensures refused { IfOk result (λ outcome. (outcome ≡ PageOutcome.Taken) ⊎ (outcome ≡ PageOutcome.NoBlock) → pages.new ≡ pages.old) }
+    ensures refused { IfOk result (λ outcome. (outcome ≡ PageOutcome.Taken)
+        ⊎ (outcome ≡ PageOutcome.NoBlock) → pages.new ≡ pages.old) }
     ensures err { OnErr result (pages.new ≡ pages.old) }
 {
     for entry in zones {

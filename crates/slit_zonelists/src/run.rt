@@ -1,7 +1,7 @@
 //! All lines of a page script, one after another. The list of a node is made at the first line
 //! that needs it, and kept.
 
-ghost use Rattle.std.specs.Prelude.{◌≡◌, ◌+◌, ◌<◌, ◌≤◌, [], ◌∷◌, ◌++◌, IfOk, OnOk, OnErr, IsSome, vec_len, vec_capacity};
+ghost use Rattle.std.specs.Prelude.{◌≡◌, ◌+◌, ◌<◌, ◌≤◌, [], ◌∷◌, ◌++◌, IfOk, OnOk, OnErr, IsSome};
 ghost use Rattle.std.specs.BTreeMap.{get};
 ghost use Rattle.std.specs.Ordering.{nat_cmp};
 ghost use Rattle.page_alloc.specs.PagesView.{page_state_of};
@@ -9,9 +9,9 @@ ghost use Rattle.page_alloc.specs.Pages.{HasValidOrder, HaveValidOrders, NeedsMe
 ghost use Rattle.slit_zonelists.specs.Near.{page_step_by_distance, page_answers_of, page_state_after, RunsOutInPageScript};
 ghost use Rattle.slit_zonelists.specs.MadeLists.{AreListsOfNodes};
 
-use crate::near_request::{take_from_first_zone, outcome_without_list};
-use crate::order::ListZone;
 use crate::lists::Lists;
+use crate::near_request::{outcome_without_list, take_from_first_zone};
+use crate::order::ListZone;
 use bm_base::{Memory, push_within_capacity};
 use page_alloc::{PageAct, PageAnswer, PageLine, PageOutcome, Pages};
 use std::alloc::Global;
@@ -32,9 +32,11 @@ pub fn run_page_lines(
     lines: &[PageLine],
 ) -> Result<Vec<PageAnswer>, Memory>
     requires { HaveValidOrders lines.now }
-    ensures answers { IfOk result (λ answers. answers.items ≡ page_answers_of lists.now (page_state_of pages.old) lines.now) }
+    ensures answers { IfOk result (λ answers.
+        answers.items ≡ page_answers_of lists.now (page_state_of pages.old) lines.now) }
     ensures memory { OnErr result (RunsOutInPageScript lists.now pages.old lines.now pages.new) }
-    ensures after { OnOk result (page_state_of pages.new ≡ page_state_after lists.now (page_state_of pages.old) lines.now) }
+    ensures after { OnOk result (page_state_of pages.new
+        ≡ page_state_after lists.now (page_state_of pages.old) lines.now) }
 {
     let mut answers = Vec::with_capacity(alloc, lines.len())?;
     let mut made = BTreeMap::new(alloc);
@@ -62,9 +64,11 @@ fn run_page_line(
 ) -> Result<PageOutcome, Memory>
     requires order { HasValidOrder line.now.act }
     requires made { AreListsOfNodes lists.now made.old }
-    ensures ok { IfOk result (λ outcome. (outcome, page_state_of pages.new) ≡ page_step_by_distance lists.now (page_state_of pages.old) line.now.act) }
+    ensures ok { IfOk result (λ outcome. (outcome, page_state_of pages.new)
+        ≡ page_step_by_distance lists.now (page_state_of pages.old) line.now.act) }
     ensures made { AreListsOfNodes lists.now made.new }
-    ensures memory { OnErr result (NeedsMemory (page_step_by_distance lists.now (page_state_of pages.old) line.now.act).0) }
+    ensures memory { OnErr result
+        (NeedsMemory (page_step_by_distance lists.now (page_state_of pages.old) line.now.act).0) }
     ensures err { OnErr result (pages.new ≡ pages.old) }
 {
     let PageAct::Near { id, order, node } = line.act else {
@@ -87,7 +91,11 @@ fn run_page_line(
 /// # Errors
 ///
 /// Out of memory.
-fn make_list(lists: &Lists, made: &mut BTreeMap<u32, Vec<ListZone>>, node: u32) -> Result<(), Memory>
+fn make_list(
+    lists: &Lists,
+    made: &mut BTreeMap<u32, Vec<ListZone>>,
+    node: u32,
+) -> Result<(), Memory>
     requires { AreListsOfNodes lists.now made.old }
     ensures made { AreListsOfNodes lists.now made.new }
     ensures here { OnOk result (IsSome (get nat_cmp made.new node)) }

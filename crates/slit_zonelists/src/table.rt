@@ -67,7 +67,8 @@ impl From<Memory> for SlitFault {
 /// for bytes without a fault that have at least one locality.
 pub fn read_slit(alloc: Global, bytes: &[u8]) -> Result<Slit, SlitFault>
     ensures answers { Answers SlitFault.Memory slit_view result (slit_of bytes.now) }
-    ensures memory { IfErr result (λ fault. fault ≡ SlitFault.Memory → first_slit_fault bytes.now ≡ None) }
+    ensures memory { IfErr result (λ fault. fault ≡ SlitFault.Memory
+        → first_slit_fault bytes.now ≡ None) }
     ensures some { IfErr result (λ fault. fault ≡ SlitFault.Memory → 0 < locality_count bytes.now) }
     ensures square { IfOk result (λ slit. IsSquare (slit_view slit)) }
 {
@@ -86,12 +87,13 @@ fn read_cells(alloc: Global, bytes: &[u8]) -> Result<Slit, Memory>
     requires header { 44 ≤ length bytes.now }
     requires few { length bytes.now < 2 ^ 32 }
     requires square { locality_count bytes.now * locality_count bytes.now ≡ length bytes.now - 44 }
-    ensures cells { IfOk result (λ slit. slit_view slit ≡ record { count = locality_count bytes.now; cells = drop 44 bytes.now }) }
+    ensures cells { IfOk result (λ slit.
+        slit_view slit ≡ record { count = locality_count bytes.now; cells = drop 44 bytes.now }) }
     ensures square { IfOk result (λ slit. IsSquare (slit_view slit)) }
     ensures some { IsErr result → 0 < locality_count bytes.now }
 {
     let count = locality_count(bytes);
-    let cells = copy_of(alloc, &bytes[HEADER_BYTES..])?;
+    let cells = copy_bytes(alloc, &bytes[HEADER_BYTES..])?;
     Ok(Slit {
         count: count as u32,
         cells,
@@ -103,7 +105,7 @@ fn read_cells(alloc: Global, bytes: &[u8]) -> Result<Slit, Memory>
 /// # Errors
 ///
 /// Out of memory, only if there are bytes.
-fn copy_of(alloc: Global, bytes: &[u8]) -> Result<Vec<u8>, Memory>
+fn copy_bytes(alloc: Global, bytes: &[u8]) -> Result<Vec<u8>, Memory>
     ensures same { IfOk result (λ copy. copy.items ≡ bytes.now) }
     ensures memory { IsErr result → 0 < length bytes.now }
 {
@@ -126,7 +128,8 @@ fn first_slit_fault(bytes: &[u8]) -> Option<SlitFault>
     ensures value { result ≡ first_slit_fault bytes.now }
     ensures header { IfNone result (44 ≤ length bytes.now) }
     ensures few { IfNone result (length bytes.now < 2 ^ 32) }
-    ensures square { IfNone result (locality_count bytes.now * locality_count bytes.now ≡ length bytes.now - 44) }
+    ensures square { IfNone result (locality_count bytes.now * locality_count bytes.now
+        ≡ length bytes.now - 44) }
 {
     if bytes.len() < HEADER_BYTES {
         return Some(SlitFault::Short);

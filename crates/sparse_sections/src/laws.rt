@@ -22,27 +22,34 @@ ghost use Rattle.sparse_sections.specs.Roots.{root_of, first_of_each_root, place
 /// that the items give it. All runs of memory are whole frames. If memory ends at or below 4 PiB,
 /// they are records in which sections can be found.
 pub fn memory_with_nodes_is_whole()
-    ensures runs { (limit : ℕ) (items : List AnyItem) → limit ≤ 2 ^ 64 → HasNodes limit (memory_of items) →
+    ensures runs { (limit : ℕ) (items : List AnyItem) → limit ≤ 2 ^ 64
+        → HasNodes limit (memory_of items) →
         IsRunsOf (memory_of items) (records_of which.Memory items) }
-    ensures told { (limit : ℕ) (items : List AnyItem) → limit ≤ 2 ^ 64 → HasNodes limit (memory_of items) →
+    ensures told { (limit : ℕ) (items : List AnyItem) → limit ≤ 2 ^ 64
+        → HasNodes limit (memory_of items) →
         value_at (records_of which.Memory items) ≡ memory_of items }
-    ensures frames { (limit : ℕ) (f : Labels) (rs : List (RunOf LabelView)) → IsRunsOf f rs → HasNodes limit f → AreWholeFrames rs }
-    ensures records { (f : Labels) (rs : List (RunOf LabelView)) → IsRunsOf f rs → HasNodes (2 ^ 52) f → All IsWholeWithNode rs }
+    ensures frames { (limit : ℕ) (f : Labels) (rs : List (RunOf LabelView)) → IsRunsOf f rs
+        → HasNodes limit f → AreWholeFrames rs }
+    ensures records { (f : Labels) (rs : List (RunOf LabelView)) → IsRunsOf f rs
+        → HasNodes (2 ^ 52) f → All IsWholeWithNode rs }
 {}
 
 /// Law: if memory is whole frames with nodes, each of its bytes below 4 PiB is in a section that
 /// is found. Each section that is found has memory, and the node of its lowest byte of memory.
 pub fn present_sections_are_memory()
-    ensures all { (limit x : ℕ) (f : Labels) (label : LabelView) → HasNodes limit f → x < 2 ^ 52 → f x ≡ Some label →
+    ensures all { (limit x : ℕ) (f : Labels) (label : LabelView) → HasNodes limit f → x < 2 ^ 52
+        → f x ≡ Some label →
         (i : ℕ) × IsSectionAt (present f) i (x / 0x8000000) }
-    ensures each { (limit : ℕ) (f : Labels) → HasNodes limit f → All (HasNodeOfLowestByte f) (present f) }
+    ensures each { (limit : ℕ) (f : Labels) → HasNodes limit f
+        → All (HasNodeOfLowestByte f) (present f) }
 {}
 
 /// Law: the sections with memory are in ascending order and below 4 PiB; after the stage of nodes
 /// each has a node below 1,024.
 pub fn present_sections_ascend()
     ensures ascend { (f : Labels) → AreSectionsInOrder (present f) }
-    ensures nodes { (limit : ℕ) (f : Labels) → HasNodes limit f → All (λ s. s.node < 1024) (present f) }
+    ensures nodes { (limit : ℕ) (f : Labels) → HasNodes limit f
+        → All (λ s. s.node < 1024) (present f) }
 {}
 
 /// Law: of ascending sections, the roots that get a place are ascending, so each is placed once.
@@ -51,9 +58,11 @@ pub fn present_sections_ascend()
 pub fn roots_ascend()
     ensures ascend { (sections : List AnySection) → AreSectionsInOrder sections →
         (i j : ℕ) (d : AnySection) → i < j → j < length (first_of_each_root None sections) →
-        root_of (get_or (first_of_each_root None sections) i d) < root_of (get_or (first_of_each_root None sections) j d) }
+        root_of (get_or (first_of_each_root None sections) i d)
+        < root_of (get_or (first_of_each_root None sections) j d) }
     ensures first { (sections : List AnySection) (root : ℕ) →
-        find (λ s. root_of s == root) (first_of_each_root None sections) ≡ find (λ s. root_of s == root) sections }
+        find (λ s. root_of s == root) (first_of_each_root None sections)
+        ≡ find (λ s. root_of s == root) sections }
 {}
 
 /// Law: placing roots changes neither memory nor the limit, whether they find a place or not.

@@ -22,8 +22,8 @@ mod places;
 mod sections;
 
 pub use laws::{
-    memory_with_nodes_is_whole, present_sections_are_memory, present_sections_ascend, roots_ascend,
-    place_roots_keeps_memory_and_limit,
+    memory_with_nodes_is_whole, place_roots_keeps_memory_and_limit, present_sections_are_memory,
+    present_sections_ascend, roots_ascend,
 };
-pub use places::{place_roots, RootPlace, Roots};
+pub use places::{RootPlace, Roots, place_roots};
 pub use sections::present;

@@ -2,7 +2,7 @@
 //! sections. Here the sections are a list by then; since it is ascending, the last root that was
 //! placed is enough to know whether a root has its place.
 
-ghost use Rattle.std.specs.Prelude.{◌≡◌, ◌≤◌, ◌<◌, ◌+◌, ℕ, None, [], List, IfOk, length, vec_len, vec_capacity};
+ghost use Rattle.std.specs.Prelude.{◌≡◌, ◌≤◌, ◌<◌, ◌+◌, ℕ, None, [], IfOk, length, vec_len, vec_capacity};
 ghost use Rattle.bm_base.specs.Width.{root_table_of};
 ghost use Rattle.growth_model.specs.Tables.{HasBegun};
 ghost use Rattle.stage_steps.specs.Causes.{stage_stop};
@@ -88,7 +88,8 @@ fn place_root(
 ) -> Result<(), StageStop>
     requires begun { HasBegun memblock.old.journal.items }
     requires room { vec_len roots.old < vec_capacity roots.old }
-    ensures ends { EndsAsStage (place_root roots.old.items section.now) stage_stop (view_of_result (λ _. roots.new.items) result)
+    ensures ends { EndsAsStage (place_root roots.old.items section.now) stage_stop
+        (view_of_result (λ _. roots.new.items) result)
         memblock.old.journal.items memblock.new.journal.items }
     ensures len { vec_len roots.new ≤ vec_len roots.old + 1 }
     ensures capacity { vec_capacity roots.old ≤ vec_capacity roots.new }
@@ -106,7 +107,8 @@ fn place_root(
 /// Returns an empty list with room for one root for each section.
 fn empty_root_list(alloc: Global, sections: &[Section]) -> Result<Vec<RootPlace>, Memory>
     ensures empty { IfOk result (λ place_roots. place_roots.items ≡ []) }
-    ensures room { IfOk result (λ place_roots. vec_len place_roots + length sections.now ≤ vec_capacity place_roots) }
+    ensures room { IfOk result (λ place_roots.
+        vec_len place_roots + length sections.now ≤ vec_capacity place_roots) }
 {
     Ok(Vec::with_capacity(alloc, sections.len())?)
 }
@@ -118,7 +120,8 @@ fn place_each_root(
     sections: &[Section],
 ) -> Result<Vec<RootPlace>, StageStop>
     requires { HasBegun memblock.old.journal.items }
-    ensures ends { EndsAsStage (place_each_root sections.now) stage_stop (view_of_result (λ place_roots. place_roots.items) result)
+    ensures ends { EndsAsStage (place_each_root sections.now) stage_stop
+        (view_of_result (λ place_roots. place_roots.items) result)
         memblock.old.journal.items memblock.new.journal.items }
     ensures goes_on { ContinuesMemblock memblock.old memblock.new }
 {
@@ -155,7 +158,8 @@ pub fn place_roots(
     width: Width,
 ) -> Result<Roots, StageStop>
     requires { HasBegun memblock.old.journal.items }
-    ensures ends { EndsAsStage (place_roots width sections.now) stage_stop (view_of_result roots_view result)
+    ensures ends { EndsAsStage (place_roots width sections.now) stage_stop
+        (view_of_result roots_view result)
         memblock.old.journal.items memblock.new.journal.items }
     ensures goes_on { ContinuesMemblock memblock.old memblock.new }
 {

@@ -40,7 +40,8 @@ fn push_sections(
     node: u32,
 ) -> Result<(), Memory>
     requires { first ≤ until }
-    ensures { OnOk result (sections.new.items ≡ sections.old.items ++ sections_from first (until - first) node) }
+    ensures { OnOk result
+        (sections.new.items ≡ sections.old.items ++ sections_from first (until - first) node) }
 {
     for number in first..until {
         sections.push(Section { number, node })?;
@@ -58,7 +59,8 @@ fn push_sections(
 /// `Memory` if this program is out of memory.
 pub fn present(alloc: Global, tables: &Tables) -> Result<Vec<Section>, Memory>
     requires { All IsWholeWithNode tables.now.memory.records }
-    ensures { IfOk result (λ sections. sections.items ≡ present (value_at tables.now.memory.records)) }
+    ensures { IfOk result (λ sections.
+        sections.items ≡ present (value_at tables.now.memory.records)) }
 {
     let records = tables.records(Which::Memory);
     let mut sections = Vec::new(alloc);

@@ -22,7 +22,8 @@ pub fn named_domains(
     processors: &[u32],
     blocks: &[SratBlock],
 ) -> Result<Vec<u32>, Memory>
-    ensures { IfOk result (λ domains. domains.items ≡ take 1025 (named_domains processors.now blocks.now)) }
+    ensures { IfOk result (λ domains.
+        domains.items ≡ take 1025 (named_domains processors.now blocks.now)) }
 {
     let mut domains = Vec::new(alloc);
     add_processor_domains(&mut domains, processors)?;
@@ -36,7 +37,8 @@ pub fn named_domains(
 ///
 /// - `Memory`: the program ran out of memory.
 fn add_processor_domains(domains: &mut Vec<u32>, processors: &[u32]) -> Result<(), Memory>
-    ensures { OnOk result (domains.new.items ≡ fold with_domain_if_room domains.old.items processors.now) }
+    ensures { OnOk result
+        (domains.new.items ≡ fold with_domain_if_room domains.old.items processors.now) }
 {
     for domain in processors {
         add_domain(domains, *domain)?;
@@ -50,7 +52,8 @@ fn add_processor_domains(domains: &mut Vec<u32>, processors: &[u32]) -> Result<(
 ///
 /// - `Memory`: the program ran out of memory.
 fn add_memory_domains(domains: &mut Vec<u32>, blocks: &[SratBlock]) -> Result<(), Memory>
-    ensures { OnOk result (domains.new.items ≡ fold with_domain_of_block domains.old.items blocks.now) }
+    ensures { OnOk result
+        (domains.new.items ≡ fold with_domain_of_block domains.old.items blocks.now) }
 {
     for block in blocks {
         add_domain(domains, block.domain)?;

@@ -2,7 +2,7 @@
 //! (`numa_cleanup_meminfo`). If no two blocks of different nodes overlap, overlaying the blocks
 //! gives runs, and it is enough to compare neighbouring runs.
 
-ghost use Rattle.std.specs.Prelude.{◌≡◌, ℕ, ◌+◌, ◌-◌, ◌<◌, ◌≤◌, OnOk, IfOk, length, map, reverse};
+ghost use Rattle.std.specs.Prelude.{◌≡◌, ℕ, ◌+◌, ◌-◌, ◌<◌, ◌≤◌, OnOk, IfOk, reverse};
 ghost use Rattle.address_runs.specs.Overlay.{HaveAddresses};
 ghost use Rattle.address_runs.specs.Runs.{AreRuns, IsRunsOf, run_end, value_at};
 ghost use Rattle.srat_nodes.specs.Kept.{numa_blocks_of};
@@ -42,8 +42,8 @@ fn numa_blocks_of(alloc: Global, kept: &[KeptBlock]) -> Result<Vec<NodeRange>, M
     Ok(blocks)
 }
 
-/// Joins neighbouring runs of one node to a single run, which then covers the gap between them
-/// too. If `runs` is the result of `overlay_blocks`, and no two blocks of different nodes overlap, this
+/// Joins neighbouring runs of one node to a single run, which then covers the gap between them too.
+/// If `runs` is the result of `overlay_blocks`, and no two blocks of different nodes overlap, this
 /// gives each address its node (`node_at`).
 ///
 /// # Errors
@@ -70,7 +70,8 @@ pub fn fill_gaps(alloc: Global, runs: &[NodeRange]) -> Result<Vec<NodeRange>, Me
 ///
 /// - `Memory`: the program ran out of memory.
 fn prepend_joined(joined: &mut Vec<NodeRange>, run: NodeRange) -> Result<(), Memory>
-    ensures { OnOk result (joined.new.items ≡ reverse (prepend_joined run (reverse joined.old.items))) }
+    ensures { OnOk result
+        (joined.new.items ≡ reverse (prepend_joined run (reverse joined.old.items))) }
 {
     let Some(next) = joined.pop() else {
         joined.push(run)?;
@@ -87,7 +88,12 @@ fn prepend_joined(joined: &mut Vec<NodeRange>, run: NodeRange) -> Result<(), Mem
 
 /// Returns the run from the start of `run` to the end of `next`, which must have the same node.
 fn spanning_run(run: &NodeRange, next: &NodeRange) -> NodeRange
-    ensures { result ≡ record { base = run.now.base; size = run_end next.now - run.now.base; value = run.now.value } }
+    ensures { result ≡ record {
+      base = run.now.base;
+      size = run_end next.now - run.now.base;
+      value
+          = run.now.value;
+    } }
 {
     let base = run.range.base;
     let size = next.range.end().saturating_sub(base);

@@ -2,7 +2,7 @@
 //! (`numa_cleanup_meminfo` cuts blocks to memory and removes empty ones). Also finds blocks that
 //! overlap.
 
-ghost use Rattle.std.specs.Prelude.{◌≡◌, ◌↔◌, ℕ, ◌+◌, ◌++◌, ◌^◌, ◌<◌, ◌≤◌, None, IsTrue, OnOk, IfOk, length, option_map, find, is_some};
+ghost use Rattle.std.specs.Prelude.{◌≡◌, ◌↔◌, ℕ, ◌+◌, ◌++◌, ◌^◌, ◌<◌, ◌≤◌, None, IsTrue, OnOk, IfOk, length, option_map, find};
 ghost use Rattle.address_runs.specs.Runs.{AreRuns, IsRunsOf, run_end, value_at};
 ghost use Rattle.srat_nodes.specs.Kept.{numa_blocks_of, round_ends_down, keep_block, block_in_frames, keep_blocks, is_any_kept, count_with_addresses, is_clash, first_clash};
 ghost use Rattle.srat_nodes.specs.Steps.{EndInSpace, is_in_runs};
@@ -84,7 +84,8 @@ pub fn keep_blocks(
     requires memory { AreRuns memory.now.items }
     requires nodes { length domains.now ≤ 1024 }
     requires few { length blocks.now < 2 ^ 32 }
-    ensures value { IfOk result (λ kept. kept.items ≡ keep_blocks (is_in_runs memory.now.items) domains.now blocks.now) }
+    ensures value { IfOk result (λ kept.
+        kept.items ≡ keep_blocks (is_in_runs memory.now.items) domains.now blocks.now) }
     ensures space { IfOk result (λ kept. EndInSpace (numa_blocks_of kept.items)) }
 {
     let mut kept = Vec::new(alloc);
@@ -107,7 +108,8 @@ fn keep_block(
     block: NodeRange,
 ) -> Result<(), Memory>
     requires { AreRuns memory.now.items }
-    ensures { OnOk result (kept.new.items ≡ kept.old.items ++ keep_block (is_in_runs memory.now.items) number block) }
+    ensures { OnOk result
+        (kept.new.items ≡ kept.old.items ++ keep_block (is_in_runs memory.now.items) number block) }
 {
     if meets_memory(memory, &block.range) {
         kept.push(KeptBlock { number, block })?;

@@ -18,39 +18,49 @@ ghost use Rattle.srat_nodes.specs.Kept.{numa_blocks_of, is_clash_of_numbers, fir
 /// Law: if no two kept blocks of different nodes share an address, and none is empty, the node of
 /// an address is the only node that it has, if any.
 pub fn one_node_an_address()
-    ensures { (kept : List AnyKept) → first_clash kept ≡ None → HaveAddresses (numa_blocks_of kept) →
-        (x n : ℕ) → (belongs_to_node (numa_blocks_of kept) n x ≡ true) ↔ (nodes_by_blocks kept x ≡ Some n) }
+    ensures { (kept : List AnyKept) → first_clash kept ≡ None → HaveAddresses (numa_blocks_of kept)
+        →
+        (x n : ℕ) → (belongs_to_node (numa_blocks_of kept) n x ≡ true)
+        ↔ (nodes_by_blocks kept x ≡ Some n) }
 {}
 
 /// Law: two named domains with the same node are the same domain, and a node is below the number
 /// of named domains. So blocks of different nodes have different domains.
 pub fn one_node_a_domain()
-    ensures one { (domains : List ℕ) (d e : ℕ) → is_named_domain domains d ≡ true → is_named_domain domains e ≡ true →
+    ensures one { (domains : List ℕ) (d e : ℕ) → is_named_domain domains d ≡ true
+        → is_named_domain domains e ≡ true →
         node_of_domain domains d ≡ node_of_domain domains e → d ≡ e }
-    ensures below { (domains : List ℕ) (d : ℕ) → is_named_domain domains d ≡ true → node_of_domain domains d < length domains }
+    ensures below { (domains : List ℕ) (d : ℕ) → is_named_domain domains d ≡ true
+        → node_of_domain domains d < length domains }
 {}
 
 /// Law: nodes number the domains in the order in which they are first named. The list has exactly
 /// the domains that are named. The domain at index n has node n, so each domain is in the list
 /// once. If a domain is named when another hasn't been named yet, it has the lower node.
 pub fn nodes_by_first_naming()
-    ensures named { (names : List ℕ) (d : ℕ) → is_named_domain (domains_once names) d ≡ is_named_domain names d }
+    ensures named { (names : List ℕ) (d : ℕ) →
+        is_named_domain (domains_once names) d ≡ is_named_domain names d }
     ensures place { (names : List ℕ) (n : ℕ) → n < length (domains_once names) →
         node_of_domain (domains_once names) (get_or (domains_once names) n 0) ≡ n }
-    ensures order { (before after : List ℕ) (d e : ℕ) → is_named_domain before e ≡ false → d ≢ e → is_named_domain after e ≡ true →
-        node_of_domain (domains_once (before ++ d ∷ after)) d < node_of_domain (domains_once (before ++ d ∷ after)) e }
+    ensures order { (before after : List ℕ) (d e : ℕ) → is_named_domain before e ≡ false → d ≢ e
+        → is_named_domain after e ≡ true →
+        node_of_domain (domains_once (before ++ d ∷ after)) d
+        < node_of_domain (domains_once (before ++ d ∷ after)) e }
 {}
 
 /// Law: the reported pair of kept blocks overlaps. It is the least such pair, by its first number
 /// and then by its second. If no pair is reported, no two kept blocks overlap.
 pub fn least_overlap()
     ensures pair { (memory : ℕ → Bool) (domains : List ℕ) (blocks : List AnyBlock) (i j : ℕ) →
-        first_clash (keep_blocks memory domains blocks) ≡ Some (i, j) → is_clash_of_numbers (keep_blocks memory domains blocks) i j ≡ true }
+        first_clash (keep_blocks memory domains blocks) ≡ Some (i, j)
+        → is_clash_of_numbers (keep_blocks memory domains blocks) i j ≡ true }
     ensures least { (memory : ℕ → Bool) (domains : List ℕ) (blocks : List AnyBlock) (i j k l : ℕ) →
-        first_clash (keep_blocks memory domains blocks) ≡ Some (i, j) → is_clash_of_numbers (keep_blocks memory domains blocks) k l ≡ true →
+        first_clash (keep_blocks memory domains blocks) ≡ Some (i, j)
+        → is_clash_of_numbers (keep_blocks memory domains blocks) k l ≡ true →
         (i < k) ⊎ ((i ≡ k) × (j ≤ l)) }
     ensures none { (memory : ℕ → Bool) (domains : List ℕ) (blocks : List AnyBlock) (k l : ℕ) →
-        first_clash (keep_blocks memory domains blocks) ≡ None → is_clash_of_numbers (keep_blocks memory domains blocks) k l ≡ false }
+        first_clash (keep_blocks memory domains blocks) ≡ None
+        → is_clash_of_numbers (keep_blocks memory domains blocks) k l ≡ false }
 {}
 
 /// Law: an address has the same node as the first address of its frame. If memory consists of
@@ -58,7 +68,8 @@ pub fn least_overlap()
 /// frame is. So counting frames by their first address counts the frames of memory without a node.
 pub fn one_node_a_frame()
     ensures node { (memory : ℕ → Bool) (domains : List ℕ) (blocks : List AnyBlock) (x : ℕ) →
-        nodes_by_blocks (keep_blocks memory domains blocks) x ≡ nodes_by_blocks (keep_blocks memory domains blocks) (frame_base x) }
+        nodes_by_blocks (keep_blocks memory domains blocks) x
+        ≡ nodes_by_blocks (keep_blocks memory domains blocks) (frame_base x) }
     ensures left { (memory : ℕ → Bool) → ((x : ℕ) → memory x ≡ memory (frame_base x)) →
         (domains : List ℕ) (blocks : List AnyBlock) (x : ℕ) →
         node_outside_blocks memory (keep_blocks memory domains blocks) x
@@ -72,9 +83,11 @@ pub fn kept_nodes_have_memory()
     ensures memory { (memory : ℕ → Bool) (domains : List ℕ) (blocks : List AnyBlock) →
         first_clash (keep_blocks memory domains blocks) ≡ None →
         (n : ℕ) → is_node_of (keep_blocks memory domains blocks) n ≡ true →
-        (x : ℕ) × (memory x ≡ true) × (nodes_by_blocks (keep_blocks memory domains blocks) x ≡ Some n) }
+        (x : ℕ) × (memory x ≡ true)
+        × (nodes_by_blocks (keep_blocks memory domains blocks) x ≡ Some n) }
     ensures block { (memory : ℕ → Bool) (kept : List AnyKept) → kept ≢ [] →
-        (x n : ℕ) → (nodes_by_blocks kept x ≡ Some n) ⊎ (node_outside_blocks memory kept x ≡ Some n) → is_node_of kept n ≡ true }
+        (x n : ℕ) → (nodes_by_blocks kept x ≡ Some n) ⊎ (node_outside_blocks memory kept x ≡ Some n)
+        → is_node_of kept n ≡ true }
 {}
 
 /// Law: the lists of a judgement are canonical runs, and each run has a node below
@@ -84,12 +97,18 @@ pub fn runs_cover_memory()
     ensures runs { (memory : ℕ → Bool) (off : Bool) (table : Option SratView) →
         AreRuns (judge_srat memory off table).joined × AreRuns (judge_srat memory off table).rest }
     ensures nodes { (memory : ℕ → Bool) (off : Bool) (table : Option SratView) →
-        All (λ (b : NumaBlock). (0 < b.size) × (b.value < MAX_NODES)) ((judge_srat memory off table).joined ++ (judge_srat memory off table).rest) }
-    ensures cover { (memory : ℕ → Bool) (off : Bool) (table : Option SratView) (x : ℕ) → (judge_srat memory off table).why ≡ why.Used →
+        All (λ (b : NumaBlock). (0 < b.size) × (b.value < MAX_NODES))
+        ((judge_srat memory off table).joined ++ (judge_srat memory off table).rest) }
+    ensures cover { (memory : ℕ → Bool) (off : Bool) (table : Option SratView) (x : ℕ)
+        → (judge_srat memory off table).why ≡ why.Used →
         memory x ≡ true → x < 2 ^ 64 →
-        (is_some (value_at (judge_srat memory off table).joined x) || is_some (value_at (judge_srat memory off table).rest x)) ≡ true }
-    ensures frames { (memory : ℕ → Bool) (off : Bool) (table : Option SratView) → ((x : ℕ) → memory x ≡ memory (frame_base x)) →
+        (is_some (value_at (judge_srat memory off table).joined x)
+        || is_some (value_at (judge_srat memory off table).rest x)) ≡ true }
+    ensures frames { (memory : ℕ → Bool) (off : Bool) (table : Option SratView)
+        → ((x : ℕ) → memory x ≡ memory (frame_base x)) →
         (x : ℕ) → x < 2 ^ 64 →
-        (value_at (judge_srat memory off table).joined x ≡ value_at (judge_srat memory off table).joined (frame_base x)) ×
-        (value_at (judge_srat memory off table).rest x ≡ value_at (judge_srat memory off table).rest (frame_base x)) }
+        (value_at (judge_srat memory off table).joined x
+        ≡ value_at (judge_srat memory off table).joined (frame_base x)) ×
+        (value_at (judge_srat memory off table).rest x
+        ≡ value_at (judge_srat memory off table).rest (frame_base x)) }
 {}

@@ -44,7 +44,7 @@ mod rest;
 
 pub use kept::{KeptBlock, NodeRange};
 pub use laws::{
-    least_overlap, nodes_by_first_naming, kept_nodes_have_memory, one_node_a_domain, one_node_a_frame,
-    one_node_an_address, runs_cover_memory,
+    kept_nodes_have_memory, least_overlap, nodes_by_first_naming, one_node_a_domain,
+    one_node_a_frame, one_node_an_address, runs_cover_memory,
 };
-pub use reasons::{SratNodes, MAX_BLOCKS, MAX_NODES, UNCOVERED_FRAMES, Why, judge_srat};
+pub use reasons::{MAX_BLOCKS, MAX_NODES, SratNodes, UNCOVERED_FRAMES, Why, judge_srat};

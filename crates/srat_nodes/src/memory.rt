@@ -2,7 +2,6 @@
 //! tells whether a range contains a byte of memory.
 
 ghost use Rattle.std.specs.Prelude.{◌≡◌, ℕ, ◌++◌, OnOk, IfOk, map};
-ghost use Rattle.address_runs.specs.Overlay.{HaveAddresses};
 ghost use Rattle.address_runs.specs.Runs.{AreRuns};
 ghost use Rattle.srat_nodes.specs.Kept.{is_in_any_range, meets_memory, NoMemoryIsEmpty};
 ghost use Rattle.srat_nodes.specs.Steps.{run_without_node, is_in_runs};
@@ -21,7 +20,8 @@ use std::alloc::Global;
 pub fn memory_runs(alloc: Global, memory: &[Range]) -> Result<Vec<RunOf<bool>>, Memory>
     requires { NoMemoryIsEmpty memory.now }
     ensures runs { IfOk result (λ runs. AreRuns runs.items) }
-    ensures bytes { IfOk result (λ runs. (x : ℕ) → is_in_runs runs.items x ≡ is_in_any_range memory.now x) }
+    ensures bytes { IfOk result (λ runs. (x : ℕ)
+        → is_in_runs runs.items x ≡ is_in_any_range memory.now x) }
 {
     let mut told = Vec::new(alloc);
     push_uncovered_memory(&mut told, memory)?;

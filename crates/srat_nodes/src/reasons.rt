@@ -11,7 +11,9 @@ ghost use Rattle.srat_nodes.specs.Steps.{EndInSpace};
 
 use crate::domains::named_domains;
 use crate::hulls::{fill_gaps, overlay_blocks};
-use crate::kept::{KeptBlock, count_with_addresses, first_clash, is_any_kept, keep_blocks, NodeRange};
+use crate::kept::{
+    KeptBlock, NodeRange, count_with_addresses, first_clash, is_any_kept, keep_blocks,
+};
 use crate::memory::memory_runs;
 use crate::rest::{count_frames, uncovered_runs};
 use bm_base::{Memory, Range};
@@ -83,7 +85,8 @@ pub fn judge_srat(
     requires memory { NoMemoryIsEmpty memory.now }
     requires few { ForSome srat (λ table. length table.now.blocks.items < 2 ^ 32) }
     ensures value { IfOk result (λ found. srat_nodes_view found ≡
-        judge_srat (is_in_any_range memory.now) off (option_map srat_view (option_copied srat.entry))) }
+        judge_srat (is_in_any_range memory.now) off
+        (option_map srat_view (option_copied srat.entry))) }
     ensures memory { OnErr result (IsFalse off × IsSome srat.entry) }
 {
     if off {
@@ -110,7 +113,8 @@ fn judge_srat_table(
     requires memory { NoMemoryIsEmpty memory.now }
     requires few { length blocks.now < 2 ^ 32 }
     ensures { IfOk result (λ found. srat_nodes_view found ≡
-        judge_srat_table (is_in_any_range memory.now) (record { processors = processors.now; blocks = blocks.now })) }
+        judge_srat_table (is_in_any_range memory.now)
+        (record { processors = processors.now; blocks = blocks.now })) }
 {
     let runs = memory_runs(alloc, memory)?;
     if !is_any_kept(&runs, blocks) {
@@ -141,7 +145,8 @@ fn judge_kept_blocks(
     requires memory { NoMemoryIsEmpty memory.now }
     requires some { HaveAddresses (numa_blocks_of kept.now) }
     requires space { EndInSpace (numa_blocks_of kept.now) }
-    ensures { IfOk result (λ found. srat_nodes_view found ≡ judge_kept_blocks (is_in_any_range memory.now) domains.items kept.now) }
+    ensures { IfOk result (λ found. srat_nodes_view found
+        ≡ judge_kept_blocks (is_in_any_range memory.now) domains.items kept.now) }
 {
     let laid = overlay_blocks(alloc, kept)?;
     if let Some((i, j)) = first_clash(kept, &laid) {

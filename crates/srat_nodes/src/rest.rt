@@ -2,14 +2,13 @@
 //! left of its map (`numa_meminfo_cover_memory`).
 
 ghost use Rattle.std.specs.Prelude.{◌≡◌, ℕ, ◌+◌, ◌-◌, ◌^◌, ◌<◌, ◌≤◌, ◌++◌, [], ◌∷◌, if◌then◌else◌, OnOk, IfOk, map};
-ghost use Rattle.address_runs.specs.Overlay.{HaveAddresses};
 ghost use Rattle.address_runs.specs.Runs.{AreRuns, IsRunsOf, run_end, value_at};
 ghost use Rattle.srat_nodes.specs.SratNodesView.{node_if_uncovered, count_frames_with_node};
 ghost use Rattle.srat_nodes.specs.Kept.{is_in_any_range, NoMemoryIsEmpty};
 ghost use Rattle.srat_nodes.specs.Steps.{run_without_node, run_with_node, uncovered_runs_with_node, run_of_node, count_frames_below, EndInSpace};
 
-use crate::memory::push_uncovered_memory;
 use crate::kept::NodeRange;
+use crate::memory::push_uncovered_memory;
 use address_runs::{RunOf, overlay_all};
 use bm_base::{FRAME_SIZE, Memory, Range};
 use std::alloc::Global;
@@ -28,7 +27,8 @@ pub fn uncovered_runs(
 ) -> Result<Vec<NodeRange>, Memory>
     requires memory { NoMemoryIsEmpty memory.now }
     requires joined { AreRuns joined.now }
-    ensures runs { IfOk result (λ rest. IsRunsOf (node_if_uncovered (is_in_any_range memory.now) (value_at joined.now) node) rest.items) }
+    ensures runs { IfOk result (λ rest. IsRunsOf
+        (node_if_uncovered (is_in_any_range memory.now) (value_at joined.now) node) rest.items) }
     ensures space { IfOk result (λ rest. EndInSpace rest.items) }
 {
     let told = mark_covered(alloc, memory, joined)?;
@@ -42,8 +42,13 @@ pub fn uncovered_runs(
 /// # Errors
 ///
 /// - `Memory`: the program ran out of memory.
-fn mark_covered(alloc: Global, memory: &[Range], joined: &[NodeRange]) -> Result<Vec<RunOf<bool>>, Memory>
-    ensures { IfOk result (λ told. told.items ≡ map run_with_node joined.now ++ map run_without_node memory.now) }
+fn mark_covered(
+    alloc: Global,
+    memory: &[Range],
+    joined: &[NodeRange],
+) -> Result<Vec<RunOf<bool>>, Memory>
+    ensures { IfOk result (λ told.
+        told.items ≡ map run_with_node joined.now ++ map run_without_node memory.now) }
 {
     let mut told = Vec::new(alloc);
     mark_with_nodes(&mut told, joined)?;
@@ -73,7 +78,11 @@ fn mark_with_nodes(told: &mut Vec<RunOf<bool>>, joined: &[NodeRange]) -> Result<
 /// # Errors
 ///
 /// - `Memory`: the program ran out of memory.
-fn uncovered_runs_with_node(alloc: Global, covered: &[RunOf<bool>], node: u32) -> Result<Vec<NodeRange>, Memory>
+fn uncovered_runs_with_node(
+    alloc: Global,
+    covered: &[RunOf<bool>],
+    node: u32,
+) -> Result<Vec<NodeRange>, Memory>
     ensures value { IfOk result (λ rest. rest.items ≡ uncovered_runs_with_node node covered.now) }
     ensures space { IfOk result (λ rest. EndInSpace rest.items) }
 {
@@ -91,7 +100,8 @@ fn uncovered_runs_with_node(alloc: Global, covered: &[RunOf<bool>], node: u32) -
 /// - `Memory`: the program ran out of memory.
 fn push_run_of_node(rest: &mut Vec<NodeRange>, run: &RunOf<bool>, node: u32) -> Result<(), Memory>
     ensures value { OnOk result (rest.new.items ≡
-        (if run.now.value then rest.old.items else rest.old.items ++ run_of_node node run.now ∷ [])) }
+        (if run.now.value then rest.old.items else rest.old.items
+        ++ run_of_node node run.now ∷ [])) }
     ensures space { run_end run.now < 2 ^ 64 }
 {
     if !run.value {
@@ -119,7 +129,8 @@ pub fn count_frames(runs: &[NodeRange]) -> u64
 
 /// Returns the number of frames that begin in the run.
 fn frames_begun(run: &NodeRange) -> u64
-    ensures value { result ≡ count_frames_below (run_end run.now) - count_frames_below run.now.base }
+    ensures value { result
+        ≡ count_frames_below (run_end run.now) - count_frames_below run.now.base }
     ensures space { run_end run.now < 2 ^ 64 }
 {
     let end = run.range.end();

@@ -1,7 +1,7 @@
 //! Reads one entry: whether it is whole, how long it is, and what it says. The search for faults
 //! and the reading of the values share this code.
 ghost use Rattle.std.specs.Prelude.{◌≡◌, ℕ, ◌+◌, ◌<◌, ◌≤◌, length, IsTrue};
-ghost use Rattle.srat_reader.specs.Entries.{entry_type_at, entry_length_at, fits_entry_type, is_whole_entry, is_memory_overflowing, has_enabled_flag, local_apic_domain, memory_domain, srat_entry_at};
+ghost use Rattle.srat_reader.specs.Entries.{entry_length_at, fits_entry_type, is_whole_entry, is_memory_overflowing, has_enabled_flag, local_apic_domain, memory_domain, srat_entry_at};
 
 use byteorder::{ByteOrder, LittleEndian};
 

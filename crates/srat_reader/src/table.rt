@@ -6,7 +6,9 @@ ghost use Rattle.srat_reader.specs.Entries.{is_memory_overflowing};
 ghost use Rattle.bm_base.specs.Answers.{Answers};
 ghost use Rattle.srat_reader.specs.Table.{srat_view, srat_of, srat_header_fault, entry_offsets, first_srat_fault, srat_fault, processor_of, srat_block_of, processors_of, srat_blocks_of};
 
-use crate::entries::{SratEntry, entry_length_at, is_memory_overflowing, is_whole_entry, srat_entry_at};
+use crate::entries::{
+    SratEntry, entry_length_at, is_memory_overflowing, is_whole_entry, srat_entry_at,
+};
 use bm_base::{Memory, Range};
 use byteorder::{ByteOrder, LittleEndian};
 use std::alloc::Global;
@@ -78,7 +80,8 @@ impl From<Memory> for SratFault {
 /// - `Memory`: the bytes have no fault, but the program ran out of memory.
 pub fn read_srat(alloc: Global, bytes: &[u8]) -> Result<Srat, SratFault>
     ensures answers { Answers SratFault.Memory srat_view result (srat_of bytes.now) }
-    ensures memory { IfErr result (λ fault. fault ≡ SratFault.Memory → srat_fault bytes.now ≡ None) }
+    ensures memory { IfErr result (λ fault. fault ≡ SratFault.Memory
+        → srat_fault bytes.now ≡ None) }
     ensures some { IfErr result (λ fault. fault ≡ SratFault.Memory →
         (0 < length (processors_of bytes.now)) ⊎ (0 < length (srat_blocks_of bytes.now))) }
     ensures few_processors { IfOk result (λ srat. length srat.cpus.items < 2 ^ 32) }
@@ -154,7 +157,8 @@ fn read_srat_entries(alloc: Global, bytes: &[u8]) -> Result<Srat, Memory>
     requires { first_srat_fault bytes.now (entry_offsets bytes.now) ≡ None }
     ensures processors { IfOk result (λ srat. srat.cpus.items ≡ processors_of bytes.now) }
     ensures blocks { IfOk result (λ srat. srat.blocks.items ≡ srat_blocks_of bytes.now) }
-    ensures some { IsErr result → (0 < length (processors_of bytes.now)) ⊎ (0 < length (srat_blocks_of bytes.now)) }
+    ensures some { IsErr result → (0 < length (processors_of bytes.now))
+        ⊎ (0 < length (srat_blocks_of bytes.now)) }
 {
     let mut srat = Srat {
         cpus: Vec::new(alloc),
@@ -176,8 +180,10 @@ fn read_srat_entries(alloc: Global, bytes: &[u8]) -> Result<Srat, Memory>
 /// - `Memory`: the program ran out of memory; the entry is a processor or a range of memory.
 fn append_srat_entry(srat: &mut Srat, said: SratEntry) -> Result<(), Memory>
     requires { is_memory_overflowing said ≡ false }
-    ensures processors { OnOk result (srat.new.cpus.items ≡ srat.old.cpus.items ++ option_to_list (processor_of said)) }
-    ensures blocks { OnOk result (srat.new.blocks.items ≡ srat.old.blocks.items ++ option_to_list (srat_block_of said)) }
+    ensures processors { OnOk result (srat.new.cpus.items
+        ≡ srat.old.cpus.items ++ option_to_list (processor_of said)) }
+    ensures blocks { OnOk result (srat.new.blocks.items
+        ≡ srat.old.blocks.items ++ option_to_list (srat_block_of said)) }
     ensures some { IsErr result → IsSome (processor_of said) ⊎ IsSome (srat_block_of said) }
 {
     match said {

@@ -1,7 +1,7 @@
 //! Calls of memblock whose refusal is returned as the stop of a stage.
 ghost use Rattle.std.specs.Prelude.{◌≡◌, ℕ, ◌+◌, ◌-◌, ◌^◌, ◌<◌, ◌≤◌, false, IfOk, IsOk, Some};
 ghost use Rattle.memblock_model.specs.declared.owner.Which.TheVariants as tables_of;
-ghost use Rattle.growth_model.specs.Growth.{set_range_node, count_uncovered_pieces, split_record_count, is_full as is_full_by};
+ghost use Rattle.growth_model.specs.Growth.{set_range_node, count_uncovered_pieces, split_record_count, is_full};
 ghost use Rattle.growth_model.specs.Request.{place_for};
 ghost use Rattle.growth_model.specs.Tables.{HasBegun};
 ghost use Rattle.memblock_grow.specs.Continues.{ContinuesMemblock};
@@ -43,11 +43,15 @@ pub fn place_or_stop(
     requires begun { HasBegun memblock.old.journal.items }
     requires some { 1 ≤ request.now.size }
     requires aligned { (k : ℕ) × (request.now.align ≡ 2 ^ k) }
-    ensures ends { EndsAsStage (place_or_stop what request.now owner) stage_stop result memblock.old.journal.items memblock.new.journal.items }
+    ensures ends { EndsAsStage (place_or_stop what request.now owner) stage_stop result
+        memblock.old.journal.items memblock.new.journal.items }
     ensures inside { IfOk result (λ base. base + request.now.size < 2 ^ 64) }
-    ensures ready { (place : ℕ) → place_for request.now memblock.old.journal.items ≡ Some place → 0 < memblock.old.journal.spare →
-        is_full_by tables_of.Reserved (count_uncovered_pieces tables_of.Reserved (record { base = place; size = request.now.size }))
-        memblock.old.journal.items ≡ false → IsOk result × (memblock.new.journal.spare ≡ memblock.old.journal.spare - 1) }
+    ensures ready { (place : ℕ) → place_for request.now memblock.old.journal.items ≡ Some place
+        → 0 < memblock.old.journal.spare →
+        is_full tables_of.Reserved (count_uncovered_pieces tables_of.Reserved
+        (record { base = place; size = request.now.size }))
+        memblock.old.journal.items ≡ false → IsOk result
+        × (memblock.new.journal.spare ≡ memblock.old.journal.spare - 1) }
     ensures goes_on { ContinuesMemblock memblock.old memblock.new }
 {
     match memblock.alloc(request, owner) {
@@ -68,8 +72,10 @@ pub fn set_node_or_stop(memblock: &mut Memblock, range: Range, node: u32) -> Res
     requires begun { HasBegun memblock.old.journal.items }
     requires some { 0 < range.size }
     requires node { node < 1024 }
-    ensures ends { EndsAsStage (change_or_stop (set_range_node range node)) stage_stop result memblock.old.journal.items memblock.new.journal.items }
-    ensures ready { 0 < memblock.old.journal.spare → is_full_by tables_of.Memory split_record_count memblock.old.journal.items ≡ false →
+    ensures ends { EndsAsStage (change_or_stop (set_range_node range node)) stage_stop result
+        memblock.old.journal.items memblock.new.journal.items }
+    ensures ready { 0 < memblock.old.journal.spare
+        → is_full tables_of.Memory split_record_count memblock.old.journal.items ≡ false →
         IsOk result × (memblock.new.journal.spare ≡ memblock.old.journal.spare - 1) }
     ensures goes_on { ContinuesMemblock memblock.old memblock.new }
 {

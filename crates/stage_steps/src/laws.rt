@@ -19,19 +19,25 @@ ghost use Rattle.stage_steps.specs.Requests.{change_or_stop, make_change, place_
 /// Law: a call of memblock that makes a change, or an allocation, ends as its step is defined,
 /// with memblock's refusal as the stop.
 pub fn calls_end_as_steps()
-    ensures change { (result : Result (Unit {0}) AnyRefusal) (old new : List Item) (change : Change) → EndsAsChange result old new change →
+    ensures change { (result : Result (Unit {0}) AnyRefusal) (old new : List Item) (change : Change)
+        → EndsAsChange result old new change →
         EndsAsStage (make_change change) refusal_for result old new }
-    ensures carried { (thing : AnyWhat) (result : Result (Unit {0}) AnyRefusal) (old new : List Item) (change : Change) →
-        EndsAsChange result old new change → EndsAsStage (change_or_stop change) stage_stop (with_error (stop_for thing) result) old new }
-    ensures placed { (thing : AnyWhat) (result : Result ℕ AnyRefusal) (old new : List Item) (request : AnyRequest) (who : Owner) →
+    ensures carried { (thing : AnyWhat) (result : Result (Unit {0}) AnyRefusal)
+        (old new : List Item) (change : Change) →
+        EndsAsChange result old new change → EndsAsStage (change_or_stop change) stage_stop
+        (with_error (stop_for thing) result) old new }
+    ensures placed { (thing : AnyWhat) (result : Result ℕ AnyRefusal) (old new : List Item)
+        (request : AnyRequest) (who : Owner) →
         Allocates result old new (place_for request old) request.size who →
-        EndsAsStage (place_or_stop thing request who) stage_stop (with_error (stop_for thing) result) old new }
+        EndsAsStage (place_or_stop thing request who) stage_stop
+        (with_error (stop_for thing) result) old new }
 {}
 
 /// Law: an allocation changes neither memory nor the limit, whether it finds a place or not.
 pub fn allocations_leave_memory()
     ensures memory { (thing : AnyWhat) (request : AnyRequest) (who : Owner) (items : List Item) →
-        memory_of (items_after_step items (place_or_stop thing request who items)) ≡ memory_of items }
+        memory_of (items_after_step items (place_or_stop thing request who items))
+        ≡ memory_of items }
     ensures limit { (thing : AnyWhat) (request : AnyRequest) (who : Owner) (items : List Item) →
         limit_of (items_after_step items (place_or_stop thing request who items)) ≡ limit_of items }
 {}

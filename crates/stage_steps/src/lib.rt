@@ -16,10 +16,10 @@
 //! - `specs/Nodes.antt` and `specs/KeepsMemory.antt`: memory after it has its nodes, and steps that
 //!   don't change memory.
 //!
-//! The code of a stage calls [`place_or_stop`] and [`set_node_or_stop`] on a memblock. Each ends as its step is
-//! defined, and keeps `GoesOn` of `memblock_grow`: the kernel's image, the bytes, and which
-//! addresses are prepared. The loop of a stage has two invariants: if the rest ends in some way,
-//! so does the whole stage; and `GoesOn` holds from the stage's start.
+//! The code of a stage calls [`place_or_stop`] and [`set_node_or_stop`] on a memblock. Each ends as
+//! its step is defined, and keeps `GoesOn` of `memblock_grow`: the kernel's image, the bytes, and
+//! which addresses are prepared. The loop of a stage has two invariants: if the rest ends in some
+//! way, so does the whole stage; and `GoesOn` holds from the stage's start.
 //!
 //! The functions of `laws` are laws. A law is an empty function whose contract is a proven fact.
 //! In contracts, a name means the definition in `specs/`.

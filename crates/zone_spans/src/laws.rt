@@ -1,7 +1,7 @@
 //! The law of this crate: a span is defined frame by frame, from the lowest on; here it is stated
 //! for all frames at once.
 
-ghost use Rattle.std.specs.Prelude.{◌≡◌, ◌^◌, ℕ, ◌<◌, true, false, Some, None};
+ghost use Rattle.std.specs.Prelude.{◌≡◌, ◌^◌, ℕ, ◌<◌, false, Some, None};
 ghost use Rattle.bm_base.specs.declared.zone.Zone.{Zone as AnyZone};
 ghost use Rattle.buddy_blocks.specs.Frames.{Frames};
 ghost use Rattle.zone_spans.specs.declared.span.Span.{Span as AnySpan};
@@ -11,6 +11,8 @@ ghost use Rattle.zone_spans.specs.Spans.{is_in_node_zone, span_of, IsSpan};
 /// of theirs between, and `present` is their number. There is no span exactly if no frame is of
 /// that node and zone.
 pub fn spans_are_of_frames()
-    ensures some { (f : Frames) (n : ℕ) (z : AnyZone) (s : AnySpan) → span_of f n z ≡ Some s → IsSpan f n z (2 ^ 52) s }
-    ensures none { (f : Frames) (n : ℕ) (z : AnyZone) (x : ℕ) → span_of f n z ≡ None → x < 2 ^ 52 → is_in_node_zone f n z x ≡ false }
+    ensures some { (f : Frames) (n : ℕ) (z : AnyZone) (s : AnySpan) → span_of f n z ≡ Some s
+        → IsSpan f n z (2 ^ 52) s }
+    ensures none { (f : Frames) (n : ℕ) (z : AnyZone) (x : ℕ) → span_of f n z ≡ None → x < 2 ^ 52
+        → is_in_node_zone f n z x ≡ false }
 {}

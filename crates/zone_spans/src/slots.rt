@@ -5,7 +5,6 @@ ghost use Rattle.std.specs.Prelude.{◌≡◌, ◌^◌, ℕ, ◌+◌, ◌*◌, �
 ghost use Rattle.bm_base.specs.Zones.{zone_of};
 ghost use Rattle.address_runs.specs.Edits.{NothingFrom};
 ghost use Rattle.buddy_blocks.specs.Frames.{Frames};
-ghost use Rattle.zone_spans.specs.Spans.{spans_of};
 ghost use Rattle.zone_spans.specs.Slots.{zone_index, AreSpans, AreSpansBounded, frames_with_node_run, slot_after, spans_in_slots};
 
 use crate::span::Span;
@@ -30,7 +29,12 @@ fn zone_index(zone: Zone) -> u64
 /// # Errors
 ///
 /// - `Memory`: the program ran out of memory.
-pub fn add_frames(slots: &mut Vec<Option<Span>>, node: u32, first: u64, end: u64) -> Result<(), Memory>
+pub fn add_frames(
+    slots: &mut Vec<Option<Span>>,
+    node: u32,
+    first: u64,
+    end: u64,
+) -> Result<(), Memory>
     requires node { node < 1024 }
     requires order { first ≤ end }
     requires low { end ≤ 2 ^ 52 }
@@ -100,7 +104,8 @@ fn add_zone_frames(
 ///
 /// - `Memory`: the program ran out of memory.
 fn grow_slots(slots: &mut Vec<Option<Span>>, count: usize) -> Result<(), Memory>
-    ensures same { OnOk result ((i : ℕ) → get_or slots.new.items i None ≡ get_or slots.old.items i None) }
+    ensures same { OnOk result ((i : ℕ)
+        → get_or slots.new.items i None ≡ get_or slots.old.items i None) }
     ensures enough { OnOk result (count ≤ vec_len slots.new) }
     ensures few { OnOk result (vec_len slots.new ≤ max (vec_len slots.old) count) }
 {

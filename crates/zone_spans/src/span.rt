@@ -1,6 +1,6 @@
 //! Computes the spans from the memory table. The handover of free frames to the page allocator
-//! reads the records by the same function (`frames_of_record`). So each frame is in the span of the node
-//! for which it is freed.
+//! reads the records by the same function (`frames_of_record`). So each frame is in the span of the
+//! node for which it is freed.
 
 ghost use Rattle.std.specs.Prelude.{◌≡◌, ◌^◌, ◌*◌, IfOk};
 ghost use Rattle.address_runs.specs.Runs.{value_at};
@@ -9,12 +9,12 @@ ghost use Rattle.memblock_frames.specs.Frames.{node_of_frame};
 ghost use Rattle.memblock_frames.specs.HeadRecords.{HasRecords, AreWholeFrames};
 ghost use Rattle.zone_spans.specs.Spans.{spans_of};
 
-use crate::slots::{spans_in_slots, add_frames};
+use crate::slots::{add_frames, spans_in_slots};
 use bm_base::{Memory, Zone};
+use memblock_frames::frames_of_record;
 use memblock_ranges::Heads;
 use phys_store::Store;
 use std::alloc::Global;
-use memblock_frames::frames_of_record;
 
 /// The frames that the memory of a node spans in a zone. All numbers are of frames.
 #[derive(Clone, Copy, Debug, PartialEq, Eq)]

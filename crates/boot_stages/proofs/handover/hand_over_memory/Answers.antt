@@ -1,7 +1,7 @@
 -- Both tables lie in the bytes. After the nodes are assigned, the memory table covers whole
 -- frames.
 use Rattle.std.proofs.Common.{◌≡◌, ◌∙◌, ℕ, List, ap, sym, arith}
-use Rattle.boot_journal.specs.JournalView.{JournalView as Journal}
+use Rattle.boot_journal.specs.JournalView.{JournalView}
 use Rattle.memblock_model.specs.declared.owner.Which.TheVariants as which
 use Rattle.memblock_model.specs.Tables.{records_of}
 use Rattle.memblock_ranges.specs.declared.region.Heads.{Heads}
@@ -51,7 +51,7 @@ returns-clause-told c = λ ids fills. (
     let begins : page_state_of c.new-after.result ≡ first_page_state (buddy_frames c.in_ok-buddy.buddy) =
     c.new-after.ensures ∙ ap (λ (rs : List (RunOf ℕ)). first_page_state (value_at rs)) c.in_ok-copy.ensures in
     finish_boot-by (inputs_view c.args.inputs) c.args.map.items c.args.memblock c.args.later ids fills _ _ _ _ _ _ _ c.requires.kernel
-    (ap (λ (j : Journal). j.items) c.into_parts-store.ensures.journal) (cc) (c.in_ok-spans.ensures ∙ spans-told stands)
+    (ap (λ (j : JournalView). j.items) c.into_parts-store.ensures.journal) (cc) (c.in_ok-spans.ensures ∙ spans-told stands)
     (λ i frame. (c.in_ok-buddy.ensures frame ∙ free-told stands frame) i)
     (rw (c.as_ref.ensures.value, c.deref.ensures.value, c.deref-2.ensures.value) at c.in_ok-lists.ensures)
     (rw (begins, c.deref-3.ensures.value) at c.in_ok-page_answers.ensures.answers)
@@ -64,7 +64,7 @@ returns-clause-reserved c =
       table = table_for which.Reserved m.kernel m.journal.items;
       stands = c.into_parts-store.ensures.reserved;
       told = ap (λ (h : Heads). h.reserved) c.into_parts-store.ensures.heads ∙ ap head_of (c.requires.tables which.Reserved);
-      records = ap (λ (j : Journal). records_of which.Reserved j.items) (sym c.into_parts-store.ensures.journal);
+      records = ap (λ (j : JournalView). records_of which.Reserved j.items) (sym c.into_parts-store.ensures.journal);
     }
 
 -- One of the inputs' facts is named wherever the inputs are dropped. The others are found.

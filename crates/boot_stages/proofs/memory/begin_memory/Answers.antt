@@ -4,7 +4,7 @@ use Rattle.memblock_model.specs.declared.item.Item.TheVariants as item
 use Rattle.early_memory.specs.declared.low.TheConstants.{ISA_END_ADDRESS}
 use Rattle.early_memory.specs.EarlyInputs.{EarlyInputs}
 use Rattle.early_memory.specs.FirstItems.{direction_items, early_claims}
-use Rattle.memblock_grow.specs.MemblockView.{MemblockView as Memblock}
+use Rattle.memblock_grow.specs.MemblockView.{MemblockView}
 use Rattle.memblock_grow.specs.Continues.{ContinuesMemblock}
 use Rattle.memblock_grow.proofs.GoingLaws.{goes-then}
 use Rattle.boot_model.specs.Boot.{early_inputs}
@@ -30,7 +30,7 @@ returns-in_err-set_limit-clause-ends c =
     let e : EarlyInputs = early_inputs (inputs_view c.args.inputs.now) in
     carries-second _ (early_claims e.kernel e.initrd) (item.Limit ISA_END_ADDRESS ∷ direction_items e.upward) _ _ _
     c.in_ok-claim_early.ensures.ends (carries-wanting _ _ _ _ _ (exit _ _ c.from_residual-in_err-set_limit.ensures.1) (omega arith)
-    (ap (λ (m : Memblock). m.journal.items) c.in_err-set_limit.ensures.appends.0))
+    (ap (λ (m : MemblockView). m.journal.items) c.in_err-set_limit.ensures.appends.0))
 
 pub returns-clause-ends : goal.returns-clause-ends
 returns-clause-ends c =

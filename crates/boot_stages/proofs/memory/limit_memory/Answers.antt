@@ -2,7 +2,7 @@
 use Rattle.std.proofs.Common.{[], ◌∷◌, refl, ap, arith}
 use Rattle.memblock_model.specs.declared.owner.Owner.TheVariants as owner
 use Rattle.memblock_model.specs.declared.item.Item.TheVariants as item
-use Rattle.memblock_grow.specs.MemblockView.{MemblockView as Memblock}
+use Rattle.memblock_grow.specs.MemblockView.{MemblockView}
 use Rattle.memblock_grow.proofs.GoingLaws.{goes-then}
 use Rattle.boot_stages.proofs.ItemsLaws.{carries-change, carries-wanting, change_for-second}
 use Rattle.boot_stages.proofs.ExitLaws.{exit}
@@ -11,7 +11,7 @@ use Rattle.boot_stages.proofs.memory.limit_memory.Goals as goal
 pub returns-in_err-set_limit-clause-ends : goal.returns-in_err-set_limit-clause-ends
 returns-in_err-set_limit-clause-ends c =
     carries-wanting _ (item.Limit c.args.end) _ _ _ (exit _ _ c.from_residual.ensures.1) (omega arith)
-    (ap (λ (m : Memblock). m.journal.items) c.in_err-set_limit.ensures.appends.0)
+    (ap (λ (m : MemblockView). m.journal.items) c.in_err-set_limit.ensures.appends.0)
 
 pub returns-clause-ends : goal.returns-clause-ends
 returns-clause-ends c =

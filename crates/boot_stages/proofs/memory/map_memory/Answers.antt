@@ -1,7 +1,7 @@
 -- The runs of the map, a trim, and the mirrors: the items before an error were carried out.
 use Rattle.std.proofs.Common.{◌∷◌, refl, ap, arith}
 use Rattle.memblock_model.specs.declared.item.Item.TheVariants as item
-use Rattle.memblock_grow.specs.MemblockView.{MemblockView as Memblock}
+use Rattle.memblock_grow.specs.MemblockView.{MemblockView}
 use Rattle.memblock_grow.specs.Continues.{ContinuesMemblock}
 use Rattle.memblock_grow.proofs.GoingLaws.{goes-then}
 use Rattle.early_memory.specs.EarlyInputs.{EarlyInputs}
@@ -28,7 +28,7 @@ returns-in_err-trim-clause-ends c =
     let e : EarlyInputs = early_inputs (inputs_view c.args.inputs.now) in
     rw (← c.reach.ensures) (carries-second _ (items_of_map c.reach.result c.args.map.now) (item.Trim ∷ mirror_items e.mirrors) _ _ _
     c.in_ok-add_map.ensures.ends (carries-wanting _ _ _ _ _ (exit _ _ c.from_residual-in_err-trim.ensures.1) (omega arith)
-    (ap (λ (m : Memblock). m.journal.items) c.in_err-trim.ensures.appends.0)))
+    (ap (λ (m : MemblockView). m.journal.items) c.in_err-trim.ensures.appends.0)))
 
 pub returns-clause-ends : goal.returns-clause-ends
 returns-clause-ends c =

@@ -1,7 +1,7 @@
 -- The direction is one item or none.
 use Rattle.std.proofs.Common.{true, Ok, refl, ap, arith}
 use Rattle.memblock_model.specs.declared.item.Item.TheVariants as item
-use Rattle.memblock_grow.specs.MemblockView.{MemblockView as Memblock}
+use Rattle.memblock_grow.specs.MemblockView.{MemblockView}
 use Rattle.boot_stages.proofs.ExitLaws.{exit}
 use Rattle.boot_stages.proofs.ItemsLaws.{carries-change, carries-nothing, carries-wanting}
 use Rattle.boot_stages.proofs.memory.turn_upward.Goals as goal
@@ -9,7 +9,7 @@ use Rattle.boot_stages.proofs.memory.turn_upward.Goals as goal
 pub returns-in_err-set_upward-clause-ends : goal.returns-in_err-set_upward-clause-ends
 returns-in_err-set_upward-clause-ends c =
     rw c.if-upward.true (carries-wanting _ (item.Upward true) _ _ _ (exit _ _ c.from_residual.ensures.1) (omega arith)
-    (ap (λ (m : Memblock). m.journal.items) c.in_err-set_upward.ensures.appends.0))
+    (ap (λ (m : MemblockView). m.journal.items) c.in_err-set_upward.ensures.appends.0))
 
 pub returns-in_ok-set_upward-clause-ends : goal.returns-in_ok-set_upward-clause-ends
 returns-in_ok-set_upward-clause-ends c =

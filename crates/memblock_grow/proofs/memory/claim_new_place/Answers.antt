@@ -10,7 +10,6 @@ use Rattle.memblock_grow.proofs.ReservedLaws.{still-bytes}
 use Rattle.memblock_grow.proofs.ChangeLaws.{handed}
 use Rattle.memblock_grow.proofs.ClaimLaws.{claim-begins, claim-prepares}
 use Rattle.memblock_grow.proofs.memory.claim_new_place.Goals as goal
-use Rattle.memblock_grow.proofs.memory.claim_new_place.Goals.{After-prepare, After-claim}
 
 pub returns-in_err-may_claim-clause-bytes : goal.returns-in_err-may_claim-clause-bytes
 returns-in_err-may_claim-clause-bytes c = still-bytes c.args.tables.now refl (λ x. refl)

@@ -1,5 +1,5 @@
 -- The listed blocks are aligned and below the limit, and their number fits.
-use Rattle.std.proofs.Common.{◌≡◌, ◌∙◌, ℕ, List, length, refl, arith}
+use Rattle.std.proofs.Common.{◌≡◌, ◌∙◌, ℕ, length, refl, arith}
 use Rattle.buddy_blocks.specs.BlockList.{blocks_of}
 use Rattle.buddy_handover.specs.BuddyView.{buddy_frames}
 use Rattle.report_stages.proofs.BlockLaws.{listed_few, listed_in_bounds}

@@ -3,7 +3,7 @@ use Rattle.std.proofs.Common.{ap}
 use Rattle.memblock_model.specs.declared.query.Request.{Request}
 use Rattle.stage_steps.specs.Steps.{view_of_result}
 use Rattle.memblock_grow.proofs.GoingLaws.{goes-then}
-use Rattle.section_maps.proofs.MapLaws.{buffer-placed, buffer-stops, buffer-each}
+use Rattle.section_maps.proofs.MapLaws.{buffer-placed, buffer-each}
 use Rattle.section_maps.proofs.group.place_group_maps.Goals as goal
 
 pub place_or_stop-requires-clause-aligned : goal.place_or_stop-requires-clause-aligned

@@ -1,5 +1,5 @@
 -- A zone that has a block is in the node's list too. If no zone has one, none of the list has.
-use Rattle.std.proofs.Common.{◌≡◌, ◌<◌, Bool, true, false, is_some, List, get_or, length, refl, sym, ◌∙◌, ap, subst, arith}
+use Rattle.std.proofs.Common.{◌≡◌, ◌<◌, Bool, true, false, is_some, List, get_or, length, refl, sym, ◌∙◌, ap, subst}
 use Rattle.std.proofs.lemmas.List.{take_all}
 use Rattle.std.proofs.lemmas.List.Folds.{list_any_more}
 use Rattle.std.specs.List.{list_any}

@@ -2,7 +2,7 @@
 use Rattle.std.proofs.Common.{◌≡◌, ◌≤◌, false, nat_lt, Ok, [], ◌∷◌, ◌++◌, length, refl, ap, subst, arith}
 use Rattle.std.proofs.lemmas.Bool.Decides.{nat_tests}
 use Rattle.bm_base.specs.Range.{RangeView}
-use Rattle.boot_journal.specs.JournalView.{JournalView as Journal}
+use Rattle.boot_journal.specs.JournalView.{JournalView}
 use Rattle.growth_model.specs.Bytes.{Fill}
 use Rattle.growth_model.proofs.FillLaws.{holds-fill}
 use Rattle.early_script.specs.declared.outcome.Outcome.TheVariants as outcomes
@@ -22,5 +22,5 @@ returns-clause-holds c = λ fills holds.
     let same = rw few at (c.in-Ok.ensures.range (fill_whole old c.args.byte)) in
     holds-by (Ok outcomes.Done) (state_of_memblock c.args.self.now next) (fill_effect old c.args.id c.args.byte) _ (memblock_bytes next) fills same
     (holds-as m.kernel next.kernel m.journal.items next.journal.items (fills ++ f ∷ []) (memblock_bytes next) (memblock_bytes next)
-    c.in_ok-fill.ensures.kernel (ap (λ (j : Journal). j.items) c.in_ok-fill.ensures.journal) (λ x. refl)
+    c.in_ok-fill.ensures.kernel (ap (λ (j : JournalView). j.items) c.in_ok-fill.ensures.journal) (λ x. refl)
     (holds-fill m.kernel m.journal.items fills f (memblock_bytes m) (memblock_bytes next) holds refl c.in-Ok.ensures.away c.in_ok-fill.ensures.ok))

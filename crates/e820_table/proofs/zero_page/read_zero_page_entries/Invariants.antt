@@ -1,6 +1,6 @@
 use Rattle.std.proofs.Common.{◌≡◌, length}
 use Rattle.e820_table.specs.Entries.{first_entries}
-use Rattle.e820_table.proofs.zero_page.read_ext_entries.Given as goal
+use Rattle.e820_table.proofs.zero_page.read_zero_page_entries.Given as goal
 
 abbrev pub invariant-loop-index : goal.invariant-loop-index
 invariant-loop-index l = record {
