@@ -55,23 +55,23 @@ HasBounds-prop acts.Sections = Unit-prop
 pub HaveBounds-prop : (lines : List Line) → IsProp (HaveBounds lines)
 HaveBounds-prop lines = Prim.hlevel HasBounds-prop
 
-IsRun-prop : (act : Act) → IsProp (CanBeRun act)
-IsRun-prop (acts.Alloc id request) = Unit-prop
-IsRun-prop (acts.Reserve id range) = Unit-prop
-IsRun-prop (acts.Free id) = Unit-prop
-IsRun-prop (acts.Trim id keep) = Unit-prop
-IsRun-prop (acts.Fill id byte) = Unit-prop
-IsRun-prop (acts.Peek at len) = Unit-prop
-IsRun-prop acts.Sections = Prim.hlevel Unit-prop
+CanBeRun-prop : (act : Act) → IsProp (CanBeRun act)
+CanBeRun-prop (acts.Alloc id request) = Unit-prop
+CanBeRun-prop (acts.Reserve id range) = Unit-prop
+CanBeRun-prop (acts.Free id) = Unit-prop
+CanBeRun-prop (acts.Trim id keep) = Unit-prop
+CanBeRun-prop (acts.Fill id byte) = Unit-prop
+CanBeRun-prop (acts.Peek at len) = Unit-prop
+CanBeRun-prop acts.Sections = Prim.hlevel Unit-prop
 
-pub PlaceOnce-prop : (lines : List Line) → IsProp (PlacesSectionsOnce lines)
-PlaceOnce-prop lines = Prim.hlevel IsRun-prop
+pub PlacesSectionsOnce-prop : (lines : List Line) → IsProp (PlacesSectionsOnce lines)
+PlacesSectionsOnce-prop lines = Prim.hlevel CanBeRun-prop
 
-HasOrder-prop : (act : PageAct) → IsProp (HasValidOrder act)
-HasOrder-prop (pages.Pages id order node zone) = le_prop
-HasOrder-prop (pages.Near id order node) = le_prop
-HasOrder-prop (pages.Give id) = Unit-prop
+HasValidOrder-prop : (act : PageAct) → IsProp (HasValidOrder act)
+HasValidOrder-prop (pages.Pages id order node zone) = le_prop
+HasValidOrder-prop (pages.Near id order node) = le_prop
+HasValidOrder-prop (pages.Give id) = Unit-prop
 
-pub HaveOrders-prop : (lines : List PageLine) → IsProp (HaveValidOrders lines)
-HaveOrders-prop [] = Unit-prop
-HaveOrders-prop (l ∷ ls) = ×_prop (HasOrder-prop l.act) (HaveOrders-prop ls)
+pub HaveValidOrders-prop : (lines : List PageLine) → IsProp (HaveValidOrders lines)
+HaveValidOrders-prop [] = Unit-prop
+HaveValidOrders-prop (l ∷ ls) = ×_prop (HasValidOrder-prop l.act) (HaveValidOrders-prop ls)

@@ -9,7 +9,7 @@ ghost use Rattle.e820_table.specs.Initrd.{IsInitrd};
 ghost use Rattle.early_script.specs.Lines.{PlacesSectionsOnce};
 ghost use Rattle.page_alloc.specs.Pages.{HaveValidOrders};
 ghost use Rattle.slit_zonelists.specs.SlitView.{IsSquare, slit_view};
-ghost use Rattle.boot_model.specs.Facts.{EntriesFit-prop, HaveBounds, HaveBounds-prop, HaveTypes-prop, efi_ends-prop};
+ghost use Rattle.boot_model.specs.Facts.{EntriesFit-prop, HaveBounds, HaveBounds-prop, HaveTypes-prop, HaveValidOrders-prop, PlacesSectionsOnce-prop, efi_ends-prop};
 ghost use Rattle.boot_model.specs.Kernel.{IsKernel, is_kernel};
 ghost use Rattle.boot_model.specs.Mirrors.{IsMirror};
 
@@ -85,8 +85,8 @@ pub struct Inputs {
     ghost kernel_fits: { IsKernel width kernel },
     ghost mirrors_fit: { All IsMirror mirrors.items },
     ghost bounds_fit: { HaveBounds lines.items } by { HaveBounds-prop lines.items },
-    ghost placed_once: { PlacesSectionsOnce lines.items } by { PlaceOnce-prop lines.items },
-    ghost orders_fit: { HaveValidOrders page_lines.items } by { HaveOrders-prop page_lines.items },
+    ghost placed_once: { PlacesSectionsOnce lines.items } by { PlacesSectionsOnce-prop lines.items },
+    ghost orders_fit: { HaveValidOrders page_lines.items } by { HaveValidOrders-prop page_lines.items },
     ghost slit_square: { IfSome slit (λ table. IsSquare (slit_view table)) } by { Prim.hlevel props },
     ghost efi_ends: { IfSome efi (λ map. EntriesFit map.entries.items) } by { efi_ends-prop efi },
     ghost efi_mirrors_fit: { IfSome efi (λ m. All IsMirror m.mirrors.items) } by { Prim.hlevel props },
