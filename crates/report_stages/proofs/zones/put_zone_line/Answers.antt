@@ -12,6 +12,6 @@ returns c =
     let s = c.args.span.now in
     goes_on c.args.text.now c.put_word_dec-4.new.text c.put_text-2.new.out c.put_text-2.result
     (codes "Node " ++ decimal s.node ++ codes ", zone " ++ zone_name s.zone ++ codes " start " ++ decimal s.start ++ codes " end "
-    ++ decimal s.end ++ codes " present " ++ decimal s.present ++ codes " buddy_frames "
+    ++ decimal s.end ++ codes " present " ++ decimal s.present ++ codes " free "
     ++ decimal (frames_in_zone s.node s.zone (blocks_of (buddy_frames c.args.buddy.now)))) (codes "\n")
     c.put_text-2.ensures.puts (grind (arith, common_steps)) (grind (arith, common_steps))
