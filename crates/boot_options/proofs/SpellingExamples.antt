@@ -2,13 +2,13 @@
 use Rattle.std.proofs.Common.{◌≡◌, ℕ, ◌-◌, ◌^◌, Some, None, [], ◌∷◌, codes, Err, Ok, refl, arith}
 use Rattle.bm_base.specs.Range.{RangeView}
 use Rattle.e820_model.specs.declared.entry.Edit.TheVariants.{Add, Remove, RemoveAll}
-use Rattle.text_words.specs.Spelling.{blank_first, both_marks, no_mark, word_alone}
+use Rattle.text_words.specs.Spelling.{both_marks}
 use Rattle.boot_options.specs.declared.fault.OptionFault.TheVariants as faults
 use Rattle.boot_options.specs.declared.map_option.MapOption.{MapOption}
 use Rattle.boot_options.specs.declared.map_option.MapOption.TheVariants.{ExactMap, Adding, Other}
 use Rattle.boot_options.specs.Crash.{High, Plain, crash_form_of, one_range}
 use Rattle.boot_options.specs.Options.{AddEfi, OfCrash, OfMap, WordMeaning}
-use Rattle.boot_options.specs.Spelling.{HasName, IsOtherWord, SpellEach, SpellsLine, SpellsMeaning, alone, crash_word, efi_word, with_value, IsBadMem, IsBadMemmap, IsCrashValue, IsFirstWordFault, IsMemValue, IsMemmapValue, IsNumaValue, IsSoundWord, OptionWords, SpellsBase, SpellsForm, SpellsMapOption, SpellsMapOptions, SpellsMem, SpellsNoType, SpellsPlace, SpellsType, a_base, a_type, a_word, end_of_ram, every_type, exactmap, high, last_option, line_end, new_type, next_option, no_base, no_value, nopentium, nothing, one_size, other_value, ram, size_alone, two_dashes, type_zero}
+use Rattle.boot_options.specs.Spelling.{HasName, SpellsMeaning, alone, crash_word, efi_word, with_value, IsBadMem, IsBadMemmap, IsCrashValue, IsFirstWordFault, IsMemmapValue, IsSoundWord, SpellsBase, SpellsForm, SpellsMapOption, SpellsMapOptions, SpellsNoType, SpellsPlace, SpellsType, a_base, a_type, every_type, exactmap, high, last_option, new_type, next_option, no_base, no_value, nothing, one_size, other_value, ram, size_alone, type_zero}
 use Rattle.boot_options.proofs.FaultLaws.{memmap-exactly_first, sound-ok}
 use Rattle.boot_options.proofs.SaidSpelledLaws.{word-exactly}
 use Rattle.boot_options.proofs.SpelledCrashLaws.{form-exactly}
@@ -54,9 +54,6 @@ memmap_values = (
   λ value. let is : None ≡ Some value.0 = (map_options-exactly (codes "exactmap,") value.0).1 value.1 in cc is,
 )
 
-mem_values : SpellsMem (codes "nopentium") (Other None) × IsMemValue (codes "4G") × IsNumaValue (codes "off")
-mem_values = (nopentium, (_, end_of_ram (codes "4G") 0x100000000 refl (omega arith)), refl)
-
 -- sizes with a base, without one, and with a suffix; a suffix in the wrong case is malformed
 crash_values : SpellsForm (codes "16M@1M") (Plain (one_range 0x1000000 0x100000)) × SpellsForm (codes "16M") (Plain (one_range 0x1000000 0))
     × SpellsForm (codes "16M,high") (High 0x1000000) × SpellsBase [] 0 × (IsCrashValue (codes "16M,HIGH") → ⊥)
@@ -78,14 +75,6 @@ words = (
   sound-ok 1 (codes "quiet") (OfMap []) refl,
 )
 
--- the words before `--`, also if that is quoted
-option_words : OptionWords (codes "a" ∷ codes "\"--\"" ∷ codes "b" ∷ []) (codes "a" ∷ []) × OptionWords [] []
-option_words = (
-  a_word (codes "a") (codes "a") _ [] (no_mark (codes "a") (λ rest same. cc same)) (λ same. cc same)
-      (two_dashes (codes "\"--\"") (codes "b" ∷ []) (both_marks (codes "--"))),
-  line_end,
-)
-
 -- the second word of the line is the lowest malformed one
 first_fault : IsFirstWordFault (codes "quiet memmap=1M@ memmap=2") 2 IsBadMemmap
 first_fault = (memmap-exactly_first (codes "quiet memmap=1M@ memmap=2") 2).0 refl
@@ -99,23 +88,4 @@ said_words = (
   with_value (codes "on"),
   (word-exactly 1 (codes "quiet") (OfMap [])).0 refl,
   λ said spells. let is : Err (faults.BadNuma 1) ≡ Ok said = (word-exactly 1 (codes "numa") said).1 spells in cc is,
-)
-
--- words with one of the five names aren't words of another name
-other_words : (IsOtherWord (codes "mem") → ⊥) × (IsOtherWord (codes "numa=on") → ⊥)
-other_words = (λ other. other.mem alone, λ other. other.numa (with_value (codes "on")))
-
--- the meanings of two numbered words, and of a line with one word
-said_line : SpellEach 1 (codes "quiet" ∷ codes "add_efi_memmap" ∷ []) ((1, OfMap []) ∷ (2, AddEfi) ∷ [])
-    × SpellsLine (codes " quiet") ((1, OfMap []) ∷ [])
-said_line = (
-  (refl, said_words.3, (refl, said_words.1, tt)),
-  record {
-    raws = codes "quiet" ∷ [];
-    words = codes "quiet" ∷ [];
-    lie = blank_first 32 (codes "quiet") (codes "quiet" ∷ []) refl
-        (word_alone (codes "quiet") (record { some = omega arith; closed = (refl, (refl, (refl, (refl, (refl, refl))))) }));
-    options = a_word (codes "quiet") (codes "quiet") [] [] (no_mark (codes "quiet") (λ rest same. cc same)) (λ same. cc same) line_end;
-    spell = (refl, said_words.3, tt);
-  },
 )

@@ -1,6 +1,6 @@
 -- Examples of small changes, computed: the items of each step, the growth that is refused, the
 -- searches of an allocation, and the ends of calls.
-use Rattle.std.proofs.Common.{◌≡◌, ℕ, zero, suc, ◌+◌, ◌*◌, ◌%◌, ◌^◌, ◌<◌, ◌≤◌, Bool, true, false, Option, Some, None, List, [], ◌∷◌, ◌++◌, length, take, Ok, Err, refl, sym, ap, arith}
+use Rattle.std.proofs.Common.{◌≡◌, ℕ, ◌+◌, ◌*◌, ◌%◌, ◌^◌, ◌≤◌, Bool, true, false, Option, Some, None, List, [], ◌∷◌, ◌++◌, length, take, Ok, Err, refl, sym, ap, arith}
 use Rattle.std.proofs.lemmas.Bool.{false_from_ne_true}
 use Rattle.std.proofs.lemmas.Bool.Decides.{nat_tests}
 use Rattle.bm_base.specs.Range.{RangeView, end_of, covers}
@@ -17,17 +17,17 @@ use Rattle.memblock_model.specs.Items.{owner_of}
 use Rattle.memblock_model.specs.Tables.{table_of, records_of, room_of, table_bytes}
 use Rattle.memblock_model.specs.declared.query.Query.{Query}
 use Rattle.memblock_model.specs.Search.{is_allowed_mirror, fits_in, top_place, best_place}
-use Rattle.memblock_model.proofs.SearchLaws.{IsLastBelow, fits_in-parts, fits_in-whole, top_place_in-last, top_place_in-fails, top_place_in-mirrorless, best_place_in-last, best_place_in-fails, plain_or_none}
+use Rattle.memblock_model.proofs.SearchLaws.{IsLastBelow, fits_in-parts, fits_in-whole, top_place_in-last, top_place_in-mirrorless, best_place_in-last, best_place_in-fails, plain_or_none}
 use Rattle.memblock_model.proofs.TableLaws.{records_for-is}
 use Rattle.memblock_ranges.proofs.CountLaws.{few-pieces}
 use Rattle.growth_model.specs.declared.refusal.Refusal.TheVariants as refusal
 use Rattle.memblock_model.specs.declared.query.Request.{Request}
-use Rattle.growth_model.specs.Change.{ChangeEffect, Change, items_of_steps, write_items, write_item, refuse_growth, ◌>>◌}
-use Rattle.growth_model.specs.Growth.{round_up_to_frames, frames_for_bytes, record_count, table_query, place_beside_range, reserved_growth_items, reserved_growth_at, reserved_growth, is_full, count_uncovered_pieces, split_record_count, make_table_room, claim_range, free_range, free_old_place, memory_growth_at, memory_growth}
-use Rattle.growth_model.specs.Request.{Attempt, attempt, attempts_from, attempts, first_found_place, place_for}
+use Rattle.growth_model.specs.Change.{ChangeEffect, items_of_steps, write_items, write_item, refuse_growth}
+use Rattle.growth_model.specs.Growth.{round_up_to_frames, frames_for_bytes, record_count, table_query, place_beside_range, reserved_growth_items, reserved_growth_at, reserved_growth, is_full, count_uncovered_pieces, split_record_count, claim_range, free_range, memory_growth_at, memory_growth}
+use Rattle.growth_model.specs.Request.{Attempt, attempt, attempts_from, attempts, first_found_place}
 use Rattle.growth_model.specs.Ends.{WritesFirstSteps, StopsBeforeStep, EndsAsEffect, EndsAsChange, Allocates}
 use Rattle.growth_model.proofs.FirstLaws.{no_records}
-use Rattle.growth_model.proofs.IdleLaws.{claim_range-idle, free_range-idle}
+use Rattle.growth_model.proofs.IdleLaws.{claim_range-idle}
 
 -- 256 KiB of memory; the kernel's image has four frames from 64 KiB on
 abbrev pub image : RangeView
@@ -45,13 +45,6 @@ two_steps = record { steps = (item.Trim ∷ (item.Limit 5 ∷ [])) ∷ ((item.Li
 
 abbrev stopped : ChangeEffect
 stopped = record { steps = (item.Trim ∷ []) ∷ []; refused = Some (record { which = which.Memory; room = 128 }) }
-
--- two changes in turn: both; only the first if it is refused; both, with the refusal of the second
-then_examples : ((write_item item.Trim >> write_item (item.Limit 5)) []
-    ≡ record { steps = (item.Trim ∷ []) ∷ ((item.Limit 5 ∷ []) ∷ []); refused = None })
-    × ((refuse_growth which.Memory 128 >> write_item (item.Limit 5)) [] ≡ refuse_growth which.Memory 128 [])
-    × ((write_item item.Trim >> refuse_growth which.Memory 128) [] ≡ stopped)
-then_examples = (refl, refl, refl)
 
 -- whole frames: for one byte, for a frame and a half, for a frame
 whole_frames_examples : (round_up_to_frames 1 ≡ 4096) × (round_up_to_frames 6144 ≡ 8192) × (round_up_to_frames 4096 ≡ 4096)
@@ -181,42 +174,9 @@ new_has_room w r small_enough ends one = let few = few-pieces r (table_of w smal
 claim_has_room : is_full which.Reserved (count_uncovered_pieces which.Reserved (frame 32)) small ≡ false
 claim_has_room = new_has_room which.Reserved (frame 32) (omega arith) reserved_ends reserved_count
 
-two_have_room : (w : Which) → record_count w small ≡ 1 → is_full w split_record_count small ≡ false
-two_have_room w one = grind (arith, nat_tests, one)
-
 -- if there is room, only the item is written
 a_claim : claim_range (frame 32) owner.Soft small ≡ write_item (item.Claim (frame 32) owner.Soft) small
 a_claim = claim_range-idle small (frame 32) owner.Soft claim_has_room
-
-a_free : free_range (frame 16) small ≡ write_item (item.Free (frame 16)) small
-a_free = free_range-idle small (frame 16) (two_have_room which.Reserved reserved_count)
-
--- a full table grows at most twice, until it isn't full
-abbrev moves : Change
-moves = write_item (item.Grown which.Memory 4096 256)
-
-none_behind_a_move : record_count which.Memory (item.Grown which.Memory 4096 256 ∷ []) ≡ 0
-unfolding records_of
-none_behind_a_move = no_records (table_of which.Memory (item.Grown which.Memory 4096 256 ∷ [])) (λ x. refl)
-
-first_full : (n : ℕ) → 128 < n → is_full which.Memory (λ items. n) [] ≡ true
-first_full n many = grind (arith, nat_tests, many)
-
-then_room : (n : ℕ) → n ≤ 256 → is_full which.Memory (λ items. n) (item.Grown which.Memory 4096 256 ∷ []) ≡ false
-then_room n few = grind (arith, nat_tests, none_behind_a_move, few)
-
-then_full : (n : ℕ) → 256 < n → is_full which.Memory (λ items. n) (item.Grown which.Memory 4096 256 ∷ []) ≡ true
-then_full n many = grind (arith, nat_tests, many)
-
-once : make_table_room which.Memory (λ items. 200) moves [] ≡ moves []
-once = rw (first_full 200 (omega arith), then_room 200 (omega arith)) refl
-
-twice : make_table_room which.Memory (λ items. 300) moves [] ≡ (moves >> moves) []
-twice = rw (first_full 300 (omega arith), then_full 300 (omega arith)) refl
-
--- the free of a table's old place is never refused
-leaving_is_never_refused : (frames : RangeView) (items : List Item) → (free_old_place (Some frames) items).refused ≡ None
-leaving_is_never_refused frames items = refl
 
 -- a free may add two records: if 127 of 128 are used, the table grows first, and without a place
 -- the free is refused
@@ -247,14 +207,6 @@ place_taken = rw place_claimed refl
 memory_grows : memory_growth small ≡ first_growth
 unfolding memory_growth
 memory_grows = rw (window_place 0 262144 253952 refl (omega arith) refl (omega arith) (omega arith)) place_taken
-
--- memory continues above the limit, and the new place doesn't
-abbrev half_allowed : List Item
-half_allowed = item.Mem (record { base = 0; size = 262144 }) ∷ (item.Claim image owner.Kernel ∷ (item.Limit 131072 ∷ []))
-
-grows_below_the_limit : memory_growth half_allowed ≡ memory_growth_at 128 None (best_place half_allowed (table_query 128 0 131072)) half_allowed
-unfolding memory_growth
-grows_below_the_limit = refl
 
 without_memory : memory_growth [] ≡ refuse_growth which.Memory 128 []
 unfolding memory_growth memory_growth_at best_place
@@ -304,43 +256,12 @@ second_search : first_found_place small (mirrored_memory (table_query 128 0 2621
 second_search =
     rw (nothing_mirrored (table_query 128 0 262144), window_top 0 262144 253952 refl (omega arith) refl (omega arith) (omega arith)) refl
 
-first_search : first_found_place small (any_memory (table_query 128 0 131072) ∷ (any_memory (table_query 128 0 262144) ∷ [])) ≡ Some 122880
-first_search = rw (window_top 0 131072 122880 refl (omega arith) refl (omega arith) (omega arith)) refl
-
--- 8 KiB get the highest place in memory; 512 KiB don't fit
-abbrev two_frames_please : Request
-two_frames_please = record a_frame { size = 8192 }
-
-place_at_the_top : place_for two_frames_please small ≡ Some 253952
-place_at_the_top = second_search
-
-no_top : (q : Query) (mirror : Bool) → q.hi ≡ 0 → top_place small q mirror ≡ None
-unfolding top_place
-no_top q mirror none = top_place_in-fails (record { mirror = mirror; up = false }) (table_of which.Memory small)
-    (table_of which.Reserved small) q (λ b lt. none_fits mirror small q (λ a low first high. omega arith) b)
-
-no_place_so_low : place_for (record two_frames_please { max = Some 0 }) small ≡ None
-no_place_so_low = rw (nothing_mirrored (table_query 128 0 0), no_top (table_query 128 0 0) false refl) refl
-
 -- ends of calls: after all steps, after one of two, and after none
 all_of_two : WritesFirstSteps [] (items_of_steps two_steps.steps) two_steps.steps
 all_of_two = record { count = 2; within = omega arith; stands = refl }
 
 one_of_two : StopsBeforeStep [] (item.Trim ∷ (item.Limit 5 ∷ [])) two_steps.steps
 one_of_two = record { count = 1; short = omega arith; stands = refl }
-
--- fewer than both steps don't write all items
-fewer_of_two : (n : ℕ) → n < 2 → items_of_steps two_steps.steps ≡ items_of_steps (take n two_steps.steps) → ⊥
-fewer_of_two zero less same = cc
-fewer_of_two (suc zero) less same = cc
-fewer_of_two (suc (suc n)) less same = omega (arith, less)
-
--- after all steps, or if a growth is refused before any, the end isn't out of memory
-wanted_behind_all : EndsAsEffect {T = ℕ} (Err refusal.Memory) [] (items_of_steps two_steps.steps) two_steps → ⊥
-wanted_behind_all cut = fewer_of_two cut.count cut.short cut.stands
-
-wanted_at_a_refusal : EndsAsChange {T = ℕ} (Err refusal.Memory) small small (refuse_growth which.Memory 128) → ⊥
-wanted_at_a_refusal cut = let none : cut.count < 0 = cut.short in omega (arith, none)
 
 -- a call that succeeds, and one that is refused; NoGap is never returned
 ends_by_examples : (EndsAsEffect {T = ℕ} (Ok 3) [] (item.Trim ∷ (item.Limit 5 ∷ (item.Limit 7 ∷ []))) two_steps)
