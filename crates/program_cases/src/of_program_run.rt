@@ -19,11 +19,11 @@ const RESERVED: Entry = Entry {
 };
 
 const MAP: &str = "0x0000000000100000..0x0000000007fdffff 1 usable\n\
-                   0x0000000007fe0000..0x0000000007ffffff 2 reserved\n";
+    0x0000000007fe0000..0x0000000007ffffff 2 reserved\n";
 
 /// The summary of the made input of two entries.
 const SUMMARY: &str = "runs 3\nusable 32927\nfree 23503\n\
-                       memory records 2 room 128\nreserved records 5 room 128\nblocks 30\n";
+    memory records 2 room 128\nreserved records 5 room 128\nblocks 30\n";
 
 /// An extension of one entry: RAM over `RESERVED` and 4096 bytes after it.
 const EXTENSION: [u8; 36] = [
@@ -225,9 +225,9 @@ fn lists_of_reports(rt: HostRuntime) -> Result<(), Fail> {
 
 /// The part of the report `map`, for a machine with 16 GiB above 4 GiB.
 const GREAT_MAP: &str = "== map\n\
-                         0x0000000000100000..0x0000000007fdffff 1 usable\n\
-                         0x0000000007fe0000..0x0000000007ffffff 2 reserved\n\
-                         0x0000000100000000..0x00000004ffffffff 1 usable\n";
+    0x0000000000100000..0x0000000007fdffff 1 usable\n\
+    0x0000000007fe0000..0x0000000007ffffff 2 reserved\n\
+    0x0000000100000000..0x00000004ffffffff 1 usable\n";
 
 // The report `blocks` of such a machine has thousands of lines, but is one put. The second put is
 // the second report, and there is no third.
@@ -261,12 +261,12 @@ fn machine() -> [u8; 4096] {
 
 /// The report `map` of this machine.
 const MACHINE_MAP: &str = "0x0000000000000000..0x0000000000000fff 2 reserved\n\
-                           0x0000000000001000..0x000000000009fbff 1 usable\n\
-                           0x000000000009fc00..0x000000000009ffff 2 reserved\n\
-                           0x00000000000f0000..0x00000000000fffff 2 reserved\n\
-                           0x0000000000100000..0x0000000007fdffff 1 usable\n\
-                           0x0000000007fe0000..0x0000000007ffffff 2 reserved\n\
-                           0x00000000fffc0000..0x00000000ffffffff 2 reserved\n";
+    0x0000000000001000..0x000000000009fbff 1 usable\n\
+    0x000000000009fc00..0x000000000009ffff 2 reserved\n\
+    0x00000000000f0000..0x00000000000fffff 2 reserved\n\
+    0x0000000000100000..0x0000000007fdffff 1 usable\n\
+    0x0000000007fe0000..0x0000000007ffffff 2 reserved\n\
+    0x00000000fffc0000..0x00000000ffffffff 2 reserved\n";
 
 /// The bytes of the files `zp`, `ext` and `cl`.
 #[derive(Clone, Copy)]
@@ -336,35 +336,35 @@ const FIVE: &[&str] = &[
 
 /// The two reports of this run.
 const BOTH: &str = "== map\n\
-                    0x0000000000000000..0x0000000000000fff 2 reserved\n\
-                    0x0000000000001000..0x000000000009fbff 1 usable\n\
-                    0x000000000009fc00..0x000000000009ffff 2 reserved\n\
-                    0x00000000000f0000..0x00000000000fffff 2 reserved\n\
-                    0x0000000000100000..0x0000000007fdffff 1 usable\n\
-                    0x0000000007fe0000..0x0000000007ffffff 2 reserved\n\
-                    0x00000000fffc0000..0x00000000ffffffff 2 reserved\n\
-                    == buddyinfo\n\
-                    Node 0, zone      DMA      0      0      0      0      0      0      0      0      1      1      3 \n\
-                    Node 0, zone    DMA32      1      1      1      1      0      1      0      1      1      0     19 \n";
+    0x0000000000000000..0x0000000000000fff 2 reserved\n\
+    0x0000000000001000..0x000000000009fbff 1 usable\n\
+    0x000000000009fc00..0x000000000009ffff 2 reserved\n\
+    0x00000000000f0000..0x00000000000fffff 2 reserved\n\
+    0x0000000000100000..0x0000000007fdffff 1 usable\n\
+    0x0000000007fe0000..0x0000000007ffffff 2 reserved\n\
+    0x00000000fffc0000..0x00000000ffffffff 2 reserved\n\
+    == buddyinfo\n\
+    Node 0, zone      DMA      0      0      0      0      0      0      0      0      1      1      3 \n\
+    Node 0, zone    DMA32      1      1      1      1      0      1      0      1      1      0     19 \n";
 
 /// The first 176 of the 353 bytes of the first report.
 const HALF_A_MAP: &str = "== map\n\
-                          0x0000000000000000..0x0000000000000fff 2 reserved\n\
-                          0x0000000000001000..0x000000000009fbff 1 usable\n\
-                          0x000000000009fc00..0x000000000009ffff 2 reserved\n\
-                          0x00000000000f0000..0";
+    0x0000000000000000..0x0000000000000fff 2 reserved\n\
+    0x0000000000001000..0x000000000009fbff 1 usable\n\
+    0x000000000009fc00..0x000000000009ffff 2 reserved\n\
+    0x00000000000f0000..0";
 
 /// The first report, and the first 106 of the 213 bytes of the second.
 const MAP_AND_HALF: &str = "== map\n\
-                            0x0000000000000000..0x0000000000000fff 2 reserved\n\
-                            0x0000000000001000..0x000000000009fbff 1 usable\n\
-                            0x000000000009fc00..0x000000000009ffff 2 reserved\n\
-                            0x00000000000f0000..0x00000000000fffff 2 reserved\n\
-                            0x0000000000100000..0x0000000007fdffff 1 usable\n\
-                            0x0000000007fe0000..0x0000000007ffffff 2 reserved\n\
-                            0x00000000fffc0000..0x00000000ffffffff 2 reserved\n\
-                            == buddyinfo\n\
-                            Node 0, zone      DMA      0      0      0      0      0      0      0      0      1      1  ";
+    0x0000000000000000..0x0000000000000fff 2 reserved\n\
+    0x0000000000001000..0x000000000009fbff 1 usable\n\
+    0x000000000009fc00..0x000000000009ffff 2 reserved\n\
+    0x00000000000f0000..0x00000000000fffff 2 reserved\n\
+    0x0000000000100000..0x0000000007fdffff 1 usable\n\
+    0x0000000007fe0000..0x0000000007ffffff 2 reserved\n\
+    0x00000000fffc0000..0x00000000ffffffff 2 reserved\n\
+    == buddyinfo\n\
+    Node 0, zone      DMA      0      0      0      0      0      0      0      0      1      1  ";
 
 #[test]
 fn each_call_that_fails(rt: HostRuntime) -> Result<(), Fail> {
