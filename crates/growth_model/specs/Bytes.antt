@@ -24,7 +24,7 @@ abbrev pub byte_with_tables : TableView → TableView → ℕ → ℕ → ℕ
 byte_with_tables memory reserved x b =
     if covers (bytes_of memory) x then table_byte_at memory x else (if covers (bytes_of reserved) x then table_byte_at reserved x else b)
 
--- the bytes have both tables in them
+-- the bytes at the place of each table are the encoding of its records
 abbrev pub TablesAreEncoded : TableView → TableView → (ℕ → ℕ) → Type 0
 TablesAreEncoded memory reserved f = (x : ℕ) → f x ≡ byte_with_tables memory reserved x (f x)
 
@@ -87,7 +87,7 @@ abbrev pub AreMadeBy : ℕ → List Fill → Type 0
 AreMadeBy n [] = Unit {0}
 AreMadeBy n (f ∷ fs) = (f.at ≤ n) × AreMadeBy n fs
 
--- the items became the longer list, and each byte is what they made of it
+-- the items became the longer list, and each byte is what the further items make of its old value
 pub record Follows (kernel : RangeView) (items longer : List Item) (f g : ℕ → ℕ) : Type 0 where
   pub more : List Item
   pub goes_on : longer ≡ items ++ more

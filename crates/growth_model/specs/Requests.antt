@@ -41,12 +41,12 @@ is_memory_item (item.Mirror range) = true
 is_memory_item (item.Limit at) = true
 is_memory_item i = false
 
--- only those items; they decide memory and the limit
+-- only the items that change memory; memory and the limit depend on no others
 abbrev pub memory_items : List Item → List Item
 memory_items [] = []
 memory_items (i ∷ is) = if is_memory_item i then i ∷ memory_items is else memory_items is
 
--- no step writes such an item
+-- no step writes an item that changes memory
 abbrev pub StepsKeepMemory : List (List Item) → Type 0
 StepsKeepMemory [] = Unit {0}
 StepsKeepMemory (s ∷ ss) = (memory_items s ≡ []) × StepsKeepMemory ss

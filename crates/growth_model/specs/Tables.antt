@@ -1,5 +1,5 @@
--- What holds of the items of a boot after each call. Both tables are seated: they lie in claimed
--- memory that no allocation of the script has, and share no frame. Each has room for its records.
+-- What holds of the items of a boot after each call. Both tables lie in claimed memory that no
+-- allocation of the script has, and share no frame. Each has room for its records.
 use Rattle.std.specs.Prelude.{◌≡◌, ◌≢◌, ◌⊎◌, ℕ, ◌*◌, ◌/◌, ◌%◌, ◌≤◌, Bool, true, false, Option, Some, None, List, [], ◌∷◌}
 use Rattle.bm_base.specs.Range.{RangeView, end_of, covers}
 use Rattle.bm_base.specs.declared.range.TheConstants.{FRAME_SIZE}
@@ -19,7 +19,7 @@ may_hold_table None = false
 may_hold_table (Some (owner.Script id)) = false
 may_hold_table (Some o) = true
 
--- a seat of a table: a range that begins with a frame, all of whose bytes have such an owner
+-- a table may lie there: the range begins at a frame boundary, and all its bytes have such an owner
 pub record IsTablePlace (own : Owners) (a : RangeView) : Type 0 where
   pub aligned : a.base % FRAME_SIZE ≡ 0
   pub kept : (x : ℕ) → covers a x ≡ true → may_hold_table (own x) ≡ true
@@ -36,13 +36,14 @@ AreDisjoint a b = (x : ℕ) → covers a x ≡ true → covers b x ≡ true → 
 abbrev pub IsUnclaimed : Owners → RangeView → Type 0
 IsUnclaimed own a = (x : ℕ) → covers a x ≡ true → own x ≡ None
 
--- each table has a seat, and they share no frame
+-- each table lies where a table may lie, and they share no frame
 pub record AreTablePlaces (own : Owners) (memory reserved : RangeView) : Type 0 where
   pub first : IsTablePlace own memory
   pub second : IsTablePlace own reserved
   pub apart : ShareNoFrame memory reserved
 
--- the first item claims the kernel's image, and both tables are seated
+-- the first item claims the kernel's image, and both tables lie in claimed memory, apart from each
+-- other
 pub record TablesAreClaimed (kernel : RangeView) (items : List Item) : Type 0 where
   pub rest : List Item
   pub first : items ≡ item.Claim kernel owner.Kernel ∷ rest
@@ -52,12 +53,12 @@ pub record TablesAreClaimed (kernel : RangeView) (items : List Item) : Type 0 wh
 abbrev pub TablesHaveRoom : List Item → Type 0
 TablesHaveRoom items = (w : Which) → record_count w items ≤ room_of w items
 
--- the tables are seated and have room for their records
+-- both tables lie in claimed memory, apart from each other, and have room for their records
 pub record TablesAreSound (kernel : RangeView) (items : List Item) : Type 0 where
   pub placed : TablesAreClaimed kernel items
   pub fits : TablesHaveRoom items
 
--- the image has both built-in places: it ends with a frame, and is at least two frames long
+-- the image has both built-in places: it ends at a frame boundary, and is at least two frames long
 pub record IsKernelImage (kernel : RangeView) : Type 0 where
   pub whole : end_of kernel % FRAME_SIZE ≡ 0
   pub large : 2 * FRAME_SIZE ≤ kernel.size

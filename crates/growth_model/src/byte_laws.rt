@@ -1,12 +1,13 @@
 //! Laws about the byte at each address.
 //!
 //! `byte_from_history` computes it from the items and the fills. `byte_after` says how a call
-//! changes a byte, whatever it was before; contracts of calls use it. One law says that calls can
-//! follow one another, another that both definitions agree. So a caller can keep
+//! changes a byte, whatever it was before; contracts of calls use it. One law gives the bytes after
+//! two calls in turn, another says that both definitions agree. So a caller can keep
 //! `AreBytesFromHistory` true from call to call and from fill to fill.
 //!
-//! A table hides the bytes below it until an item moves the table away. Only the laws about one
-//! table's own bytes need that the two tables are apart.
+//! At a table's place the byte is that of the table, whatever was written there before. When an
+//! item moves the table away, the byte becomes 0. Only the laws about one table's own bytes require
+//! that the two tables don't overlap.
 ghost use Rattle.std.specs.Prelude.{◌≡◌, ℕ, ◌*◌, true, false, List, [], ◌∷◌, ◌++◌, length};
 ghost use Rattle.bm_base.specs.Range.{RangeView, covers};
 ghost use Rattle.phys_store.specs.Bytes.{byte_of, bytes_at};
@@ -22,8 +23,8 @@ ghost use Rattle.growth_model.specs.Tables.{TablesAreClaimed, TablesHaveRoom, To
 ghost use Rattle.growth_model.specs.Bytes.{table_for, table_byte_at, byte_with_tables, TablesAreEncoded, byte_without_table, byte_after, byte_from_history, Fill, byte_after_fill, AreMadeBy, Follows, AreBytesFromHistory};
 
 /// Law: the effect of items on a byte can be computed in two parts. Further items applied to the
-/// byte after the first ones give the byte after all of them. Further items applied to the byte of
-/// the items and fills give the byte of all items and the fills.
+/// byte after the first ones give the byte after all of them. Further items applied to the byte
+/// that the first items and the fills give are as good as all items at once with the same fills.
 pub fn byte_effects_compose()
     ensures after { (kernel : RangeView) (items more further : List Item) (x b : ℕ) →
         byte_after kernel (items ++ more) ((items ++ more) ++ further) x
@@ -44,9 +45,10 @@ pub fn newest_fill_decides()
         ≡ byte_after_fill f x (byte_from_history kernel items fills x) }
 {}
 
-/// Law: calls and fills can follow one another. Two calls in turn change the bytes as one call
-/// with the items of both. After each call both tables are in their bytes. Bytes that are those of
-/// items and fills are so after a further call, and after a further fill.
+/// Law: the bytes after two calls in turn are those after one call that writes the items of both.
+/// After each call, the bytes at each table's place are the encoding of its records. If the bytes
+/// are those that the items and the fills give, they still are after a further call. They still
+/// are after a further fill that overlaps no table.
 pub fn bytes_follow_calls()
     ensures then { (kernel : RangeView) (items mid last : List Item) (f g h : ℕ → ℕ) →
         Follows kernel items mid f g → Follows kernel mid last g h → Follows kernel items last f h }
@@ -83,8 +85,9 @@ pub fn tables_are_encoded()
         ≡ encode_table (records_of w items) (room_of w items) }
 {}
 
-/// Law: if both tables are in the store afterwards, one equation gives each byte after an edit of
-/// one table's records. A second equation gives each byte after a move of one table.
+/// Law: if both tables are encoded in the store after an edit of one table's records, each byte
+/// inside a table is that of its encoding, and every other byte is as before. After a move of one
+/// table the same is true, except that the bytes at its old place are 0.
 pub fn edits_give_each_byte()
     ensures edited { (w : Which) (old new : TablesView) (records : List (RunOf LabelView)) →
         table_in w new ≡ record (table_in w old) { records = records } →

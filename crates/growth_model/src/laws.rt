@@ -1,11 +1,11 @@
 //! Laws of growth.
 //!
-//! A table is *seated* if it begins with a frame, and all its bytes are claimed, none of them by an
-//! allocation of the script. Both tables are seated if each is, they share no frame, and the
-//! kernel's image was claimed first (`TablesAreClaimed` in `specs/Tables.antt`). Each change keeps
-//! both tables seated wherever a call that makes it ends: after its last step, at a refusal, or
-//! before a step because this program is out of memory. These laws need neither the tables' bytes
-//! nor their records.
+//! `TablesAreClaimed` (`specs/Tables.antt`) says that both tables lie in claimed memory, apart from
+//! each other. Each table begins at a frame boundary. All its bytes are claimed, none of them by an
+//! allocation of the script. The two tables share no frame, and the kernel's image was claimed
+//! first. Each change keeps this true wherever a call that makes it ends: after its last step, at a
+//! refusal, or before a step because this program is out of memory. These laws need neither the
+//! tables' bytes nor their records.
 
 ghost use Rattle.std.specs.Prelude.{◌≡◌, ◌⊎◌, ℕ, ◌+◌, ◌*◌, ◌%◌, ◌^◌, ◌<◌, ◌≤◌, Bool, false, Some, None, IsSome, List, [], ◌∷◌, ◌++◌, Result, Ok, Err};
 ghost use Rattle.bm_base.specs.Range.{RangeView, end_of};
@@ -40,8 +40,8 @@ pub fn successive_calls_compose()
         → EndsAsChange {T = Unit {0}} (Err error) old new (in_turn first second) }
 {}
 
-/// Law: the first claim, of the kernel's image for the kernel, needs no growth, and both tables
-/// are seated after it.
+/// Law: the first claim, of the kernel's image for the kernel, needs no growth. After it both
+/// tables lie in claimed memory, apart from each other.
 pub fn first_claim_places_tables()
     ensures alone { (kernel : RangeView) → end_of kernel ≤ 2 ^ 64 →
         claim_range kernel owner.Kernel [] ≡ write_item (item.Claim kernel owner.Kernel) [] }
@@ -49,8 +49,9 @@ pub fn first_claim_places_tables()
         → TablesAreClaimed kernel (item.Claim kernel owner.Kernel ∷ []) }
 {}
 
-/// Law: from the first claim on, both tables are seated however an allowed claim ends, and however
-/// the free of a range ends that overlaps no table.
+/// Law: from the first claim on, both tables lie in claimed memory, apart from each other, after
+/// each allowed claim, however it ends. The same is true after the free of a range that overlaps no
+/// table.
 pub fn claims_keep_places()
     ensures claimed { (kernel : RangeView) (result : Result (Unit {0}) Refusal)
         (old new : List Item) (range : RangeView) (who : Owner) →
@@ -64,8 +65,9 @@ pub fn claims_keep_places()
         → EndsAsChange result old new (free_range range) → TablesAreClaimed kernel new }
 {}
 
-/// Law: both tables stay seated however a call ends that adds memory, gives it a node or makes it
-/// mirrored. They also stay seated after a trim, a new limit and a new search direction.
+/// Law: both tables still lie in claimed memory, apart from each other, after a call that adds
+/// memory, gives it a node or makes it mirrored, however the call ends. They also do after a trim,
+/// a new limit and a new search direction.
 pub fn memory_keeps_places()
     ensures added { (kernel : RangeView) (result : Result (Unit {0}) Refusal) (old new : List Item)
         (range : RangeView) →
@@ -88,7 +90,8 @@ pub fn memory_keeps_places()
         TablesAreClaimed kernel (items ++ item.Upward on ∷ []) }
 {}
 
-/// Law: both tables stay seated however an allocation ends, for any owner.
+/// Law: both tables still lie in claimed memory, apart from each other, after an allocation for any
+/// owner, however it ends.
 pub fn allocations_keep_places()
     ensures { (kernel : RangeView) (result : Result ℕ Refusal) (old new : List Item)
         (request : Request) (who : Owner) →
@@ -96,11 +99,11 @@ pub fn allocations_keep_places()
         (place_for request old) request.size who → TablesAreClaimed kernel new }
 {}
 
-/// Law: the place that a search finds is unclaimed, overlaps no table, and keeps to its bounds.
-/// The place of an allocation ends at or below the limit. A new place for the reserved table
-/// begins with a frame, is apart from the avoided range, and ends at or below the limit. However a
-/// growth of the memory table ends, that table is in its old place, or in a new one that ends at
-/// or below the limit.
+/// Law: the place that a search finds is unclaimed and overlaps no table. The place of an
+/// allocation is unclaimed and ends at or below the limit. A new place for the reserved table
+/// begins at a frame boundary, overlaps no byte of the range `avoid`, and ends at or below the
+/// limit. After a growth of the memory table, however it ends, that table is in its old place or
+/// in a new one that ends at or below the limit.
 pub fn found_places_are_free()
     ensures unclaimed { (items : List Item) (query : Query) (place : ℕ)
         → best_place items query ≡ Some place →
@@ -141,11 +144,11 @@ pub fn growth_doubles_room()
         DoublesRoom which.Memory items (items_after_change items (memory_growth items)) }
 {}
 
-/// Law: two growths of a table in a row are always enough for any of the five changes. A range has
-/// at most one piece more than the table has records, so one growth almost makes room for the
-/// edit. The second growth makes room for it and for the records of the first. The claim of an
-/// unclaimed range isn't refused if the reserved table has room, or finds a place apart from the
-/// range.
+/// Law: after two growths in a row a table has room for any claim, free, added range, node or
+/// mirrored range. The claim of an unclaimed range isn't refused if the reserved table has room for
+/// it, or finds a new place that doesn't overlap the range.
+// A range has at most one uncovered piece more than the table has records. So after one growth the
+// table may still lack room for a few records, and the second growth makes room for those.
 pub fn two_growths_are_enough()
     ensures claimed { (range : RangeView) (items : List Item) → IsInAddressSpace items
         → TablesHaveRoom items → end_of range ≤ 2 ^ 64 →

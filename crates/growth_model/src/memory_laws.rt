@@ -12,14 +12,14 @@ ghost use Rattle.growth_model.specs.Change.{items_after_change};
 ghost use Rattle.growth_model.specs.Growth.{claim_range, free_range, memory_growth, reserved_growth};
 ghost use Rattle.growth_model.specs.Requests.{StepsKeepMemory, carry_out_items, memory_items};
 
-/// Law: memory and the limit depend only on the items that change memory.
+/// Law: memory and the limit are those of the items that change memory, without all other items.
 pub fn memory_items_decide()
     ensures memory { (items : List AnyItem) → memory_of items ≡ memory_of (memory_items items) }
     ensures limit { (items : List AnyItem) → limit_of items ≡ limit_of (memory_items items) }
 {}
 
-/// Law: growth, claims and frees write no item that changes memory, at whichever step they end. So
-/// memory and the limit are the same after them.
+/// Law: claims, frees and the growth that they cause never change what is memory, nor the limit,
+/// at whichever step they end.
 pub fn claims_leave_memory()
     ensures reserved { (avoid : RangeView) (items : List AnyItem) →
         StepsKeepMemory (reserved_growth avoid items).steps }

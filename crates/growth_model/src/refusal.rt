@@ -8,10 +8,12 @@ use memblock_model::Which;
 /// Why a call that may need memory failed.
 #[derive(Clone, Copy, Debug, PartialEq, Eq)]
 pub enum Refusal {
-    /// No address fits the request, in any of its attempts.
+    /// No place fits the request in any of its searches. The stages report it as
+    /// `StageStop::NoPlace`.
     NoGap,
-    /// The table had to grow and no place was found for it (`memblock_double_array`); `room` is
-    /// the number of records that was too small.
+    /// The table had to grow and no place was found for it (`memblock_double_array`). `room` is
+    /// the number of records that it has room for, which was too small. The stages report it as
+    /// `StageStop::NoTablePlace`.
     NoGapForTable { which: Which, room: u64 },
     /// This program is out of memory.
     Memory,
