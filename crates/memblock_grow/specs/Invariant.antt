@@ -16,7 +16,7 @@ use Rattle.growth_model.specs.Tables.{TablesHaveRoom, TablesAreClaimed, IsKernel
 use Rattle.growth_model.specs.Bytes.{table_for, byte_with_tables, TablesAreEncoded, Follows}
 use Rattle.memblock_grow.specs.declared.places.AllocSettings.{AllocSettings}
 
--- an aim from its two parts
+-- the settings of allocations, from the limit and the direction of searches
 abbrev pub alloc_settings : ℕ → Bool → AllocSettings
 alloc_settings limit upward = record { limit = limit; upward = upward }
 
@@ -31,7 +31,8 @@ pub record TablesMatchItems (kernel : RangeView) (items : List Item) (t : Tables
   pub fits : TablesHaveRoom items
   pub far : (w : Which) (place : ℕ) → moved_to w items ≡ Some place → place + round_up_to_frames (24 * room_of w items) < 2 ^ 64
 
--- in addition the tables are encoded in their bytes, and are seated once there is an item
+-- in addition the tables are encoded in their bytes; from the first item on they lie in claimed
+-- memory, apart from each other
 pub record IsMemblock (kernel : RangeView) (items : List Item) (t : TablesView) (at : AllocSettings) : Type 0 where
   pub image : IsKernelImage kernel
   pub kept : TablesMatchItems kernel items t at
@@ -58,7 +59,7 @@ KeepsBytes items t longer u at =
     (kernel : RangeView) → TablesMatchItems kernel items t at → TablesAreEncoded t.memory t.reserved (byte_of t.store)
     → Follows kernel items longer (byte_of t.store) (byte_of u.store)
 
--- both tables are in their bytes, and each byte outside them is unchanged
+-- both tables are encoded in their bytes, and each byte outside them is unchanged
 abbrev pub ChangesOnlyTables : TablesView → TablesView → Type 0
 ChangesOnlyTables t u = (x : ℕ) → byte_of u.store x ≡ byte_with_tables u.memory u.reserved x (byte_of t.store x)
 

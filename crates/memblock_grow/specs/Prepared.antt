@@ -14,7 +14,7 @@ abbrev pub grows_over : Item → ℕ → Bool
 grows_over (item.Grown w place room) x = covers (frames_for_bytes place (24 * room)) x
 grows_over i x = false
 
--- whether one of the items does
+-- whether one of the items moves a table into frames that have the address
 abbrev pub is_grown_over : List Item → ℕ → Bool
 is_grown_over [] x = false
 is_grown_over (i ∷ is) x = grows_over i x || is_grown_over is x

@@ -1,5 +1,5 @@
-//! memblock as one value: the range of the kernel's image, the journal, both tables, and the aim
-//! of searches.
+//! memblock as one value: the range of the kernel's image, the journal, both tables, and the limit
+//! and direction of searches (`aim`).
 //!
 //! Each call that changes memory calls the function that does it on the parts. What is proved here
 //! is that the parts still fit together wherever that call ends: the tables are those of the
@@ -100,13 +100,13 @@ impl Memblock {
         })
     }
 
-    /// Allocates room in the journal for `n` more items. That many calls that need no growth then
-    /// can't run out of memory.
+    /// Reserves room in the journal for at least `n` more items. After that, `n` calls that need no
+    /// growth of a table can't run out of memory.
     ///
     /// # Errors
     ///
-    /// `Memory` if this program is out of memory. Nothing is then changed, and the room was less
-    /// than `n` items.
+    /// `Memory` if this program is out of memory. Nothing is then changed, and the journal had room
+    /// for fewer than `n` items.
     pub fn ready(&mut self, n: u64) -> Result<(), Memory>
         ensures kernel { self.new.kernel ≡ self.old.kernel }
         ensures items { self.new.journal.items ≡ self.old.journal.items }
@@ -320,7 +320,7 @@ impl Memblock {
     ///
     /// # Errors
     ///
-    /// - `NoGap` if no attempt finds a place. Nothing is then written.
+    /// - `NoGap` if no search of the request finds a place. Nothing is then written.
     /// - `NoGapForTable` if the reserved table has to grow and finds no place.
     /// - `Memory` if this program is out of memory.
     pub fn alloc(&mut self, request: &Request, owner: Owner) -> Result<u64, Refusal>
@@ -349,7 +349,8 @@ impl Memblock {
         )
     }
 
-    /// Writes the byte to each address of the range, which must not overlap a table.
+    /// Writes `byte` to each address of the range, which must not overlap a table. Allocates memory
+    /// of this program for the addresses of the range that have none yet.
     ///
     /// # Errors
     ///
@@ -375,7 +376,8 @@ impl Memblock {
         Ok(())
     }
 
-    /// Reads the bytes from address `at` on. They may be a table's own.
+    /// Copies the bytes from address `at` on to `into`. They may be a table's own. An address that
+    /// was never written reads as 0.
     pub fn peek(&self, at: u64, into: &mut [u8])
         requires { at + length into.old < 2 ^ 64 }
         ensures { into.new ≡ bytes_at (byte_of self.now.tables.store) at (length into.old) }
@@ -423,7 +425,8 @@ impl Memblock {
         &self.tables
     }
 
-    /// Takes the memblock apart into the bytes, the heads of the tables in them, and the journal.
+    /// Ends the memblock and returns its parts: the bytes of memory, the heads of the two tables
+    /// that are encoded in them, and the journal.
     pub fn into_parts(self) -> (Store, Heads, Journal)
         ensures store { result.0 ≡ self.tables.store }
         ensures heads { result.1
@@ -452,7 +455,8 @@ impl Memblock {
     }
 }
 
-// A memblock is the range of the kernel's image, the journal, the tables and the aim of searches.
+// A memblock is the range of the kernel's image, the journal, the tables, and the limit and
+// direction of searches.
 // It keeps nothing else about memory.
 #[test]
 fn memblock_is_four_parts(rt: HostRuntime) -> Result<(), std::test::Fail> {
@@ -470,8 +474,8 @@ fn memblock_is_four_parts(rt: HostRuntime) -> Result<(), std::test::Fail> {
     Ok(())
 }
 
-/// Law: `ContinuesMemblock` holds from a memblock to itself, since without new items no byte
-/// changes.
+/// Law: a call that changes nothing keeps `ContinuesMemblock`: each byte is as before, since no
+/// item was written.
 pub fn no_items_no_change(memblock: &Memblock)
     ensures { ContinuesMemblock memblock.now memblock.now }
 {

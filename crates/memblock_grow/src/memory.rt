@@ -114,7 +114,7 @@ fn grow_memory(
     free_old_place(journal, tables, aim, old)
 }
 
-/// Doubles the memory table's room if it is full.
+/// Doubles the memory table's room if it has no room for `more` records.
 fn grow_memory_if_full(
     journal: &mut Journal,
     tables: &mut Tables,

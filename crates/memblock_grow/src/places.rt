@@ -29,8 +29,8 @@ fn round_up_to_frames(bytes: u64) -> Option<u64>
     Some(behind / FRAME_SIZE * FRAME_SIZE)
 }
 
-/// Returns the top place in mirrored memory. It doesn't search if the journal has no item that
-/// mirrors memory.
+/// Returns the greatest address (the least, if `upward`) of a place in mirrored memory, or `None`.
+/// It doesn't search if the journal has no item that mirrors memory.
 fn mirrored_place(journal: &Journal, tables: &Tables, upward: bool, query: &Query) -> Option<u64>
     requires some { 1 ≤ query.now.size }
     requires aligned { (k : ℕ) × (query.now.align ≡ 2 ^ k) }
@@ -47,7 +47,8 @@ fn mirrored_place(journal: &Journal, tables: &Tables, upward: bool, query: &Quer
     find(tables, query, mode)
 }
 
-/// Returns the best place: the top one in mirrored memory, or in any memory if none fits there.
+/// Returns the best place: in mirrored memory, or in any memory if none fits there. Of the places
+/// there it is the one with the greatest address, or the least if `upward`.
 pub fn best_place_in_tables(
     journal: &Journal,
     tables: &Tables,
@@ -69,8 +70,9 @@ pub fn best_place_in_tables(
     find(tables, query, mode)
 }
 
-/// Returns the frames for a table of twice the room, at the best place in the window. If their
-/// size would exceed 2^64 - 1, there is no place.
+/// Returns the frames for a table of `2 * room` records of 24 bytes, at the best place between the
+/// addresses `lo` and `hi`, or `None` if there is no place. There is none if the size in bytes
+/// would exceed 2^64 - 1.
 pub fn table_frames_between(
     journal: &Journal,
     tables: &Tables,
@@ -95,8 +97,8 @@ pub fn table_frames_between(
     Range::new(base, size)
 }
 
-/// Returns the frames for a table of twice the room: above the range to avoid, else below it. In
-/// both cases they end at or below the limit.
+/// Returns the frames for a table of `2 * room` records of 24 bytes: at the best place above the
+/// range `avoid`, else at the best one below it. In both cases they end at or below the limit.
 pub fn table_frames_beside(
     journal: &Journal,
     tables: &Tables,

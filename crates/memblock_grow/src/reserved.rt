@@ -25,10 +25,10 @@ use growth_model::Refusal;
 use memblock_ranges::{NO_NODE, Tables};
 use run_edits::range_end_fits;
 
-/// Doubles the reserved table's room, at a place apart from `avoid` (`memblock_double_array`).
-/// This is one step of three items, or of two if the table was in the kernel's image. Everything
-/// that can fail comes before the first item: if there is no place, or this program is out of
-/// memory, nothing is written or prepared.
+/// Doubles the reserved table's room, at a new place that doesn't overlap the range `avoid`
+/// (`memblock_double_array`). This is one step of three items, or of two if the table was in the
+/// kernel's image. Everything that can fail comes before the first item: if there is no place, or
+/// this program is out of memory, nothing is written or prepared.
 fn grow_reserved(
     journal: &mut Journal,
     tables: &mut Tables,
@@ -79,7 +79,7 @@ fn grow_reserved(
     }
 }
 
-/// Doubles the reserved table's room if it is full.
+/// Doubles the reserved table's room if it has no room for `more` records.
 fn grow_reserved_if_full(
     journal: &mut Journal,
     tables: &mut Tables,
@@ -133,13 +133,14 @@ fn make_reserved_room(
     grow_reserved_if_full(journal, tables, aim, avoid, more)
 }
 
-/// Tests whether a claim of the range, which must be unclaimed, would be refused. That is so if
-/// the reserved table is full for it and finds no place. One growth is enough, since the range is
-/// one piece.
+/// Returns `Ok` if a claim of the range, which must be unclaimed, would not be refused. Changes and
+/// allocates nothing.
 ///
 /// # Errors
 ///
-/// `NoGapForTable` if the claim would be refused.
+/// `NoGapForTable` if the claim would be refused: the reserved table would have to grow and finds
+/// no place.
+// Only one growth is looked at: an unclaimed range is one piece, so one growth makes room for it.
 pub fn may_claim(
     journal: &Journal,
     tables: &Tables,

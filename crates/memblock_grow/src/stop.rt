@@ -13,7 +13,7 @@ pub struct Section {
     pub node: u32,
 }
 
-/// What a stage allocates and a boot can't do without.
+/// An allocation without which the boot stops.
 #[derive(Clone, Copy, Debug, PartialEq, Eq)]
 pub enum What {
     /// The data of the node (`alloc_node_data`).
@@ -33,10 +33,10 @@ pub enum What {
 /// Why a stage stops the boot.
 #[derive(Clone, Copy, Debug, PartialEq, Eq)]
 pub enum StageStop {
-    /// No place fits this allocation.
+    /// No free place fits the allocation `what`.
     NoPlace { what: What },
-    /// A table had to grow and no place was found for it; `room` is the number of records that was
-    /// too small.
+    /// A table of memblock had to grow and no place was found for it. `room` is the number of
+    /// records that it has room for, which was too small.
     NoTablePlace { which: Which, room: u64 },
     /// This program is out of memory.
     Memory,
