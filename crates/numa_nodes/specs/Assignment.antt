@@ -84,13 +84,13 @@ nodes_by_judgement found nodes = record { why = found.why; domains = found.domai
 abbrev pub place_data_of_nodes : SratNodesView → List ℕ → StageStep StageCause NodesView
 place_data_of_nodes found nodes = fold_steps place_node_data tt nodes >>= λ done. return_value (nodes_by_judgement found nodes)
 
--- the whole stage, after the table has been judged
+-- the whole stage, once it is known whether the table of domains is used
 unfoldable pub assign_nodes_by : SratNodesView → StageStep StageCause NodesView
 assign_nodes_by found =
     read_into_list (λ items. node_ranges (limit_of items) found) >>= λ ranges. (fold_steps set_block_node tt ranges
     >>= λ done. (read_into_list (λ items. nodes_with_memory (memory_of items)) >>= λ nodes. place_data_of_nodes found nodes))
 
--- the whole stage for a table and `numa=off`: the table is judged against memory before the first
--- range gets its node
+-- the whole stage for a table and `numa=off`: whether the table is used is decided, from the
+-- machine's memory, before the first range gets its node
 unfoldable pub assign_nodes : Option SratView → Bool → StageStep StageCause NodesView
 assign_nodes table off = read_items (λ items. judge_srat (is_memory_byte items) off table) >>= λ found. assign_nodes_by found

@@ -16,6 +16,6 @@ has_record records node = list_any (λ (r : RunOf LabelView). same_node_or_none 
 abbrev pub CanGetNodes : List NumaBlock → Type 0
 CanGetNodes ranges = All (λ (r : NumaBlock). (0 < r.size) × (r.value < 1024)) ranges
 
--- if GoesOn holds from some start to `old`, it holds from that start to `new`
+-- if `ContinuesMemblock` holds from some start to `old`, it holds from that start to `new`
 abbrev pub GoesFurther : MemblockView → MemblockView → Type 0
 GoesFurther old new = (start : MemblockView) → ContinuesMemblock start old → ContinuesMemblock start new

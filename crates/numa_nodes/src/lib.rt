@@ -1,7 +1,7 @@
 //! Gives memory its nodes, and places the data of each node: the stage of the boot between memory
 //! and the crash area.
 //!
-//! The stage judges the firmware's table of domains (the SRAT) against the machine's memory
+//! The stage decides whether the firmware's table of domains (the SRAT) fits the machine's memory
 //! (`numa_init`). It gives each byte of memory its node (`numa_register_memblks`), and allocates
 //! the data of each node that has memory (`alloc_node_data`). `specs/Assignment.antt` defines it as
 //! steps. There is one Node item for each run of addresses of one node, then one for each run of
@@ -9,8 +9,8 @@
 //! gives node 0 to all addresses below the limit. The allocations follow.
 //!
 //! [`assign`] carries out the stage on a memblock and returns the [`Nodes`]. It reads the memory
-//! table twice: before the first step, for the ranges against which the table of domains is
-//! judged; and after the Node items, for the nodes that have memory.
+//! table twice: before the first step, for the ranges that the table of domains must fit; and after
+//! the Node items, for the nodes that have memory.
 //!
 //! - `src/memory.rt`: what is read from the memory table, one pass each.
 //! - `src/limit.rt`: the limit, from the journal.

@@ -24,7 +24,7 @@ use srat_reader::Srat;
 use stage_steps::{StageStop, What, place_or_stop, set_node_or_stop};
 use std::alloc::Global;
 
-/// The nodes of a boot.
+/// The nodes of a boot, and how they were found.
 #[derive(Debug, Drop)]
 pub struct Nodes {
     /// Whether the firmware's table of domains is used and, if not, why.
@@ -45,9 +45,9 @@ const NODE_DATA_SIZE: u64 = 0x2B000;
 const CACHE_LINE: u64 = 64;
 
 /// Gives each byte of memory its node, and places the data of each node that has memory
-/// (`initmem_init`). The table of domains is judged against the machine's memory; `off` says that
-/// `numa=off` was given. A limit of allocations must be set. If the table isn't used, the
-/// addresses below the limit get node 0.
+/// (`initmem_init`). `srat` is the firmware's table of domains, if there is one. It isn't used if
+/// it doesn't fit the machine's memory, or if `off` is set (`numa=off`). If no table is used, all
+/// addresses below the limit get node 0. A limit of allocations must be set.
 ///
 /// # Errors
 ///
@@ -75,7 +75,7 @@ pub fn assign(
     assign_nodes_by(alloc, memblock, found)
 }
 
-/// Like [`assign`], after the table of domains has been judged.
+/// Like [`assign`], with `found`, which says whether the table of domains is used.
 fn assign_nodes_by(
     alloc: Global,
     memblock: &mut Memblock,
@@ -165,7 +165,8 @@ fn place_each_node_data(memblock: &mut Memblock, nodes: &[u32]) -> Result<(), St
     Ok(())
 }
 
-/// Returns the request for the data of a node: whole pages at a cache line, on the node itself if
+/// Returns the request for the data of a node, its `pg_data_t` (`alloc_node_data`). The size is
+/// that of the data in whole pages. The address is aligned to a cache line, on the node itself if
 /// there is room.
 fn node_data_request(node: u32) -> Request
     ensures { result ≡ node_data_request node }
