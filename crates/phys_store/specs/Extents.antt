@@ -18,8 +18,8 @@ AreApart e (p ∷ ps) = (e ≤ p.base) × (0 < length p.bytes) × (p.base + leng
 abbrev pub nth_extent : List ExtentView → ℕ → ExtentView
 nth_extent ps i = slice_index_or ps i (record { base = 0; bytes = [] })
 
--- the extents with the indices from `first` to below `behind` are those that overlap or touch the
--- addresses from `from` to below `to`, and they lie within these addresses
+-- the extents with the indices from `first` to just before `behind` are those that overlap or touch
+-- the addresses from `from` to below `to`, and they lie within these addresses
 pub record TouchRange (ps : List ExtentView) (first behind from to : ℕ) : Type 0 where
   pub order : first ≤ behind
   pub most : behind ≤ length ps
@@ -33,7 +33,7 @@ pub record TouchRange (ps : List ExtentView) (first behind from to : ℕ) : Type
 abbrev pub merged_extent : List ExtentView → ℕ → ℕ → ExtentView
 merged_extent ps from to = record { base = from; bytes = bytes_at (byte_of ps) from (to - from) }
 
--- the list with the extents from `first` to below `behind` replaced by one, which has the
+-- the list with the extents from `first` to just before `behind` replaced by one, which has the
 -- addresses from `from` to below `to`
 abbrev pub merge_extents : List ExtentView → ℕ → ℕ → ℕ → ℕ → List ExtentView
 merge_extents ps first behind from to = take first ps ++ merged_extent (take (behind - first) (drop first ps)) from to ∷ drop behind ps

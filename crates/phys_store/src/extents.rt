@@ -79,15 +79,15 @@ fn index_of_extent(extents: &[Extent], address: u64) -> Option<usize>
     index_by_linear_search(extents, address)
 }
 
-/// Like [`index_of_extent`], by linear search.
+/// Like [`index_of_extent`], by a linear search of the extents.
 fn index_by_linear_search(extents: &[Extent], address: u64) -> Option<usize>
     ensures { result ≡ position (λ e. is_in_extent (extent_view e) address) extents.now }
 {
     extents.iter().position(|e| is_in_extent(e, address))
 }
 
-/// Like [`index_of_extent`], by binary search. Only the first extent that ends at or above the
-/// address can have it: if that one ends exactly there, the next begins above.
+/// Like [`index_of_extent`], by a binary search of the extents. Only the first extent that ends at
+/// or above the address can have it: if that one ends exactly there, the next begins above.
 // A function of its own, so that the linear search is small enough to be inlined.
 #[inline(never)]
 fn index_by_binary_search(extents: &[Extent], address: u64) -> Option<usize>
@@ -117,7 +117,7 @@ fn extent_at(extents: &[Extent], address: u64) -> Option<&Extent>
     Some(&extents[i])
 }
 
-/// Like [`extent_at`], by binary search.
+/// Like [`extent_at`], by a binary search of the extents.
 #[inline(never)]
 fn extent_by_binary_search(extents: &[Extent], address: u64) -> Option<&Extent>
     requires { AreApart 0 (map extent_view extents.now) }
@@ -170,7 +170,7 @@ pub fn slice(extents: &[Extent], at: u64, count: u64) -> &[u8]
     }
 }
 
-/// Writes the bytes from address `at` on. These addresses must be prepared.
+/// Writes `bytes` to the addresses from `at` on, which must be prepared.
 pub fn write(extents: &mut [Extent], at: u64, bytes: &[u8])
     requires apart { AreApart 0 (map extent_view extents.old) }
     requires prepared { ArePrepared (map extent_view extents.old) at (length bytes.now) }
@@ -185,7 +185,7 @@ pub fn write(extents: &mut [Extent], at: u64, bytes: &[u8])
     }
 }
 
-/// Writes the byte to each address of the range, which must be prepared.
+/// Writes `byte` to each address of the range, which must be prepared.
 pub fn fill(extents: &mut [Extent], range: Range, byte: u8)
     requires apart { AreApart 0 (map extent_view extents.old) }
     requires prepared { ArePrepared (map extent_view extents.old) range.base range.size }
@@ -246,7 +246,7 @@ pub fn copy_bytes(extents: &mut [Extent], from: u64, to: u64, count: u64)
     }
 }
 
-/// Reads the bytes from address `at` on into `into`. An address that isn't prepared reads as 0.
+/// Copies the bytes from address `at` on to `into`. An address that isn't prepared reads as 0.
 /// `at + into.len()` must be below 2^64.
 #[tactic(auto, using(crate::proofs::ByteLists::byte_counts))]
 pub fn read(extents: &[Extent], at: u64, into: &mut [u8])

@@ -16,9 +16,10 @@
 //! in whatever order the ranges are prepared.
 //!
 //! Contracts see two things of every address: its byte (`byte_of`) and whether it is prepared
-//! (`is_ready`), both defined in `specs/Bytes.antt`. Each call that writes promises `Wrote`: the
-//! bytes that it wrote, that every other byte is unchanged, and that the same addresses are
-//! prepared. The layer above may rest on these words only, and not on how the extents lie.
+//! (`is_prepared_at`), both defined in `specs/Bytes.antt`. Each call that writes ensures
+//! `WritesBytes`: the bytes that it wrote, that every other byte is unchanged, and that the same
+//! addresses are prepared. The layer above may rest on these definitions only, and not on how the
+//! extents lie.
 #![tactic(auto)]
 
 mod extents;

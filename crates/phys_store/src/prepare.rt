@@ -14,8 +14,8 @@ use crate::extents::{Extent, are_prepared, end_of_extent, first_reaching, size_o
 use bm_base::{Memory, Range};
 use std::mem;
 
-/// The extents that a range overlaps or touches, those with the indices from `first` to below
-/// `behind`. Together with the range they make up the addresses from `low` to below `high`.
+/// The extents that a range overlaps or touches: those with the indices from `first` to just before
+/// `behind`. Together with the range they make up the addresses from `low` to just below `high`.
 struct TouchedExtents {
     first: usize,
     behind: usize,
@@ -76,7 +76,7 @@ fn insert_extent(extents: &mut Vec<Extent>, first: usize, low: u64, high: u64) -
 }
 
 /// Returns the index of the extent with the most bytes, among those with the indices from `first`
-/// to below `behind`. There must be at least one.
+/// to just before `behind`. There must be at least one.
 fn largest(extents: &[Extent], first: usize, behind: usize) -> usize
     requires some { first < behind }
     requires most { behind ≤ length extents.now }
@@ -153,9 +153,9 @@ fn move_up(bytes: &mut Vec<u8>, from: usize, more: usize) -> Result<(), Memory>
     Ok(())
 }
 
-/// Makes room for `down` bytes before the first byte of the extent. If there is too little, the
-/// new room is at least seven eighths of the number of its bytes. So the bytes are moved again
-/// only when there are nearly twice as many.
+/// Makes room for `down` bytes before the first byte of the extent. If there is too little, the new
+/// room is at least seven eighths of the extent's size. So the bytes are moved again only when
+/// there are nearly twice as many.
 ///
 /// # Errors
 ///
@@ -174,7 +174,7 @@ fn make_room(extent: &mut Extent, down: usize) -> Result<(), Memory>
     Ok(())
 }
 
-/// Extends the extent to the addresses from `low` to below `high`. Its bytes stay, and the new
+/// Extends the extent to the addresses from `low` to just below `high`. Its bytes stay, and the new
 /// ones are 0.
 ///
 /// # Errors
@@ -229,7 +229,7 @@ fn absorb(extent: &mut Extent, others: &[Extent])
     }
 }
 
-/// Replaces the extents with the indices from `first` to below `behind` by this one.
+/// Replaces the extents with the indices from `first` to just before `behind` by `extent`.
 fn replace(extents: &mut Vec<Extent>, first: usize, behind: usize, extent: Extent)
     requires some { first < behind }
     requires most { behind ≤ length extents.old.items }
@@ -242,9 +242,9 @@ fn replace(extents: &mut Vec<Extent>, first: usize, behind: usize, extent: Exten
     }
 }
 
-/// Joins the extents with the indices from `first` to below `behind` into one, from address `low`
-/// to below `high`. The largest of them is extended, and the others are copied into it. So each
-/// byte that is copied ends up in an extent of at least twice the size.
+/// Joins the extents with the indices from `first` to just before `behind` into one, from address
+/// `low` to just below `high`. The largest of them is extended, and the others are copied into it.
+/// So each byte that is copied ends up in an extent of at least twice the size.
 ///
 /// # Errors
 ///
@@ -279,7 +279,7 @@ fn merge_touched(
     Ok(())
 }
 
-/// Joins the extents of the reach into one, or inserts a new one if there is none.
+/// Joins the extents of `reach` into one, or inserts a new extent of zeros if `reach` has none.
 ///
 /// # Errors
 ///

@@ -82,7 +82,7 @@ impl Store {
         extents::slice(&self.extents, at, count)
     }
 
-    /// Writes the bytes from address `at` on. These addresses must be prepared.
+    /// Writes `bytes` to the addresses from `at` on, which must be prepared.
     pub fn write(&mut self, at: u64, bytes: &[u8])
         requires { ArePrepared self.old at (length bytes.now) }
         ensures { WritesBytes self.old self.new at (length bytes.now) (slice_index bytes.now) }
@@ -90,7 +90,7 @@ impl Store {
         extents::write(&mut self.extents, at, bytes);
     }
 
-    /// Writes the byte to each address of the range, which must be prepared.
+    /// Writes `byte` to each address of the range, which must be prepared.
     pub fn fill(&mut self, range: Range, byte: u8)
         requires { ArePrepared self.old range.base range.size }
         ensures { WritesBytes self.old self.new range.base range.size (λ _. byte) }
@@ -118,7 +118,7 @@ impl Store {
         extents::copy_bytes(&mut self.extents, from, to, count);
     }
 
-    /// Reads the bytes from address `at` on into `into`. An address that isn't prepared reads as
+    /// Copies the bytes from address `at` on to `into`. An address that isn't prepared reads as
     /// 0. `at + into.len()` must be below 2^64.
     pub fn read(&self, at: u64, into: &mut [u8])
         requires { at + length into.old < 2 ^ 64 }
