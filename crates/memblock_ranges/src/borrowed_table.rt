@@ -1,5 +1,5 @@
 //! A table in its bytes, as slots for records: the sweep of `run_edits` reads and writes the store
-//! through these types. That the table is at the head's address is their invariant, which holds
+//! through these types. Their invariant is that the table lies at the head's address; it holds
 //! again after each step.
 ghost use Rattle.std.specs.Prelude.{◌≡◌, ◌≤◌, ◌<◌, refl, get_or};
 ghost use Rattle.std.proofs.Props.{props};

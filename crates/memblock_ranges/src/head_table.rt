@@ -17,7 +17,7 @@ use phys_store::Store;
 use run_edits::Rows;
 
 /// Moves the head's table to address `place`, with twice the room, and fills the old bytes with
-/// zeros. The new bytes must be prepared and apart from the old ones.
+/// zeros. The new bytes must be prepared, and must not overlap the old ones.
 pub fn relocate(store: &mut Store, head: &mut Head, place: u64)
     requires table { HasTable store.old head.old }
     requires small { place + 48 * head.old.room < 2 ^ 64 }

@@ -11,9 +11,9 @@ ghost use Rattle.memblock_model.specs.Items.{trim_frames};
 ghost use Rattle.memblock_model.specs.Tables.{table_of, table_after, records_for, records_of, uncovered_run_count};
 ghost use Rattle.memblock_ranges.specs.Steps.{EndsInSpace};
 
-/// Law: covering a range adds at most as many records as the range has pieces that aren't covered
-/// (counted by `memblock_add_range`). Uncovering a range adds at most one record, giving it a node
-/// at most two (`memblock_isolate_range`), and trimming none.
+/// Law: an edit adds few records. Covering a range adds at most one for each of its pieces that
+/// aren't covered (counted by `memblock_add_range`). Uncovering a range adds at most one. Giving it
+/// a node adds at most two (`memblock_isolate_range`). Trimming adds none.
 pub fn edits_add_few_records()
     ensures covered { (r : RangeView) (label : LabelView) (f : Labels) → end_of r ≤ 2 ^ 64
         → NothingFrom (2 ^ 64) f →
@@ -28,8 +28,8 @@ pub fn edits_add_few_records()
         length (records_for (trim_frames f)) ≤ length (records_for f) }
 {}
 
-/// Law: a range has at most one more piece than there are records. It has exactly one piece if it
-/// isn't empty and none of it is covered.
+/// Law: a range has at most one more uncovered piece than the table has records. It has exactly one
+/// piece if it isn't empty and none of it is covered.
 pub fn pieces_are_few()
     ensures few { (r : RangeView) (f : Labels) → end_of r ≤ 2 ^ 64 → NothingFrom (2 ^ 64) f →
         uncovered_run_count r f ≤ length (records_for f) + 1 }

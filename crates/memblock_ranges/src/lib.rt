@@ -17,9 +17,9 @@
 //! and where to.
 //!
 //! Contracts see two lists of runs of labels, with their addresses and rooms, and the store
-//! (`specs/Tables.antt`). `StandsIn` connects a list with the bytes: they are the records in
-//! memblock's format (`specs/Encoding.antt`), then zeros. The layer above may rest on three
-//! promises of each edit. The table's records are those of the changed labels. The other table and
+//! (`specs/Tables.antt`). `IsInStore` connects a list with the bytes: they are the records in
+//! memblock's format (`specs/Encoding.antt`), then zeros. The layer above may rest on three facts
+//! about each edit. The table's records are those of the changed labels. The other table and
 //! the edited table's address and room are unchanged. No byte outside the edited table changes,
 //! even if the other table lies in the next frame.
 //!

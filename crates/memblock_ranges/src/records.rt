@@ -1,5 +1,5 @@
 //! A reader for the records of a table. It finds the table's bytes in the store once; after that
-//! each record takes only its 24 bytes.
+//! reading a record looks only at its 24 bytes.
 ghost use Rattle.std.specs.Prelude.{◌≡◌, ◌<◌, length, get_or};
 ghost use Rattle.address_runs.specs.Runs.{RunOf};
 ghost use Rattle.memblock_model.specs.Labels.{LabelView};

@@ -143,9 +143,9 @@ impl Tables {
         }
     }
 
-    /// Gives the node, and no flag, to the bytes of the range that the table doesn't cover
-    /// (`memblock_add_range`). Node 1,024 means none, and is the only one for the reserved table.
-    /// The range must not be empty, and the table must have room for its pieces.
+    /// Adds to the table the bytes of the range that it doesn't cover, with this node and no flag
+    /// (`memblock_add_range`). Node 1,024 means none; for the reserved table it must be 1,024. The
+    /// range must not be empty, and the table must have room for its pieces ([`Tables::pieces`]).
     pub fn insert(&mut self, which: Which, range: Range, node: u32)
         requires some { 0 < range.size }
         requires node { IsNodeOf which node }
@@ -292,7 +292,8 @@ impl Tables {
         trim(&mut live);
     }
 
-    /// Prepares each address of the range, as `Store::prepare` does.
+    /// Prepares each address of the range (`Store::prepare`): it can then be written without
+    /// allocating memory.
     ///
     /// # Errors
     ///
@@ -347,7 +348,7 @@ impl Tables {
             || head_table::bytes(&self.heads.reserved).overlaps(&range)
     }
 
-    /// Writes the byte to each address of the range, which must be prepared and must not overlap a
+    /// Writes `byte` to each address of the range, which must be prepared and must not overlap a
     /// table.
     pub fn fill(&mut self, range: Range, byte: u8)
         requires prepared { ArePrepared self.old.store range.base range.size }
@@ -360,7 +361,7 @@ impl Tables {
         self.store.fill(range, byte);
     }
 
-    /// Reads the bytes from address `at` on. They may be a table's own.
+    /// Copies the bytes from address `at` on to `into`. They may be a table's own.
     pub fn read(&self, at: u64, into: &mut [u8])
         requires { at + length into.old < 2 ^ 64 }
         ensures { into.new ≡ bytes_at (byte_of self.now.store) at (length into.old) }
@@ -368,7 +369,8 @@ impl Tables {
         self.store.read(at, into);
     }
 
-    /// Takes the tables apart into the store and the heads, which together hold all of them.
+    /// Returns the parts of the tables: the store and both heads. They hold all that the tables
+    /// say.
     #[tactic(auto, using(crate::proofs::TableSpelling::head_is))]
     pub fn into_parts(self) -> (Store, Heads)
         ensures store { result.0 ≡ self.store }
