@@ -16,9 +16,9 @@ use bm_base::FRAME_SIZE;
 use memblock_model::{Label, Query};
 use memblock_ranges::Tables;
 
-/// Returns the least address of a place that fits, or `None`. If `mirror` is set, only mirrored
-/// memory is allowed. The size must be at least 1, and the alignment a power of two.
-// A function of its own for the same reason as `find_served`.
+/// Returns the least address of a place that fits the query, or `None`. If `mirror` is set, only
+/// mirrored memory is allowed. The size must be at least 1, and the alignment a power of two.
+// A function of its own for the same reason as `find_allowed`.
 #[inline(never)]
 pub fn find_upward(tables: &Tables, query: &Query, mirror: bool) -> Option<u64>
     requires some { 1 ≤ query.now.size }
@@ -45,9 +45,9 @@ pub fn find_upward(tables: &Tables, query: &Query, mirror: bool) -> Option<u64>
     None
 }
 
-/// Returns the least place that begins from `from` to below `until`, or `None`. These addresses
-/// must have one label, or none of them is unclaimed memory. If they have one, the label must
-/// change at `until`.
+/// Returns the least address, from `from` to just below `until`, of a place that fits the query, or
+/// `None`. `label` is the label of these addresses, or `None` if none of them is unclaimed memory.
+/// If they have a label, it must change at `until`.
 fn place_from(
     query: &Query,
     mirror: bool,

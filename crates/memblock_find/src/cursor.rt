@@ -8,8 +8,8 @@ ghost use Rattle.memblock_find.specs.Walk.{unclaimed_label};
 use memblock_model::{Label, Which};
 use memblock_ranges::{Records, Tables};
 
-/// The label of the addresses next to an address in one table, as far as `bound`, or that the
-/// table doesn't cover them.
+/// What one table says of the addresses next to an address, as far as `bound`: their label, or that
+/// the table doesn't cover them.
 #[derive(Clone, Copy)]
 pub struct Look {
     /// The label, or `None` if the table doesn't cover the addresses.

@@ -7,14 +7,15 @@ ghost use Rattle.memblock_find.specs.Walk.{BeginAmong, BeginBelow, IsLookDown, I
 use crate::cursor::{Cursor, Lists, Look};
 use memblock_ranges::Records;
 
-/// Counts the records that begin below the address, by binary search.
+/// Returns the number of records that begin below the address `at`, by binary search.
 fn count_begun_below(records: &Records<'_>, at: u64) -> u64
     ensures { BeginBelow at records.now result }
 {
     count_begun_among(records, records.count(), at)
 }
 
-/// Counts the records that begin below the address, which must all be among the first `count`.
+/// Returns the number of records that begin below the address `at`, by binary search. All of them
+/// must be among the first `count` records.
 fn count_begun_among(records: &Records<'_>, count: u64, at: u64) -> u64
     requires { BeginAmong at records.now count }
     ensures { BeginBelow at records.now result }
@@ -35,8 +36,8 @@ fn count_begun_among(records: &Records<'_>, count: u64, at: u64) -> u64
     low
 }
 
-/// Returns what the records give the addresses below `at`. Exactly `slot` records must begin below
-/// it.
+/// Returns the label that the records give the addresses right below `at`, and down to where.
+/// Exactly `slot` records must begin below `at`.
 pub fn look_down(records: &Records<'_>, slot: u64, at: u64) -> Look
     requires { BeginBelow at records.now slot }
     ensures { IsLookDown records.now at result }
@@ -65,8 +66,8 @@ pub fn look_down(records: &Records<'_>, slot: u64, at: u64) -> Look
     }
 }
 
-/// Returns the look of a walk that has come down to `at`, which is the old one until its bound is
-/// reached.
+/// Returns the look of a walk that has come down to `at`. Until the bound of `look` is reached,
+/// that is `look` itself.
 fn look_on(records: &Records<'_>, look: Look, from: u64, at: u64) -> Look
     requires look { IsLookDown records.now from look }
     requires above { look.bound ≤ at }
@@ -120,7 +121,7 @@ impl Cursor {
         self.memory.bound.max(self.reserved.bound)
     }
 
-    /// Moves the walk down to that address.
+    /// Returns the position of the walk after it has moved down to [`Cursor::bottom`].
     pub fn down(&self, lists: &Lists<'_>) -> Cursor
         requires { IsWalkDownAt lists.now.memory lists.now.reserved self.now }
         ensures at { result.at ≡ max self.now.memory.bound self.now.reserved.bound }

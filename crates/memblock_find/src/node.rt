@@ -25,8 +25,8 @@ pub fn is_allowed_label(mirror: bool, node: Option<u32>, label: Label) -> bool
     allowed && (!mirror || label.has_mirror_flag())
 }
 
-/// Returns how many of the first `count` records are left after those at the end that don't serve
-/// the search have been removed.
+/// Returns the number of records up to the last one, among the first `count`, whose memory the
+/// search may return; 0 if there is none.
 fn count_to_last_allowed(records: &Records<'_>, count: u64, mirror: bool, node: Option<u32>) -> u64
     requires { count ≤ length records.now }
     ensures within { result ≤ count }
@@ -57,8 +57,8 @@ pub fn end_of_records(records: &Records<'_>, count: u64) -> u64
 }
 
 impl Cursor {
-    /// Tests whether the memory at the cursor serves the search. Addresses that aren't memory
-    /// don't.
+    /// Tests whether the search may return the memory at the cursor: whether it is memory, and its
+    /// label is allowed.
     fn is_allowed(&self, mirror: bool, node: Option<u32>) -> bool
         requires { is_allowed_label mirror node None ≡ false }
         ensures { result ≡ is_allowed_label mirror node self.now.memory.label }
@@ -69,8 +69,8 @@ impl Cursor {
         }
     }
 
-    /// Moves the walk to the end of the next memory that serves the search, below the memory at
-    /// the cursor. If there is none, it moves to address 0.
+    /// Returns the position of the walk at the end of the next memory that the search may return,
+    /// below the memory at the cursor. If there is none, that is address 0.
     // A hint, as for `cursor_below`.
     #[inline]
     fn walk_down_to_allowed(&self, lists: &Lists<'_>, mirror: bool, node: Option<u32>) -> Cursor
@@ -90,8 +90,8 @@ impl Cursor {
         }
     }
 
-    /// Moves the walk down to the cursor's bottom, or further if no memory in between serves the
-    /// search.
+    /// Returns the position of the walk after it has moved down to [`Cursor::bottom`]. It moves
+    /// further if the search may return none of the memory in between.
     fn down_for(&self, lists: &Lists<'_>, mirror: bool, node: Option<u32>) -> Cursor
         requires narrow { is_allowed_label mirror node None ≡ false }
         requires down { IsWalkDownAt lists.now.memory lists.now.reserved self.now }

@@ -41,8 +41,8 @@ pub fn find(tables: &Tables, query: &Query, mode: Mode) -> Option<u64>
     }
 }
 
-/// Returns the greatest place in any memory, over the records of both tables. If the window ends
-/// above all memory, the walk begins where memory ends.
+/// Returns the greatest address of a place that fits the query, mirrored or not, or `None`. If the
+/// window ends above all memory, the walk begins where memory ends.
 fn find_in(lists: &Lists<'_>, query: &Query) -> Option<u64>
     requires some { 1 ≤ query.now.size }
     requires aligned { (k : ℕ) × (query.now.align ≡ 2 ^ k) }
@@ -70,9 +70,10 @@ fn find_in(lists: &Lists<'_>, query: &Query) -> Option<u64>
     None
 }
 
-/// Returns the greatest place that ends past `from` and at or below `until`, or `None`. These
-/// addresses must have one label, or none of them is unclaimed memory. If they have one, the label
-/// must change below `from`. The window's addresses above the first frame begin at `low`.
+/// Returns the greatest address of a place that ends past `from` and at or below `until`, or
+/// `None`. `label` is the label of these addresses, or `None` if none of them is unclaimed memory.
+/// If they have a label, it must change below `from`. The window's addresses above the first frame
+/// begin at `low`.
 pub fn place_in_run(
     query: &Query,
     low: u64,

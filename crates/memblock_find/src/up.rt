@@ -7,7 +7,7 @@ ghost use Rattle.memblock_find.specs.Walk.{EndAtOrBelow, IsLookUp, IsWalkUpAt};
 use crate::cursor::{Cursor, Lists, Look};
 use memblock_ranges::Records;
 
-/// Counts the records that end at or below the address, by binary search.
+/// Returns the number of records that end at or below the address `at`, by binary search.
 fn count_ended_by(records: &Records<'_>, at: u64) -> u64
     ensures { EndAtOrBelow at records.now result }
 {
@@ -25,8 +25,8 @@ fn count_ended_by(records: &Records<'_>, at: u64) -> u64
     low
 }
 
-/// Returns what the records give the addresses from `at` on. Exactly `slot` records must end at or
-/// below it.
+/// Returns the label that the records give the addresses from `at` on, and up to where. Exactly
+/// `slot` records must end at or below `at`.
 fn look_up(records: &Records<'_>, slot: u64, at: u64) -> Look
     requires { EndAtOrBelow at records.now slot }
     ensures { IsLookUp records.now at result }
@@ -55,8 +55,8 @@ fn look_up(records: &Records<'_>, slot: u64, at: u64) -> Look
     }
 }
 
-/// Returns the look of a walk that has come up to `at`, which is the old one until its bound is
-/// reached.
+/// Returns the look of a walk that has come up to `at`. Until the bound of `look` is reached, that
+/// is `look` itself.
 fn look_on(records: &Records<'_>, look: Look, from: u64, at: u64) -> Look
     requires look { IsLookUp records.now from look }
     requires above { from ≤ at }
@@ -93,7 +93,7 @@ impl Cursor {
         self.memory.bound.min(self.reserved.bound)
     }
 
-    /// Moves the walk up to that address.
+    /// Returns the position of the walk after it has moved up to [`Cursor::top`].
     pub fn up(&self, lists: &Lists<'_>) -> Cursor
         requires { IsWalkUpAt lists.now.memory lists.now.reserved self.now }
         ensures at { result.at ≡ min self.now.memory.bound self.now.reserved.bound }
