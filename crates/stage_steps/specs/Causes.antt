@@ -24,7 +24,7 @@ abbrev pub refusal_for : Option RefusedGrowth → Refusal
 refusal_for None = refusal.Memory
 refusal_for (Some r) = refusal.NoGapForTable r.which r.room
 
--- why the boot stops if memblock refused a request for this
+-- why the boot stops if memblock refused the allocation
 abbrev pub stop_for : What → Refusal → StageStop
 stop_for thing refusal.NoGap = stop.NoPlace thing
 stop_for thing (refusal.NoGapForTable w room) = stop.NoTablePlace w room

@@ -33,7 +33,8 @@ module _ {E A : Type 0} where
   abbrev pub read_items : (List Item → A) → StageStep E A
   read_items f items = record { steps = []; answer = Ok (f items) }
 
-  -- returns such a value, and needs memory of this program for it: a group without items
+  -- returns a value that is computed from the items so far, and needs memory of this program for
+  -- it: a group without items
   abbrev pub read_into_list : (List Item → A) → StageStep E A
   read_into_list f items = record { steps = [] ∷ []; answer = Ok (f items) }
 
@@ -63,7 +64,7 @@ EndsAsStepEffect {E} d error (Err e) old new =
 abbrev pub EndsAsStage : {E F A : Type 0} → StageStep E A → (Option E → F) → Result A F → List Item → List Item → Type 0
 EndsAsStage stage error result old new = EndsAsStepEffect (stage old) error result old new
 
--- the result, with its value as contracts see it
+-- the result of a call, with its value as contracts see it
 abbrev pub view_of_result : {E A B : Type 0} → (A → B) → Result A E → Result B E
 view_of_result view (Ok a) = Ok (view a)
 view_of_result view (Err e) = Err e

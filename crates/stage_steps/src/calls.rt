@@ -14,7 +14,8 @@ use boot_journal::Owner;
 use growth_model::{Refusal, Request};
 use memblock_grow::{Memblock, StageStop, What};
 
-/// Returns why the boot stops if memblock refused a request for `what`.
+/// Converts a refusal of memblock to the stop of a stage. `what` is what the stage tried to
+/// allocate.
 pub fn stop_for(what: What, refusal: Refusal) -> StageStop
     ensures { result ≡ stop_for what refusal }
 {
@@ -25,9 +26,9 @@ pub fn stop_for(what: What, refusal: Refusal) -> StageStop
     }
 }
 
-/// Allocates memory that the boot needs, and returns its address. The size must be at least 1, and
-/// the alignment a power of two. If a place fits, the reserved table has room for it and the
-/// journal has room for an item, the call can't fail.
+/// Allocates memory for `what`, which the boot needs, and returns its address. The size must be at
+/// least 1, and the alignment a power of two. If a place fits, the reserved table has room for it
+/// and the journal has room for an item, the call can't fail.
 ///
 /// # Errors
 ///

@@ -16,8 +16,8 @@ ghost use Rattle.stage_steps.specs.Causes.{refusal_for, stage_stop, stop_for};
 ghost use Rattle.stage_steps.specs.Steps.{items_after_step, EndsAsStage};
 ghost use Rattle.stage_steps.specs.Requests.{change_or_stop, make_change, place_or_stop};
 
-/// Law: a call of memblock that makes a change, or an allocation, ends as its step is defined,
-/// with memblock's refusal as the stop.
+/// Law: a call of memblock that makes a change, or an allocation, ends as its step is defined. If
+/// memblock refuses it, the step's error says so.
 pub fn calls_end_as_steps()
     ensures change { (result : Result (Unit {0}) AnyRefusal) (old new : List Item) (change : Change)
         → EndsAsChange result old new change →
