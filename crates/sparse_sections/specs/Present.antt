@@ -40,7 +40,7 @@ unfoldable pub sections_from : ℕ → ℕ → ℕ → List Section
 sections_from first zero node = []
 sections_from first (suc n) node = sections_from first n node ++ record { number = first + n; node = node } ∷ []
 
--- a record of memory: whole frames, with a node, ending at or below 2^52
+-- the record of memory is whole frames on one node, and ends at or below address 2^52
 pub record IsWholeWithNode (r : RunOf LabelView) : Type 0 where
   pub node : ℕ
   pub has : r.value.node ≡ Some node

@@ -21,7 +21,8 @@ abbrev pub is_last_root : Option ℕ → ℕ → Bool
 is_last_root None root = false
 is_last_root (Some last) root = last == root
 
--- the first section of each root after `last`, of ascending sections
+-- of sections in ascending order, the first one of each root; the sections of the root `last` are
+-- left out, since that root has been placed
 abbrev pub first_of_each_root : Option ℕ → List Section → List Section
 first_of_each_root last [] = []
 first_of_each_root last (s ∷ ss) = if is_last_root last (root_of s) then first_of_each_root last ss else (s ∷ first_of_each_root (Some (root_of s)) ss)

@@ -1,6 +1,6 @@
-//! Laws of sections, on which a boot may rest. Sections are found in records of whole frames with
-//! a node. That the stage of nodes leaves such records is proved here, since that stage doesn't
-//! know of sections.
+//! Laws of sections, on which a boot may rest. Sections are found in records that are whole frames
+//! on one node. It is proved here that the stage of nodes leaves such records, since that stage
+//! doesn't know of sections.
 
 ghost use Rattle.std.specs.Prelude.{◌≡◌, ℕ, ◌/◌, ◌^◌, ◌<◌, ◌≤◌, ◌==◌, Some, None, List, length, get_or, find};
 ghost use Rattle.std.specs.List.{All};
@@ -18,9 +18,9 @@ ghost use Rattle.stage_steps.specs.Nodes.{HasNodes};
 ghost use Rattle.sparse_sections.specs.Present.{present, IsWholeWithNode, HasNodeOfLowestByte, IsSectionAt, AreSectionsInOrder};
 ghost use Rattle.sparse_sections.specs.Roots.{root_of, first_of_each_root, place_roots};
 
-/// Law: after the stage of nodes the records of memory are its runs, and give each byte the label
-/// that the items give it. All runs of memory are whole frames. If memory ends at or below 4 PiB,
-/// they are records in which sections can be found.
+/// Law: after the stage of nodes the records of the memory table are the runs of memory. They give
+/// each byte the label that the items give it. All of them are whole frames. If memory also ends at
+/// or below 4 PiB, [`crate::present`] can find sections in them.
 pub fn memory_with_nodes_is_whole()
     ensures runs { (limit : ℕ) (items : List AnyItem) → limit ≤ 2 ^ 64
         → HasNodes limit (memory_of items) →
@@ -52,9 +52,9 @@ pub fn present_sections_ascend()
         → All (λ s. s.node < 1024) (present f) }
 {}
 
-/// Law: of ascending sections, the roots that get a place are ascending, so each is placed once.
-/// The section by which a root gets its place is the first section of that root. So the roots are
-/// exactly those of the sections, each with the node of its lowest section.
+/// Law: if the sections are in ascending order, so are the roots that are placed. So each root is
+/// placed once. A root is placed for the first section that belongs to it. So the roots are exactly
+/// those of the sections, each with the node of its lowest section.
 pub fn roots_ascend()
     ensures ascend { (sections : List AnySection) → AreSectionsInOrder sections →
         (i j : ℕ) (d : AnySection) → i < j → j < length (first_of_each_root None sections) →

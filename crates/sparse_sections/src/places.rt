@@ -41,7 +41,8 @@ const ROOT_SIZE: u64 = FRAME_SIZE;
 /// The number of sections for which a root has entries (`SECTIONS_PER_ROOT`).
 const SECTIONS_PER_ROOT: u32 = 256;
 
-/// Returns a request for `size` bytes at a cache line, on the node if there is room.
+/// Returns a request for `size` bytes, aligned to a cache line. If a node is given, the memory is
+/// on that node if there is room.
 fn small_request(size: u64, node: Option<u32>) -> Request
     ensures { result ≡ small_request size node }
 {
@@ -104,7 +105,7 @@ fn place_root(
     }
 }
 
-/// Returns an empty list with room for one root for each section.
+/// Returns an empty list of roots, with room for as many as there are sections.
 fn empty_root_list(alloc: Global, sections: &[Section]) -> Result<Vec<RootPlace>, Memory>
     ensures empty { IfOk result (λ place_roots. place_roots.items ≡ []) }
     ensures room { IfOk result (λ place_roots.
@@ -139,9 +140,9 @@ fn place_each_root(
 }
 
 /// Allocates the table of roots and then the root of each section (`memory_present`,
-/// `sparse_index_alloc`). The table has 16 KiB, or 1 MiB if addresses have 52 bits. Each root is a
-/// page, on the node of its first section if there is room. If the sections are ascending, each
-/// root is placed once.
+/// `sparse_index_alloc`), and returns their addresses. The table has 16 KiB, or 1 MiB if addresses
+/// have 52 bits. Each root is a page, on the node of its first section if there is room. If the
+/// sections are ascending, each root is placed once.
 ///
 /// # Errors
 ///
