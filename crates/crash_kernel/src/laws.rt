@@ -19,10 +19,10 @@ pub fn reserve_keeps_memory_and_limit()
         limit_of (items_after_step items (reserve_crash_area asked items)) ≡ limit_of items }
 {}
 
-/// Law: a reserved area was free memory of one node, has the requested size, and begins at a
-/// multiple of 1 MiB. It has a low part exactly if it lies at or above 4 GiB and the low size
-/// isn't 0. The low part was still free memory of one node once the area was claimed, and ends at
-/// or below 4 GiB.
+/// Law: a crash area that was reserved was free memory of one node before. It has the requested
+/// size, and begins at a multiple of 1 MiB. It has a low part exactly if it lies at or above 4 GiB
+/// and the low size isn't 0. The low part ends at or below 4 GiB. It was free memory of one node
+/// when the area was claimed already.
 pub fn reserved_area_was_free()
     ensures { (asked : CrashOptionView) (items : List AnyItem) (main : RangeView)
         (low : Option RangeView) →

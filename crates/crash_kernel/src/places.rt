@@ -74,8 +74,8 @@ pub fn low_range(memblock: &Memblock, size: u64) -> Option<Range>
     best_range(memblock, size, 0, CRASH_ADDR_LOW_MAX)
 }
 
-/// Returns the free range of `size` bytes that memblock picks between `lo` and `hi`, on any node
-/// and aligned to 16 MiB. `None` means that no free range fits.
+/// Returns the free range of `size` bytes that memblock picks between the addresses `lo` and `hi`,
+/// on any node and aligned to 16 MiB, or `None` if no free range fits.
 fn best_range(memblock: &Memblock, size: u64, lo: u64, hi: u64) -> Option<Range>
     requires begun { HasBegun memblock.now.journal.items }
     requires some { 0 < size }

@@ -33,8 +33,9 @@ pub struct AreaRequest {
     pub placement: Placement,
 }
 
-/// Returns the area that `option` requests if the machine has `total` bytes of memory, or `None`
-/// if it requests no memory. The high form counts only if the plain form requests nothing.
+/// Returns the area that `crashkernel=` requests if the machine has `total` bytes of memory, or
+/// `None` if it requests no area. The form `SIZE,high` counts only if the plain form requests
+/// nothing.
 #[tactic(auto, unfolding(crate::specs::Request::request_for))]
 pub fn request_for(total: u64, option: &CrashOption) -> Option<AreaRequest>
     ensures area { result ≡ request_for total (crash_option_view option.now) }
@@ -43,7 +44,8 @@ pub fn request_for(total: u64, option: &CrashOption) -> Option<AreaRequest>
     plain_request(total, &option.plain).or_else(|| high_request(option.high))
 }
 
-/// Returns the area that the plain form requests: `SIZE`, `SIZE@BASE`, or ranges of total memory.
+/// Returns the area that the plain form of the option requests: `crashkernel=SIZE[@BASE]` or
+/// `crashkernel=RANGE:SIZE,..[@BASE]`. `total` is total memory in bytes.
 fn plain_request(total: u64, plain: &Option<CrashPlain>) -> Option<AreaRequest>
     ensures area { result ≡ plain_request total (option_map crash_plain_view plain.now) }
     ensures some { IfSome result (λ area. 0 < area.size) }
@@ -57,7 +59,8 @@ fn plain_request(total: u64, plain: &Option<CrashPlain>) -> Option<AreaRequest>
     }
 }
 
-/// Returns the area that the form `SIZE,high` requests. `high` is its size, if the form is given.
+/// Returns the area that `crashkernel=SIZE,high` requests. `high` is its size in bytes, if the form
+/// is given.
 fn high_request(high: Option<u64>) -> Option<AreaRequest>
     ensures area { result ≡ high_request high }
     ensures some { IfSome result (λ area. 0 < area.size) }
@@ -76,7 +79,7 @@ fn request_of_size(size: u64, placement: Placement) -> Option<AreaRequest>
     Some(AreaRequest { size, placement })
 }
 
-/// Returns the placement for the base of a plain form. Base 0 leaves the place to the kernel.
+/// Returns the placement for the `BASE` of a plain form. Base 0 leaves the place to the kernel.
 fn placement_for(base: u64) -> Placement
     ensures { result ≡ placement_for base }
 {
@@ -87,7 +90,7 @@ fn placement_for(base: u64) -> Placement
     }
 }
 
-/// Returns the size given for the first range that `total` is in, or 0 if it is in none
+/// Returns the size, in bytes, for the first range that contains `total`, or 0 if none does
 /// (`parse_crashkernel_mem`). The kernel first rounds `total` up to 128 MiB; this doesn't.
 fn size_for_total(total: u64, ranges: &[CrashRange]) -> u64
     ensures { result ≡ size_for_total total ranges.now }
@@ -107,7 +110,8 @@ fn is_in_total_range(total: u64, range: &CrashRange) -> bool
     range.start <= total && range.end.is_none_or(|end| total < end)
 }
 
-/// Returns the number of bytes of memory, not rounded (`memblock_phys_mem_size`).
+/// Returns total memory: the number of bytes in the memory table, not rounded
+/// (`memblock_phys_mem_size`).
 pub fn total_memory(tables: &Tables) -> u64
     ensures { result ≡ memory_bytes (value_at tables.now.memory.records) }
 {

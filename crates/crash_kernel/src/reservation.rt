@@ -61,8 +61,8 @@ pub fn reserve(memblock: &mut Memblock, option: &CrashOption) -> Result<Crash, R
     }
 }
 
-/// Reserves a low part of `size` bytes for the claimed area at `main`, or frees the area if
-/// nothing fits (`reserve_crashkernel_low`).
+/// Reserves a low part of `size` bytes for the area `main`, which is claimed already. If no low
+/// part fits, frees the area again (`reserve_crashkernel_low`).
 fn reserve_low_part(memblock: &mut Memblock, main: Range, size: u64) -> Result<Crash, Refusal>
     requires begun { HasBegun memblock.old.journal.items }
     requires main { 0 < main.size }
