@@ -1,5 +1,5 @@
-//! The maps of sections, one by one. They are placed so if no buffer is free for the maps of their
-//! group. Each then has an owner of its own, and may lie on another node.
+//! The maps of sections, placed one by one. This is done if there is no free buffer for all maps of
+//! a group. Each map then has an owner of its own, and may lie on another node.
 
 ghost use Rattle.std.specs.Prelude.{◌≡◌, ◌+◌, ◌*◌, ◌^◌, ◌<◌, ◌≤◌, false, length, vec_len, vec_capacity};
 ghost use Rattle.memblock_model.specs.declared.owner.Owner.TheVariants as owner;
@@ -30,7 +30,8 @@ fn place_map(memblock: &mut Memblock, section: &Section) -> Result<u64, StageSto
     place_or_stop(memblock, What::Map(number), &request, Owner::Map(number))
 }
 
-/// Allocates the map of each section. The usage data of the sections is consecutive from address
+/// Allocates the map of each section, and appends the section with its addresses to `placed`. The
+/// usage data of the sections is allocated already: 40 bytes each, one after another from address
 /// `usage` on.
 pub fn place_each_map(
     memblock: &mut Memblock,

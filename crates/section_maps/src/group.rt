@@ -16,16 +16,16 @@ use boot_journal::Owner;
 use memblock_grow::Memblock;
 use stage_steps::{Section, StageStop, What, place_or_stop};
 
-/// Counts the sections from the first on that have this node.
+/// Returns how many sections at the start of the list have this node, up to the first that doesn't.
 pub fn count_same_node(sections: &[Section], node: u32) -> usize
     ensures { result ≡ prefix_len (λ s. s.node == node) sections.now }
 {
     sections.iter().take_while(|s| s.node == node).count()
 }
 
-/// Allocates the maps of a group: in one buffer on the node itself or, if none is free, one by
-/// one. `first` is the group's first section. The usage data is consecutive from address `usage`
-/// on.
+/// Allocates the maps of a group: in one buffer on the node itself or, if none is free, one by one.
+/// `first` is the group's first section. The usage data of the group is allocated already, at
+/// address `usage`.
 fn place_group_maps(
     memblock: &mut Memblock,
     placed: &mut Vec<Placed>,

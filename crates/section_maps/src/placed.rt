@@ -56,8 +56,8 @@ pub fn push_placed(placed: &mut Vec<Placed>, section: &Section, map: u64, usage:
     }
 }
 
-/// Appends the sections of a group, with usage data and maps that are consecutive from the two
-/// addresses on. The list must have room for them.
+/// Appends the sections of a group. Their usage data lies one after another from address `usage`
+/// on, and their maps from address `map` on. The list must have room for them.
 pub fn push_consecutive_places(placed: &mut Vec<Placed>, sections: &[Section], usage: u64, map: u64)
     requires room { vec_len placed.old + length sections.now ≤ vec_capacity placed.old }
     requires usage { usage + 40 * length sections.now < 2 ^ 64 }
