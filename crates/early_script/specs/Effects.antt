@@ -27,9 +27,9 @@ pub record ScriptState : Type 0 where
   pub items : List Item
   pub ids : LiveView
 
--- What a line does to memory. Unless that is refused, also its outcome, the new IDs, and a fill.
--- `takes` says that memory of this program is then needed, for the range of an ID or for the bytes
--- of the fill.
+-- The effect of a line: what it does to memory and, unless that is refused, its outcome, the new
+-- live IDs, and a fill. `takes` says whether the line then also allocates memory of this program,
+-- for the range of an ID or for the bytes of the fill.
 pub record LineEffect : Type 0 where
   pub change : Change
   pub answer : Outcome
@@ -37,12 +37,11 @@ pub record LineEffect : Type 0 where
   pub fill : Option Fill
   pub takes : Bool
 
--- a line that only returns an outcome
+-- the effect of a line that only returns an outcome
 abbrev pub answer_only : ScriptState → Outcome → LineEffect
 answer_only s answer = record { change = no_change; answer = answer; ids = s.ids; fill = None; takes = false }
 
--- a deed that only returns an outcome: its change writes nothing, and no memory of this program is
--- needed
+-- the effect is only an outcome: no item is written, and no memory of this program is allocated
 pub record OnlyAnswers (s : ScriptState) (d : LineEffect) : Type 0 where
   pub unchanged : d.change s.items ≡ no_change s.items
   pub untaken : d.takes ≡ false
@@ -130,7 +129,7 @@ act_effect s bytes (acts.Fill id byte) = fill_effect s id byte
 act_effect s bytes (acts.Peek at len) = peek_effect s bytes at len
 act_effect s bytes acts.Sections = answer_only s outcomes.Done
 
--- if a growth finds no place, that is the outcome, and the IDs stay
+-- if a table has to grow and finds no place, that is the outcome, and the live IDs are unchanged
 abbrev pub outcome_unless_refused : Option RefusedGrowth → Outcome → Outcome
 outcome_unless_refused None answer = answer
 outcome_unless_refused (Some r) answer = outcomes.NoGapForTable r.which r.room
@@ -148,21 +147,21 @@ script_outcome_at_line s d = outcome_unless_refused (d.change s.items).refused d
 abbrev pub state_after_line : ScriptState → LineEffect → ScriptState
 state_after_line s d = state_after_change s d.ids (d.change s.items)
 
--- this program is out of memory: before a step of the change that is then missing; or after all of
--- them, if none was refused and the deed needs memory
+-- this program is out of memory: before a step of the change, which is then missing; or after all
+-- steps, if no growth was refused and the line also allocates memory of this program (`takes`)
 abbrev pub RunsOutDuringChange : Bool → List Item → List Item → growth.ChangeEffect → Type 0
 RunsOutDuringChange takes old new o = StopsBeforeStep old new o.steps ⊎ (IsTrue takes × (o.refused ≡ None) × (new ≡ items_after_change old o))
 
--- it ran out of memory during a line, and the IDs are unchanged
+-- this program ran out of memory during a line, and the live IDs are unchanged
 abbrev pub RunsOutDuringLine : ScriptState → ScriptState → LineEffect → Type 0
 RunsOutDuringLine old new d = RunsOutDuringChange d.takes old.items new.items (d.change old.items) × (new.kernel ≡ old.kernel) × (new.ids ≡ old.ids)
 
--- a line ends with the outcome and the state of its deed, or out of memory
+-- a line ends with the outcome and the state that its effect gives, or out of memory
 abbrev pub EndsAsLine : Result Outcome Memory → ScriptState → ScriptState → LineEffect → Type 0
 EndsAsLine (Ok answer) old new d = (answer ≡ script_outcome_at_line old d) × (new ≡ state_after_line old d)
 EndsAsLine (Err memory) old new d = RunsOutDuringLine old new d
 
--- a byte after the fill, if there is one
+-- a byte after the fill, or unchanged if there is none
 abbrev pub byte_after_any_fill : Option Fill → ℕ → ℕ → ℕ
 byte_after_any_fill None x b = b
 byte_after_any_fill (Some f) x b = byte_after_fill f x b
@@ -172,7 +171,7 @@ abbrev pub byte_after_line : Result Outcome Memory → ScriptState → ScriptSta
 byte_after_line (Ok answer) old new d x b = byte_after_any_fill d.fill x (byte_after old.kernel old.items new.items x b)
 byte_after_line (Err memory) old new d x b = byte_after old.kernel old.items new.items x b
 
--- the fills after the line
+-- the fills, with that of the line added if it made one
 abbrev pub add_fill : List Fill → Option Fill → List Fill
 add_fill fills None = fills
 add_fill fills (Some f) = fills ++ f ∷ []

@@ -18,7 +18,7 @@ pub record ScriptSoFar : Type 0 where
   pub fills : List Fill
   pub answers : List Answer
 
--- the deed of a line, which reads at each address the byte of the items and the fills
+-- the effect of a line, which reads at each address the byte that the items and the fills give
 abbrev pub line_effect : ScriptSoFar → Line → LineEffect
 line_effect s line = act_effect s.state (byte_from_history s.state.kernel s.state.items s.fills) line.act
 
@@ -32,7 +32,7 @@ script_after_effect s number d = record {
 abbrev pub script_after_line : ScriptSoFar → Line → ScriptSoFar
 script_after_line s line = script_after_effect s line.number (line_effect s line)
 
--- lines in their order
+-- the state after the lines have been run in their order
 abbrev pub script_after_lines : ScriptSoFar → List Line → ScriptSoFar
 script_after_lines s [] = s
 script_after_lines s (line ∷ lines) = script_after_lines (script_after_line s line) lines
@@ -41,8 +41,8 @@ script_after_lines s (line ∷ lines) = script_after_lines (script_after_line s 
 abbrev pub script_so_far : LiveView → MemblockView → List Fill → List Answer → ScriptSoFar
 script_so_far ids m fills answers = record { state = state_of_memblock ids m; fills = fills; answers = answers }
 
--- live IDs, memblock and outcomes are those of the stage, and each byte is that of its items and
--- fills
+-- live IDs, memblock and outcomes are those of `s`, and each byte is what the items and fills of
+-- `s` give
 pub record HasReached (s : ScriptSoFar) (ids : LiveView) (m : MemblockView) (answers : List Answer) : Type 0 where
   pub state : state_of_memblock ids m ≡ s.state
   pub answers_are : answers ≡ s.answers
@@ -57,8 +57,8 @@ pub record RunsOutBeforeLines (ids : LiveView) (m : MemblockView) (answers : Vec
   pub memblock_stays : next ≡ m
   pub answers_stay : told.items ≡ answers.items
 
--- out of memory during a line, as that line alone may end (`Acts`); the `count` lines before it
--- have been run, and their outcomes are in the list
+-- out of memory during a line, as that line alone may end (`RunsOutDuringLine`); the `count` lines
+-- before it have been run, and their outcomes are in the list
 pub record RunsOutDuringLines (s : ScriptSoFar) (lines : List Line) (ids : LiveView) (m : MemblockView) (answers : List Answer) : Type 0 where
   pub count : ℕ
   pub line : Line

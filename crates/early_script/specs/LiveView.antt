@@ -15,11 +15,11 @@ range_of_id ids id = lookup (is_at (nat_cmp id)) ids
 abbrev pub is_live : LiveView → ℕ → Bool
 is_live ids id = is_some (range_of_id ids id)
 
--- the ID gets the range, whatever it had
+-- the live IDs after the ID got the range, whatever range it had
 abbrev pub with_range : LiveView → ℕ → RangeView → LiveView
 with_range ids id range = insert_entry nat_cmp ids id range
 
--- the ID is no longer live
+-- the live IDs without this one
 abbrev pub without_id : LiveView → ℕ → LiveView
 without_id ids id = remove_entry (is_at (nat_cmp id)) ids
 

@@ -1,16 +1,16 @@
 //! Runs the early script, line by line: allocations after the boot's own.
 //!
 //! A line of the script (`script_reader`) allocates memory, claims a range, frees all or a part of
-//! what it got, or writes or reads bytes. [`Live::run_line`] runs one line and returns an
-//! [`Outcome`]. The tests of each act come in the order of the outcomes, and the first that holds
-//! is the outcome. Only if none holds does memory change. A refused line doesn't end the boot: its
-//! outcome is recorded, and the next line follows.
+//! what an earlier line got, or writes or reads bytes. [`Live::run_line`] runs one line and returns
+//! an [`Outcome`]. A line can be refused for several reasons. They are tested in a fixed order, and
+//! the first that applies is the outcome. Memory changes only if none applies. A refused line
+//! doesn't end the boot: its outcome is recorded, and the next line follows.
 //!
-//! - `specs/Effects.antt`: what each act does and returns (`deed`), as a change of the items.
+//! - `specs/Effects.antt`: what each act does and returns (`act_effect`), as a change of the items.
 //!   `specs/Lines.antt`: lines, one after another.
 //! - [`Live`]: the live IDs, each with its range. Contracts see it as a list of them.
-//! - An ID is whole as long as no one else claims or frees a byte of its range. The journal
-//!   decides that by one look-up.
+//! - A line can only use an ID that still owns all bytes of its range. Another line may have
+//!   claimed or freed some of them. One look-up in the journal decides.
 //! - [`run_script_lines`] runs lines in order. [`split_at_sections`] returns the lines before and
 //!   after the one that places the sections.
 //!

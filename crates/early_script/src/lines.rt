@@ -100,8 +100,8 @@ pub fn lines_leave_memory()
         → limit_of new.items ≡ limit_of old.items }
 {}
 
-/// Law: a script that was read places the sections at most once, so each line after that one can
-/// be run.
+/// Law: a script that the reader accepted places the sections at most once. So each line after that
+/// one can be run.
 pub fn scripts_place_once()
     ensures { (bytes : List ℕ) (lines : List Line) → script_of bytes ≡ Ok lines
         → PlacesSectionsOnce lines }

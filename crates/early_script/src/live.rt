@@ -1,6 +1,5 @@
-//! The live IDs, and the lines that are run on them. For an ID only its range is kept here.
-//! Whether the ID still owns all of it is asked of the journal, since another line may have
-//! claimed over it.
+//! The live IDs, and the lines that are run on them. For an ID only its range is kept here. The
+//! journal knows whether the ID still owns all of it, since another line may have claimed a part.
 
 ghost use Rattle.std.specs.Prelude.{◌≡◌, ℕ, ◌+◌, ◌-◌, ◌^◌, ◌<◌, ◌≤◌, List, [], OnOk, OnErr, IfOk, IfErr, IsOk};
 ghost use Rattle.bm_base.specs.Range.{RangeView};
@@ -44,7 +43,7 @@ impl Live {
     ghost use Rattle.early_script.specs.Effects.{LineEffect, EndsAsLine, CanBeRun, OnlyAnswers, byte_after_line, fills_after_line, answer_only, on_range_of_id, act_effect, alloc_effect, reserve_effect, free_effect, trim_effect, fill_effect};
     ghost use Rattle.early_script.specs.FromMemblock.{state_of_memblock, memblock_bytes};
 
-    /// Creates a map without a live ID.
+    /// Returns a map of the live IDs in which no ID is live.
     pub fn new(alloc: Global) -> Live
         ensures { result ≡ [] }
     {
@@ -53,9 +52,9 @@ impl Live {
         }
     }
 
-    /// Runs one line, which must not be the one that places the sections, and returns its outcome.
-    /// Its numbers must be within the bounds that the reader guarantees. A line that only returns
-    /// an outcome can't fail.
+    /// Runs one line and returns its outcome. The line must not be the one that places the
+    /// sections. Its numbers must be within the bounds that `script_reader` guarantees. A line that
+    /// changes nothing can't fail.
     ///
     /// # Errors
     ///
@@ -222,7 +221,7 @@ impl Live {
         self.ids.contains_key(&id)
     }
 
-    /// Gives the ID this range, whatever it had.
+    /// Sets the range of the ID, which becomes live if it isn't.
     fn set_range(&mut self, id: u32, range: Range) -> Result<(), Memory>
         requires { 0 < range.size }
         ensures ok { OnOk result (self.new ≡ with_range self.old id range) }
@@ -232,12 +231,14 @@ impl Live {
         Ok(())
     }
 
-    /// Returns the range of a live ID that owns all of it.
+    /// Returns the range of the ID, if it is live and still owns all of the range.
     ///
     /// # Errors
     ///
-    /// The outcome of every act on this ID: `Unknown` if the ID isn't live, `NotWhole` if it
-    /// doesn't own all of its range.
+    /// The outcome of a line that uses the ID:
+    ///
+    /// - `Unknown` if the ID isn't live.
+    /// - `NotWhole` if it doesn't own all of its range.
     fn owned_range(&self, mb: &Memblock, id: u32) -> Result<Range, Outcome>
         requires { HasBegun mb.now.journal.items }
         ensures range { IfOk result (λ range. (act_effect : RangeView → LineEffect)

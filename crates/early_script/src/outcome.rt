@@ -4,8 +4,9 @@
 use arrayvec::ArrayVec;
 use memblock_model::Which;
 
-/// The outcome of a line. After an outcome below `Bytes` nothing has changed, except that after
-/// `NoGapForTable` the completed steps of a growth stay.
+/// The outcome of a line. The line succeeded if it is `At`, `Done` or `Bytes`. After each other
+/// outcome nothing has changed, except that after `NoGapForTable` the completed steps of a growth
+/// stay.
 #[derive(Debug, Drop, PartialEq, Eq)]
 pub enum Outcome {
     /// The ID got the range at this address.
@@ -14,10 +15,10 @@ pub enum Outcome {
     Done,
     /// The bytes that were read, in the order of their addresses.
     Bytes(ArrayVec<u8, 64>),
-    /// No address fits the request.
+    /// No free place fits the request.
     NoGap,
-    /// A table had to grow and no place was found for it (`memblock_double_array`); `room` is the
-    /// number of records that was too small.
+    /// A table had to grow and no place was found for it (`memblock_double_array`). `room` is the
+    /// number of records that it has room for, which was too small.
     NoGapForTable { which: Which, room: u64 },
     /// The ID is live already.
     Taken,
