@@ -63,14 +63,14 @@ no_memory x = None
 abbrev pub memory_of : List Item → Labels
 memory_of items = fold memory_after no_memory items
 
--- what the items make of each byte: no memory, or memory with its node, if it has one, and whether
--- it is mirrored
+-- the tag of each byte after the items: that it isn't memory, or else its node, if it has one, and
+-- whether it is mirrored
 abbrev pub tag_of : List Item → ℕ → Tag
 tag_of items x = tag_for (memory_of items x)
 
--- the limit of allocations: 0 at first, then the newest one (`memblock.current_limit`). A query
--- doesn't know it: an allocation searches below the smaller of the limit and its own maximum
--- (`memblock_find_in_range_node`)
+-- The limit of allocations: 0 at first, then that of the newest Limit item
+-- (`memblock.current_limit`). A query has no limit of its own: an allocation searches below the
+-- smaller of the limit and its own maximum (`memblock_find_in_range_node`).
 abbrev pub limit_after : ℕ → Item → ℕ
 limit_after l (item.Limit at) = at
 limit_after l i = l
@@ -78,8 +78,8 @@ limit_after l i = l
 abbrev pub limit_of : List Item → ℕ
 limit_of items = fold limit_after 0 items
 
--- whether a search takes the lowest address: no at first, then as the newest item says
--- (`memblock_set_bottom_up`)
+-- whether a search returns the lowest address instead of the highest: false at first, then as the
+-- newest Upward item says (`memblock_set_bottom_up`)
 abbrev pub upward_after : Bool → Item → Bool
 upward_after up (item.Upward on) = on
 upward_after up i = up

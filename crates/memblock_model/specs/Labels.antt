@@ -3,17 +3,18 @@ use Rattle.std.specs.Prelude.{ℕ, Bool, true, false, Option, Some, None}
 use Rattle.memblock_model.specs.declared.label.Tag.{Tag}
 use Rattle.memblock_model.specs.declared.label.Tag.TheVariants as tag
 
--- what contracts see of a `Label`: the node, or none yet, and whether the memory is mirrored (`struct memblock_region`: `nid`,
--- `MEMBLOCK_MIRROR` of `flags`)
+-- what contracts see of a `Label`: the node, or none yet, and whether the memory is mirrored
+-- (`struct memblock_region`: `nid`, `MEMBLOCK_MIRROR` of `flags`)
 pub record LabelView : Type 0 where
   pub node : Option ℕ
   pub mirror : Bool
 
--- what a table says of each byte: the label of the record that covers it, if one does
+-- the label that a table gives each byte: that of the record that covers it, if one does
 abbrev pub Labels : Type 0
 Labels = ℕ → Option LabelView
 
--- the label of new memory, and of everything in the reserved table (`memblock_add`, `memblock_reserve`)
+-- the label of new memory, and of everything in the reserved table (`memblock_add`,
+-- `memblock_reserve`)
 abbrev pub plain_label : LabelView
 plain_label = record { node = None; mirror = false }
 
@@ -25,7 +26,7 @@ with_node node label = record label { node = node }
 abbrev pub with_mirror : LabelView → LabelView
 with_mirror label = record label { mirror = true }
 
--- the tag of a byte, given what the memory table says of it
+-- the tag of a byte, from the label that the memory table gives it
 abbrev pub tag_for : Option LabelView → Tag
 tag_for None = tag.Absent
 tag_for (Some label) = tag.Memory label.node label.mirror

@@ -31,13 +31,15 @@ abbrev pub outermost_below : Bool → (ℕ → Bool) → ℕ → Option ℕ
 outermost_below true p n = first_below p n
 outermost_below false p n = last_below p n
 
--- whether a byte that carries this may be part of a place of the node, or of any node
+-- whether a byte with this label may be part of a place on the node, or on any node if none is
+-- given
 abbrev pub is_allowed_node : Option ℕ → Option LabelView → Bool
 is_allowed_node None carried = true
 is_allowed_node (Some node) None = false
 is_allowed_node (Some node) (Some label) = same_node_or_none label.node (Some node)
 
--- whether a byte that carries this may be part of a place in mirrored memory, or in any memory
+-- whether a byte with this label may be part of a place in mirrored memory (`true`), or in any
+-- memory
 abbrev pub is_allowed_mirror : Bool → Option LabelView → Bool
 is_allowed_mirror false carried = true
 is_allowed_mirror true None = false
@@ -56,13 +58,13 @@ fits_in mirror memory reserved q a =
 unfoldable pub top_place_in : Mode → Labels → Labels → Query → Option ℕ
 top_place_in mode memory reserved q = outermost_below mode.up (fits_in mode.mirror memory reserved q) (2 ^ 64)
 
--- the top place in mirrored memory, or in any memory if none fits there. If nothing is mirrored,
--- nothing fits there
+-- the top place in mirrored memory, or in any memory if no place fits in mirrored memory
 unfoldable pub best_place_in : Bool → Labels → Labels → Query → Option ℕ
 best_place_in up memory reserved q =
     option_or (top_place_in (record { mirror = true; up = up }) memory reserved q) (top_place_in (record { mirror = false; up = up }) memory reserved q)
 
--- these three for the tables and the direction that the items say
+-- `fits_in`, `top_place_in` and `best_place_in` for the tables and the search direction that the
+-- items give
 unfoldable pub fits : List Item → Query → Bool → ℕ → Bool
 fits items q mirror a = fits_in mirror (table_of which.Memory items) (table_of which.Reserved items) q a
 

@@ -22,24 +22,25 @@ without_owner (Some owner) = Some plain_label
 abbrev pub reserved_labels : Owners → Labels
 reserved_labels f x = without_owner (f x)
 
--- what a table says of each byte
+-- the label that a table gives each byte
 abbrev pub table_of : Which → List Item → Labels
 table_of which.Memory items = memory_of items
 table_of which.Reserved items = reserved_labels (owner_of items)
 
--- what the reserved table says after an item: a claim covers its range, whoever owned the bytes
+-- the labels of the reserved table after an item: a claim covers its range, whoever owned the bytes
 -- before
 abbrev pub reserved_after : Labels → Item → Labels
 reserved_after f (item.Claim range owner) = cover_range range plain_label f
 reserved_after f (item.Free range) = uncover_range range f
 reserved_after f i = f
 
--- what a table says after an item
+-- the labels of a table after an item
 abbrev pub table_after : Which → Labels → Item → Labels
 table_after which.Memory f i = memory_after f i
 table_after which.Reserved f i = reserved_after f i
 
--- the runs of what a table says (`memblock_add_range` merges neighbours with equal labels)
+-- the records for these labels: one for each run of bytes with equal labels (`memblock_add_range`
+-- merges neighbours)
 unfoldable pub records_for : Labels → List (RunOf LabelView)
 records_for f = runs_of same_label f
 
@@ -47,13 +48,13 @@ records_for f = runs_of same_label f
 unfoldable pub records_of : Which → List Item → List (RunOf LabelView)
 records_of w items = records_for (table_of w items)
 
--- the number of records that covering the range adds before any are merged (`memblock_add_range`,
--- its count)
+-- the number of records that covering the range adds before any are merged (`nr_new` in
+-- `memblock_add_range`)
 unfoldable pub uncovered_run_count : RangeView → Labels → ℕ
 uncovered_run_count r f = length (records_for (gaps_in_range r plain_label f))
 
 -- the number of records that a table has room for: 128 (`INIT_MEMBLOCK_REGIONS`), doubled with each
--- growth, whatever number the item has
+-- growth; the item's own field `room` is ignored
 abbrev pub room_after : Which → ℕ → Item → ℕ
 room_after w n (item.Grown which place room) = if same_which w which then 2 * n else n
 room_after w n i = n

@@ -16,8 +16,8 @@ ghost use Rattle.memblock_model.specs.Items.{trim_frames, owners_after, owner_of
 ghost use Rattle.memblock_model.specs.Tables.{table_of, table_after, room_of, room_after, moved_to, moved_after, records_of};
 ghost use Rattle.memblock_model.specs.Search.{is_allowed_mirror, fits_in, top_place_in, best_place_in};
 
-/// Law: an item appended to a list changes owners, memory, limit and direction as its definition
-/// says, at every address at once.
+/// Law: appending an item to a list changes owners, memory, limit and search direction as the
+/// definition of the item says, at every address.
 pub fn appended_item_acts_last()
     ensures owners { (items : List Item) (i : Item) →
         owner_of (items ++ i ∷ []) ≡ owners_after (owner_of items) i }
@@ -29,8 +29,8 @@ pub fn appended_item_acts_last()
         upward_of (items ++ i ∷ []) ≡ upward_after (upward_of items) i }
 {}
 
-/// Law: what a table says, its room and its place after a new item depend only on what they were
-/// and the item, and not on the owners.
+/// Law: a table's labels, room and place after a new item depend only on the item and on what each
+/// of them was before. They don't depend on the owners.
 pub fn tables_need_no_owners()
     ensures says { (w : Which) (items : List Item) (i : Item) →
         table_of w (items ++ i ∷ []) ≡ table_after w (table_of w items) i }
@@ -46,9 +46,9 @@ pub fn tests_decide_equality()
     ensures owners { DecidesEquality same_owner }
 {}
 
-/// Law: the list of owners and the records of a table are in ascending order and disjoint, none is
-/// empty, and equal neighbours are merged. At each address they give what the items give, if that
-/// is nothing at or above 2^64.
+/// Law: the runs of owners and the records of a table are in ascending order. They don't overlap,
+/// none is empty, and equal neighbours are merged. At each address they give what the items give.
+/// This holds if the items give nothing at or above 2^64.
 pub fn lists_are_runs()
     ensures owners { (items : List Item) → NothingFrom (2 ^ 64) (owner_of items) →
         IsRunsOf (owner_of items) (owner_runs_of items) }
@@ -62,8 +62,8 @@ pub fn trimmed_frame_is_whole()
         trim_frames f y ≡ trim_frames f x }
 {}
 
-/// Law: the top place fits, and no greater address does, or no lower one if the search goes up.
-/// If there is no top place, nothing fits.
+/// Law: a place fits at the top place. No place fits at a greater address, or at a lower one if the
+/// search goes up. If there is no top place, no place fits at all.
 pub fn top_is_outermost()
     ensures fits { (mode : Mode) (memory reserved : Labels) (q : Query) (a : ℕ) →
         top_place_in mode memory reserved q ≡ Some a →
@@ -81,8 +81,8 @@ pub fn top_is_outermost()
         fits_in mode.mirror memory reserved q b ≡ false }
 {}
 
-/// Law: the best place fits. It is the top place of mirrored memory if there is one, and else the
-/// top place of any memory. If there is no best place, nothing fits.
+/// Law: a place fits at the best place. That is the top place of mirrored memory if there is one,
+/// and else the top place of any memory. If there is no best place, no place fits at all.
 pub fn best_is_mirrored_first()
     ensures fits { (up : Bool) (memory reserved : Labels) (q : Query) (a : ℕ) →
         best_place_in up memory reserved q ≡ Some a → fits_in false memory reserved q a ≡ true }

@@ -15,13 +15,13 @@ pub struct Query {
     pub node: Option<u32>,
 }
 
-/// The memory that a search takes, and its direction (`choose_memblock_flags`,
+/// Which memory a search may return, and its direction (`choose_memblock_flags`,
 /// `memblock_bottom_up`).
 #[derive(Clone, Copy, Debug, PartialEq, Eq)]
 pub struct Mode {
-    /// Whether only mirrored memory is taken (`MEMBLOCK_MIRROR`).
+    /// Whether the place must be in mirrored memory (`MEMBLOCK_MIRROR`).
     pub mirror: bool,
-    /// Whether the lowest place that fits is taken, instead of the highest.
+    /// Whether the search returns the lowest place that fits, instead of the highest.
     pub up: bool,
 }
 
