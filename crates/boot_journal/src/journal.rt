@@ -65,7 +65,7 @@ impl Journal {
         }
     }
 
-    /// Allocates the memory for `n` more items, and for the runs that they may add.
+    /// Allocates memory so that `n` more items can be appended without allocating.
     ///
     /// # Errors
     ///
@@ -150,8 +150,8 @@ impl Journal {
         has_value_throughout(&self.owners, range, owner)
     }
 
-    /// Tests whether some item marks memory as mirrored. The answer is kept, so no item is looked
-    /// at.
+    /// Tests whether some item marks memory as mirrored. The journal keeps the answer, so this
+    /// takes constant time.
     pub fn has_mirrors(&self) -> bool
         ensures { result ≡ has_mirrors self.now.items }
     {

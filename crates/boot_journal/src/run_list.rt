@@ -52,7 +52,8 @@ impl RunList {
         &self.records[self.front..]
     }
 
-    /// Allocates memory for `more` further runs at either end, unless there is room already.
+    /// Allocates memory so that `more` further runs can be inserted at either end, unless
+    /// there is room already.
     ///
     /// # Errors
     ///
@@ -156,9 +157,9 @@ impl Slots<OwnerRun> for RunList {
     ghost keeps_room = { λ s t kept. kept };
 }
 
-/// Decides whether inserting at index `i` moves the runs before it, and not those after it. That
-/// is so if fewer runs are before it and there is room before the first run, or if there is no
-/// room after the last run.
+/// Tests whether inserting a run at index `i`, of `count` runs, should move the runs before it
+/// down, instead of those after it up. It should if fewer runs are before it and there is room
+/// before the first run (`front`), or if there is no room after the last run (`behind`).
 fn moves_lower_runs(i: usize, count: usize, front: usize, behind: usize) -> bool
     requires within { i ≤ count }
     requires room { 0 < front + behind }

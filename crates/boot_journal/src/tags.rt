@@ -1,9 +1,9 @@
 //! Computes what kind of memory one byte is, by following it through the items.
 //!
-//! No result is kept for this, since it is asked only now and then, and the memory table has the
-//! records. Between two trims the items are followed for the byte alone. A trim keeps a frame only
-//! if all its bytes have the same marks (`memblock_trim_memory`). The marks can change only at the
-//! ends of ranges, so only the ends that are inside the frame are compared.
+//! No result is kept, since this is needed only now and then, and the memory table has the records.
+//! Between two trims the items are followed for the byte alone. A trim keeps a frame only if all
+//! its bytes have the same marks (`memblock_trim_memory`). The marks can change only at the ends of
+//! ranges, so only the ends that are inside the frame are compared.
 
 ghost use Rattle.std.specs.Prelude.{◌≡◌, ◌<◌, ℕ, IsTrue, IfSome, None, false, length, position};
 ghost use Rattle.bm_base.specs.Range.{end_of};
@@ -57,7 +57,8 @@ fn edge_agrees(whole: &Option<Marks>, items: &[Item], first: u64, edge: u64) -> 
     label_after_items(whole, items, edge) == label_after_items(whole, items, first)
 }
 
-/// Tests [`edge_agrees`] for both ends of the item's range.
+/// Tests [`edge_agrees`] for both ends of the item's range. True for an item that doesn't change
+/// marks.
 fn item_agrees(whole: &Option<Marks>, items: &[Item], first: u64, item: &Item) -> bool
     ensures agrees { IsTrue result → ItemAgrees whole.now items.now first item.now }
     ensures differs { result ≡ false → (e : ℕ) × EdgeDiffers whole.now items.now first e }
