@@ -12,9 +12,10 @@ pub record FrameRange : Type 0 where
 abbrev pub bytes_of_frames : FrameRange → RangeView
 bytes_of_frames r = record { base = FRAME_SIZE * r.first; size = FRAME_SIZE * r.count }
 
--- The address past the highest one that memory can have, and the ranges of the kernel's image and
--- the initrd. The frames that firmware mirrors (`efi_find_mirror`). And whether searches go from
--- the lowest address up (`movable_node_is_enabled`, `memblock_set_bottom_up`).
+-- the limit of physical addresses: the address past the highest one that memory can have; the
+-- ranges of the kernel's image and the initrd; the frames that firmware mirrors
+-- (`efi_find_mirror`); and whether searches go from the lowest address up
+-- (`movable_node_is_enabled`, `memblock_set_bottom_up`)
 pub record EarlyInputs : Type 0 where
   pub limit : ℕ
   pub kernel : RangeView

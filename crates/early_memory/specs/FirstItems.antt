@@ -30,8 +30,8 @@ early_claims kernel initrd = item.Claim kernel owner.Kernel ∷ item.Claim (rang
 abbrev pub part_below : ℕ → RunOf ℕ → RangeView
 part_below limit r = record { base = r.base; size = min (run_end r) limit - r.base }
 
--- memory that firmware keeps for a driver is claimed; RAM and the kernel's own memory are added as
--- far as the kernel's tables of memory reach (the loop body of `e820__memblock_setup`)
+-- memory that firmware keeps for a driver is claimed; RAM and the kernel's own memory are added, as
+-- far as they lie below the limit of physical addresses (the loop body of `e820__memblock_setup`)
 abbrev pub items_of_run : ℕ → RunOf ℕ → List Item
 items_of_run limit r =
     if r.value == E820_TYPE_SOFT_RESERVED then item.Claim (extent_of r) owner.Soft ∷ []
@@ -41,7 +41,7 @@ abbrev pub items_of_map : ℕ → List (RunOf ℕ) → List Item
 items_of_map limit [] = []
 items_of_map limit (r ∷ rs) = items_of_run limit r ++ items_of_map limit rs
 
--- if searches should go from the lowest address up, that is set before memory is known
+-- if searches are to go from the lowest address up, that is set before memory is known
 -- (`memblock_set_bottom_up` in `setup_arch`)
 abbrev pub direction_items : Bool → List Item
 direction_items true = item.Upward true ∷ []

@@ -16,8 +16,8 @@ ghost use Rattle.early_memory.specs.FirstItems.{first_items};
 
 use bm_base::FRAME_SIZE;
 
-/// Law: after the early stages a byte is memory exactly if its frame is usable. It has no node,
-/// and is mirrored exactly if it is in frames that were given as mirrored. The limit of
+/// Law: after the early stages a byte is memory exactly if its frame is usable. No memory has a
+/// node. Memory is mirrored exactly if its frame is among those that firmware mirrors. The limit of
 /// allocations is the end of the last usable frame.
 pub fn memory_is_usable_frames()
     ensures memory { (e : EarlyInputs) (map : List (RunOf ℕ)) (items : List AnyItem) → AreRuns map →
@@ -29,9 +29,9 @@ pub fn memory_is_usable_frames()
         → limit_of items ≡ memory_end e.limit (value_at map) }
 {}
 
-/// Law: all memory, mirrored or not, ends at or below the end of the last usable frame. That end
-/// is a multiple of the frame size and at most the limit of addresses. Unless it is 0, the frame
-/// before it is usable.
+/// Law: all memory, mirrored or not, ends at or below the end of the last usable frame. That end is
+/// a multiple of the frame size, and at most the limit of physical addresses. Unless it is 0, the
+/// frame right below it is usable.
 pub fn memory_ends_within_reach()
     ensures below { (limit : ℕ) (f : TypeAt) (mirrors : List FrameRange) (x : ℕ) (label : LabelView)
         →
@@ -42,7 +42,7 @@ pub fn memory_ends_within_reach()
         is_usable_frame (types_below limit f) ((memory_end limit f - 1) / FRAME_SIZE) ≡ true }
 {}
 
-/// Law: the last run of memory ends at the end of the last usable frame, so that end can be read
+/// Law: the last run of memory ends at the end of the last usable frame. So that end can be read
 /// from the memory table.
 pub fn memory_ends_with_its_last_run()
     ensures { (limit : ℕ) (f : TypeAt) (mirrors : List FrameRange) (runs : List (RunOf LabelView)) →
@@ -50,8 +50,8 @@ pub fn memory_ends_with_its_last_run()
         → end_of_runs runs ≡ memory_end limit f }
 {}
 
-/// Law: no item of the list has an empty range, if the kernel's image, the initrd and each range
-/// of mirrored frames aren't empty.
+/// Law: if the kernel's image, the initrd and each range of mirrored frames aren't empty, no item
+/// of the list has an empty range.
 pub fn first_items_have_bytes()
     ensures { (e : EarlyInputs) (map : List (RunOf ℕ)) → 0 < e.kernel.size
         → IfSome e.initrd (λ range. 0 < range.size) →

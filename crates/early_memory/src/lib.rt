@@ -5,11 +5,11 @@
 //!
 //! 1. The kernel's image, the first 64 KiB and the initrd are claimed (`early_reserve_memory`).
 //!    Until memory is known, allocations stay in the first MiB.
-//! 2. If searches should go from the lowest address up, that is set before memory is known
+//! 2. If searches are to go from the lowest address up, that is set before memory is known
 //!    (`memblock_set_bottom_up`).
 //! 3. Each run of the map is visited once (`e820__memblock_setup`). Memory that firmware keeps for
-//!    a driver is claimed. RAM and the kernel's own memory are added, as far as the kernel's
-//!    tables of memory reach.
+//!    a driver is claimed. RAM and the kernel's own memory are added, as far as they lie below the
+//!    limit of physical addresses.
 //! 4. Memory is trimmed to whole frames (`memblock_trim_memory`), and frames that firmware mirrors
 //!    are marked (`efi_find_mirror`).
 //! 5. The limit of allocations is set to the end of the last usable frame
