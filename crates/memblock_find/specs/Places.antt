@@ -1,4 +1,4 @@
--- What a search knows of places: those in one stretch of addresses, and those that remain.
+-- The places of a search: those in one stretch of addresses, and those outside it.
 use Rattle.std.specs.Prelude.{◌≡◌, ℕ, ◌+◌, ◌%◌, ◌≤◌, ◌<◌, Bool, true, false, ◌&&◌, Option}
 use Rattle.memblock_model.specs.Labels.{LabelView, Labels}
 use Rattle.memblock_model.specs.Search.{is_allowed_node, is_allowed_mirror, fits_in}
@@ -10,8 +10,8 @@ pub record FitsBetween (low high size align a : ℕ) : Type 0 where
   pub above : low ≤ a
   pub below : a + size ≤ high
 
--- whether a search for the node, or for any, may return a byte that carries this, mirrored only or
--- any
+-- whether a search may return a byte with this label: mirrored memory only, or any; on the node, or
+-- on any if none is given
 abbrev pub is_allowed_label : Bool → Option ℕ → Option LabelView → Bool
 is_allowed_label mirror node carried = is_allowed_node node carried && is_allowed_mirror mirror carried
 
@@ -24,7 +24,7 @@ NoPlaceEnds mirror memory reserved q from until =
 abbrev pub NoPlaceBegins : Bool → Labels → Labels → Query → ℕ → ℕ → Type 0
 NoPlaceBegins mirror memory reserved q from until = (b : ℕ) → fits_in mirror memory reserved q b ≡ true → from ≤ b → until ≤ b
 
--- no address from `from` to below `until` is memory that serves the search
+-- no address from `from` to just below `until` is memory that the search may return
 abbrev pub NoAddressIsAllowed : Bool → Labels → Option ℕ → ℕ → ℕ → Type 0
 NoAddressIsAllowed mirror memory node from until = (x : ℕ) → from ≤ x → x < until → is_allowed_label mirror node (memory x) ≡ false
 
