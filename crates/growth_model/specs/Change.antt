@@ -27,18 +27,18 @@ items_of_steps (s ∷ ss) = s ++ items_of_steps ss
 abbrev pub items_after_change : List Item → ChangeEffect → List Item
 items_after_change items o = items ++ items_of_steps o.steps
 
--- writes no item
+-- the change that writes no item
 abbrev pub no_change : Change
 no_change items = record { steps = []; refused = None }
 
--- writes the items in one step
+-- the change that writes these items in one step
 abbrev pub write_items : List Item → Change
 write_items written items = record { steps = written ∷ []; refused = None }
 
 abbrev pub write_item : Item → Change
 write_item i = write_items (i ∷ [])
 
--- the table found no place for twice the room
+-- the change of a table that finds no place for twice its room: it is refused, and writes no item
 abbrev pub refuse_growth : Which → ℕ → Change
 refuse_growth w room items = record { steps = []; refused = Some (record { which = w; room = room }) }
 
@@ -51,10 +51,10 @@ infixr 10 ◌>>◌
 abbrev pub ◌>>◌ : Change → Change → Change
 (first >> second) items = followed_by (first items) (first items).refused (second (items_after_change items (first items)))
 
--- the change, if it is due
+-- the change if the test `due` holds for the items so far, else no change
 abbrev pub if_due : (List Item → Bool) → Change → Change
 if_due due change items = if due items then change items else no_change items
 
--- the change, with its items, but without its refusal
+-- the change that writes the same items, but is never refused
 abbrev pub ignore_refusal : Change → Change
 ignore_refusal change items = record { steps = (change items).steps; refused = None }

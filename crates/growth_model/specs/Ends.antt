@@ -21,9 +21,10 @@ pub record StopsBeforeStep (old new : List Item) (steps : List (List Item)) : Ty
   pub short : count < length steps
   pub stands : new ≡ old ++ items_of_steps (take count steps)
 
--- Ok if no growth was refused, and NoGapForTable with the growth that was refused; all items of
--- the change are written in both cases. Memory is returned only before a step that is then
--- missing. NoGap is never returned, since a change searches for no gap of its own.
+-- How a call ends that has this effect. It returns Ok if no growth was refused, else NoGapForTable
+-- with the growth that was refused. All items of the change are written in both cases. If it
+-- returns Memory, at least one step is missing. It never returns NoGap, which is only for
+-- allocations.
 abbrev pub EndsAsEffect : {T : Type 0} → Result T Refusal → List Item → List Item → ChangeEffect → Type 0
 EndsAsEffect (Ok x) old new o = (o.refused ≡ None) × (new ≡ items_after_change old o)
 EndsAsEffect (Err refusal.NoGap) old new o = ⊥

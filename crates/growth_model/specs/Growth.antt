@@ -29,8 +29,8 @@ frames_for_bytes place n = record { base = place; size = round_up_to_frames n }
 abbrev pub record_count : Which → List Item → ℕ
 record_count w items = length (records_of w items)
 
--- the query of a table that has this room: the frames of twice as many records of 24 bytes, in the
--- window, on any node
+-- the query for the new place of a table with this room: frames for twice as many records of 24
+-- bytes, between the two addresses, on any node
 abbrev pub table_query : ℕ → ℕ → ℕ → Query
 table_query room lo hi = record { lo = lo; hi = hi; size = round_up_to_frames (48 * room); align = FRAME_SIZE; node = None }
 
@@ -72,7 +72,8 @@ is_full w more items = nat_lt (room_of w items) (record_count w items + more ite
 abbrev pub count_uncovered_pieces : Which → RangeView → List Item → ℕ
 count_uncovered_pieces w range items = uncovered_run_count range (table_of w items)
 
--- an edit inside a table may split a record at both ends of its range
+-- the greatest number of records that an edit inside a table may add: it may split a record at both
+-- ends of its range
 abbrev pub split_record_count : List Item → ℕ
 split_record_count items = 2
 
@@ -92,7 +93,7 @@ free_range range = make_table_room which.Reserved split_record_count (reserved_g
 abbrev pub old_frames : ℕ → Option ℕ → Option RangeView
 old_frames room old = option_map (λ place. frames_for_bytes place (24 * room)) old
 
--- the old place is freed; if that needs a growth that is refused, the old place stays claimed, and
+-- the free of the old place; if it needs a growth that is refused, the old place stays claimed, and
 -- the change isn't refused
 abbrev pub free_old_place : Option RangeView → Change
 free_old_place None = no_change

@@ -28,8 +28,8 @@ any_node_attempt r limit lo mirror (Some node) = if r.exact then [] else attempt
 abbrev pub node_attempts : Request → ℕ → ℕ → Bool → List Attempt
 node_attempts r limit lo mirror = attempt r limit lo mirror r.node ∷ any_node_attempt r limit lo mirror r.node
 
--- the searches from `lo` on: first in mirrored memory, which find nothing if none is mirrored,
--- then in any (`choose_memblock_flags`)
+-- the searches from `lo` on: first in mirrored memory, then in any (`choose_memblock_flags`); if no
+-- memory is mirrored, the first ones find nothing
 abbrev pub attempts_from : Request → ℕ → ℕ → List Attempt
 attempts_from r limit lo = node_attempts r limit lo true ++ node_attempts r limit lo false
 
