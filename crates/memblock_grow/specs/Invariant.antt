@@ -39,7 +39,8 @@ pub record IsMemblock (kernel : RangeView) (items : List Item) (t : TablesView) 
   pub placed : HasBegun items → TablesAreClaimed kernel items
   pub spelled : TablesAreEncoded t.memory t.reserved (byte_of t.store)
 
--- this holds for some range of the kernel's image; and for one that allows the claim, or the free
+-- the invariant holds for some range of the kernel's image; or for one that also allows the claim,
+-- or the free
 abbrev pub IsSomeMemblock : List Item → TablesView → AllocSettings → Type 0
 IsSomeMemblock items t at = (kernel : RangeView) × IsMemblock kernel items t at
 

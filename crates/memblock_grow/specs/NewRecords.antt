@@ -10,7 +10,7 @@ use Rattle.growth_model.specs.Growth.{count_uncovered_pieces, split_record_count
 use Rattle.memblock_grow.specs.declared.new_records.MaxNewRecords.{MaxNewRecords}
 use Rattle.memblock_grow.specs.declared.new_records.MaxNewRecords.TheVariants as more
 
--- this number, from the items and from a table
+-- the greatest number of records that an edit may add, from the items and from a table
 abbrev pub new_records_by_items : Which → MaxNewRecords → List Item → ℕ
 new_records_by_items w (more.PiecesOf range) = count_uncovered_pieces w range
 new_records_by_items w more.Two = split_record_count

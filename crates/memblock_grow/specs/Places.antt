@@ -23,15 +23,16 @@ top_place_in_tables t up a = top_place_in (record { mirror = a.mirror; up = up }
 abbrev pub mirrored_place_in_tables : TablesView → Bool → Query → Option ℕ
 mirrored_place_in_tables t up q = top_place_in_tables t up (record { query = q; mirror = true })
 
--- the best place
+-- the best place for a query, from the tables
 abbrev pub best_place_in_tables : TablesView → Bool → Query → Option ℕ
 best_place_in_tables t up q = best_place_in up (value_at t.memory.records) (value_at t.reserved.records) q
 
--- the frames for twice as many records, at the best place in a window
+-- the frames for `2 * room` records, at the best place between the addresses `lo` and `hi`
 abbrev pub frames_between : TablesView → Bool → ℕ → ℕ → ℕ → Option RangeView
 frames_between t up room lo hi = option_map (λ place. frames_for_bytes place (48 * room)) (best_place_in_tables t up (table_query room lo hi))
 
--- these frames above the range, else below it
+-- the frames for `2 * room` records, at the best place above the range, else at the best one below
+-- it
 abbrev pub frames_beside : TablesView → AllocSettings → ℕ → RangeView → Option RangeView
 frames_beside t aim room avoid = option_map (λ place. frames_for_bytes place (48 * room)) (option_or
     (best_place_in_tables t aim.upward (table_query room (end_of avoid) aim.limit))
