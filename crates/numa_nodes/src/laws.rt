@@ -21,9 +21,9 @@ pub fn assign_keeps_memory_and_limit()
         limit_of (items_after_step items (assign_nodes table off items)) ≡ limit_of items }
 {}
 
-/// Law: after success each byte of memory has a node below 1,024, and all bytes of a frame have
-/// the same label. This holds if memory was whole frames, each with one label, and ended at or
-/// below the limit. The nodes that the stage returns are those that have memory.
+/// Law: if the stage succeeds, each byte of memory has a node below 1,024, and all bytes of a frame
+/// have the same label. This requires that memory was whole frames before, each with one label, and
+/// ended at or below the limit. The nodes that the stage returns are those that have memory.
 pub fn all_memory_gets_nodes()
     ensures noded { (reach : ℕ) (table : Option SratView) (off : Bool) (items : List AnyItem)
         (noded : NodesView) →
@@ -38,8 +38,8 @@ pub fn all_memory_gets_nodes()
         ≡ nodes_with_memory (memory_of (items_after_step items (assign_nodes table off items))) }
 {}
 
-/// Law: a node is listed exactly if it is below 1,024 and some byte of memory has it; and the list
-/// is ascending.
+/// Law: the list of nodes that have memory has a node exactly if it is below 1,024 and some byte of
+/// memory has it. The list is ascending.
 pub fn listed_nodes_have_memory()
     ensures listed { (f : Labels) (n : ℕ) → Contains (nodes_with_memory f) n ↔
         ((n < 1024) × ((x : ℕ) × (x < 2 ^ 64) × (is_of_node n (f x) ≡ true))) }
