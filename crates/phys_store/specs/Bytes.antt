@@ -1,6 +1,6 @@
 -- Bytes at addresses, as contracts see them: the byte at each address, and the addresses that can
--- be written without allocating. Physical memory itself has neither gaps nor a lack of memory; a
--- program that stands for it has both.
+-- be written without allocating. A machine can write each address of its memory. This program
+-- allocates memory only for some addresses, and that may fail.
 use Rattle.std.specs.Prelude.{◌≡◌, ℕ, zero, suc, ◌+◌, ◌-◌, ◌<◌, ◌≤◌, Bool, false, ◌||◌, nat_le, nat_lt, if◌then◌else◌, List, [], ◌∷◌, length, slice_index, IsTrue}
 use Rattle.bm_base.specs.Range.{covers}
 
