@@ -12,7 +12,8 @@ ghost use Rattle.growth_model.specs.Change.{items_after_change};
 ghost use Rattle.growth_model.specs.Growth.{claim_range, free_range, memory_growth, reserved_growth};
 ghost use Rattle.growth_model.specs.Requests.{StepsKeepMemory, carry_out_items, memory_items};
 
-/// Law: memory and the limit are those of the items that change memory, without all other items.
+/// Law: the items that change neither memory nor the limit can be left out: the other items give
+/// the same memory and the same limit.
 pub fn memory_items_decide()
     ensures memory { (items : List AnyItem) → memory_of items ≡ memory_of (memory_items items) }
     ensures limit { (items : List AnyItem) → limit_of items ≡ limit_of (memory_items items) }
