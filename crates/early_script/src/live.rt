@@ -22,8 +22,8 @@ use std::marker::Model;
 /// The largest number of bytes that a `fill` writes.
 const MOST_FILLED: u64 = 65_536;
 
-/// The live IDs of the script, each with its range. An ID is live if a line got memory under it and
-/// no later line freed that. No range is empty.
+/// The live IDs of the script, each with its range. An ID becomes live when a line gets memory for
+/// it, and stays live until a line frees the ID. No range is empty.
 #[derive(Debug, Drop)]
 pub struct Live {
     ids: BTreeMap<u32, Range>,
