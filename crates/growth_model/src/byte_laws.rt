@@ -24,7 +24,7 @@ ghost use Rattle.growth_model.specs.Bytes.{table_for, table_byte_at, byte_with_t
 
 /// Law: the effect of items on a byte can be computed in two parts. Further items applied to the
 /// byte after the first ones give the byte after all of them. Further items applied to the byte
-/// that the first items and the fills give are as good as all items at once with the same fills.
+/// that the first items and the fills give yield the byte of all items with the same fills.
 pub fn byte_effects_compose()
     ensures after { (kernel : RangeView) (items more further : List Item) (x b : ℕ) →
         byte_after kernel (items ++ more) ((items ++ more) ++ further) x
