@@ -100,8 +100,8 @@ impl Memblock {
         })
     }
 
-    /// Reserves room in the journal for at least `n` more items. After that, `n` calls that need no
-    /// growth of a table can't run out of memory.
+    /// Reserves room in the journal for at least `n` more items. After that, `n` calls that each
+    /// write one item, without a growth of a table, can't run out of memory.
     ///
     /// # Errors
     ///
