@@ -72,8 +72,8 @@ fn find_in(lists: &Lists<'_>, query: &Query) -> Option<u64>
 
 /// Returns the greatest address of a place that ends past `from` and at or below `until`, or
 /// `None`. `label` is the label of these addresses, or `None` if none of them is unclaimed memory.
-/// If they have a label, it must change below `from`. The window's addresses above the first frame
-/// begin at `low`.
+/// If they have a label, it must change below `from`. `low` is the lowest address that a place may
+/// have: the window's start or the second frame, whichever is higher.
 pub fn place_in_run(
     query: &Query,
     low: u64,
