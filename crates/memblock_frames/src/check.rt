@@ -43,7 +43,7 @@ fn is_whole_frames(region: &Region) -> bool
 }
 
 /// Tests whether the bytes at the head are an ascending list of records. No record may be empty,
-/// and each must end at or below `bound`.
+/// and each must end at or below the address `bound`.
 pub fn has_records(store: &Store, head: &Head, bound: u64) -> bool
     ensures list { IsTrue result ↔ HasRecords store.now head.now bound }
     ensures space { IsTrue result → HasRecords store.now head.now (2 ^ 64) }
@@ -62,7 +62,7 @@ pub fn has_records(store: &Store, head: &Head, bound: u64) -> bool
     true
 }
 
-/// Tests whether each record begins and ends at the border of a frame. The bytes at the head must
+/// Tests whether every record begins and ends at the border of a frame. The bytes at the head must
 /// be a list of records.
 pub fn has_whole_frames(store: &Store, head: &Head) -> bool
     requires { HasRecords store.now head.now (2 ^ 64) }

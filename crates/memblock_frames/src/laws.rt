@@ -11,10 +11,10 @@ ghost use Rattle.memblock_ranges.specs.Tables.{TableView, IsInStore, head_of, re
 ghost use Rattle.memblock_frames.specs.Frames.{free_node_in, node_of_frame};
 ghost use Rattle.memblock_frames.specs.HeadRecords.{HasRecords, AreWholeFrames};
 
-/// Law: if two tables are stored in the bytes, the bytes at their heads are lists of records that
-/// give each frame the same node as the tables, and the same frames are free. The records end at
-/// or below a bound if the table has nothing from there on. They are whole frames if the table has
-/// the same value for all bytes of a frame.
+/// Law: tables that are stored in the bytes can be read as records at their heads. The records give
+/// each frame the same node as the tables, and the same frames are free. They end at or below a
+/// bound if the table has nothing from there on. They are whole frames if the table has the same
+/// value for all bytes of a frame.
 pub fn stored_records_give_table_frames()
     ensures records { (t : TableView) (store : List ExtentView) → IsInStore t store
         → HasRecords store (head_of t) (2 ^ 64) }
