@@ -1,5 +1,5 @@
--- The block from which the page allocator serves a request (`__rmqueue_smallest`): of the least
--- order that is large enough, and the lowest block of that order.
+-- The block from which the page allocator serves a request for an order (`__rmqueue_smallest`): of
+-- the smallest sufficient order, and of those blocks the lowest.
 use Rattle.std.specs.Prelude.{◌≡◌, ◌⊎◌, ℕ, zero, suc, ◌+◌, ◌-◌, ◌<◌, ◌≤◌, Option, None}
 use Rattle.std.specs.List.{find}
 use Rattle.std.specs.Option.{option_or, option_map}
@@ -14,8 +14,8 @@ pub record Serves (n : ℕ) (z : Zone) (order : ℕ) (b : Block) : Type 0 where
   pub zone : b.zone ≡ z
   pub enough : order ≤ b.order
 
--- the block serves the request; each other block that does has a larger order, or the same order
--- and a higher first frame
+-- the request is served from this block: each other block that could serve it has a larger order,
+-- or the same order and a higher first frame
 pub record IsPicked (f : Frames) (node : ℕ) (zone : Zone) (order : ℕ) (b : Block) : Type 0 where
   pub block : IsBlock f b
   pub serves : Serves node zone order b

@@ -34,9 +34,10 @@ pub fn listed_blocks_are_blocks()
     ensures ascending { (f : Frames) → AscendFrom 0 (blocks_of f) }
 {}
 
-/// Law: the block that is picked for a node, a zone and an order has the least order, from that
-/// one up, for which a block exists there. It is the lowest block of its order. No block is picked
-/// exactly if there is no such block. All free frames must be below [`crate::MAX_FRAMES`].
+/// Law: the picked block serves a request for an order on a node and in a zone
+/// (`__rmqueue_smallest`). It has the smallest sufficient order, and it is the lowest block of that
+/// order. No block is picked exactly if none serves the request. All free frames must be below
+/// [`crate::MAX_FRAMES`].
 pub fn picked_block_is_least()
     ensures picked { (f : Frames) (n : ℕ) (z : AnyZone) (order : ℕ) (b : AnyBlock)
         → NothingFrom MAX_FRAMES f →
@@ -45,9 +46,9 @@ pub fn picked_block_is_least()
         (picked_block f n z order ≡ None) ↔ NoneServes f n z order }
 {}
 
-/// Law: if a set of frames of a block is no longer free, the rest of the block becomes one buddy
-/// of each order from the set's to below the block's, and the other blocks stay. Removing a set of
-/// frames, or adding it back, changes only the frames of that set.
+/// Law: if an aligned set of frames of a block is no longer free, the rest of the block is split
+/// into buddies: one of each order from the set's to below the block's. All other blocks stay.
+/// Removing a set of frames, or adding it back, changes only the frames of that set.
 pub fn rest_of_block_is_buddies()
     ensures left { (f : Frames) (order x : ℕ) → RemovesFrameSet f (without_set order x f) order x }
     ensures back { (f : Frames) (order x n : ℕ) → ((y : ℕ) → IsInSet order x y → f y ≡ None) →
