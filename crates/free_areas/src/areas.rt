@@ -54,9 +54,9 @@ impl Areas {
         Ok(Areas { blocks })
     }
 
-    /// Returns the block that serves a request for `2^order` frames of the node and the zone, or
-    /// `None` if no block does. It has the least order that is large enough, and is the lowest
-    /// block of that order (`__rmqueue_smallest`). Takes one look-up. `order` is at most 10.
+    /// Returns the block from which a request for `2^order` frames of the node and the zone is
+    /// served (`__rmqueue_smallest`), or `None` if no block is large enough. It is of the smallest
+    /// sufficient order, and of those the lowest. Takes one look-up. `order` is at most 10.
     pub fn find_picked_block(&self, node: u32, zone: Zone, order: u32) -> Option<Block>
         requires { order ≤ 10 }
         ensures { (f : Frames) → IndexesFreeBlocks f self.now →
@@ -79,8 +79,9 @@ impl Areas {
     }
 
     /// Updates the index after the `2^order` frames around `frame` were taken from `block`
-    /// (`expand`): a buddy of each order from `order` to below the block's replaces it. `behind`
-    /// is the block that begins where this one ends, if there is one.
+    /// (`expand`). The free halves that are left replace it: one buddy of each order from `order`
+    /// to below the block's. `behind` must be the block that begins where `block` ends, or `None`
+    /// if there is none.
     ///
     /// # Errors
     ///

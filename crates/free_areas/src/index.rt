@@ -43,8 +43,8 @@ fn remove_block(blocks: &mut BTreeSet<Block>, block: &Block)
     let _ = blocks.remove(block);
 }
 
-/// Removes a block from the set. Adds the next block, if that could be missing: both are of the
-/// largest order, on one node and in one zone.
+/// Removes a block from the set. Adds the next block (`behind`) if the set could lack it: if both
+/// blocks are of the largest order, on one node and in one zone.
 ///
 /// # Errors
 ///
@@ -69,8 +69,9 @@ pub fn remove_and_expose_next(
     }
 }
 
-/// For each order from `order` to below the block's, adds the buddy of the aligned set of that
-/// order that has the frame, on the block's node and in its zone.
+/// Inserts the free halves that are left if `block` is split down to `order` around `frame`
+/// (`expand`): one buddy of each order from `order` to below the block's. They are on the block's
+/// node and in its zone.
 ///
 /// # Errors
 ///
@@ -92,9 +93,9 @@ pub fn insert_buddies(
     Ok(())
 }
 
-/// For each order from `order` to below the block's, removes the buddy of the aligned set of that
-/// order that has the frame, on the block's node and in its zone. A buddy that isn't there is
-/// ignored.
+/// Removes the halves that were merged with the `2^order` frames around `frame` to give `block`
+/// (`__free_one_page`): one buddy of each order from `order` to below the block's. Ignores a buddy
+/// that the set lacks.
 pub fn remove_buddies(blocks: &mut BTreeSet<Block>, block: &Block, order: u32, frame: u64)
     requires small { block.now.order ≤ 10 }
     requires low { frame < MAX_FRAMES }
@@ -105,8 +106,8 @@ pub fn remove_buddies(blocks: &mut BTreeSet<Block>, block: &Block, order: u32, f
     }
 }
 
-/// Returns the next block if it and `block` are of the largest order, on one node and in one zone.
-/// The index may lack that next block as long as it has the first of them.
+/// Returns `behind`, the block after `block`, if both are of the largest order, on one node and in
+/// one zone. The index may lack such a block as long as it has the first one of its row.
 fn next_like_block(block: &Block, behind: Option<Block>) -> Option<Block>
     ensures some { IfSome result (λ next. (behind ≡ Some next) × AreLargestAlike block.now next) }
     ensures none { IfNone result ((next : AnyBlock) → behind ≡ Some next
