@@ -218,9 +218,9 @@ impl Buddy {
         Ok(block.first)
     }
 
-    /// Returns whether the node and the zone have a block of `order` or a greater order. Takes no
-    /// memory, and looks at all runs for each order. So it is for the result of a call that is out
-    /// of memory.
+    /// Returns whether the node and the zone have a block of `order` or a greater order. Allocates
+    /// nothing. Looks at all runs for each order, so it is slow. It is meant for a call that ran
+    /// out of memory and must still say whether there was such a block.
     pub fn has_block(&self, node: u32, zone: Zone, order: u32) -> bool
         requires { order ≤ 10 }
         ensures { result ≡ is_some (picked_first_frame (buddy_frames self.now) node zone order) }
@@ -258,7 +258,7 @@ impl Buddy {
         Ok(())
     }
 
-    /// The index, which is made where there is none. It is out of the cache then.
+    /// Moves the index out of the cache and returns it. Makes one if the cache is empty.
     fn take_or_make_index(&mut self) -> Result<Areas, Memory>
         ensures areas { IfOk result (λ areas. IndexesFreeBlocks (buddy_frames self.old) areas) }
         ensures stays { self.new ≡ self.old }
@@ -298,14 +298,14 @@ impl Buddy {
     }
 
     /// Returns the number of blocks of the node, the zone and the order (`nr_free` of `struct
-    /// free_area`). Takes no memory.
+    /// free_area`). Allocates nothing.
     pub fn count(&self, node: u32, zone: Zone, order: u32) -> u64
         ensures { result ≡ count_blocks (buddy_frames self.now) node zone order }
     {
         buddy_blocks::count_blocks(&self.runs, node, zone, order)
     }
 
-    /// Returns the block that has the frame, or `None` if the frame isn't free. Takes no memory.
+    /// Returns the block that has the frame, or `None` if the frame isn't free. Allocates nothing.
     pub fn block_of(&self, frame: u64) -> Option<Block>
         ensures { result ≡ block_of (buddy_frames self.now) frame }
     {

@@ -10,8 +10,8 @@ use buddy_blocks::{Block, MAX_FRAMES};
 use free_areas::Areas;
 
 /// Returns the index after the first `2^order` frames of `block` have left it, or `None` if there
-/// is no memory for it. `behind` must be the block that has the frame after `block`, or `None` if
-/// that frame isn't free.
+/// is no memory for it. `behind` must be the block that begins where `block` ends, or `None` if the
+/// frame there isn't free.
 pub fn index_after_alloc(
     areas: Areas,
     block: &Block,

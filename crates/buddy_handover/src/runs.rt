@@ -14,7 +14,7 @@ use buddy_blocks::{FrameRun, MAX_FRAMES};
 use run_edits::{Replace, Uncover, amend};
 
 /// Makes the frames of the range free, for node `node`, whatever they were. An empty range changes
-/// nothing. Takes no memory, and looks only at runs that meet or touch the range.
+/// nothing. Allocates nothing, and looks only at runs that meet or touch the range.
 pub fn insert_frames(runs: &mut Vec<FrameRun>, frames: &Range, node: u32)
     requires low { frames.now.base + frames.now.size ≤ MAX_FRAMES }
     requires runs { AreRuns runs.old.items }
@@ -32,8 +32,8 @@ pub fn insert_frames(runs: &mut Vec<FrameRun>, frames: &Range, node: u32)
     amend(runs, frames, Replace(node));
 }
 
-/// Makes the frames of the range not free. The range must not be empty. Takes no memory, and looks
-/// only at runs that meet or touch the range.
+/// Makes the frames of the range not free. The range must not be empty. Allocates nothing, and
+/// looks only at runs that meet or touch the range.
 pub fn remove_frames(runs: &mut Vec<FrameRun>, frames: &Range)
     requires some { 0 < frames.now.size }
     requires runs { AreRuns runs.old.items }
