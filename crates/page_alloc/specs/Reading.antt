@@ -10,7 +10,7 @@ use Rattle.page_alloc.specs.declared.reading.PageFault.{PageFault}
 use Rattle.page_alloc.specs.declared.reading.PageFault.TheVariants as faults
 use Rattle.page_alloc.specs.Forms.{page_act_by_name}
 
--- the fault of a script for what is wrong with the line of this number: its form, or else a number
+-- the fault of a script whose line of this number has the fault `wrong`: its form, or else a number
 abbrev pub page_script_fault_at : ℕ → Wrong → PageFault
 page_script_fault_at line wrong.Form = faults.BadLine line
 page_script_fault_at line other = faults.BadNumber line

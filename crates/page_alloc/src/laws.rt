@@ -12,8 +12,8 @@ ghost use Rattle.page_alloc.specs.Reading.{page_lines};
 ghost use Rattle.page_alloc.specs.Spelling.{page_grammar};
 
 /// Law: a line of a page script is read as an act exactly if its words spell that act. It has no
-/// command exactly if it has no words or is a comment. It has a fault exactly if that is the first
-/// condition that its words don't meet.
+/// command exactly if it has no words or is a comment. Its fault is the first condition of the
+/// grammar that its words break.
 pub fn page_lines_of_spelling()
     ensures act { (seen : Bool) (text : List ℕ) (words : Words) (act : AnyAct) →
         HasWords Script text words →

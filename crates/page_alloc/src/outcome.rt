@@ -1,6 +1,7 @@
 //! The outcome of a line, and the frames that an ID holds.
 
-/// Frames that an ID holds: `2^order` of them. The number of the first is a multiple of `2^order`.
+/// The frames that an ID holds: `2^order` of them. The number of the first is a multiple of
+/// `2^order`.
 #[derive(Clone, Copy, Debug, PartialEq, Eq)]
 pub struct Held {
     /// The number of the first frame.

@@ -54,7 +54,7 @@ impl Pages {
         &self.buddy
     }
 
-    /// Returns the frames that the ID holds, or `None` if it holds none.
+    /// Returns the frames that were allocated for the ID, or `None` if it holds none.
     pub fn held(&self, id: u32) -> Option<Held>
         ensures { result ≡ (page_state_of self.now).held id }
     {

@@ -76,7 +76,7 @@ pub fn read_pages(alloc: Global, bytes: &[u8]) -> Result<Vec<PageLine>, PageFaul
     }
 }
 
-/// Returns the fault of a script for what is wrong with the line of this number. Only `Form` and
+/// Returns the fault of a script whose line of this number has the fault `wrong`. Only `Form` and
 /// `Number` can be wrong.
 fn page_script_fault_at(line: u32, wrong: Wrong) -> PageFault
     requires { IsOfWords wrong }
