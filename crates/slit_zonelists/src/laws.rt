@@ -20,8 +20,9 @@ ghost use Rattle.slit_zonelists.specs.Near.{has_block, page_step_by_distance, pa
 
 use buddy_blocks::MAX_FRAMES;
 
-/// Law: the reported bad cell is the first one, by row and then by column. If none is reported, no
-/// cell is bad.
+/// Law: the bad cell that is reported for a SLIT is its first one, by row and then by column. If
+/// none is reported, no cell is bad. A cell is bad if its distance breaks the rules of
+/// `slit_valid`.
 pub fn bad_cells_are_the_least()
     ensures some { (m : SlitView) (row column : ℕ) → first_bad_cell m ≡ Some (row, column)
         → IsLeastBad m row column }
@@ -41,9 +42,9 @@ pub fn lists_have_each_zone_in_order()
         (zones_of (zonelists_from_slit slit domains spans) node) }
 {}
 
-/// Law: a request near a node, for an ID that holds nothing, is the same request to the first zone
-/// in the node's list that has a block of the order or a greater one. If no zone has one, the
-/// outcome is `NoBlock`. If the ID already holds something, it is `Taken`.
+/// Law: a request near a node is served from the first zone in the node's list that has a block of
+/// the order or a greater one, if the ID holds nothing. If no zone has one, the outcome is
+/// `NoBlock`. If the ID already holds something, it is `Taken`.
 pub fn near_takes_from_the_first_zone()
     ensures first { (k : ListsView) (s : PageState) (id order node : ℕ) (z : AnyZone)
         → s.held id ≡ None → IsFirstZone s order (zones_of k node) z →

@@ -12,9 +12,9 @@ use crate::order::ListZone;
 use bm_base::Memory;
 use page_alloc::{PageOutcome, Pages};
 
-/// Allocates `2^order` frames for the ID, near the node, and returns the outcome. They are from
-/// the first zone in the node's list that has a block of the order or a greater one. The outcomes
-/// are:
+/// Allocates `2^order` frames for the ID, as near to the node as possible, and returns the outcome.
+/// They are from the first zone in the node's list that has a block of the order or a greater one.
+/// The outcomes are:
 ///
 /// - `Taken`: the ID already holds something
 /// - `NoBlock`: otherwise, if no zone in the list has such a block
@@ -51,8 +51,8 @@ pub fn near(
 }
 
 /// Returns the outcome of a request near the node if the program is out of memory for the node's
-/// list. It is `NoBlock` if no zone in that list has a block of the order or a greater one. Takes
-/// no memory.
+/// list. It is `NoBlock` if no zone in that list has a block of the order or a greater one.
+/// Allocates nothing.
 ///
 /// # Errors
 ///

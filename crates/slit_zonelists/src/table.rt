@@ -59,7 +59,7 @@ impl From<Memory> for SlitFault {
     }
 }
 
-/// Reads a SLIT. It doesn't judge the distances ([`SlitUse`]).
+/// Reads a SLIT. Accepts any distances: whether they are used is decided elsewhere ([`SlitUse`]).
 ///
 /// # Errors
 ///
@@ -115,7 +115,7 @@ fn copy_bytes(alloc: Global, bytes: &[u8]) -> Result<Vec<u8>, Memory>
     Ok(Vec::from_slice(alloc, bytes)?)
 }
 
-/// Returns the stated number of localities.
+/// Returns the number of localities that the header states.
 fn locality_count(bytes: &[u8]) -> u64
     requires { 44 ≤ length bytes.now }
     ensures { result ≡ locality_count bytes.now }
@@ -123,7 +123,8 @@ fn locality_count(bytes: &[u8]) -> u64
     LittleEndian::read_u64(&bytes[LOCALITIES_OFFSET..])
 }
 
-/// Returns the first fault of the bytes, or `None`. Takes no memory.
+/// Returns the first fault of the bytes, in the order of [`SlitFault`], or `None` if they are a
+/// SLIT. Allocates nothing.
 fn first_slit_fault(bytes: &[u8]) -> Option<SlitFault>
     ensures value { result ≡ first_slit_fault bytes.now }
     ensures header { IfNone result (44 ≤ length bytes.now) }

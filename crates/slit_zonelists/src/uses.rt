@@ -43,7 +43,7 @@ pub fn decide_slit_use(slit: Option<&Slit>, domains: &[u32]) -> SlitUse
     }
 }
 
-/// Returns the first bad cell, by row and then by column.
+/// Returns the row and column of the first bad cell, by row and then by column.
 fn first_bad_cell(slit: &Slit) -> Option<(u32, u32)>
     requires { IsSquare (slit_view slit.now) }
     ensures { result ≡ first_bad_cell (slit_view slit.now) }
@@ -70,7 +70,8 @@ fn first_bad_column(slit: &Slit, row: u32) -> Option<u32>
     None
 }
 
-/// Returns whether the cell is bad.
+/// Returns whether the cell is bad: not 10 from a domain to itself, or 10 or less to another
+/// (`slit_valid`).
 fn is_bad_cell(slit: &Slit, row: u32, column: u32) -> bool
     requires square { IsSquare (slit_view slit.now) }
     requires row { row < slit.now.count }
