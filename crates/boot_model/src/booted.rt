@@ -58,7 +58,7 @@ impl Booted {
     ghost use Rattle.boot_model.specs.Boot.{booted_address_limit};
     ghost use Rattle.boot_model.specs.View.{booted_view};
 
-    /// Returns the limit of physical addresses, in bytes (`MAX_PHYSMEM_BITS`).
+    /// Returns the limit of physical addresses (`MAX_PHYSMEM_BITS`), in bytes: all are below it.
     pub fn reach(&self) -> u64
         ensures { result ≡ booted_address_limit (booted_view self.now) }
     {

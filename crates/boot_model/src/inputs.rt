@@ -32,8 +32,9 @@ const LOWEST_KERNEL: u64 = 0x10_0000;
 /// end.
 const SMALLEST_KERNEL: u64 = 2 * FRAME_SIZE;
 
-/// Returns whether a kernel's image may lie at `range`: it begins at or above 1 MiB and ends at or
-/// below the limit of physical addresses. It is whole frames, at least two of them.
+/// Returns whether a kernel's image may lie at `range`, a range of addresses in bytes. It must
+/// begin at or above 1 MiB, and end at or below the limit of physical addresses. It must be whole
+/// frames, at least two of them.
 pub fn is_kernel(range: &Range, width: Width) -> bool
     ensures value { result ≡ is_kernel width range.now }
     ensures facts { IsTrue result → IsKernel width range.now }
@@ -96,7 +97,8 @@ impl Inputs {
     ghost use Rattle.boot_model.specs.Boot.{inputs_without_files, reach};
     ghost use Rattle.boot_model.specs.View.{inputs_view};
 
-    /// Returns the inputs that have no file. Each file adds to them.
+    /// Returns inputs in which every input file is absent: only the width of addresses and the
+    /// kernel's range are given. Each file that is read adds to them.
     pub fn without_files(alloc: Global, width: Width, kernel: Range) -> Inputs
         requires { IsKernel width kernel }
         ensures { inputs_view result ≡ inputs_without_files width kernel }
@@ -129,7 +131,7 @@ impl Inputs {
         }
     }
 
-    /// Returns the limit of physical addresses, in bytes (`MAX_PHYSMEM_BITS`).
+    /// Returns the limit of physical addresses (`MAX_PHYSMEM_BITS`), in bytes: all are below it.
     pub fn reach(&self) -> u64
         ensures { result ≡ reach (inputs_view self.now) }
     {

@@ -1,5 +1,6 @@
-//! Laws about the map of a boot that isn't stopped. They speak of the definition of the boot, so a
-//! caller may rest on them without knowing its stages.
+//! Laws about the map of a boot that isn't stopped. They are about the definition of the boot, so a
+//! caller may rely on them without knowing its stages. In them, a claim is a range of addresses
+//! with a type, of the e820 table; it isn't a reservation of memblock.
 
 ghost use Rattle.std.specs.Prelude.{◌≡◌, ℕ, ◌+◌, ◌*◌, ◌^◌, ◌/◌, ◌<◌, ◌≤◌, false, None, List, [], is_some, IfOk, IfSome, Ok, Err, length};
 ghost use Rattle.address_runs.specs.Runs.{value_at};
@@ -19,8 +20,9 @@ ghost use Rattle.boot_model.specs.Boot.{InputsView, BootSoFar, boot, claims, efi
 
 use bm_base::FRAME_SIZE;
 
-/// Law: the claims are those of a boot without the firmware's own map, if the command line doesn't
-/// ask for that map or if it has no descriptors.
+/// Law: the firmware's own map counts only if the command line asks for it (`add_efi_memmap`) and
+/// it has descriptors. Otherwise the claims, the typed ranges of the e820 table, are those of a
+/// boot without that map.
 pub fn efi_map_counts_only_if_asked()
     ensures unasked { (given : InputsView) → given.options.add_efi ≡ false →
         claims given ≡ claims (record given { efi = None }) }
@@ -28,8 +30,8 @@ pub fn efi_map_counts_only_if_asked()
         claims given ≡ claims (record given { efi = None }) }
 {}
 
-/// Law: the map of a boot gives each address below 2^64 the type of its greatest claim, and has at
-/// most 3,200 runs.
+/// Law: the map of a boot gives each address below 2^64 the greatest type that any claim of the
+/// e820 table gives it (`e820__update_table`). The map has at most 3,200 runs.
 pub fn map_gives_types()
     ensures types { (given : InputsView) (made : BootSoFar) (x : ℕ) → boot given ≡ Ok made
         → x < 2 ^ 64 →
@@ -51,8 +53,8 @@ pub fn map_gives_frames()
         usable_frames (types_in_reach given) ≤ 2 ^ 32 }
 {}
 
-/// Law: at the end of a boot a byte is memory exactly if its frame is usable, and allocations end
-/// at the end of the last usable frame.
+/// Law: at the end of a boot a byte is memory exactly if its frame is usable. Allocations are
+/// limited to addresses below the end of the last usable frame.
 pub fn map_gives_memory()
     ensures memory { (given : InputsView) (made : BootSoFar) (x : ℕ) → boot given ≡ Ok made →
         is_some (memory_of made.items x) ≡ is_usable_frame (types_in_reach given) (x / FRAME_SIZE) }
@@ -66,8 +68,8 @@ pub fn no_ram_means_no_usable_frame()
         → usable_frames (types_in_reach given) ≡ 0 }
 {}
 
-/// Law: the mirrored ranges that the firmware gives, and those of command words cut to whole
-/// frames, may be inputs of a boot.
+/// Law: mirrored ranges of the firmware, and those of command words cut to whole frames, meet the
+/// conditions for inputs of a boot.
 pub fn mirrors_are_whole_frames()
     ensures cut { (range : RangeView) → IfSome (frames_within range) IsMirror }
     ensures firmware { (bytes : List ℕ) → IfOk (efi_of bytes) (λ map. All IsMirror map.mirrors) }

@@ -1,5 +1,5 @@
-//! Why a boot stops. The causes are a type of their own, without out of memory, since judging a
-//! map takes no memory.
+//! Why a boot stops. The causes are a type of their own, without out of memory, since checking
+//! whether a map is accepted allocates nothing.
 
 ghost use Rattle.std.specs.Prelude.{◌≡◌};
 ghost use Rattle.boot_model.specs.Stop.{cause_of};
