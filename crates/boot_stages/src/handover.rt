@@ -27,10 +27,10 @@ use slit_zonelists::{Lists, run_page_lines};
 use std::alloc::Global;
 use zone_spans::spans;
 
-/// Takes memblock apart and returns all that the boot made. What memory spans and which frames are
-/// free is read only from the bytes at the two heads (`free_area_init`, `memblock_free_all`). Each
-/// node gets its order of zones (`build_zonelists`). Then the page script runs on a copy of the
-/// free frames, of which none is allocated at first.
+/// Ends memblock and returns the results of the boot. Zone spans (`free_area_init`) and free frames
+/// (`memblock_free_all`) are read from memblock's two tables, as the bytes of memory have them.
+/// Then the zone lists are built (`build_zonelists`), and the page script runs on a copy of the
+/// free frames. `map` is the accepted map, and `later` has the results of the stages after it.
 ///
 /// # Errors
 ///

@@ -29,7 +29,7 @@ use sparse_sections::{Roots, place_roots, present};
 use stage_steps::StageStop;
 use std::alloc::Global;
 
-/// The results of the stages, except for what memblock itself holds.
+/// The results of the stages after the map, except for what memblock itself holds.
 #[derive(Drop)]
 pub struct Later {
     pub nodes: Nodes,
@@ -59,8 +59,8 @@ fn place_sections(
     Ok((roots, placed))
 }
 
-/// Runs the stages after the map in their order. Nothing may have happened to `memblock` yet, and
-/// `map` must be one that the boot goes on with.
+/// Runs the stages after the map in their order. `memblock` must be new, and `map` accepted
+/// (`accept_map`).
 ///
 /// # Errors
 ///

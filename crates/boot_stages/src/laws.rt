@@ -9,9 +9,10 @@ ghost use Rattle.e820_sanitise.specs.Room.{map_if_room};
 ghost use Rattle.boot_model.specs.Boot.{InputsView, claims};
 ghost use Rattle.boot_stages.specs.Boots.{DecidesMapStages, MapAnswer};
 
-/// Law: the table's answer for its map decides how the boot's first stages end. If it is a map,
-/// the map's frames are judged. If it is the number of runs of a map that the table has no room
-/// for, the boot stops with that number. If the table is out of memory, the law says nothing.
+/// Law: the result of the e820 table for its map decides how the boot's first stages end. If it is
+/// a map, they continue if the number of the map's usable frames is accepted. If the map has too
+/// many runs, the boot stops with their number. If the table is out of memory, the law makes no
+/// claim.
 pub fn map_is_judged()
     ensures { (given : InputsView) (answer : MapAnswer) →
         Answers faults.Memory (λ runs. runs.items) answer (map_if_room (map_of (claims given))) →

@@ -5,8 +5,8 @@
 //! carries out a stage of that definition or a part of one, and its contract says so:
 //!
 //! - `src/map.rt`: The zero page's entries, the extension's entries, and the options' edits with
-//!   the firmware's own entries go into one table of claims. The table is settled after each of
-//!   the three. Then the BIOS range is trimmed and the finished map is judged.
+//!   the firmware's own entries go into one table of claims. The table is settled after each of the
+//!   three. Then the BIOS range is trimmed, and the finished map is accepted or stops the boot.
 //! - `src/memory.rt`: The first claims are made, the map's runs become memory in whole frames,
 //!   mirrored memory is marked, and the first MiB is claimed. Each step is one call of memblock.
 //! - `src/later.rt`: Nodes, the crash area, the early script and the sections follow. Each is one

@@ -1,4 +1,4 @@
-//! Makes the finished map and judges whether a boot goes on with it. These stages don't need
+//! Makes the finished map and decides whether a boot goes on with it. These stages don't need
 //! memblock. The later stages get only the map's runs from the table of claims (`e820_sanitise`).
 
 ghost use Rattle.std.specs.Prelude.{◌≡◌, ◌↔◌, IfOk, IsErrOf, OnOk};
@@ -20,8 +20,8 @@ use e820_table::Entry;
 use std::alloc::Global;
 
 /// Returns the table of the finished map: the zero page's entries, the extension's entries, the
-/// options' edits, and the entries `added_entries` after the edits. Each part is settled, and the
-/// BIOS range is trimmed (`trim_bios_range`).
+/// options' edits, and the entries `added` after the edits. Each part is settled, and the BIOS
+/// range is trimmed (`trim_bios_range`).
 ///
 /// # Errors
 ///
@@ -69,8 +69,8 @@ fn append_and_sanitise(table: &mut Table, entries: &[Entry]) -> Result<(), Memor
     table.settle()
 }
 
-/// Makes the edits, appends the entries `added_entries` (`do_add_efi_memmap`), and settles the
-/// table (`e820__finish_early_params`).
+/// Makes the edits, appends the entries `added` (`do_add_efi_memmap`), and settles the table
+/// (`e820__finish_early_params`).
 fn edit_and_sanitise(table: &mut Table, edits: &[Edit], added: &[Entry]) -> Result<(), Memory>
     requires types { HaveTypes edits.now }
     requires added_end { EntriesFit added.now }
@@ -83,8 +83,8 @@ fn edit_and_sanitise(table: &mut Table, edits: &[Edit], added: &[Entry]) -> Resu
     append_and_sanitise(table, added)
 }
 
-/// Returns the map of the table's answer if the boot goes on with it: it has usable frames below
-/// the address `reach`, and not too many. Takes no memory.
+/// Returns the map if it has 1 to 2^32 usable frames below the address `reach`. `answer` is the
+/// table's result for its map. Allocates nothing.
 ///
 /// # Errors
 ///
@@ -105,8 +105,7 @@ pub fn accept_map(answer: Result<Vec<Run>, MapFault>, reach: u64) -> Result<Vec<
     }
 }
 
-/// Returns the map, or the stop if the judgement of its frames below `reach` refuses it. Takes no
-/// memory.
+/// Returns the map if it has 1 to 2^32 usable frames below the address `reach`. Allocates nothing.
 ///
 /// # Errors
 ///

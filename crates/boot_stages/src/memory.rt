@@ -216,8 +216,8 @@ fn limit_memory(memblock: &mut Memblock, end: u64) -> Result<(), Refusal>
     memblock.claim(up_to(ISA_END_ADDRESS), Owner::Low1M)
 }
 
-/// Makes memory from the map, below the limit of physical addresses, and makes the claims that
-/// come before nodes are known. Nothing may have happened to `memblock` yet.
+/// Makes memory from the map, below the limit of physical addresses, and makes the claims that come
+/// before nodes are known. `memblock` must be new.
 ///
 /// # Errors
 ///

@@ -28,7 +28,7 @@ use std::alloc::Global;
 /// boot takes these steps in order:
 ///
 /// 1. The zero page's entries, the extension's entries and the options' edits go into one table.
-///    The BIOS range is trimmed (`trim_bios_range`), and the map is judged.
+///    The BIOS range is trimmed (`trim_bios_range`), and the map is accepted, or the boot stops.
 /// 2. The map's memory becomes memblock's memory (`e820__memblock_setup`).
 /// 3. Memory gets its nodes (`initmem_init`).
 /// 4. The crash area is reserved (`reserve_crashkernel`).
@@ -38,7 +38,8 @@ use std::alloc::Global;
 /// 7. Each node gets its order of zones (`build_zonelists`), and the page script runs on a copy of
 ///    the free frames.
 ///
-/// A refused line of a script is answered, and the boot goes on.
+/// A refused line of a script doesn't stop the boot: its outcome is reported, and the next line
+/// runs.
 ///
 /// # Errors
 ///
@@ -81,7 +82,7 @@ pub fn boot(alloc: Global, inputs: Inputs) -> Result<Booted, Stop>
     Ok(hand_over_memory(alloc, memblock, inputs, map, later)?)
 }
 
-/// Returns the map of the finished table's claims if the boot goes on with it.
+/// Returns the map of the finished e820 table if the boot goes on with it ([`accept_map`]).
 ///
 /// # Errors
 ///
