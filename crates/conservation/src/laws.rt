@@ -1,6 +1,6 @@
-//! The four facts of each boot that isn't stopped, and how the map that it reports gives the
-//! usable frames. They are proved of the definition, without calling a stage. So they hold of any
-//! boot that returns what the definition says.
+//! The four facts of each boot that isn't stopped, and how the map that it reports gives the usable
+//! frames. They are proved for the definition of the boot, without calling a stage. So they hold
+//! for any boot that returns what the definition says.
 
 ghost use Rattle.std.specs.Prelude.{◌≡◌, ◌↔◌, ℕ, Ok};
 ghost use Rattle.page_alloc.specs.Pages.{HaveValidOrders};
@@ -9,8 +9,8 @@ ghost use Rattle.conservation.specs.Headline.{AllTouchedOrInOneBlock, BlocksAreM
 ghost use Rattle.conservation.specs.ByMap.{IsUsableByMap};
 ghost use Rattle.conservation.specs.FramePlacesAfterPages.{AllInOneBlockOrHeld, NoOtherInABlockOrHeld};
 
-/// Law: each usable frame is either touched by a claim with a recorded owner and in no block, or
-/// untouched and in exactly one block.
+/// Law: each usable frame is either touched by a claim or in a block, and never both. If it is
+/// touched, the claim has a recorded owner, and if not, it is in exactly one block.
 pub fn usable_frames_are_touched_or_in_one_block()
     ensures { (given : InputsView) (told : BootedView) → whole_boot given ≡ Ok told
         → AllTouchedOrInOneBlock given told }
@@ -29,8 +29,8 @@ pub fn blocks_are_whole()
         → BlocksAreWhole given told }
 {}
 
-/// Law: no block of an order below 10 lies in a set of twice as many frames that could be a block
-/// too.
+/// Law: each block is as large as possible. For an order below 10, the block and its buddy together
+/// couldn't be a block too.
 pub fn blocks_are_maximal()
     ensures { (given : InputsView) (told : BootedView) → whole_boot given ≡ Ok told
         → BlocksAreMaximal given told }
