@@ -22,7 +22,7 @@ pub fn put_journal(text: &mut Vec<u8>, journal: &Journal) -> Result<(), Memory>
     put_indexed_lines(text, journal.items(), put_item_line)
 }
 
-/// Appends the line of an item. Items are numbered from 1.
+/// Appends the line for an item of the journal: its number, counted from 1, and the item.
 fn put_item_line(text: &mut Vec<u8>, index: u64, item: &Item) -> Result<(), Memory>
     requires { index + 1 < 2 ^ 64 }
     ensures { PutsText text.old text.new result (item_line index item.now) }

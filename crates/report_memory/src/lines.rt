@@ -7,7 +7,7 @@ ghost use Rattle.report_memory.specs.Lines.{indexed_lines};
 
 use bm_base::Memory;
 
-/// Appends the line of each element, in their order. `put` appends one line; it gets the element
+/// Appends one line for each element, in their order. `put` appends the line; it gets the element
 /// and its index, from 0 on. The clause `lines` is for a `put` that also allocates other memory,
 /// the clause `puts` for one that doesn't.
 ///

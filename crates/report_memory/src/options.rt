@@ -14,9 +14,9 @@ use crate::ranges::{put_range, put_word_range};
 use bm_base::{Memory, put_dec, put_hex, put_text};
 use boot_options::{CrashOption, CrashPlain, CrashRange, Edit, Options};
 
-/// Appends the text of the options: a line for each edit, in the order of the command line, then
-/// the lines of the crash area. Lines for `numa=off` and `add_efi_memmap` follow, if the command
-/// line has them.
+/// Appends the text of the options: a line for each edit of the map, in the order of the command
+/// line, then those of the requested crash area. Lines for `numa=off` and `add_efi_memmap` follow,
+/// if the command line has them.
 ///
 /// # Errors
 ///
@@ -64,7 +64,7 @@ fn put_edit(text: &mut Vec<u8>, edit: &Edit) -> Result<(), Memory>
     }
 }
 
-/// Appends the number of a type, and a space.
+/// Appends the number of an address range's type (`enum e820_type`), and a space.
 fn put_kind(text: &mut Vec<u8>, kind: u32) -> Result<(), Memory>
     ensures { PutsText text.old text.new result (kind_text kind) }
 {
@@ -72,8 +72,9 @@ fn put_kind(text: &mut Vec<u8>, kind: u32) -> Result<(), Memory>
     put_text(text, b" ")
 }
 
-/// Appends the lines of the requested crash area: one for each range of the plain form, and one
-/// for each other form that is given.
+/// Appends the lines of the requested crash area: one for each range of
+/// `crashkernel=RANGE:SIZE,..`, and one for each other form of the option that the command line
+/// has.
 fn put_crash_lines(text: &mut Vec<u8>, crash: &CrashOption) -> Result<(), Memory>
     ensures { PutsText text.old text.new result (crash_lines (crash_option_view crash.now)) }
 {
@@ -82,7 +83,8 @@ fn put_crash_lines(text: &mut Vec<u8>, crash: &CrashOption) -> Result<(), Memory
     put_crash_size_line(text, b"crash low ", crash.low)
 }
 
-/// Appends a line for each range of the plain form, if it is given.
+/// Appends a line for each range of `crashkernel=RANGE:SIZE,..[@BASE]`, if the command line has
+/// that form.
 fn put_plain_lines(text: &mut Vec<u8>, plain: &Option<CrashPlain>) -> Result<(), Memory>
     ensures { PutsText text.old text.new result
         (plain_lines (option_map crash_plain_view plain.now)) }
@@ -102,7 +104,8 @@ fn put_plain_lines(text: &mut Vec<u8>, plain: &Option<CrashPlain>) -> Result<(),
     }
 }
 
-/// Appends a line: the word, a range of the plain form, and the base of the area.
+/// Appends the line for one range of `crashkernel=RANGE:SIZE,..[@BASE]`: `word`, the range and its
+/// size, then `base`, the address of the crash area. All numbers are in bytes.
 fn put_crash_range(
     text: &mut Vec<u8>,
     word: &[u8],
@@ -119,7 +122,8 @@ fn put_crash_range(
     put_text(text, b"\n")
 }
 
-/// Appends the bounds of a range of total memory, and the size that is set aside there.
+/// Appends the bounds of a range of total memory, and the size of the crash area for a machine with
+/// so much memory. All numbers are in bytes.
 #[tactic(auto, unfolding(crate::specs::OptionsText::crash_range_text))]
 fn put_crash_bounds(text: &mut Vec<u8>, range: &CrashRange) -> Result<(), Memory>
     ensures { PutsText text.old text.new result (crash_range_text range.now) }
@@ -141,7 +145,7 @@ fn put_crash_end(text: &mut Vec<u8>, end: Option<u64>) -> Result<(), Memory>
     }
 }
 
-/// Appends a line with the word and the size, if there is a size.
+/// Appends a line with `word` and the size in bytes, if there is a size.
 fn put_crash_size_line(text: &mut Vec<u8>, word: &[u8], size: Option<u64>) -> Result<(), Memory>
     ensures { PutsText text.old text.new result (crash_size_line word.now size) }
 {
@@ -153,7 +157,7 @@ fn put_crash_size_line(text: &mut Vec<u8>, word: &[u8], size: Option<u64>) -> Re
     put_text(text, b"\n")
 }
 
-/// Appends the line of `numa=off`, if the command line has it.
+/// Appends the line for `numa=off`, if the command line has that option.
 fn put_numa_line(text: &mut Vec<u8>, numa_off: bool) -> Result<(), Memory>
     ensures { PutsText text.old text.new result (numa_line numa_off) }
 {
@@ -163,7 +167,7 @@ fn put_numa_line(text: &mut Vec<u8>, numa_off: bool) -> Result<(), Memory>
     put_text(text, b"numa off\n")
 }
 
-/// Appends the line of `add_efi_memmap`, if the command line has it.
+/// Appends the line for `add_efi_memmap`, if the command line has that option.
 fn put_efi_line(text: &mut Vec<u8>, add_efi: bool) -> Result<(), Memory>
     ensures { PutsText text.old text.new result (efi_line add_efi) }
 {

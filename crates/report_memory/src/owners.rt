@@ -10,8 +10,8 @@ use crate::ranges::{put_index, put_range};
 use bm_base::{Memory, put_dec, put_text};
 use boot_journal::{Journal, Owner, OwnerRun, Which};
 
-/// Appends who owns which bytes at the end of the journal: a line for each run of bytes with one
-/// owner.
+/// Appends which owner has which bytes at the end of the journal: a line for each run of bytes with
+/// one owner.
 ///
 /// # Errors
 ///

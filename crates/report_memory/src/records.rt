@@ -1,6 +1,6 @@
-//! Writes the records of a table, as its bytes have them. There is no list of records for
-//! `put_lines`: each record is read from the store when its line is written. So the report shows
-//! what is in memory.
+//! Writes the records of a table, as its bytes have them. There is no list of records that
+//! `put_indexed_lines` could take: each record is read from the store when its line is written. So
+//! the report shows what is in memory.
 
 ghost use Rattle.std.specs.Prelude.{◌+◌, ◌^◌, ◌<◌, ◌≤◌};
 ghost use Rattle.bm_base.specs.PutsText.{PutsText};
@@ -30,7 +30,8 @@ pub fn put_records(text: &mut Vec<u8>, store: &Store, head: &Head) -> Result<(),
     Ok(())
 }
 
-/// Appends the line of a record. It must not be empty, and must end at or below 2^64.
+/// Appends the line for a record: `index` and the record's range. The record must not be empty, and
+/// must end at or below 2^64.
 fn put_record_line(text: &mut Vec<u8>, index: u64, region: &Region) -> Result<(), Memory>
     requires some { 0 < region.now.size }
     requires within { region.now.base + region.now.size ≤ 2 ^ 64 }

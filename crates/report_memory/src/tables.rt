@@ -21,7 +21,7 @@ pub fn put_tables(text: &mut Vec<u8>, heads: &Heads) -> Result<(), Memory>
     put_table_line(text, Which::Reserved, &heads.reserved)
 }
 
-/// Appends the line of a table.
+/// Appends the line for a table: its place, its room in records, and the number of its records.
 fn put_table_line(text: &mut Vec<u8>, which: Which, head: &Head) -> Result<(), Memory>
     ensures { PutsText text.old text.new result (table_line which head.now) }
 {
