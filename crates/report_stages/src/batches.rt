@@ -21,8 +21,8 @@ pub(crate) const BATCH_BLOCKS: u64 = 1024;
 /// The number of frames in these blocks.
 pub(crate) const BATCH_FRAMES: u64 = BATCH_BLOCKS << MAX_ORDER;
 
-/// Appends the line of each block of a row that fills 4 GiB or a multiple of it. Also allocates
-/// memory for the lines of 4 GiB, about 48 KB.
+/// Appends a line for each block of the row, which must fill 4 GiB or a multiple of it. Also
+/// allocates about 48 KB, for the lines of the first 4 GiB.
 ///
 /// # Errors
 ///
@@ -63,8 +63,8 @@ fn first_batch(alloc: Global, row: &BlockRow) -> Result<Vec<u8>, Memory>
     Ok(lines)
 }
 
-/// Overwrites the addresses in the lines of a batch, which then are those of the blocks from
-/// address `number * 2^32` on.
+/// Overwrites the addresses in the lines of a batch. Its blocks are then those from address `number
+/// * 2^32` on.
 fn overwrite_batch_addresses(batch: &mut Vec<u8>, number: u64)
     requires small { number < 2 ^ 32 }
     requires whole { length batch.old.items % 1024 ≡ 0 }

@@ -4,8 +4,8 @@
 //! The crate `report_memory` has the reports on the map, the journal and the tables. The reports
 //! here need the types of later stages, so they are in a crate of their own. Both crates have the
 //! same structure: the definition of a line in `specs/`, which can be compared with the
-//! documentation of the formats; the function that writes this line; and one call of `put_lines`.
-//! Each `put_` function appends the text of one report:
+//! documentation of the formats; the function that writes this line; and one call of
+//! `put_indexed_lines`. Each `put_` function appends the text of one report:
 //!
 //! - [`put_script`], [`put_pages`]: the outcome of each line of the early script, and of the page
 //!   script

@@ -28,8 +28,8 @@ pub fn put_zones(text: &mut Vec<u8>, spans: &[Span], buddy: &Buddy) -> Result<()
     })
 }
 
-/// Appends the numbers of free blocks by order, in the format of `/proc/buddyinfo`: a line for
-/// each span.
+/// Appends the numbers of free blocks, in the format of `/proc/buddyinfo`: a line for each span,
+/// with the number of blocks of each order from 0 to 10.
 ///
 /// # Errors
 ///
