@@ -1,11 +1,10 @@
 //! Renders the reports of a boot: their names, their texts, and lists of them.
 //!
 //! A report is a text of lines, in the style of the files in `/sys/kernel/debug`. [`Report`] lists
-//! the reports, [`report_named`] finds one by its name, and [`render`] returns its text, which is
-//! `shown_text` of `specs/Report.antt`. `memory` and `reserved` show the records in the bytes at
-//! the heads of memblock's two tables; every other report is made from the result of the boot,
-//! [`Booted`]. If these records are those that the boot's journal gives, the text is also
-//! `report_text`.
+//! the reports, [`report_named`] finds one by its name, and [`render`] returns its text (`render`
+//! of `specs/Report.antt`). `memory` and `reserved` show the records in the bytes at the heads of
+//! memblock's two tables; every other report is made from the result of the boot, [`Booted`]. If
+//! these records are those that the boot's journal gives, the text is also `report_text`.
 //!
 //! Two conditions must hold. The bytes at both heads are ascending lists of records
 //! (`specs/TableHeads.antt`); their flags and nodes may be any. The runs of the map ascend. Records

@@ -77,7 +77,8 @@ pub fn render_all(
     Ok(texts)
 }
 
-/// Returns the part of a report in the whole text.
+/// Returns the part of a report in the text of a list: its title if there are several, and its
+/// text.
 fn render_part(
     alloc: Global,
     report: Report,

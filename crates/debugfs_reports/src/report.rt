@@ -130,9 +130,9 @@ pub fn report_named(name: &[u8]) -> Option<Report>
     None
 }
 
-/// Returns the text of a report. `memory` and `reserved` show the records in the bytes at the
-/// heads of the two tables, even if the boot's journal gives other records. Allocates memory for
-/// the whole text.
+/// Returns the text of `report` for the boot with the results `booted`. `memory` and `reserved`
+/// show the records in the bytes at the heads of the two tables, even if the boot's journal gives
+/// other records. Allocates memory for the whole text.
 ///
 /// # Errors
 ///

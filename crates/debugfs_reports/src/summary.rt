@@ -54,7 +54,8 @@ fn frames_in_row(row: &BlockRow) -> u64
     row.count << row.order
 }
 
-/// Returns how full the table at this head is.
+/// Returns how full the table at this head is: its number of records, and the number that it has
+/// room for.
 fn fullness_of(head: &Head) -> Fullness
     ensures { result ≡ fullness_of head.now }
 {
