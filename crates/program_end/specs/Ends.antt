@@ -24,16 +24,16 @@ WritesOutcome program old new (Ok status) said =
 WritesOutcome program old new (Err (failures.NoResult error)) said = FitsError program.place error said
 WritesOutcome program old new (Err (failures.Output refusal)) said = IsOkAnd said (λ result. AppendsFront old new (program.text result))
 
--- what holds whether or not the files' contents are known. Without a result the output is as it
--- was. If the output refused the text, its counter `faults` rose; if it ran out of memory, its
--- counter `wants` rose.
+-- What holds whether or not the files' contents are known. Without a result the output is as it
+-- was. If the output refused the text, its counter `faults` rose. If memory ran out for the text,
+-- its counter `wants` rose.
 abbrev pub WritingHasCause : {S R : Type 0} → SinkOf S → (old new : S) → End R → Type 0
 WritingHasCause sink old new (Ok status) = Unit {0}
 WritingHasCause sink old new (Err (failures.NoResult error)) = new ≡ old
 WritingHasCause sink old new (Err (failures.Output put.Failed)) = Rose (sink.faults old) (sink.faults new)
 WritingHasCause sink old new (Err (failures.Output put.Memory)) = Rose (sink.wants old) (sink.wants new)
 
--- with a result the error output is as it was; with a failure its line was put (`PutsLine`)
+-- with a result the error output is as it was; with a failure its line was written (`PutsLine`)
 abbrev pub PutsEndLine : {E R : Type 0} → SinkOf E → (Failure R → List ℕ) → (old new : E) → End R → Type 0
 PutsEndLine errors line old new (Ok status) = new ≡ old
 PutsEndLine errors line old new (Err failure) = PutsLine errors old new (line failure)

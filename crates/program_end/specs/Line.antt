@@ -41,9 +41,9 @@ failure_line program file fault_line cause_line (failures.NoResult (errors.Reaso
 failure_line program file fault_line cause_line (failures.NoResult errors.Memory) = memory_line program
 failure_line program file fault_line cause_line (failures.Output refusal) = refusal_line program refusal
 
--- what putting a line does to the output, whose traits are `sink`: it appends the first bytes of
--- the line (`front`), and all of it (`whole`) unless the output's counter of faults or of out of
--- memory rose
+-- What writing a line does to the output, whose traits are `sink`. It appends the first bytes of
+-- the line (`front`). It appends all of it (`whole`) unless one of the output's two counters rose:
+-- that of faults, or that of puts without memory.
 pub record PutsLine {S : Type 0} (sink : SinkOf S) (old new : S) (line : List ℕ) : Type 0 where
   pub front : AppendsFront (sink.written old) (sink.written new) line
   pub whole : Appends (sink.written old) (sink.written new) line ⊎ Rose (sink.faults old) (sink.faults new)

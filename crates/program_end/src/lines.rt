@@ -1,6 +1,6 @@
-//! The line of a failure on the error output. It is put in chunks, so no memory is allocated for
-//! it. If the error output refuses a chunk, the chunks after it aren't put, and nothing else
-//! changes.
+//! Writes the line of a failure to the error output. It is written in chunks, so no memory is
+//! allocated for it. If the error output refuses a chunk, the chunks after it aren't written, and
+//! nothing else changes.
 
 ghost use Rattle.std.specs.Prelude.{◌≡◌, ℕ, List, flat_map};
 ghost use Rattle.program_end.specs.Ends.{PutsEndLine};
@@ -9,12 +9,12 @@ ghost use Rattle.program_end.specs.Line.{PutsLine, failure_line, reason_line, re
 use crate::failure::{Failure, NoResult, Reason};
 use bm_io::{Put, Sink, put_all};
 
-/// The texts in which one program's lines of failures differ from another's: its name, the names
-/// of its files, and the lines of faults `F` and causes `C`.
+/// The texts in which one program's error lines differ from another's: its name, the names of its
+/// files, and the lines for faults `F` and causes `C`.
 pub trait Lines<I, F, C> {
-    // `program_name` is the program's name. `file_name` is the name of an input's file, empty if
-    // it has none. `fault_line` is the line of a fault of an input's file, and `cause_line` the
-    // line of a cause.
+    // `program_name` is the program's name. `file_name` is the name of an input's file, empty if it
+    // has none. `fault_line` is the line for a fault of an input's file, and `cause_line` the line
+    // for a cause.
     ghost program_name: { List ℕ };
 
     ghost file_name: { Self → I → List ℕ };
@@ -31,16 +31,17 @@ pub trait Lines<I, F, C> {
     fn file(&self, input: I) -> &str
         ensures { result.now ≡ file_name self.now input };
 
-    /// Puts the line of this fault of the input's file.
+    /// Writes to `err` the error line for `fault` in the file of `input`.
     fn put_fault_line<E: Sink>(err: &mut E, input: I, fault: F)
         ensures { PutsLine E.Sink err.old err.new (fault_line input fault) };
 
-    /// Puts the line of this cause.
+    /// Writes to `err` the line that says why the program stopped.
     fn put_cause_line<E: Sink>(err: &mut E, cause: C)
         ensures { PutsLine E.Sink err.old err.new (cause_line cause) };
 }
 
-/// Puts the line of a program's failure. If the program ended with a result, nothing is put.
+/// Writes to `err` the one line that says why a program failed. Writes nothing if the program ended
+/// with a result.
 pub fn put_end_line<E: Sink, I: Copy, F: Copy, C: Copy, L: Lines<I, F, C>>(
     err: &mut E,
     lines: &L,
@@ -54,7 +55,7 @@ pub fn put_end_line<E: Sink, I: Copy, F: Copy, C: Copy, L: Lines<I, F, C>>(
     }
 }
 
-/// Puts the line of this failure.
+/// Writes to `err` the line for this failure.
 fn put_failure_line<E: Sink, I: Copy, F: Copy, C: Copy, L: Lines<I, F, C>>(
     err: &mut E,
     lines: &L,
@@ -86,14 +87,14 @@ fn put_reason_line<E: Sink, I: Copy, F: Copy, C: Copy, L: Lines<I, F, C>>(
     }
 }
 
-/// Puts the line of a file that couldn't be read. `file` is its name.
+/// Writes to `err` the line `PROGRAM: cannot read FILE`.
 fn put_unread_line<'a, E: Sink>(err: &mut E, program: &'a str, file: &'a str)
     ensures { PutsLine E.Sink err.old err.new (unread_line program.now file.now) }
 {
     put_line(err, &[program, ": cannot read ", file, "\n"])
 }
 
-/// Puts the line of an output that refused the text or ran out of memory.
+/// Writes to `err` why the output didn't get its text: it refused it, or memory ran out.
 fn put_refusal_line<'a, E: Sink>(err: &mut E, program: &'a str, refusal: Put)
     ensures { PutsLine E.Sink err.old err.new (refusal_line program.now refusal) }
 {
@@ -103,7 +104,7 @@ fn put_refusal_line<'a, E: Sink>(err: &mut E, program: &'a str, refusal: Put)
     }
 }
 
-/// Puts the chunks of a line in order, up to the first chunk that the error output refuses.
+/// Writes the chunks of a line to `err`, in order, up to the first chunk that `err` refuses.
 pub fn put_line<E: Sink>(err: &mut E, chunks: &[&str])
     ensures { PutsLine E.Sink err.old err.new (flat_map (λ chunk. chunk.now) chunks.now) }
 {
