@@ -68,7 +68,7 @@ impl<'w> Names for BootmemArgs<'w> {
     }
 }
 
-/// Returns the argument that names the input's file.
+/// Returns the name of the argument that gives the file of the input.
 fn argument_of(input: Input) -> &'static str
     ensures { result.now ≡ argument_of input }
 {

@@ -11,8 +11,8 @@ const FEWEST_ENTRIES: u32 = 2;
 /// The greatest number of entries of a made table.
 const MOST_ENTRIES: u32 = 3000;
 
-/// Returns the number of entries if the option has a value. Returns `Some(None)` without a value,
-/// and `None` exactly if the value is refused.
+/// Returns the number of entries if `--make` has a value, which must be 2 to 3000. Returns
+/// `Some(None)` without the option, and `None` exactly if the value is refused.
 pub fn made_entry_count(value: Option<&str>) -> Option<Option<u32>>
     ensures value { result ≡ made_entry_count (option_copied value.entry) }
     ensures facts { IfSome result (λ made. IfSome made IsEntryCount) }

@@ -1,4 +1,4 @@
-//! The program as a command of `clap`, and the matches that this command finds. All calls of
+//! The program as a command of `clap`, and the matches that `clap` finds for it. All calls of
 //! `clap` are in this file. The other files see only the values of arguments, by the argument's
 //! name.
 
@@ -34,11 +34,11 @@ const OPTIONS: [(&str, ArgAction); 13] = [
     ("make", ArgAction::Set),
 ];
 
-/// Returns the values that the command finds for its arguments in the words.
+/// Returns the values that `clap` finds in the words, for each argument of the command.
 ///
 /// # Errors
 ///
-/// - [`ArgsError::Usage`] if the command refuses the words.
+/// - [`ArgsError::Usage`] if `clap` refuses the words.
 /// - [`ArgsError::Memory`] if this program is out of memory.
 pub fn match_words<'w>(alloc: Global, words: &'w [String]) -> Result<ArgMatches<'w>, ArgsError>
     ensures matches { IfOk result (λ matches.
@@ -72,14 +72,15 @@ pub fn arg_value_in<'w>(matches: &ArgMatches<'w>, name: &str) -> Option<&'w str>
     matches.get_str(name)
 }
 
-/// Returns whether the command line has the flag: `clap` finds `true` for it then, else `false`.
+/// Returns whether the flag is among the words: `clap` finds `true` for it then, else `false`.
 pub fn is_on(matches: &ArgMatches<'_>, flag: &str) -> bool
     ensures { result ≡ is_on (arg_value_in (rows_of (found_of matches.now))) flag.now }
 {
     arg_value_in(matches, flag) == Some("true")
 }
 
-/// Returns the command: its options and the name of the zero page. Fails only if out of memory.
+/// Returns the command line of `bootmem` for `clap`: its options and the name of the zero page.
+/// Fails only if out of memory.
 fn bootmem_command<'w>(alloc: Global) -> Result<Command<'w>, Memory>
     ensures { IfOk result (λ command. app_of command ≡ bootmem_command) }
 {

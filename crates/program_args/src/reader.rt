@@ -1,5 +1,5 @@
-//! From the words to what they ask for. `clap` knows the options but not the meaning of their
-//! values. What the values mean is checked here, after `clap` has taken the words.
+//! Reads the command line. `clap` knows the options but not the meaning of their values. What the
+//! values mean is checked here, after `clap` has read the words.
 
 ghost use Rattle.std.specs.Prelude.{◌≡◌, IsErrOf, IsSome, ℕ, ◌+◌, ◌*◌, ◌/◌, ◌≤◌, ◌↔◌, List};
 ghost use Rattle.std.specs.Option.{option_copied};
@@ -65,7 +65,7 @@ pub fn read_args<'w>(alloc: Global, words: &'w [String]) -> Result<BootmemArgs<'
     args_from_values(alloc, match_words(alloc, words)?)
 }
 
-/// Returns whether the first entries have one source: they are made, or come from a zero page, to
+/// Returns whether the first entries have exactly one source: a made table, or a zero page, to
 /// which an extension may add.
 fn has_source(matches: &ArgMatches<'_>) -> bool
     ensures { result ≡ has_source (arg_value_in (rows_of (found_of matches.now))) }
@@ -91,7 +91,7 @@ fn width_in(matches: &ArgMatches<'_>) -> Width
     }
 }
 
-/// Returns what the values that were found ask for.
+/// Returns what the values that `clap` found ask for.
 ///
 /// # Errors
 ///
@@ -127,7 +127,7 @@ fn args_from_values<'w>(
     })
 }
 
-/// Returns the list of requested reports, if each name in it is that of a report.
+/// Returns the list of requested reports, or `None` if a name in it is that of no report.
 fn report_list_in<'w>(matches: &ArgMatches<'w>) -> Option<&'w str>
     ensures { option_copied result
         ≡ report_list_in (arg_value_in (rows_of (found_of matches.now))) }
@@ -140,9 +140,9 @@ fn report_list_in<'w>(matches: &ArgMatches<'w>) -> Option<&'w str>
     }
 }
 
-/// Law: a command line that is spelled by the grammar gets what its values ask for, and is refused
-/// exactly if that is. Such a command line has, in any order, options with values, flags, and the
-/// name of the zero page, no argument twice. The value of an option is the next word or follows
+/// Law: if the words follow the grammar, reading them has the same result as checking their values,
+/// be it success or an error. The grammar allows options with values, flags, and the name of the
+/// zero page, in any order, no argument twice. The value of an option is the next word or follows
 /// `=`. Neither the name nor a value that is the next word begins with a hyphen.
 pub fn spelled_args_are_read()
     ensures { (spellings : List Spelling) → AreSpellings spellings
