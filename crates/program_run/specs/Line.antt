@@ -43,12 +43,12 @@ table_name which.Reserved = codes "reserved"
 abbrev pub no_table_place_line : List ℕ → ℕ → List ℕ
 no_table_place_line name room = codes "bootmem: stopped: no place for table " ++ (name ++ (codes " room " ++ (decimal room ++ codes "\n")))
 
--- a thing that the boot can't do without found no place; `number` is that of its node, root or
--- section
+-- an allocation that the boot can't do without found no place; `number` is that of its node, root
+-- or section
 abbrev pub no_numbered_place_line : List ℕ → ℕ → List ℕ
 no_numbered_place_line name number = codes "bootmem: stopped: no place for " ++ (name ++ (codes " " ++ (decimal number ++ codes "\n")))
 
--- a thing, numbered or not, found no place
+-- an allocation, numbered or not, found no place
 abbrev pub no_place_line : What → List ℕ
 no_place_line (what.NodeData node) = no_numbered_place_line (codes "node-data") node
 no_place_line what.Roots = codes "bootmem: stopped: no place for roots\n"

@@ -47,7 +47,7 @@ pub fn read_boot_inputs<F: Files>(
     }
 }
 
-/// Returns `inputs`; if `entries` is a number (2 to 3000), a made table with so many entries
+/// Returns `inputs`. If `entries` is a number (2 to 3000), a made table with so many entries
 /// replaces those of the zero page and of the extension. Runs out of memory only for more than 128
 /// entries.
 fn with_made_table(alloc: Global, inputs: Inputs, entries: Option<u32>) -> Result<Inputs, Memory>

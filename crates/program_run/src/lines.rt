@@ -1,4 +1,4 @@
-//! The lines of `bootmem`'s failures.
+//! Writes the error lines of `bootmem`.
 
 ghost use Rattle.std.specs.Prelude.{◌≡◌};
 ghost use Rattle.std.specs.Option.{option_map};
@@ -15,8 +15,8 @@ use memblock_model::Which;
 use program_args::BootmemArgs;
 use program_end::{Lines, put_line};
 
-/// The lines of `bootmem`'s failures. `wanted` is the accepted command line, which names the
-/// files; `None` if the command line isn't accepted.
+/// Writes the error lines of `bootmem`. `wanted` is the accepted command line, which names the
+/// files, or `None` if it was refused.
 #[derive(Clone, Copy)]
 pub struct BootmemLines<'a, 'w> {
     pub wanted: Option<&'a BootmemArgs<'w>>,
@@ -52,8 +52,7 @@ impl<'a, 'w> Lines<Input, Fault, Cause> for BootmemLines<'a, 'w> {
     }
 }
 
-/// Puts the line of a fault of the input `name`. The last branch is never taken, since out of
-/// memory is no fault of a file's bytes (`bytes_want_no_memory`).
+/// Writes to `err` the line `bootmem: NAME: FAULT` for `fault` in the file of the input `name`.
 fn put_input_fault_line<E: Sink>(err: &mut E, name: &'static str, fault: Fault)
     ensures { PutsLine E.Sink err.old err.new (named_input_fault_line name.now fault) }
 {
@@ -79,6 +78,7 @@ fn put_input_fault_line<E: Sink>(err: &mut E, name: &'static str, fault: Fault)
             let offset = buffer.format(offset);
             put_line(err, &["bootmem: ", name, ": ", what, " at ", offset, "\n"])
         }
+        // Never taken: out of memory is no file's fault (`exhaustion_is_no_file_fault`).
         None => put_line(err, &["bootmem: out of memory\n"]),
     }
 }
@@ -107,7 +107,7 @@ fn put_stop_cause_line<E: Sink>(err: &mut E, cause: Cause)
     }
 }
 
-/// Puts the line of a boot that stopped because `what` found no place.
+/// Writes to `err` why the boot stopped: no free memory fits the allocation `what`.
 fn put_no_place_line<E: Sink>(err: &mut E, what: What)
     ensures { PutsLine E.Sink err.old err.new (no_place_line what) }
 {
@@ -120,8 +120,8 @@ fn put_no_place_line<E: Sink>(err: &mut E, what: What)
     }
 }
 
-/// Puts the line of a boot that stopped because a numbered thing found no place. `number` is that
-/// of its node, root or section.
+/// Writes to `err`: `bootmem: stopped: no place for NAME NUMBER`. `number` is the number of the
+/// node, section root or section that the allocation is for.
 fn put_no_numbered_place_line<'a, E: Sink>(err: &mut E, name: &'a str, number: u32)
     ensures { PutsLine E.Sink err.old err.new (no_numbered_place_line name.now number) }
 {
@@ -143,7 +143,8 @@ fn table_name(which: Which) -> &'static str
     }
 }
 
-/// Puts the line of a boot that stopped because a table found no place for `room` records.
+/// Writes to `err` why the boot stopped: the table `name` of memblock, with room for `room`
+/// records, was full, and no free memory fits a larger one.
 fn put_no_table_place_line<'a, E: Sink>(err: &mut E, name: &'a str, room: u64)
     ensures { PutsLine E.Sink err.old err.new (no_table_place_line name.now room) }
 {

@@ -128,7 +128,7 @@ pub fn run<F: Files, S: Sink, E: Sink>(
         (read_args (bytes_of_words words.now)) input)
         → (result ≡ 0) ⊎ (result ≡ 7)) }
 
-    // What `err` has: nothing with status 0, else the line of a failure with this status. The
+    // What `err` has: nothing with status 0, else the line for a failure with this status. The
     // failure has its cause and fits the outcome.
     ensures silent { result ≡ 0 → err.new ≡ err.old }
     ensures line { result ≢ 0 → (failure : AnyFailure AnyReason) × (result ≡ failure_status failure)
@@ -143,7 +143,7 @@ pub fn run<F: Files, S: Sink, E: Sink>(
     exit_status(end)
 }
 
-/// Runs the program and puts the line of its failure. Returns the status of its result, or the
+/// Runs the program, and writes to `err` why it failed. Returns the status of its result, or the
 /// failure.
 fn run_to_end<F: Files, S: Sink, E: Sink>(
     alloc: Global,
