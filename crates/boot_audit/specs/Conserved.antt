@@ -26,7 +26,7 @@ pub record IsSoundBlock (blocks : List BlockLineView) (b : BlockLineView) : Type
   pub in_zone : is_in_zone b ≡ true
   pub maximal : could_merge blocks b ≡ false
 
--- memory was conserved, by these lines, below the limit
+-- these lines show that memory was conserved below the address `limit`
 pub record LinesConserveMemory (limit : ℕ) (map_lines : List MapLine) (owners : List RangeView) (blocks : List BlockLineView) : Type 0 where
   -- each usable frame is either touched or in exactly one block
   pub frames : (frame : ℕ) → is_usable limit map_lines frame ≡ true → IsTouchedOrInOne owners blocks frame
@@ -35,6 +35,6 @@ pub record LinesConserveMemory (limit : ℕ) (map_lines : List MapLine) (owners 
       → (is_usable limit map_lines frame ≡ true) × (is_untouched owners frame ≡ true)
   pub each : All (IsSoundBlock blocks) blocks
 
--- memory was conserved, by the saved lines
+-- the saved lines show that memory was conserved, for physical addresses of this width
 abbrev pub SavedConservesMemory : Saved → Width → Type 0
 SavedConservesMemory saved width = LinesConserveMemory (reach_of width) saved.map.items saved.owners.items saved.blocks.items

@@ -43,7 +43,7 @@ report_word reports.Blocks = codes "blocks"
 abbrev pub numbered_line : List ℕ → ℕ → List ℕ → List ℕ
 numbered_line name line what = codes "bootaudit: " ++ (name ++ (codes ": line " ++ (decimal line ++ (codes ": " ++ (what ++ codes "\n")))))
 
--- the line of a line's fault
+-- the line for a fault of one line of a report
 abbrev pub line_fault_line : List ℕ → LineFault → List ℕ
 line_fault_line name (line_faults.Form line) = numbered_line name line (codes "form")
 line_fault_line name (line_faults.Order line) = numbered_line name line (codes "order")
@@ -57,7 +57,7 @@ named_fault_line name (faults.Line fault) = line_fault_line name fault
 abbrev pub report_fault_line : SavedReport → ReportFault → List ℕ
 report_fault_line report fault = named_fault_line (report_word report) fault
 
--- there is no cause, so this text is never put
+-- there is no cause, so this text is never written
 abbrev pub impossible_cause_text : NoCause → List ℕ
 impossible_cause_text cause = []
 

@@ -27,7 +27,7 @@ pub enum ReportFault {
     Line(LineFault),
 }
 
-/// The causes for which well-formed reports have no verdict: there is none.
+/// An empty type: well-formed reports always have a verdict.
 #[derive(Clone, Copy)]
 pub enum NoCause {}
 

@@ -46,8 +46,8 @@ pub struct Saved {
 }
 
 /// Returns the verdict on saved reports, for physical addresses of this width: `Sound`, or the
-/// first fault, in the order of the other variants of [`Verdict`]. It allocates nothing, so it
-/// never fails. A frame in the verdict is below 2^40.
+/// first fault, in the order of the other variants of [`Verdict`]. Allocates nothing, so the result
+/// is always `Ok`. A frame in the verdict is below 2^40.
 pub fn judge(saved: &Saved, width: Width) -> Result<Verdict, Memory>
     requires map_order { AscendApart (map (λ l. l.range) saved.now.map.items) }
     requires owner_order { AscendApart (map (λ r. r) saved.now.owners.items) }
@@ -75,7 +75,8 @@ pub fn judge(saved: &Saved, width: Width) -> Result<Verdict, Memory>
     }
 }
 
-/// Law: the verdict is `Sound` exactly if memory was conserved, by the lines of these reports.
+/// Law: the verdict is `Sound` exactly if the lines of these reports show that memory was
+/// conserved.
 pub fn sound_verdict_conserves_memory(saved: &Saved, width: Width)
     requires order { AscendApart (map bytes_of_block saved.now.blocks.items) }
     requires fit { All IsBlockLine saved.now.blocks.items }

@@ -1,4 +1,4 @@
-//! The lines of the audit's failures.
+//! Writes the error lines of the audit.
 
 ghost use Rattle.std.specs.Prelude.{◌≡◌, []};
 ghost use Rattle.std.specs.Option.{option_map};
@@ -13,8 +13,8 @@ use bm_io::Sink;
 use itoa::Buffer;
 use program_end::{Lines, put_line};
 
-/// The lines of the audit's failures. `names` is the accepted command line; `None` if it isn't
-/// accepted.
+/// Writes the audit's error lines. `names` is the accepted command line, or `None` if it was
+/// refused.
 #[derive(Clone, Copy)]
 pub struct AuditLines<'a, 'w> {
     pub names: &'a Option<AuditArgs<'w>>,
@@ -48,7 +48,7 @@ impl<'a, 'w, C: Copy> Lines<SavedReport, ReportFault, C> for AuditLines<'a, 'w> 
     fn put_cause_line<E: Sink>(_err: &mut E, _cause: C) {}
 }
 
-/// Puts the line of a fault of the report `word`.
+/// Writes to `err` the line for a fault of the report `word`.
 fn put_named_fault_line<'a, E: Sink>(err: &mut E, word: &'a str, fault: ReportFault)
     ensures { PutsLine E.Sink err.old err.new (named_fault_line word.now fault) }
 {
@@ -67,7 +67,8 @@ fn put_line_fault_line<E: Sink>(err: &mut E, word: &str, fault: LineFault)
     }
 }
 
-/// Puts the line of a fault in line number `line` of the report, counted from 1.
+/// Writes to `err` the line `bootaudit: WORD: line LINE: WHAT`. Lines of a report are counted from
+/// 1.
 fn put_numbered_line<'a, E: Sink>(err: &mut E, word: &'a str, line: u64, what: &'a str)
     ensures { PutsLine E.Sink err.old err.new (numbered_line word.now line what.now) }
 {

@@ -121,7 +121,7 @@ pub fn audit<F: Files, S: Sink, E: Sink>(
         (read_audit_args (map string_bytes words.now)) report)
         → (result ≡ verdict_status verdict) ⊎ (result ≡ 7)) }
 
-    // What `err` has: nothing with a verdict, else the line of a failure with this status. The
+    // What `err` has: nothing with a verdict, else the line for a failure with this status. The
     // failure has its cause and fits the outcome.
     ensures silent { (result ≡ 0) ⊎ (result ≡ 8) → err.new ≡ err.old }
     ensures line { result ≢ 0 → result ≢ 8 → (failure : AnyFailure AnyReason)

@@ -20,7 +20,7 @@ use bm_base::{FRAME_SIZE, Range};
 /// The address at which the sweep ends; each block ends at or below it.
 const END: u64 = 1 << 52;
 
-/// What the sweep says of a byte.
+/// How a byte fits the blocks: whether it is in a block exactly if it is free.
 #[derive(Clone, Copy, Debug, PartialEq, Eq)]
 pub enum ByteState {
     /// It is in a block and free, or in no block and not free.
@@ -31,12 +31,12 @@ pub enum ByteState {
     Lost,
 }
 
-/// The frames that the sweep found.
+/// The faulty frames that the sweep found. At most one of the fields has a frame.
 #[derive(Clone, Copy)]
 pub struct FrameFaults {
-    /// The least frame in a block that isn't free.
+    /// The least frame that isn't free but in a block.
     pub not_free: Option<u64>,
-    /// The least frame that is free and in no block; `None` if `not_free` has a frame.
+    /// The least frame that is free and in no block. Always `None` if `not_free` has a frame.
     pub lost: Option<u64>,
 }
 
@@ -268,8 +268,8 @@ fn first_whole_frame(from: u64, until: u64) -> Option<u64>
     Some(frame)
 }
 
-/// Returns the first lost frame so far, and the address from which all bytes up to the piece's end
-/// are lost. `lost` and `from` are these two before the piece.
+/// Returns the first lost frame so far, and the address from which all bytes up to the end of
+/// `piece` are lost. `lost` and `from` are these two values before `piece`.
 fn advance_lost_frame(lost: Option<u64>, from: u64, piece: StateRun) -> (Option<u64>, u64)
     requires { from ≤ 2 ^ 52 }
     ensures { result ≡ advance_lost_frame lost from piece.until piece.state }
@@ -281,7 +281,9 @@ fn advance_lost_frame(lost: Option<u64>, from: u64, piece: StateRun) -> (Option<
     (lost, piece.until)
 }
 
-/// Returns the least frame of each fault, for addresses below `limit`. The blocks must be aligned.
+/// Returns the least frame that isn't free but in a block. Only if there is none, returns the least
+/// frame that is lost: free, but in no block. Frames are free only below the address `limit`. The
+/// blocks must be aligned.
 pub fn sweep(saved: &Saved, limit: u64) -> FrameFaults
     requires map_order { AscendApart (map (λ l. l.range) saved.now.map.items) }
     requires owner_order { AscendApart (map (λ r. r) saved.now.owners.items) }
