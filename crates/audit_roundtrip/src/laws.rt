@@ -34,8 +34,8 @@ pub fn owners_are_read_back()
         → report_of owner_in (λ r. r) (owners_text runs) ≡ Ok (map extent_of runs) }
 {}
 
-/// Law: the lines of blocks are read as these blocks. The blocks must be ascending and disjoint,
-/// of orders up to 10, and end at or below 2^52. There must be fewer than 2^64 blocks.
+/// Law: the text of blocks is read as these blocks. The blocks must be ascending and disjoint, of
+/// orders up to 10, and end at or below 2^52. There must be fewer than 2^64 blocks.
 pub fn blocks_are_read_back()
     ensures { (blocks : List Block) → length blocks < 2 ^ 64 → All IsPrintableBlock blocks
         → AscendApart (map bytes_of_block (map line_of_block blocks))
