@@ -34,8 +34,8 @@ pub fn booted_lines_conserve_memory()
         (map line_of_block (booted_blocks told)) }
 {}
 
-/// Law: the three reports of a successful boot are read back as its lines, provided its addresses
-/// and numbers are in the ranges of the program's types.
+/// Law: the three reports of a successful boot are read back as the boot's map, owners and blocks,
+/// provided its addresses and numbers are in the ranges of the program's types.
 pub fn booted_reports_are_read_back()
     ensures map { (given : InputsView) (told : BootedView) → whole_boot given ≡ Ok told
         → IsPrintableBoot told
@@ -51,8 +51,8 @@ pub fn booted_reports_are_read_back()
         ≡ Ok (map line_of_block (booted_blocks told)) }
 {}
 
-/// Law: if the files that an audit names contain the three reports of such a boot, then memory was
-/// conserved by them, and the outcome of the audit is `Sound`.
+/// Law: if the files that an audit names contain the three reports of such a boot, they show that
+/// memory was conserved, and the outcome of the audit is `Sound`.
 pub fn saved_reports_are_sound()
     ensures conserved { (given : InputsView) (told : BootedView) → whole_boot given ≡ Ok told
         → IsPrintableBoot told
