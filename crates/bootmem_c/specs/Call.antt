@@ -32,12 +32,12 @@ abbrev pub outcome_status : Result (List ℕ) InputsReason → ℕ
 outcome_status (Ok text) = 0
 outcome_status (Err reason) = reason_status reason
 
--- the line of an outcome: empty for a text
+-- the error line of an outcome: empty for a text
 abbrev pub outcome_line : Option BootmemArgsView → Result (List ℕ) InputsReason → List ℕ
 outcome_line read_args (Ok text) = []
 outcome_line read_args (Err reason) = bootmem_failure_line read_args (failures.NoResult (errors.Reason reason))
 
--- the line of the call's outcome: empty for a text, and also if a word isn't UTF-8
+-- the error line of the call's outcome: empty for a text, and also if a word isn't UTF-8
 abbrev pub call_line : List Bytes → List File → List ℕ
 call_line words files =
     if are_utf8 (lent_words words) then outcome_line (read_lent_args (lent_words words)) (outcome_of words files) else []

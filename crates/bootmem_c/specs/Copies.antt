@@ -13,11 +13,11 @@ pub record CopiesText (text : List ℕ) (old new : Text) : Type 0 where
   pub fits : length text ≤ length old.room.now → IsFront text old.room.now new.room.now
   pub short : length old.room.now < length text → new.room.now ≡ old.room.now
 
--- the text so far, and whether memory ran out for a part of it
+-- the text so far, and whether part of it is missing because memory ran out
 pub record TextSinkView : Type 0 where
   pub text : List ℕ
   pub is_short : Bool
 
--- the counter of puts that ran out of memory: at its greatest value from the first one on
+-- the counter of puts without memory: 0 until memory runs out, and from then on the greatest value
 abbrev pub wants_of : TextSinkView → ℕ
 wants_of written = if written.is_short then 2 ^ 64 - 1 else 0

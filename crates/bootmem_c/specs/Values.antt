@@ -24,8 +24,8 @@ use Rattle.bootmem_c.specs.declared.values.MemoryNode.{MemoryNode}
 use Rattle.bootmem_c.specs.declared.values.MemoryRange.{MemoryRange}
 use Rattle.bootmem_c.specs.declared.values.ZoneSpan.{ZoneSpan}
 
--- `told` is the number of all values. The buffer begins with as many of them as it has room for,
--- and the rest of it is as it was.
+-- `told` is the number of all values that the call returns. The buffer begins with as many of them
+-- as it has room for, and the rest of it is as it was.
 pub record CopiesValues {T : Type 0} (values old new : List T) (told : ℕ) : Type 0 where
   pub count : told ≡ length values
   pub front : new ≡ take (length old) values ++ drop (length values) old

@@ -50,9 +50,9 @@ pub extern "C" fn bootmem_map(
     }
 }
 
-/// Writes the crash area, its low part, and why there is none to `out`. Returns the exit status:
-/// that of the outcome, or 7 if out of memory. A part that the boot didn't reserve has base and
-/// size 0. With a status other than 0 every number is 0.
+/// Writes to `out` the crash area, its part below 4 GiB, and why there is or isn't an area. Returns
+/// the exit status: that of the outcome, or 7 if out of memory. A part that the boot didn't reserve
+/// has base and size 0. With a status other than 0 every number is 0.
 #[unsafe(no_mangle)]
 pub extern "C" fn bootmem_crash(
     alloc: Global,

@@ -14,9 +14,10 @@ use crate::words::{NoStrings, strings_of_words};
 use program_run::run;
 use std::alloc::Global;
 
-/// Runs `bootmem`: `words` are the words after the program's name, and `files` the files that they
-/// may name. The reports go to `out`, the line of a failure to `err`. Returns the exit status:
-/// that of the outcome (0, 2, 3, 5 or 6), or 7 if out of memory, also if only the line needed it.
+/// Runs `bootmem`. `words` are the words after the program's name, and `files` the files that they
+/// may name. The reports go to `out`, and the line that says why the program failed to `err`.
+/// Returns the exit status: that of the outcome (0, 2, 3, 5 or 6), or 7 if out of memory, even if
+/// only the error line needed it.
 #[unsafe(no_mangle)]
 pub extern "C" fn bootmem_run(
     alloc: Global,
@@ -54,7 +55,7 @@ pub extern "C" fn bootmem_run(
 }
 
 /// Runs the program over these words and files, with empty outputs. Returns the exit status. If
-/// memory ran out for the line, `line` says so.
+/// memory ran out for the error line, `line.is_short` returns true afterwards.
 fn run_lent(
     alloc: Global,
     words: &[Bytes<'_>],
@@ -81,7 +82,8 @@ fn run_lent(
     }
 }
 
-/// Returns the status of a run that put this line: 7 if memory ran out for the line.
+/// Returns the status of a run that wrote this error line: 7 if memory ran out for the line, else
+/// `ran`.
 fn status_with(ran: u8, line: &TextSink) -> u8
     ensures whole { line.now.is_short ≡ false → result ≡ ran }
     ensures short { line.now.is_short ≡ true → result ≡ 7 }
@@ -100,8 +102,8 @@ fn text_after(status: u8, report: &TextSink) -> &[u8]
     &[]
 }
 
-/// Returns what `err` gets: nothing with status 0, the line of out of memory with 7, and else the
-/// line that was put.
+/// Returns the text for `err`: empty with status 0, the line that says out of memory with 7, and
+/// else the error line that the run wrote.
 fn line_after(status: u8, line: &TextSink) -> &[u8]
     ensures silent { status ≡ 0 → result.now ≡ [] }
     ensures memory { status ≡ 7 → result.now ≡ memory_said }

@@ -7,7 +7,8 @@ use bm_io::{Put, Sink};
 use std::alloc::Global;
 use std::marker::Model;
 
-/// A text to which each put appends. A put fails only if this program is out of memory.
+/// A text in memory to which each put of the program appends. A put fails only if this program is
+/// out of memory.
 #[derive(Drop)]
 pub struct TextSink {
     text: Vec<u8>,
@@ -40,7 +41,7 @@ impl TextSink {
         self.text.as_slice()
     }
 
-    /// Tests whether memory ran out for a part of the text.
+    /// Returns whether part of the text is missing because memory ran out.
     pub fn is_short(&self) -> bool
         ensures { result ≡ self.now.is_short }
     {
@@ -53,7 +54,8 @@ impl Sink for TextSink {
 
     ghost faults = { λ s. 0 };
 
-    // 0 until memory runs out, and from then on the greatest value.
+    // The counter of puts without memory: 0 until memory runs out, and from then on the greatest
+    // value.
     ghost wants = { λ s. wants_of s };
 
     fn put(&mut self, chunk: &[u8]) -> Result<(), Put>

@@ -35,8 +35,7 @@ pub struct MapRuns<'a> {
     pub count: usize,
 }
 
-/// The crash area and its low part, in bytes, and the number of the reservation's outcome. A part
-/// that isn't reserved has base and size 0.
+/// The crash area and its part below 4 GiB: base and size in bytes, both 0 if there is none.
 #[repr(C)]
 #[derive(Clone, Copy)]
 pub struct CrashArea {
@@ -44,7 +43,8 @@ pub struct CrashArea {
     pub size: u64,
     pub low_base: u64,
     pub low_size: u64,
-    /// The number of the outcome: 1 if the area is reserved, and else why it isn't.
+    /// Why there is or isn't an area: one of `BOOTMEM_CRASH_..` in `bootmem.h`. 1 means that the
+    /// area is reserved.
     pub state: u32,
 }
 
@@ -149,7 +149,7 @@ impl MapRun {
 }
 
 impl CrashArea {
-    /// Returns the value for no crash area, with the number of the outcome.
+    /// Returns the value for no crash area. `state` says why there is none.
     pub fn none(state: u32) -> CrashArea
         ensures { result ≡ parts_value state None None }
     {
@@ -179,7 +179,7 @@ impl CrashArea {
     }
 }
 
-/// Returns the number of an outcome of the reservation (`BOOTMEM_CRASH_..` in C).
+/// Returns the number that says in C why there is or isn't a crash area (`BOOTMEM_CRASH_..`).
 fn crash_state(crash: &Crash) -> u32
     ensures { result ≡ state_value crash.now }
 {
