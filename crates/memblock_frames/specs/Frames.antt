@@ -30,8 +30,8 @@ node_of_frame memory frame = node_of_label (memory (FRAME_SIZE * frame))
 unfoldable pub is_unclaimed : Labels → ℕ → Bool
 is_unclaimed reserved frame = each_in (bytes_of_frame frame) (λ x. is_none (reserved x))
 
--- the node of a frame that is free by both tables: all of it is memory, and no byte of it is
--- reserved
+-- the node of a frame that is free by both tables, memory and reserved: all of the frame is memory,
+-- and no byte of it is reserved
 unfoldable pub free_node_in : Labels → Labels → ℕ → Option ℕ
 free_node_in memory reserved frame =
     if each_in (bytes_of_frame frame) (λ x. is_some (memory x) && is_none (reserved x)) then node_of_frame memory frame else None

@@ -14,7 +14,7 @@ abbrev pub AscendBelow : ℕ → List (RunOf LabelView) → Type 0
 AscendBelow bound [] = Unit {0}
 AscendBelow bound (r ∷ rs) = (0 < r.size) × (run_end r ≤ bound) × StartAtOrPast (run_end r) rs × AscendBelow bound rs
 
--- the bytes at the head are such a list, and its room is below 2^64
+-- the bytes at the head are such an ascending list of records, and its room ends below 2^64
 pub record HasRecords (store : List ExtentView) (head : Head) (bound : ℕ) : Type 0 where
   pub few : head.count ≤ head.room
   pub fits : head.place + 24 * head.room < 2 ^ 64
