@@ -9,7 +9,7 @@ use Rattle.buddy_blocks.specs.declared.block.Block.{Block}
 use Rattle.buddy_blocks.specs.declared.run.TheConstants.{MAX_FRAMES}
 use Rattle.buddy_blocks.specs.Frames.{Frames}
 
--- the node is n
+-- the node is n; false for no node (`None`)
 abbrev pub is_node : Option ℕ → ℕ → Bool
 is_node None n = false
 is_node (Some m) n = m == n
@@ -31,6 +31,8 @@ greatest_free_order f x n (suc m) = if are_free f (suc m) x n then suc m else gr
 abbrev pub block_around : ℕ → ℕ → ℕ → Block
 block_around order x n = record { order = order; first = x - x % 2 ^ order; node = n; zone = zone_of (x - x % 2 ^ order) }
 
+-- the block that has frame x, if x is free on this node: of the largest order up to 10 whose set
+-- around x is free; none if x isn't free
 abbrev pub block_for : Frames → ℕ → Option ℕ → Option Block
 block_for f x None = None
 block_for f x (Some n) = Some (block_around (greatest_free_order f x n 10) x n)
@@ -39,7 +41,7 @@ block_for f x (Some n) = Some (block_around (greatest_free_order f x n 10) x n)
 abbrev pub block_of : Frames → ℕ → Option Block
 block_of f x = block_for f x (f x)
 
--- the list with the block before it, if the frame is the block's first
+-- the list with the block added as its first, if the block begins at this frame; else the list
 abbrev pub prepend_block_at : ℕ → Option Block → List Block → List Block
 prepend_block_at x None bs = bs
 prepend_block_at x (Some b) bs = if b.first == x then b ∷ bs else bs
@@ -53,6 +55,7 @@ blocks_from f x (suc n) = prepend_block_at x (block_of f x) (blocks_from f (x + 
 unfoldable pub blocks_of : Frames → List Block
 blocks_of f = blocks_from f 0 MAX_FRAMES
 
+-- the two zones are the same
 abbrev pub is_same_zone : Zone → Zone → Bool
 is_same_zone zone.Dma zone.Dma = true
 is_same_zone zone.Dma32 zone.Dma32 = true

@@ -32,7 +32,7 @@ buddy_first order x = other_half (x / 2 ^ order) * 2 ^ order
 abbrev pub buddy_of : Block → ℕ → ℕ → Block
 buddy_of b order x = record b { order = order; first = buddy_first order x }
 
--- c is a buddy of x in b, of an order from `low` to below `until`
+-- c is the buddy, inside block b, of the set around x of some order from `low` to below `until`
 pub record IsBuddy (b : Block) (low until x : ℕ) (c : Block) : Type 0 where
   pub order : ℕ
   pub from : low ≤ order

@@ -25,16 +25,16 @@ pub record IsPicked (f : Frames) (node : ℕ) (zone : Zone) (order : ℕ) (b : B
 abbrev pub NoneServes : Frames → ℕ → Zone → ℕ → Type 0
 NoneServes f node zone order = (b : Block) → IsBlock f b → Serves node zone order b → ⊥
 
--- the block that is picked, as a function: the first order with a block, of the k orders from
--- `order` on, and the first block of that order
+-- the block from which the request is served, as a function: of the k orders from `order` on, the
+-- first one that has a block there, and the lowest block of that order
 abbrev pub picked_block_from : Frames → ℕ → Zone → ℕ → ℕ → Option Block
 picked_block_from f node zone order zero = None
 picked_block_from f node zone order (suc k) = option_or (find (is_block_of node zone order) (blocks_of f)) (picked_block_from f node zone (order + 1) k)
 
--- the block that is picked, of an order up to 10
+-- the block from which a request for `order` is served; orders go up to 10
 unfoldable pub picked_block : Frames → ℕ → Zone → ℕ → Option Block
 picked_block f node zone order = picked_block_from f node zone order (11 - order)
 
--- the first frame of the block that is picked
+-- the first frame of the block from which the request is served
 abbrev pub picked_first_frame : Frames → ℕ → Zone → ℕ → Option ℕ
 picked_first_frame f node zone order = option_map (λ b. b.first) (picked_block f node zone order)
