@@ -31,8 +31,8 @@ pub record AreLargestAlike (b next : Block) : Type 0 where
   pub node : next.node ≡ b.node
   pub zone : next.zone ≡ b.zone
 
--- the second list has what the first has, and the buddies of x in b of the orders from `low` to
--- below `until`
+-- the second list has what the first has, and also the buddies, inside block b, of the sets around
+-- x of the orders from `low` to below `until`
 abbrev pub AddsBuddies : Block → ℕ → ℕ → ℕ → List Block → List Block → Type 0
 AddsBuddies b low until x old new = (c : Block) → ListsBlock new c ↔ (IsBuddy b low until x c ⊎ ListsBlock old c)
 
