@@ -26,8 +26,8 @@ first_page_state f = record { frames = f; held = λ id. None }
 abbrev pub with_held : ℕ → Option Held → (ℕ → Option Held) → ℕ → Option Held
 with_held id what held i = if id == i then what else held i
 
--- a request for 2^order frames, if `first` is the first frame of the block that is picked: the
--- first 2^order frames of that block are allocated, and the ID holds them
+-- a request for 2^order frames, if `first` is the first frame of the block from which it is served:
+-- the first 2^order frames of that block are allocated, and the ID holds them
 abbrev pub allocate_frames : PageState → ℕ → ℕ → ℕ → Option ℕ → PageOutcome × PageState
 allocate_frames s id order node None = (outcomes.NoBlock, s)
 allocate_frames s id order node (Some first) = (
