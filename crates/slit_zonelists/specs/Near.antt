@@ -22,12 +22,13 @@ has_block s order z = is_some (picked_first_frame s.frames z.node z.zone order)
 abbrev pub first_zone : PageState → ℕ → List ListZone → Option ListZone
 first_zone s order zs = find (has_block s order) zs
 
--- the request to that zone, or `NoBlock` if there is no such zone
+-- the same request to that zone alone, or `NoBlock` if there is no such zone
 abbrev pub take_from_zone : PageState → ℕ → ℕ → Option ListZone → PageOutcome × PageState
 take_from_zone s id order None = (outcomes.NoBlock, s)
 take_from_zone s id order (Some z) = page_step s (acts.Pages id order z.node z.zone)
 
--- the request to the zones in that order, or `Taken` if the ID already holds something
+-- the request to the first of the zones that has such a block, or `Taken` if the ID already holds
+-- something
 abbrev pub take_from_nearest : PageState → ℕ → ℕ → List ListZone → Option Held → PageOutcome × PageState
 take_from_nearest s id order zs (Some what) = (outcomes.Taken, s)
 take_from_nearest s id order zs None = take_from_zone s id order (first_zone s order zs)
