@@ -46,14 +46,14 @@ abbrev pub map_unless_stopped : Option MapStop → List (RunOf ℕ) → Result (
 map_unless_stopped None map = Ok map
 map_unless_stopped (Some reason) map = Err (stop_of (cause_of_map reason))
 
--- what the boot makes of the table's answer: it judges the map's frames below `reach`, the limit
--- of physical addresses
+-- what the boot makes of the table's result for its map: the map if it has 1 to 2^32 usable frames
+-- below `reach`, the limit of physical addresses; else the stop
 abbrev pub accept_map : ℕ → MapAnswer → Result (List (RunOf ℕ)) Stop
 accept_map reach (Ok runs) = map_unless_stopped (judge_frames (types_below reach (value_at runs.items))) runs.items
 accept_map reach (Err fault) = Err (stop_of_map fault)
 
--- The table's answer decides how the map's stage ends. It says nothing if the program was out of
--- memory.
+-- The table's result for its map decides how the map's stages end: with a map by its usable frames,
+-- with too many runs by a stop. It decides nothing if the program was out of memory.
 abbrev pub DecidesMapStages : InputsView → MapAnswer → Type 0
 DecidesMapStages given (Ok runs) = judge_map given ≡ usable_frames_stage given (begin_with_map runs.items given.options)
 DecidesMapStages given (Err (faults.MapFull runs)) = judge_map given ≡ Err (causes.MapFull runs)
@@ -77,11 +77,11 @@ IsFreeByStore store heads buddy =
 abbrev pub HoldsFills : List Fill → MemblockView → Type 0
 HoldsFills fills m = AreBytesFromHistory m.kernel m.journal.items fills (byte_of m.tables.store)
 
--- what the boot made, after lines of the script that ended with memblock `m`
+-- what the boot has made after lines of the script, when memblock is `m`
 abbrev pub made_after_lines : BootSoFar → MemblockView → LiveView → List Fill → List Answer → BootSoFar
 made_after_lines made m ids fills answers = record made { items = m.journal.items; ids = ids; fills = fills; answers = answers }
 
--- what the boot made after all stages, with memblock `m` and the results `later`
+-- what the boot has made after all stages, when memblock is `m` and `later` has their results
 abbrev pub made_after_stages : InputsView → List (RunOf ℕ) → MemblockView → Later → LiveView → List Fill → BootSoFar
 made_after_stages given map m later ids fills = record {
   map = map;
