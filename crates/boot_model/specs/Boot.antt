@@ -176,11 +176,11 @@ efi_entries (Some efi) = efi.entries
 abbrev pub added_entries : InputsView → List Entry
 added_entries given = if given.options.add_efi then efi_entries given.efi else []
 
--- the claims of the finished map
+-- the claims of the finished map: the typed ranges that the entries and the edits give
 abbrev pub claims : InputsView → Claims
 claims given = final_claims given.entries given.extension given.options.edits (added_entries given)
 
--- the heads of the tables of these items
+-- the heads of memblock's two tables after these items
 abbrev pub heads_of : RangeView → List Item → Heads
 heads_of kernel items = record {
   memory = head_of (table_for which.Memory kernel items);
@@ -239,7 +239,7 @@ begin_with_map map options = record {
   answers = [];
 }
 
--- a boot begins with the map of its claims
+-- a boot begins with the map that its claims give
 abbrev pub begin_boot : InputsView → BootSoFar
 begin_boot given = begin_with_map (map_of (claims given)) given.options
 
@@ -251,7 +251,7 @@ types_in_reach given = types_below (reach given) (kinds (claims given))
 abbrev pub map_size_stage : Stage
 map_size_stage made = if nat_lt E820_MAX_ENTRIES (length made.map) then Err (causes.MapFull (length made.map)) else Ok made
 
--- what was made, unless the map is stopped for the reason
+-- goes on with what was made, unless the map is refused for this reason
 abbrev pub unless_stopped : Option MapStop → Stage
 unless_stopped None made = Ok made
 unless_stopped (Some reason) made = Err (cause_of_map reason)
@@ -261,7 +261,7 @@ unless_stopped (Some reason) made = Err (cause_of_map reason)
 abbrev pub usable_frames_stage : InputsView → Stage
 usable_frames_stage given made = unless_stopped (judge_frames (types_in_reach given)) made
 
--- the stages that judge the map
+-- the stages that accept the map or stop the boot
 abbrev pub map_stages : InputsView → List Stage
 map_stages given = map_size_stage ∷ usable_frames_stage given ∷ []
 
@@ -277,12 +277,12 @@ script_state kernel made = record {
   answers = made.answers;
 }
 
--- what was made, with the state that the lines of the script left
+-- what was made, with the state in which the lines of the script ended
 abbrev pub with_script_state : BootSoFar → ScriptSoFar → BootSoFar
 with_script_state made s = record made { items = s.state.items; ids = s.state.ids; fills = s.fills; answers = s.answers }
 
--- The lines of the early script are carried out. A line that is refused is answered, and the boot
--- goes on.
+-- The lines of the early script are carried out. A refused line gets its outcome, and the boot goes
+-- on with the next line.
 abbrev pub script_stage : RangeView → List Line → Stage
 script_stage kernel lines made = Ok (with_script_state made (script_after_lines (script_state kernel made) lines))
 
@@ -291,7 +291,8 @@ abbrev pub finish_stage : {E A : Type 0} → (E → Cause) → (A → BootSoFar 
 finish_stage cause put next (Ok a) = Ok (put a next)
 finish_stage cause put next (Err error) = Err (cause error)
 
--- the same for the steps of a stage: their items come after those that were made before
+-- the end of a stage made of steps, as `finish_stage`: the items of the steps come after those that
+-- were made before
 abbrev pub finish_steps : {E A : Type 0} → (E → Cause) → (A → BootSoFar → BootSoFar) → BootSoFar → StepEffect E A → Result BootSoFar Cause
 finish_steps cause put made done = finish_stage cause put (record made { items = items_after_step made.items done }) done.answer
 

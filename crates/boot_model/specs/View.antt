@@ -22,7 +22,7 @@ use Rattle.boot_model.specs.Sections.{SectionPlaces}
 abbrev pub efi_map_view : EfiMap → EfiMapView
 efi_map_view m = record { entries = m.entries.items; mirrors = map frame_range_of m.mirrors.items }
 
--- the inputs as the definition has them
+-- what contracts see of the inputs
 abbrev pub inputs_view : Inputs → InputsView
 inputs_view i = record {
   entries = i.zero.entries.items;
@@ -44,7 +44,7 @@ inputs_view i = record {
 abbrev pub sections_view : Roots → Vec Placed Global → SectionPlaces
 sections_view roots placed = record { roots = roots_view roots; placed = placed.items }
 
--- what a boot made, as the definition has it
+-- what contracts see of the results of a boot
 abbrev pub booted_view : Booted → BootedView
 booted_view b = record {
   width = b.width;
