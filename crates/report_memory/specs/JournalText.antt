@@ -28,5 +28,6 @@ item_text (item.Grown which place room) =
 abbrev pub item_line : ℕ → Item → List ℕ
 item_line n i = decimal (n + 1) ++ codes ": " ++ item_text i ++ codes "\n"
 
+-- the journal: a line for each item, oldest first
 abbrev pub journal_text : List Item → List ℕ
 journal_text items = indexed_lines item_line 0 items

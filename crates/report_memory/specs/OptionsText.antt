@@ -10,7 +10,7 @@ use Rattle.boot_options.specs.Crash.{CrashOptionView, CrashPlainView}
 use Rattle.boot_options.specs.Options.{OptionsView}
 use Rattle.report_memory.specs.Lines.{indexed_lines, range_text}
 
--- the number of a type, and a space
+-- the number of an address range's type (`enum e820_type`), and a space
 abbrev pub kind_text : ℕ → List ℕ
 kind_text kind = decimal kind ++ codes " "
 
@@ -31,13 +31,13 @@ abbrev pub crash_end_text : Option ℕ → List ℕ
 crash_end_text None = codes "-"
 crash_end_text (Some end) = hex_text end
 
--- a range of the plain form: its start and its end in total memory, and the size that is set aside
--- there
+-- a range of `crashkernel=RANGE:SIZE,..`: its start and its end in total memory, and the size of
+-- the crash area for a machine with so much memory; all in bytes
 unfoldable pub crash_range_text : CrashRange → List ℕ
 crash_range_text range = hex_text range.start ++ codes " " ++ crash_end_text range.end ++ codes " " ++ hex_text range.size
 
--- the line of such a range, with the base of the area, which is 0 if the kernel chooses the place;
--- the index isn't printed
+-- the line of such a range, with the base address of the area, which is 0 if the kernel chooses the
+-- place; the index isn't printed
 abbrev pub crash_range_line : ℕ → ℕ → CrashRange → List ℕ
 crash_range_line base n range = codes "crash range " ++ crash_range_text range ++ codes " base " ++ hex_text base ++ codes "\n"
 
@@ -54,11 +54,11 @@ crash_size_line word (Some size) = word ++ hex_text size ++ codes "\n"
 abbrev pub crash_lines : CrashOptionView → List ℕ
 crash_lines crash = plain_lines crash.plain ++ crash_size_line (codes "crash high ") crash.high ++ crash_size_line (codes "crash low ") crash.low
 
--- a line if the SRAT isn't used
+-- a line for `numa=off`, if the command line has it
 abbrev pub numa_line : Bool → List ℕ
 numa_line numa_off = if numa_off then codes "numa off\n" else []
 
--- a line if the entries of the EFI map are added to the map
+-- a line for `add_efi_memmap`, if the command line has it
 abbrev pub efi_line : Bool → List ℕ
 efi_line add_efi = if add_efi then codes "efi add\n" else []
 
