@@ -27,5 +27,6 @@ outcome_text outcomes.TooLargeFill = codes "fill too large"
 abbrev pub answer_line : ℕ → Answer → List ℕ
 answer_line n answer = decimal answer.line ++ codes ": " ++ outcome_text answer.outcome ++ codes "\n"
 
+-- the outcomes of the early script: a line for each of its lines
 abbrev pub script_text : List Answer → List ℕ
 script_text answers = indexed_lines answer_line 0 answers

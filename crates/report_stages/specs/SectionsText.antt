@@ -26,5 +26,6 @@ section_line n s =
 abbrev pub roots_text : RootsView → List ℕ
 roots_text roots = roots_line roots.table ++ indexed_lines root_line 0 roots.roots
 
+-- the places of the sections: the roots, and then a line for each section with memory
 abbrev pub sections_text : RootsView → List Placed → List ℕ
 sections_text roots placed = roots_text roots ++ indexed_lines section_line 0 placed

@@ -48,6 +48,7 @@ zones_text f spans = indexed_lines (zone_line (blocks_of f)) 0 spans
 abbrev pub block_count_text : List Block → ℕ → Zone → ℕ → List ℕ
 block_count_text blocks node z order = padded_decimal 6 (count_by (is_block_of node z order) blocks) ++ codes " "
 
+-- the numbers of blocks of the node and the zone, by order from 0 to 10
 unfoldable pub block_counts_text : List Block → ℕ → Zone → List ℕ
 block_counts_text blocks node z = flat_map (block_count_text blocks node z) (range_with_len 0 (MAX_ORDER + 1))
 
@@ -57,5 +58,6 @@ buddyinfo_line blocks n s =
     codes "Node " ++ decimal s.node ++ codes ", zone " ++ padded_zone s.zone ++ codes " "
     ++ block_counts_text blocks s.node s.zone ++ codes "\n"
 
+-- the free blocks in the format of `/proc/buddyinfo`: a line for each span
 abbrev pub buddyinfo_text : Frames → List Span → List ℕ
 buddyinfo_text f spans = indexed_lines (buddyinfo_line (blocks_of f)) 0 spans
