@@ -26,6 +26,7 @@ use Rattle.report_stages.specs.SummaryText.{summary_text}
 use Rattle.report_stages.specs.ListsText.{zonelists_text}
 use Rattle.report_stages.specs.ZonesText.{buddyinfo_text, zones_text}
 
+-- the name of a report, by which a user requests it
 abbrev pub report_name : Report → List ℕ
 report_name reports.Map = codes "map"
 report_name reports.Options = codes "options"
@@ -46,6 +47,7 @@ report_name reports.Pagesinfo = codes "pagesinfo"
 report_name reports.Zonelists = codes "zonelists"
 report_name reports.Summary = codes "summary"
 
+-- all reports; each name is that of one of these
 abbrev pub all_reports : List Report
 all_reports =
     reports.Map ∷ reports.Options ∷ reports.Nodes ∷ reports.Memory ∷ reports.Reserved ∷ reports.Owners ∷ reports.Journal ∷ reports.Crash
@@ -56,6 +58,7 @@ all_reports =
 abbrev pub first_report_named : List Report → List ℕ → Option Report
 first_report_named reports name = find (λ report. bytes_eq name (report_name report)) reports
 
+-- the report with this name, if there is one
 abbrev pub report_named : List ℕ → Option Report
 report_named name = first_report_named all_reports name
 
@@ -90,6 +93,6 @@ render reports.Summary told records = summary_text (summary_of told)
 abbrev pub journal_records : BootedView → TableRecords
 journal_records told = record { memory = records_of which.Memory told.items; reserved = records_of which.Reserved told.items }
 
--- the text if those are the records at the heads
+-- the text of a report if the records at the heads are those that the boot's journal gives
 abbrev pub report_text : Report → BootedView → List ℕ
 report_text report told = render report told (journal_records told)

@@ -23,17 +23,20 @@ reports_in list = filter_map report_named (report_names_in list)
 abbrev pub report_title : Bool → Report → List ℕ
 report_title several report = if several then codes "== " ++ report_name report ++ codes "\n" else []
 
--- the part of a report in the whole text, for the records at the heads; and for the records that
--- the journal gives
+-- the part of a report in the whole text: its title if it is one of several, and its text, for
+-- these records of the two tables
 abbrev pub render_part : Bool → BootedView → TableRecords → Report → List ℕ
 render_part several told records report = report_title several report ++ render report told records
 
+-- the part of a report in the whole text, for the records that the journal gives
 abbrev pub report_part : Bool → BootedView → Report → List ℕ
 report_part several told report = render_part several told (journal_records told) report
 
--- the whole text of a list of reports: the parts one after another, in the order of the list
+-- the whole text of a list of reports, for these records: the parts one after another, in the order
+-- of the list
 abbrev pub render_list : List Report → BootedView → TableRecords → List ℕ
 render_list reports told records = flat_map (render_part (nat_lt 1 (length reports)) told records) reports
 
+-- the whole text of a list of reports, for the records that the journal gives
 abbrev pub report_list_text : List Report → BootedView → List ℕ
 report_list_text reports told = render_list reports told (journal_records told)
