@@ -19,9 +19,9 @@ use Rattle.program_args.specs.Grammar.{is_faultless, bootmem_command}
 use Rattle.program_args.specs.Kernel.{kernel_range_of}
 use Rattle.program_args.specs.Mirrors.{mirrors_of_value}
 
--- `named` gives the name of each input's file, if it has one; `inputs_without_files` has the inputs
--- that the command line itself gives; `made` is the number of entries of a made table, if one is
--- made in place of a zero page
+-- `named` gives the name of each input's file, if it has one; `begun` has the inputs that the
+-- command line itself gives; `reports` are the requested reports; `made` is the number of entries
+-- of a made table, if one is made in place of a zero page
 pub record BootmemArgsView : Type 0 where
   pub named : FileNames
   pub begun : InputsView
@@ -63,7 +63,7 @@ has_source value =
     then not (is_some (file_name_in value inputs.ZeroPage)) && not (is_some (file_name_in value inputs.Extension))
     else is_some (file_name_in value inputs.ZeroPage)
 
--- the flag is on: its value is `true`
+-- the flag is among the words: `clap` gives it the value `true` then
 abbrev pub is_on : ArgValues → List ℕ → Bool
 is_on value flag = bytes_eq (unwrap_or (value flag) (codes "false")) (codes "true")
 
@@ -88,7 +88,7 @@ report_list_in value = if are_reports (requested_list value) then Some (requeste
 abbrev pub command_line_inputs : Width → RangeView → List RangeView → Bool → InputsView
 command_line_inputs width kernel mirrors upward = record (inputs_without_files width kernel) { mirrors = map frame_range_of mirrors; upward = upward }
 
--- `Some` if the test holds; used to refuse
+-- `Some` if the test holds, else `None`, by which a command line is refused
 abbrev pub some_if : Bool → Option (Unit {0})
 some_if false = None
 some_if true = Some tt
@@ -108,6 +108,6 @@ args_from_values value = do
     made = made;
   })
 
--- what the words ask for, `None` if the command refuses them or their values are refused
+-- what the words ask for, `None` if `clap` refuses them or their values are refused
 abbrev pub read_args : List (List ℕ) → Option BootmemArgsView
 read_args words = if is_faultless words then args_from_values (arg_value_in (matches_of bootmem_command words)) else None

@@ -65,6 +65,6 @@ bare_app = record (new_app (codes "bootmem")) {
 unfoldable pub bootmem_command : App
 bootmem_command = with_positional (fold with_option bare_app options) (codes "ZEROPAGE")
 
--- the command takes the words
+-- `clap` accepts the words for this command
 abbrev pub is_faultless : List (List ℕ) → Bool
 is_faultless words = length (fault_of bootmem_command words) == 0

@@ -1,4 +1,4 @@
--- What contracts see of a `BootmemArgsView`.
+-- What contracts see of an accepted command line.
 use Rattle.clap.specs.Words.{found_of, rows_of}
 use Rattle.debugfs_reports.specs.ReportList.{reports_in}
 use Rattle.program_args.specs.declared.args.BootmemArgs.{BootmemArgs as WantedBy}
