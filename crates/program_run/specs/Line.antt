@@ -16,7 +16,7 @@ use Rattle.boot_model.specs.declared.stop.Cause.{Cause}
 use Rattle.boot_model.specs.declared.stop.Cause.TheVariants as causes
 use Rattle.program_args.specs.Args.{BootmemArgsView}
 
--- the line of a diagnostic of the input `name`. A fault of a file's bytes always has a diagnostic
+-- the line for a diagnostic of the input `name`. A fault of a file's bytes always has a diagnostic
 -- (`IsOfBytes`).
 abbrev pub diagnostic_line : List ℕ → Option Diagnostic → List ℕ
 diagnostic_line name None = memory_line (codes "bootmem")
@@ -30,7 +30,7 @@ diagnostic_line name (Some (Diagnostic.Line line what)) =
 diagnostic_line name (Some (Diagnostic.Offset what offset)) =
     codes "bootmem: " ++ (name ++ (codes ": " ++ (what ++ (codes " at " ++ (decimal offset ++ codes "\n")))))
 
--- the line of a fault of the input `name`
+-- the line for a fault in the file of the input `name`
 abbrev pub named_input_fault_line : List ℕ → Fault → List ℕ
 named_input_fault_line name fault = diagnostic_line name (diagnostic_of fault)
 
@@ -39,16 +39,16 @@ abbrev pub table_name : Which → List ℕ
 table_name which.Memory = codes "memory"
 table_name which.Reserved = codes "reserved"
 
--- a table found no place for `room` records
+-- the line for a full table with room for `room` records, if no free memory fits a larger one
 abbrev pub no_table_place_line : List ℕ → ℕ → List ℕ
 no_table_place_line name room = codes "bootmem: stopped: no place for table " ++ (name ++ (codes " room " ++ (decimal room ++ codes "\n")))
 
--- an allocation that the boot can't do without found no place; `number` is that of its node, root
--- or section
+-- the line for an allocation that the boot can't do without, if no free memory fits it; `number` is
+-- that of its node, root or section
 abbrev pub no_numbered_place_line : List ℕ → ℕ → List ℕ
 no_numbered_place_line name number = codes "bootmem: stopped: no place for " ++ (name ++ (codes " " ++ (decimal number ++ codes "\n")))
 
--- an allocation, numbered or not, found no place
+-- the line for such an allocation, numbered or not
 abbrev pub no_place_line : What → List ℕ
 no_place_line (what.NodeData node) = no_numbered_place_line (codes "node-data") node
 no_place_line what.Roots = codes "bootmem: stopped: no place for roots\n"
@@ -56,7 +56,7 @@ no_place_line (what.Root root) = no_numbered_place_line (codes "root") root
 no_place_line (what.Usage section) = no_numbered_place_line (codes "usage") section
 no_place_line (what.Map section) = no_numbered_place_line (codes "map") section
 
--- the line of the cause for which the boot stops
+-- the line that says for which cause the boot stops
 abbrev pub stop_cause_line : Cause → List ℕ
 stop_cause_line causes.NoRam = codes "bootmem: stopped: no usable frame\n"
 stop_cause_line (causes.TooMuchRam frames) = codes "bootmem: stopped: " ++ (decimal frames ++ codes " usable frames\n")
@@ -76,6 +76,6 @@ input_fault_line input fault = named_input_fault_line (input_word input) fault
 abbrev pub bootmem_name : List ℕ
 bootmem_name = codes "bootmem"
 
--- the line of a failure; file names are those of the accepted command line
+-- the line that says why the program failed; file names are those of the accepted command line
 abbrev pub bootmem_failure_line : Option BootmemArgsView → Failure InputsReason → List ℕ
 bootmem_failure_line accepted failure = failure_line bootmem_name (input_file_text accepted) input_fault_line stop_cause_line failure

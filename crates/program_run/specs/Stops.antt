@@ -14,6 +14,7 @@ abbrev pub reason_by_cause : Option Cause → NoInputs
 reason_by_cause None = errors.Memory
 reason_by_cause (Some cause) = errors.Reason (reasons.Stopped cause)
 
+-- why a boot that stops gives no report: the cause of the stop, or out of memory
 abbrev pub no_report : Stop → NoInputs
 no_report stop = reason_by_cause (cause_of stop)
 

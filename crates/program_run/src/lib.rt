@@ -1,17 +1,17 @@
 //! The program `bootmem` over any files, output and error output.
 //!
 //! [`run`] reads the words after the program's name (the command line) and the files that they
-//! name, boots with them, and writes the reports. The definition `outcome` (`specs/Outcome.antt`)
-//! says what it writes, in four steps. The command line gives what is asked for (`program_args`),
-//! and the files' bytes give the inputs (`boot_inputs`). The inputs give the memory after the boot
-//! (`boot_model`), and that gives the text of the reports (`debugfs_reports`). The kernel's
-//! command line is one of the input files.
+//! name, boots with them, and writes the reports. `bootmem_outcome` (`specs/Outcome.antt`) defines
+//! what it writes, in four steps. The command line gives what is asked for (`program_args`), and
+//! the files' bytes give the inputs (`boot_inputs`). The inputs give the memory after the boot
+//! (`boot_model`), and that gives the text of the reports (`debugfs_reports`). The kernel's command
+//! line is one of the input files.
 //!
-//! The layer above may rest on this: `run` does what `outcome` says, unless a file can't be read,
-//! the output refuses the text, or this program is out of memory. In the first two cases a counter
-//! of faults rose, that of the file's name or that of the output. How a program ends, and which
-//! line a failure puts, is defined for any program over files (`program_end`); this one is
-//! `bootmem` (`specs/Bootmem.antt`).
+//! The layer above may rest on this: `run` does what `bootmem_outcome` says, unless a file can't be
+//! read, the output refuses the text, or this program is out of memory. In the first two cases a
+//! counter of faults rose, that of the file's name or that of the output. How a program ends, and
+//! which line it writes if it fails, is defined for any program over files (`program_end`); this
+//! one is `bootmem` (`specs/Bootmem.antt`).
 //!
 //! `bootmem_cli` runs it on the files and streams of the operating system. [`read_boot_inputs`] and
 //! [`no_report`] serve a caller that boots without writing reports (`bootmem_c`).

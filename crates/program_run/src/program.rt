@@ -63,9 +63,9 @@ pub fn no_report(stop: Stop) -> NoReport
 /// - 6: the boot stops for a cause, such as a map without a usable frame.
 /// - 7: out of memory.
 ///
-/// With status 0 nothing is put to `err`, and otherwise the one line of the failure. If `err`
-/// refuses it, the status stays the same. With 2, 3, 5 and 6 nothing is put to `out`. With 4 and 7
-/// `out` may have the first part of the text.
+/// With status 0 nothing is written to `err`, and otherwise one line that says why the program
+/// failed. If `err` refuses it, the status stays the same. With 2, 3, 5 and 6 nothing is written to
+/// `out`. With 4 and 7 `out` may have the first part of the text.
 ///
 /// `holds` gives what each file contains, if the type of `files` knows it, as that of files in
 /// memory does. For the files of the operating system it is `None`. The clauses on
