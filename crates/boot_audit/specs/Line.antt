@@ -39,7 +39,7 @@ report_word reports.Map = codes "map"
 report_word reports.Owners = codes "owners"
 report_word reports.Blocks = codes "blocks"
 
--- a fault of a line of the report, counted from 1
+-- the line for a fault of one line of the report; lines are counted from 1
 abbrev pub numbered_line : List ℕ → ℕ → List ℕ → List ℕ
 numbered_line name line what = codes "bootaudit: " ++ (name ++ (codes ": line " ++ (decimal line ++ (codes ": " ++ (what ++ codes "\n")))))
 
@@ -48,12 +48,12 @@ abbrev pub line_fault_line : List ℕ → LineFault → List ℕ
 line_fault_line name (line_faults.Form line) = numbered_line name line (codes "form")
 line_fault_line name (line_faults.Order line) = numbered_line name line (codes "order")
 
--- the line of a fault of the report `name`
+-- the line for a fault of the report `name`
 abbrev pub named_fault_line : List ℕ → ReportFault → List ℕ
 named_fault_line name faults.TooLong = codes "bootaudit: " ++ (name ++ codes ": too long\n")
 named_fault_line name (faults.Line fault) = line_fault_line name fault
 
--- the line of a fault of the report
+-- the line for a fault of the report
 abbrev pub report_fault_line : SavedReport → ReportFault → List ℕ
 report_fault_line report fault = named_fault_line (report_word report) fault
 
@@ -69,6 +69,6 @@ report_file_text (Some wanted) report = report_file_name wanted report
 abbrev pub bootaudit_name : List ℕ
 bootaudit_name = codes "bootaudit"
 
--- the line of a failure
+-- the line that says why the audit failed
 abbrev pub audit_failure_line : Option AuditArgsView → Failure AuditReason → List ℕ
 audit_failure_line accepted failure = failure_line bootaudit_name (report_file_text accepted) report_fault_line impossible_cause_text failure

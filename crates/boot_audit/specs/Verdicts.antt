@@ -15,7 +15,7 @@ abbrev pub first_line : (BlockLineView → Bool) → ℕ → List BlockLineView 
 first_line p n [] = None
 first_line p n (b ∷ bs) = if p b then Some n else first_line p (n + 1) bs
 
--- the number found so far, else n if it passes
+-- the number found so far if there is one, else n if it passes the test
 abbrev pub or_this : ℕ → Bool → Option ℕ → Option ℕ
 or_this n passes (Some m) = Some m
 or_this n passes None = if passes then Some n else None

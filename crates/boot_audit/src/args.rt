@@ -8,7 +8,7 @@ ghost use Rattle.boot_audit.specs.View.{audit_args_view};
 use crate::failure::SavedReport;
 use bm_base::Width;
 
-/// What an accepted command line names.
+/// What an accepted command line gives: the width of addresses and the names of three files.
 #[derive(Clone, Copy)]
 pub struct AuditArgs<'w> {
     /// The width of physical addresses: 52 bits with `--la57`, else 46.
@@ -34,7 +34,8 @@ impl<'w> AuditArgs<'w> {
     }
 }
 
-/// Returns what the words name, `None` exactly if they aren't accepted.
+/// Returns the width and the file names that the words give, or `None` exactly if the words aren't
+/// accepted.
 pub fn read_audit_args(words: &[String]) -> Option<AuditArgs<'_>>
     ensures { option_map audit_args_view result ≡ read_audit_args (map string_bytes words.now) }
 {

@@ -12,10 +12,10 @@
 //! - [`sound_verdict_conserves_memory`] is a law: the verdict is `Sound` exactly if memory was
 //!   conserved. A law is an empty function whose contract is a proven fact.
 //! - [`audit`] is the program `bootaudit` over any files, output and error output. It reads the
-//!   three reports that the command line names (`audit_lines`), and writes the verdict. `outcome`
-//!   (`specs/Outcome.antt`) defines what it writes.
+//!   three reports that the command line names (`audit_lines`), and writes the verdict.
+//!   `audit_outcome` (`specs/Outcome.antt`) defines what it writes.
 //!
-//! The layer above may rest on this: `audit` does what `outcome` says, unless a file can't be
+//! The layer above may rest on this: `audit` does what `audit_outcome` says, unless a file can't be
 //! read, the output refuses the text, or this program is out of memory. `bootaudit` runs it on the
 //! files and streams of the operating system.
 //!
