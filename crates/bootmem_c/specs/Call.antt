@@ -42,6 +42,6 @@ abbrev pub call_line : List Bytes → List File → List ℕ
 call_line words files =
     if are_utf8 (lent_words words) then outcome_line (read_lent_args (lent_words words)) (outcome_of words files) else []
 
--- the line of out of memory
+-- the line that says that the program ran out of memory
 abbrev pub memory_said : List ℕ
 memory_said = memory_line bootmem_name

@@ -43,7 +43,8 @@ abbrev pub part_value : Option RangeView → RangeView
 part_value None = record { base = 0; size = 0 }
 part_value (Some part) = part
 
--- the crash area from the number of the outcome, its main and its low part
+-- the crash area, from the number that says why there is or isn't one, its main part and its part
+-- below 4 GiB
 abbrev pub parts_value : ℕ → Option RangeView → Option RangeView → CrashArea
 parts_value state main low = record {
   base = (part_value main).base;
@@ -53,7 +54,8 @@ parts_value state main low = record {
   state = state;
 }
 
--- the number of an outcome of the reservation: 1 if there is an area, and else why there is none
+-- the number that says why there is or isn't a crash area (`BOOTMEM_CRASH_..` in C): 1 if there is
+-- one
 abbrev pub state_value : Crash → ℕ
 state_value crash.Nothing = 0
 state_value (crash.At main low) = 1
