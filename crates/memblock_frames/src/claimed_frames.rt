@@ -22,9 +22,9 @@ pub struct ClaimedFrames {
     pub end: u64,
 }
 
-/// Finds the next frames, from frame `at` on, that overlap a record. The records before `index`
-/// must not overlap any of these frames. The search only goes to higher indices. `at` is below
-/// 2^52.
+/// Finds the next frames, from frame `at` on, that overlap a record. `at` must be below 2^52. The
+/// search begins at the record with index `index` and only goes to higher indices. The records
+/// before it must not overlap frame `at` or any above it.
 pub fn next_claimed_frames(store: &Store, head: &Head, index: u64, at: u64) -> ClaimedFrames
     requires table { HasRecords store.now head.now (2 ^ 64) }
     requires index { index ≤ head.now.count }
