@@ -52,17 +52,17 @@ fn count_in_run(first: u64, end: u64, zone: Zone, order: u32) -> u64
     total
 }
 
-/// Tests whether a block of this set's order that begins at frame `at` has this order and is in
-/// this zone.
+/// Tests whether a block of the set's order that begins at frame `at` has the order `order` and is
+/// in the zone `zone`.
 fn is_alike(set: Set, at: u64, zone: Zone, order: u32) -> bool
     ensures { IsTrue result ↔ (set.order ≡ order) × (zone_of at ≡ zone) }
 {
     set.order == order && zone_of(at) == zone
 }
 
-/// Returns how many blocks of the set's order follow each other from frame `at` on, all in its
-/// zone and below `end`. For the largest order that is as many as fit, so after them either the
-/// zone or the room ends. For any other order it is 1.
+/// Returns how many blocks of the set's order follow each other from frame `at` on, all in its zone
+/// and below frame `end`. For the largest order that is as many as fit before the zone or the
+/// frames end. For any other order it is 1.
 pub fn count_blocks_alike(at: u64, end: u64, set: Set) -> u64
     requires small { set.order ≤ 10 }
     requires size { set.order ≡ 10 → set.size ≡ 1024 }
