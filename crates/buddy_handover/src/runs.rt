@@ -1,6 +1,7 @@
 //! The runs of free frames, as frames become free or are allocated.
 //!
-//! A range of frames is put into a sorted list of runs, or cut from it, by one edit (`run_edits`).
+//! A range of frames is inserted in a sorted list of runs, or cut from it, by one edit
+//! (`run_edits`).
 //! Runs that touch and have one node become one run. The functions work on any such list, and
 //! `Buddy` uses them.
 
