@@ -39,7 +39,7 @@ pub struct Booted {
     pub roots: Roots,
     /// The addresses of each section's map and usage data.
     pub placed: Vec<Placed>,
-    /// The answer to each line of the early script.
+    /// The outcome of each line of the early script.
     pub answers: Vec<Answer>,
     /// What the memory of each node spans in each zone.
     pub spans: Vec<Span>,
@@ -47,9 +47,9 @@ pub struct Booted {
     pub buddy: Buddy,
     /// For each node, the zones with memory, in the order in which its requests look at them.
     pub lists: Lists,
-    /// The answer to each line of the page script.
+    /// The outcome of each line of the page script.
     pub page_answers: Vec<PageAnswer>,
-    /// What the page script left of a copy of the free frames, and what its IDs hold.
+    /// The free frames after the page script, which runs on a copy of them, and what its IDs hold.
     pub after: Pages,
 }
 
