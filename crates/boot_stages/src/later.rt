@@ -32,10 +32,15 @@ use std::alloc::Global;
 /// The results of the stages after the map, except for what memblock itself holds.
 #[derive(Drop)]
 pub struct Later {
+    /// The nodes, and whether the firmware's table of domains gave them.
     pub nodes: Nodes,
+    /// The outcome for the crash area.
     pub crash: Crash,
+    /// The addresses of the section roots.
     pub roots: Roots,
+    /// The addresses of each section's map and usage data.
     pub placed: Vec<Placed>,
+    /// The outcome of each line of the early script.
     pub answers: Vec<Answer>,
 }
 
