@@ -27,7 +27,7 @@ pub fn put_zonelists(text: &mut Vec<u8>, lists: &Lists) -> Result<(), Memory>
     put_zonelist_lines(text, &nodes, lists)
 }
 
-/// Appends the line of each of these nodes. Also allocates the list of each node.
+/// Appends a line for each of these nodes. Also allocates the list of each node, one at a time.
 fn put_zonelist_lines(text: &mut Vec<u8>, nodes: &[u32], lists: &Lists) -> Result<(), Memory>
     ensures { OnOk result
         (text.new.items ≡ text.old.items ++ indexed_lines (zonelist_line lists.now) 0 nodes.now) }
@@ -61,7 +61,7 @@ fn put_slit_use(text: &mut Vec<u8>, used: SlitUse) -> Result<(), Memory>
     }
 }
 
-/// Appends the line of a node: its number, and the zones of its list. Also allocates that list.
+/// Appends the line for a node: its number, and the zones of its list. Also allocates that list.
 fn put_zonelist_line(
     text: &mut Vec<u8>,
     index: u64,
@@ -88,7 +88,7 @@ fn put_list_zones(text: &mut Vec<u8>, zones: &[ListZone]) -> Result<(), Memory>
     Ok(())
 }
 
-/// Appends an entry of a list.
+/// Appends an entry of a list: its node and its zone.
 fn put_list_zone(text: &mut Vec<u8>, entry: &ListZone) -> Result<(), Memory>
     ensures { PutsText text.old text.new result (list_zone_text entry.now) }
 {

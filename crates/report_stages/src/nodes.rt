@@ -57,7 +57,7 @@ fn put_srat_use(text: &mut Vec<u8>, why: &Why) -> Result<(), Memory>
     }
 }
 
-/// Appends the line of a node: its domain, and its number, which is the index.
+/// Appends the line for a node: its domain, and its number, which is `index`.
 fn put_domain_line(text: &mut Vec<u8>, index: u64, domain: &u32) -> Result<(), Memory>
     ensures { PutsText text.old text.new result (domain_line index domain.now) }
 {
@@ -74,7 +74,7 @@ fn put_uncovered_line(text: &mut Vec<u8>, frames: u64) -> Result<(), Memory>
     put_text(text, b"\n")
 }
 
-/// Appends the line of an item, if it gives a range its node.
+/// Appends a line for a journal item if the item gives a range its node; else nothing.
 fn put_node_line(text: &mut Vec<u8>, index: u64, item: &Item) -> Result<(), Memory>
     ensures { PutsText text.old text.new result (node_line index item.now) }
 {

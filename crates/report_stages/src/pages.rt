@@ -8,7 +8,7 @@ use bm_base::{Memory, put_dec, put_text};
 use page_alloc::{PageAnswer, PageOutcome};
 use report_memory::put_indexed_lines;
 
-/// Appends the outcomes: a line for each, in their order.
+/// Appends the outcomes of the page script: a line for each of its lines, in their order.
 ///
 /// # Errors
 ///
@@ -19,7 +19,7 @@ pub fn put_pages(text: &mut Vec<u8>, answers: &[PageAnswer]) -> Result<(), Memor
     put_indexed_lines(text, answers, put_page_answer_line)
 }
 
-/// Appends the line of an outcome: the number of the line in the script, and the outcome.
+/// Appends the line for an outcome: the number of the line in the script, and the outcome.
 fn put_page_answer_line(text: &mut Vec<u8>, index: u64, answer: &PageAnswer) -> Result<(), Memory>
     ensures { PutsText text.old text.new result (page_answer_line index answer.now) }
 {

@@ -15,7 +15,7 @@ use report_memory::{put_indexed_lines, which_name};
 /// The largest number of bytes that a line of the script prints.
 const MOST_BYTES: usize = 64;
 
-/// Appends the outcomes: a line for each, in their order.
+/// Appends the outcomes of the early script: a line for each of its lines, in their order.
 ///
 /// # Errors
 ///
@@ -26,7 +26,7 @@ pub fn put_script(text: &mut Vec<u8>, answers: &[Answer]) -> Result<(), Memory>
     put_indexed_lines(text, answers, put_answer_line)
 }
 
-/// Appends the line of an outcome: the number of the line in the script, and the outcome.
+/// Appends the line for an outcome: the number of the line in the script, and the outcome.
 fn put_answer_line(text: &mut Vec<u8>, index: u64, answer: &Answer) -> Result<(), Memory>
     ensures { PutsText text.old text.new result (answer_line index answer.now) }
 {
@@ -58,7 +58,7 @@ fn put_outcome(text: &mut Vec<u8>, outcome: &Outcome) -> Result<(), Memory>
     }
 }
 
-/// Appends which table found no place to grow to, and its room, in records, which was too small.
+/// Appends which table found no place to grow to, and the number of records that it had room for.
 fn put_no_gap(text: &mut Vec<u8>, which: Which, room: u64) -> Result<(), Memory>
     ensures { PutsText text.old text.new result (outcome_text (Outcome.NoGapForTable which room)) }
 {

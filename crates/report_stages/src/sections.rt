@@ -26,7 +26,7 @@ pub fn put_sections(text: &mut Vec<u8>, roots: &Roots, placed: &[Placed]) -> Res
     Ok(())
 }
 
-/// Appends the line of the table of roots, and one for each root.
+/// Appends the line for the table of roots, and one for each root.
 fn put_roots(text: &mut Vec<u8>, roots: &Roots) -> Result<(), Memory>
     ensures { PutsText text.old text.new result
         (roots_text (record { table = roots.now.table; roots = roots.now.roots.items })) }

@@ -33,7 +33,7 @@ pub struct Summary {
     pub blocks: u64,
 }
 
-/// Appends the summary: six lines.
+/// Appends the summary: six lines, with the numbers of runs, frames, blocks and records.
 ///
 /// # Errors
 ///
@@ -57,7 +57,7 @@ fn put_number_line(text: &mut Vec<u8>, word: &[u8], number: u64) -> Result<(), M
     put_text(text, b"\n")
 }
 
-/// Appends the line of a table: its records and its room.
+/// Appends the line for a table: the number of its records, and the number that it has room for.
 fn put_fullness_line(text: &mut Vec<u8>, which: Which, full: &Fullness) -> Result<(), Memory>
     ensures { PutsText text.old text.new result (fullness_line which full.now) }
 {

@@ -54,7 +54,7 @@ pub fn zone_name(zone: Zone) -> &'static str
     }
 }
 
-/// Appends the line of a span: its bounds, the number of its frames, and the number of these that
+/// Appends the line for a span: its bounds, the number of its frames, and the number of these that
 /// are free.
 fn put_zone_line(text: &mut Vec<u8>, index: u64, span: &Span, buddy: &Buddy) -> Result<(), Memory>
     ensures { PutsText text.old text.new result
@@ -73,7 +73,7 @@ fn put_zone_line(text: &mut Vec<u8>, index: u64, span: &Span, buddy: &Buddy) -> 
     put_text(text, b"\n")
 }
 
-/// Appends the line of a span: the number of free blocks of each order.
+/// Appends the line for a span: the number of free blocks of each order.
 #[tactic(auto, unfolding(crate::specs::ZonesText::buddyinfo_line))]
 fn put_buddyinfo_line(
     text: &mut Vec<u8>,
