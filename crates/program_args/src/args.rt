@@ -1,6 +1,5 @@
-//! What an accepted command line asks for. The type is apart from the code that reads it, since
-//! its invariant keeps the bounds of the kernel's range, of mirrored ranges and of the number of
-//! entries.
+//! What an accepted command line asks for. The type is in a file of its own, since its invariant
+//! keeps the bounds of the kernel's range, of mirrored ranges and of the number of entries.
 
 ghost use Rattle.std.specs.Prelude.{◌≡◌, IfSome};
 ghost use Rattle.std.specs.List.{All};
