@@ -48,9 +48,10 @@ use std::alloc::Global;
 /// - 7: out of memory.
 /// - 8: the verdict is another one; its text was written.
 ///
-/// With status 0 and 8 nothing is put to `err`, and otherwise the one line of the failure. If
-/// `err` refuses it, the status stays the same. The text of a verdict goes to `out` by one put.
-/// With 2, 3 and 5 nothing is put to `out`; with 4 and 7 it may have the first part of the text.
+/// With status 0 and 8 nothing is written to `err`, and otherwise one line that says why the audit
+/// failed. If `err` refuses it, the status stays the same. The text of a verdict is written to
+/// `out` in one piece. With 2, 3 and 5 nothing is written to `out`; with 4 and 7 it may have the
+/// first part of the text.
 ///
 /// `holds` gives what each file contains, if the type of `files` knows it. If it is `None`, the
 /// clauses on `audit_outcome` say nothing.

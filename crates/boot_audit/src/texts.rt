@@ -1,4 +1,4 @@
-//! The texts of verdicts. Each is made whole, so that one put writes it.
+//! The texts of verdicts. Each is made whole, so that it is written in one piece.
 
 ghost use Rattle.std.specs.Prelude.{◌≡◌, ◌<◌, ◌^◌, IfOk};
 ghost use Rattle.boot_audit.specs.Line.{block_fault_text, frame_fault_text, verdict_text};
