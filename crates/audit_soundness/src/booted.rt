@@ -20,7 +20,7 @@ use e820_model::Run;
 use memblock_model::{Owner, OwnerRun};
 
 /// Law: if the files that an audit names contain the three reports of this boot, as `bootmem`
-/// prints them, then memory was conserved by them, and the outcome of the audit is `Sound`.
+/// prints them, they show that memory was conserved, and the outcome of the audit is `Sound`.
 pub fn booted_reports_are_sound(booted: &Booted)
     ghost given: { InputsView }
     requires { whole_boot given ≡ Ok (booted_view booted.now) }
