@@ -56,7 +56,7 @@ fn claim_early(memblock: &mut Memblock, kernel: Range, initrd: Option<Range>) ->
 }
 
 /// Claims the run if firmware sets it aside for a driver (`E820_TYPE_SOFT_RESERVED`). If the run is
-/// memory, adds its part below `reach`, the limit of physical addresses; the part may be empty.
+/// memory, adds its part below `reach`, the limit of physical addresses, unless that is empty.
 /// Ignores all other runs (`e820__memblock_setup`).
 fn add_run(memblock: &mut Memblock, run: &Run, reach: u64) -> Result<(), Refusal>
     requires some { 0 < run.now.size }
