@@ -1,9 +1,8 @@
 //! The runs of free frames, as frames become free or are allocated.
 //!
 //! A range of frames is inserted in a sorted list of runs, or cut from it, by one edit
-//! (`run_edits`).
-//! Runs that touch and have one node become one run. The functions work on any such list, and
-//! `Buddy` uses them.
+//! (`run_edits`). Runs that touch and have one node become one run. The functions work on any such
+//! list, and `Buddy` uses them.
 
 ghost use Rattle.std.specs.Prelude.{◌≡◌, ◌+◌, ◌^◌, ◌<◌, ◌≤◌, vec_len, vec_capacity};
 ghost use Rattle.address_runs.specs.Runs.{AreRuns, IsRunsOf, value_at};
