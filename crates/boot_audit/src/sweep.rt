@@ -20,7 +20,7 @@ use bm_base::{FRAME_SIZE, Range};
 /// The address at which the sweep ends; each block ends at or below it.
 const END: u64 = 1 << 52;
 
-/// How a byte fits the blocks: whether it is in a block exactly if it is free.
+/// Whether a byte fits the blocks: it should be in a block exactly if it is free.
 #[derive(Clone, Copy, Debug, PartialEq, Eq)]
 pub enum ByteState {
     /// It is in a block and free, or in no block and not free.
@@ -34,7 +34,7 @@ pub enum ByteState {
 /// The faulty frames that the sweep found. At most one of the fields has a frame.
 #[derive(Clone, Copy)]
 pub struct FrameFaults {
-    /// The least frame that isn't free but in a block.
+    /// The least frame that is in a block but not free.
     pub not_free: Option<u64>,
     /// The least frame that is free and in no block. Always `None` if `not_free` has a frame.
     pub lost: Option<u64>,
@@ -281,7 +281,7 @@ fn advance_lost_frame(lost: Option<u64>, from: u64, piece: StateRun) -> (Option<
     (lost, piece.until)
 }
 
-/// Returns the least frame that isn't free but in a block. Only if there is none, returns the least
+/// Returns the least frame that is in a block but not free. Only if there is none, returns the least
 /// frame that is lost: free, but in no block. Frames are free only below the address `limit`. The
 /// blocks must be aligned.
 pub fn sweep(saved: &Saved, limit: u64) -> FrameFaults
