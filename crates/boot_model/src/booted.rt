@@ -49,7 +49,8 @@ pub struct Booted {
     pub lists: Lists,
     /// The outcome of each line of the page script.
     pub page_answers: Vec<PageAnswer>,
-    /// The free frames after the page script, which runs on a copy of them, and what its IDs hold.
+    /// The free frames after the page script, and what its IDs hold. The script runs on a copy of
+    /// the frames that were handed over.
     pub after: Pages,
 }
 
@@ -58,7 +59,7 @@ impl Booted {
     ghost use Rattle.boot_model.specs.Boot.{booted_address_limit};
     ghost use Rattle.boot_model.specs.View.{booted_view};
 
-    /// Returns the limit of physical addresses (`MAX_PHYSMEM_BITS`), in bytes: all are below it.
+    /// Returns the limit of physical addresses (`MAX_PHYSMEM_BITS`): each address is below it.
     pub fn reach(&self) -> u64
         ensures { result ≡ booted_address_limit (booted_view self.now) }
     {

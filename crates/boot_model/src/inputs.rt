@@ -131,7 +131,7 @@ impl Inputs {
         }
     }
 
-    /// Returns the limit of physical addresses (`MAX_PHYSMEM_BITS`), in bytes: all are below it.
+    /// Returns the limit of physical addresses (`MAX_PHYSMEM_BITS`): each address is below it.
     pub fn reach(&self) -> u64
         ensures { result ≡ reach (inputs_view self.now) }
     {
