@@ -281,9 +281,9 @@ fn advance_lost_frame(lost: Option<u64>, from: u64, piece: StateRun) -> (Option<
     (lost, piece.until)
 }
 
-/// Returns the least frame that is in a block but not free. Only if there is none, returns the least
-/// frame that is lost: free, but in no block. Frames are free only below the address `limit`. The
-/// blocks must be aligned.
+/// Returns the least frame that is in a block but not free. Only if there is none, returns the
+/// least frame that is lost: free, but in no block. Frames are free only below the address `limit`.
+/// The blocks must be aligned.
 pub fn sweep(saved: &Saved, limit: u64) -> FrameFaults
     requires map_order { AscendApart (map (λ l. l.range) saved.now.map.items) }
     requires owner_order { AscendApart (map (λ r. r) saved.now.owners.items) }
