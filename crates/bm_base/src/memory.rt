@@ -4,7 +4,7 @@ ghost use Rattle.std.specs.Prelude.{◌≡◌, ◌+◌, ◌<◌, ◌≤◌, [], 
 
 use std::alloc::{AllocError, AllocFailed};
 
-/// The program itself ran out of memory. No contract says when this happens.
+/// The error if the program itself runs out of memory. No contract says when this happens.
 #[derive(Clone, Copy, Debug, PartialEq, Eq)]
 pub struct Memory;
 

@@ -55,8 +55,9 @@ pub fn read_number(text: &[u8]) -> Result<(u64, usize), NumFault>
     Ok((value, prefix + count))
 }
 
-/// Law: a size or number ends before a byte that is neither a digit nor a letter, and the decimal
-/// digits of a `u64` are read as that `u64`.
+/// Law: a size or number ends at or before the first byte that is neither a digit nor a letter. The
+/// bytes from there on don't change its value or its length. The decimal digits of a `u64` are read
+/// as that `u64`.
 pub fn spelled_sizes_are_read()
     ensures size { (text rest : List ℕ) (mark : ℕ) → is_digit mark 36 ≡ false →
         size_of (text ++ (mark ∷ rest)) ≡ size_of text }
@@ -65,8 +66,9 @@ pub fn spelled_sizes_are_read()
     ensures decimal { (n : ℕ) → n < 2 ^ 64 → IsSize (decimal n) n }
 {}
 
-/// Law: a text is read as a size or number exactly if the grammar of `specs/Spelling.antt` spells
-/// it. If only the start of a text is read, that start alone is read the same way.
+/// Law: a whole text is read as a size or number exactly if it follows the grammar of
+/// `specs/Spelling.antt`. If only the start of a text is read, the start by itself gives the same
+/// value.
 pub fn sizes_are_spelled()
     ensures size { (text : List ℕ) (n : ℕ) → IsSize text n ↔ SpellsSize text n }
     ensures number { (text : List ℕ) (n : ℕ) → IsNumber text n ↔ SpellsNumber text n }
@@ -142,7 +144,8 @@ fn with_digit(value: u64, radix: u64, digit: u64) -> Option<u64>
     value.checked_mul(radix)?.checked_add(digit)
 }
 
-/// Returns the factor of the suffix at index `end`, and its length: 1 and 0 if there is none.
+/// Returns the factor of the suffix at index `end` and its length in bytes, or 1 and 0 if there is
+/// no suffix.
 fn read_suffix(text: &[u8], end: usize) -> (u64, usize)
     requires { end ≤ length text.now }
     ensures value { result ≡ suffix_of (drop end text.now) }
