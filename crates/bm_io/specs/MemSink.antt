@@ -18,7 +18,8 @@ put_failures (Ok done) = 0
 put_failures (Err put.Failed) = 1
 put_failures (Err put.Memory) = 0
 
--- what a put with this result adds to `wants`: 1 if it ran out of memory, else 0
+-- what a put with this result adds to `wants`, the count of puts that ran out of memory: 1 if it
+-- is one of them, else 0
 abbrev pub wants_of_memory : Result (Unit {0}) Put → ℕ
 wants_of_memory (Ok done) = 0
 wants_of_memory (Err put.Failed) = 0

@@ -9,8 +9,8 @@ ghost use Rattle.bm_io.specs.Puts.{Puts};
 use crate::writing::{Put, Sink};
 use std::convert::AsSlice;
 
-/// Appends the chunks in order and stops at the first error, as one put of the joined bytes
-/// would. Empty chunks make no call.
+/// Appends the chunks to the output, in order, and stops at the first error. The promise is that
+/// of a single put of all their bytes. An empty chunk makes no call.
 ///
 /// # Errors
 ///

@@ -5,8 +5,8 @@
 //!
 //! A trait has ghost members that only contracts see: the bytes of a file, the bytes that were
 //! written (each `None` if unknown), and counters of faults. A counter never falls. It is a `u64`
-//! that stops at 2^64 - 1. Each error raises a counter, so a failure outside the program can be
-//! told apart from a bug in it. The exception is [`Fetch::Memory`], which may happen at any time.
+//! that stops at 2^64 - 1. Each error raises a counter. So the counters distinguish a failure
+//! outside the program from a bug in it. [`Fetch::Memory`] raises none: it may happen at any time.
 //! Only [`Put::Memory`] raises the counter of puts that ran out of memory. A call may raise a
 //! counter of faults and still succeed: it may have retried.
 //!

@@ -44,8 +44,8 @@ impl Model for MemFiles {
 }
 
 impl MemFiles {
-    /// Makes files with the numbers of the calls that are to fail. No two files have the same
-    /// name. Doesn't allocate.
+    /// Returns these files in memory. `failing` has the numbers of the calls of `fetch` that are
+    /// to fail, from 1. No two files may have the same name. Allocates nothing.
     pub fn new(files: Vec<MemFile>, failing: Vec<u64>) -> MemFiles
         requires { HaveOwnNames (file_views files.items) }
         ensures files { result.files ≡ file_views files.items }

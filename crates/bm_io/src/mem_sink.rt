@@ -35,7 +35,8 @@ impl Model for MemSink {
 }
 
 impl MemSink {
-    /// Makes an empty output with the numbers of the calls that are to fail. Doesn't allocate.
+    /// Returns an empty output. `failing` has the numbers of the calls of `put` that are to fail,
+    /// from 1. Allocates nothing.
     pub fn new(failing: Vec<u64>) -> MemSink
         ensures written { result.written ≡ [] }
         ensures failing { result.failing ≡ failing.items }

@@ -36,7 +36,8 @@ impl<D: RawFiles + Drop> Model for RealFiles<D> {
 }
 
 impl<'a, R: rt::Files> RealFiles<SystemFiles<'a, R>> {
-    /// Makes the files that the runtime can open, with both counters at 0.
+    /// Returns access to the operating system's files through `runtime`; opens none of them. The
+    /// counts of faults and of bytes read begin at 0.
     pub fn new(runtime: &'a R) -> RealFiles<SystemFiles<'a, R>>
         ensures faults { result.faults ≡ 0 }
         ensures taken { result.taken ≡ 0 }

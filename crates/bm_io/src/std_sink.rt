@@ -15,8 +15,8 @@ use crate::writing::{Put, Sink};
 use std::io::Write;
 use std::marker::Model;
 
-/// A stream of the operating system, such as standard output. Its bytes are known to contracts
-/// only if the stream's are, and it never runs out of memory.
+/// An output to a stream of the operating system, such as standard output. Contracts know the
+/// written bytes only if they know the bytes of the stream. A put never runs out of memory.
 #[derive(Drop)]
 pub struct StdSink<W: RawWriter + Drop> {
     stream: W,
@@ -35,7 +35,8 @@ impl<W: RawWriter + Drop> Model for StdSink<W> {
 }
 
 impl<W: Write + Drop> StdSink<SystemStream<W>> {
-    /// Makes an output to the stream, which has counted no failed put yet.
+    /// Returns an output that writes to the stream `writer`; writes nothing yet. The count of
+    /// failed puts begins at 0.
     pub fn new(writer: W) -> StdSink<SystemStream<W>>
         ensures stream { result.stream.inner ≡ writer }
         ensures faults { result.faults ≡ 0 }
@@ -54,7 +55,8 @@ impl<W: RawWriter + Drop> Sink for StdSink<W> {
 
     ghost wants = { λ s. 0 };
 
-    /// Writes the chunk, with as many writes as it takes.
+    /// Writes the chunk. If the stream takes only some of the bytes, the others follow in further
+    /// writes.
     ///
     /// # Errors
     ///

@@ -6,7 +6,7 @@ ghost use Rattle.std.specs.Io.KnownBytes.{Appends};
 ghost use Rattle.bm_io.specs.Counts.{Rose};
 ghost use Rattle.bm_io.specs.Known.{AppendsFront};
 
-/// Why an output didn't take a whole chunk.
+/// Why a put failed: the output didn't take the whole chunk.
 #[derive(Clone, Copy, Debug, PartialEq, Eq)]
 pub enum Put {
     /// The output refused the chunk.
