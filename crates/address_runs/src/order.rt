@@ -11,8 +11,8 @@ ghost use Rattle.address_runs.specs.Overlay.{HaveAddresses};
 
 use crate::stretch::Stretch;
 
-/// Returns whether a record can precede a list of runs: it ends at or below the start of the
-/// first of them, and has another value if they touch.
+/// Returns whether the record, followed by the list of runs, is a list of runs too: the record ends
+/// at or below the start of the first run, and has another value if they touch.
 fn is_before<S: Stretch>(stretch: &S, others: &[S]) -> bool
     ensures { IsTrue result ↔ IsBefore (S.run stretch.now) (map S.run others.now) }
 {
@@ -39,7 +39,8 @@ pub fn are_runs<S: Stretch>(stretches: &[S]) -> bool
     true
 }
 
-/// Returns whether the second list of runs, appended to the first, makes one list of runs.
+/// Returns whether the runs of `first`, followed by those of `second`, are one list of runs: all of
+/// `second` lies above `first`, and no two runs can be merged.
 pub fn are_apart<S: Stretch>(first: &[S], second: &[S]) -> bool
     requires first { AreRuns (map S.run first.now) }
     requires second { AreRuns (map S.run second.now) }
