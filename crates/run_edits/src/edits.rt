@@ -147,8 +147,9 @@ fn advance<S: Stretch, T: Slots<S>>(
     }
 }
 
-/// Applies the change to each address of the range. The range isn't empty, and the table has room
-/// for all runs that exist while the sweep goes on.
+/// Applies any change to each address of the range. The table then holds the runs of the result.
+/// The range must not be empty. At each address that the sweep reaches, the table must have room
+/// for the new runs below it and the old runs above it.
 pub fn rewrite<S: Stretch, T: Slots<S>, C: Change<S::Value>>(
     table: &mut T,
     range: &Range,
@@ -188,9 +189,9 @@ pub fn rewrite<S: Stretch, T: Slots<S>, C: Change<S::Value>>(
     table.close(write, read - write);
 }
 
-/// Applies the change to each address of the range. The range isn't empty, and the table has room
-/// for two more records. The change isn't a cover: it leaves empty addresses empty, or gives all
-/// addresses the same.
+/// Applies a change to each address of the range. The table then holds the runs of the result. The
+/// change must not be a cover: it must leave empty addresses empty, or give the same to all
+/// addresses. The range must not be empty, and the table must have room for two more records.
 pub fn amend<S: Stretch, T: Slots<S>, C: Change<S::Value>>(table: &mut T, range: &Range, change: C)
     requires some { 0 < range.now.size }
     requires runs { AreRuns (T.list table.old) }

@@ -7,8 +7,9 @@ ghost use Rattle.address_runs.specs.Edits.{cover_range, uncover_range, relabel_r
 
 use bm_base::Range;
 
-/// Law: covering a range adds at most as many runs as the range has gaps (`memblock_add_range`,
-/// its count). Uncovering a range adds at most one run, and relabelling or replacing at most two.
+/// Law: an edit of a range adds few runs. Covering a range adds at most one run for each gap in it
+/// (`nr_new` in `memblock_add_range`). Uncovering a range adds at most one run. Relabelling or
+/// replacing in a range adds at most two.
 pub fn edits_add_few<T>()
     ensures cover { (same : T → T → Bool) (r : RangeView) (v w : T) (f : ℕ → Option T) →
         DecidesEquality same →
@@ -29,7 +30,7 @@ pub fn edits_add_few<T>()
         length (runs_of same (replace_in_range r v f)) ≤ length (runs_of same f) + 2 }
 {}
 
-/// Law: a range ends below 2^64.
+/// Law: the end of a range, its base plus its size, is below 2^64.
 pub fn range_end_fits(range: &Range)
     ensures { end_of range.now < 2 ^ 64 }
 {
