@@ -1,4 +1,5 @@
--- The claims of an address: the set of types that the firmware's entries, the extension, the options and the EFI map give it.
+-- The claims of an address: the set of types that the firmware's entries, the extension, the
+-- options and the EFI map give it.
 use Rattle.std.specs.Prelude.{ℕ, zero, suc, ◌+◌, ◌^◌, ◌==◌, Bool, false, ◌&&◌, ◌||◌, ◌<◌, not, nat_lt, if◌then◌else◌, List, [], ◌∷◌}
 use Rattle.bm_base.specs.Range.{RangeView, covers}
 use Rattle.bm_base.specs.declared.range.TheConstants.{FRAME_SIZE}
@@ -45,16 +46,16 @@ greatest_type s = greatest_below s (2 ^ 32)
 abbrev pub type_of : Claims → ℕ → ℕ
 type_of c x = greatest_type (c x)
 
--- each address keeps only its greatest claim (`e820__update_table`: the greatest type wins)
+-- the claims after settling: each address keeps only its greatest claim (`e820__update_table`)
 abbrev pub settled_claims : Claims → Claims
 settled_claims c x k = nat_lt 0 k && k == type_of c x
 
--- an address has the claims of both
+-- the union: an address has the claims of both arguments
 abbrev pub with_claims : Claims → Claims → Claims
 with_claims c d x k = c x k || d x k
 
--- the claims after an edit (`parse_memmap_one`: `e820__range_add`, `e820__range_remove` with and without a type, `e820__range_update`,
--- and the cleared table of `exactmap`)
+-- the claims after an edit (`parse_memmap_one`: `e820__range_add`, `e820__range_remove` with and
+-- without a type, `e820__range_update`, and the cleared table of `exactmap`)
 abbrev pub after_edit : Edit → Claims → Claims
 after_edit (edit.Add range kind) c x k = c x k || (covers range x && k == kind)
 after_edit (edit.Remove range kind) c x k = c x k && not (covers range x && k == kind)
@@ -80,7 +81,8 @@ abbrev pub after_edits : List Edit → Claims → Claims
 after_edits [] c = c
 after_edits (e ∷ es) c = after_edits es (after_edit e c)
 
--- the first page belongs to the BIOS even if firmware calls it RAM, and from 640 KiB to 1 MiB there is no RAM (`trim_bios_range`)
+-- the first page belongs to the BIOS even if firmware calls it RAM, and from 640 KiB to 1 MiB there
+-- is no RAM (`trim_bios_range`)
 abbrev pub first_page : RangeView
 first_page = record { base = 0; size = FRAME_SIZE }
 
@@ -94,17 +96,19 @@ after_bios_trim c = after_edit (edit.Remove bios_area E820_TYPE_RAM) (after_edit
 abbrev pub zero_page_claims : List Entry → Claims
 zero_page_claims entries = settled_claims (claims_of_entries entries)
 
--- step 2: the extension's entries are added, and the table is settled (`e820__memory_setup_extended`)
+-- step 2: the extension's entries are added, and the table is settled
+-- (`e820__memory_setup_extended`)
 abbrev pub with_extension : List Entry → Claims → Claims
 with_extension extension c = settled_claims (with_claims c (claims_of_entries extension))
 
--- steps 3 to 5: the options' edits are applied in order, the entries of the firmware's EFI map are added if an option asks for them
--- (`do_add_efi_memmap`), and the table is settled (`e820__finish_early_params`)
+-- steps 3 to 5: the options' edits are applied in order, the entries of the firmware's EFI map are
+-- added if an option asks for them (`do_add_efi_memmap`), and the table is settled
+-- (`e820__finish_early_params`)
 abbrev pub with_options : List Edit → List Entry → Claims → Claims
 with_options edits added c = settled_claims (with_claims (after_edits edits c) (claims_of_entries added))
 
--- the claims of the final map: steps 1 to 5, then the BIOS ranges are trimmed. `added` is empty unless there is an EFI map and an option
--- asks for it
+-- the claims of the final map: steps 1 to 5, then the BIOS ranges are trimmed. `added` is empty
+-- unless there is an EFI map and an option asks for it
 abbrev pub final_claims : List Entry → List Entry → List Edit → List Entry → Claims
 final_claims entries extension edits added =
     after_bios_trim (with_options edits added (with_extension extension (zero_page_claims entries)))

@@ -7,14 +7,15 @@ ghost use Rattle.e820_model.specs.Map.{kinds, map_of};
 ghost use Rattle.e820_model.specs.declared.entry.Edit.{Edit as AnyEdit};
 ghost use Rattle.e820_model.specs.declared.entry.Entry.{Entry as AnyEntry};
 
-/// Law: the greatest type of a set is in the set, unless it is 0, and no type of the set exceeds
-/// it.
+/// Law: the greatest type of a set is a member of the set, unless it is 0 (an empty set). No member
+/// exceeds it.
 pub fn greatest_is_greatest()
     ensures among { (s : Types) → 0 < greatest_type s → s (greatest_type s) ≡ true }
     ensures above { (s : Types) (k : ℕ) → k < 2 ^ 32 → s k ≡ true → k ≤ greatest_type s }
 {}
 
-/// Law: settling changes no address's type (`e820__update_table` may run at any time).
+/// Law: settling the claims (`e820__update_table`) changes the type of no address. So the kernel
+/// may do it at any time.
 pub fn settling_keeps_types()
     ensures { (c : Claims) (x : ℕ) → type_of (settled_claims c) x ≡ type_of c x }
 {}
@@ -28,8 +29,8 @@ pub fn final_claims_are_single()
         j ≡ k }
 {}
 
-/// Law: if no entries of an EFI map are added, the final claims are those of the edited table,
-/// settled and trimmed.
+/// Law: if no entries of an EFI map are added, the final claims are those of the table after the
+/// options' edits, settled (`e820__update_table`) and trimmed (`trim_bios_range`).
 pub fn edits_alone_make_the_map()
     ensures { (entries extension : List AnyEntry) (edits : List AnyEdit) →
         final_claims entries extension edits []
@@ -37,7 +38,8 @@ pub fn edits_alone_make_the_map()
         (settled_claims (after_edits edits (with_extension extension (zero_page_claims entries)))) }
 {}
 
-/// Law: the map is the list of runs of the types, if no address at or above 2^64 has one.
+/// Law: the map is the list of runs of the addresses' types, if no address at or above 2^64 has a
+/// type.
 pub fn map_is_runs()
     ensures { (c : Claims) → ((x : ℕ) → 2 ^ 64 ≤ x → kinds c x ≡ None) →
         IsRunsOf (kinds c) (map_of c) }

@@ -4,9 +4,10 @@
 //! type. They may overlap and come in any order. An extension may add entries, options edit them,
 //! and one option adds those of UEFI's own map.
 //!
-//! An address has a set of types, its claims (`specs/Claims.antt`); the greatest claim is its
-//! type. The map is the list of runs of one type (`specs/Map.antt`), at most [`E820_MAX_ENTRIES`]
-//! of them. A frame is usable if each of its bytes is memory (`specs/Usable.antt`).
+//! The claims of an address are the types that these give it (`specs/Claims.antt`). The greatest
+//! claim is the address's type. The map is the list of runs of one type (`specs/Map.antt`), at most
+//! [`E820_MAX_ENTRIES`] of them. A frame is usable if each of its bytes is memory
+//! (`specs/Usable.antt`).
 //!
 //! [`Entry`], [`Edit`] and [`Run`] are plain data. They are here because the definitions use
 //! them. A law is an empty function whose contract is a proven fact.
