@@ -10,7 +10,7 @@ use Rattle.e820_model.specs.declared.entry.Entry.{Entry}
 abbrev pub claim_between : ℕ → ℕ → ℕ → List (RunOf ℕ)
 claim_between from until kind = if nat_lt from until then record { base = from; size = until - from; value = kind } ∷ [] else []
 
--- such a claim for a type, or no claim for None
+-- the same claim if a type is given, or no claim for None
 abbrev pub claim_between_if_typed : ℕ → ℕ → Option ℕ → List (RunOf ℕ)
 claim_between_if_typed from until None = []
 claim_between_if_typed from until (Some kind) = claim_between from until kind
@@ -23,7 +23,8 @@ parts_of_claim range inner r =
     ++ claim_between_if_typed (max range.base r.base) (min (end_of range) (run_end r)) inner
     ++ claim_between (max (end_of range) r.base) (run_end r) r.value
 
--- the cut applies to this type: it is the one that is meant, or all types are meant (None)
+-- the cut applies to claims of this type. The first argument is the only type that it applies to,
+-- or None if it applies to all types.
 abbrev pub is_type_to_cut : Option ℕ → ℕ → Bool
 is_type_to_cut None kind = true
 is_type_to_cut (Some meant) kind = kind == meant

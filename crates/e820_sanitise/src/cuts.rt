@@ -92,9 +92,9 @@ fn is_apart(range: &Range, claim: &Run) -> bool
     start < end && (end <= range.base || range.end() <= start)
 }
 
-/// Returns the claims after cutting the range out of each. Inside the range, a claim of the type
-/// `meant` gets the type `instead`, or is dropped if that is `None`. If `meant` is `None`, that
-/// applies to claims of every type.
+/// Returns the claims after an edit of the range. `meant` is the type of the claims that the edit
+/// concerns (`None`: claims of all types). `instead` is the type that they get inside the range
+/// (`None`: they are removed there). Outside the range no claim changes.
 ///
 /// # Errors
 ///
@@ -116,8 +116,8 @@ fn cut_each_claim(
     Ok(left)
 }
 
-/// Returns the type that a claim of type `kind` has inside the range after the cut, or `None` if
-/// it is dropped there.
+/// Returns the type that a claim of type `kind` has inside the range after the edit, or `None` if
+/// it is removed there. `meant` and `instead` are those of [`cut_each_claim`].
 fn type_inside(meant: Option<u32>, instead: Option<u32>, kind: u32) -> Option<u32>
     ensures { result ≡ type_inside meant instead kind }
 {
@@ -191,7 +191,8 @@ pub fn edit_claims(claims: &mut Vec<Run>, edit: &Edit) -> Result<(), Memory>
     }
 }
 
-/// Cuts the range out of each claim, like [`cut_each_claim`].
+/// Edits the list in place: claims of the type `meant` (`None`: of all types) get the type
+/// `instead` inside the range, or are removed there if that is `None`.
 ///
 /// # Errors
 ///
