@@ -10,8 +10,8 @@ ghost use Rattle.text_words.specs.Words.{IsClosed};
 
 use crate::Separators;
 
-/// Returns the first part of the text, and the text after its separator. The rest is `None` if
-/// there is no separator, so that the part is the last one.
+/// Returns the first part of the text, and the text after the separator that ends it. The latter is
+/// `None` if no separator follows: the part is then the last one.
 pub fn next_part(text: &[u8], separators: Separators) -> (&[u8], Option<&[u8]>)
     ensures parts { parts_in separators text.now
         ≡ result.0.now ∷ parts_of_rest separators (option_map (λ rest. rest.now) result.1) }
@@ -54,7 +54,7 @@ pub fn split_once(text: &[u8], mark: u8) -> Option<(&[u8], &[u8])>
     None
 }
 
-/// Law: a text that is spelled as parts with separators between them is split into those parts.
+/// Law: splitting a text that was made of parts with separators between them gives those parts.
 pub fn spelled_parts_are_read()
     ensures first { (s : SomeSeparators) (part : List ℕ) (b : ℕ) (rest : List ℕ)
         → IsClosed s false part → separates s b ≡ true

@@ -31,8 +31,8 @@ pub fn next_word(text: &[u8], separators: Separators) -> Option<(&[u8], &[u8])>
     None
 }
 
-/// Removes the `"` at the start of the text, and then one at its end. A text that doesn't begin
-/// with `"` isn't changed.
+/// Returns the text without the `"` at its start and the `"` at its end. A text that doesn't begin
+/// with `"` is returned unchanged. One that doesn't end with `"` loses only the first.
 pub fn unquote(text: &[u8]) -> &[u8]
     ensures { result.now ≡ unquote text.now }
 {
@@ -42,7 +42,7 @@ pub fn unquote(text: &[u8]) -> &[u8]
     }
 }
 
-/// Removes the last byte of the text if it is `mark`.
+/// Returns the text without its last byte if that is `mark`, else the whole text.
 pub fn without_last(text: &[u8], mark: u8) -> &[u8]
     ensures { result.now ≡ without_last mark text.now }
 {
@@ -52,9 +52,8 @@ pub fn without_last(text: &[u8], mark: u8) -> &[u8]
     }
 }
 
-/// Law: a text that is spelled as words with separators between them is split into those words.
-/// Separators before a word are skipped, and a word ends before the next separator outside
-/// quotations.
+/// Law: splitting a text that was made of words with separators between them gives those words.
+/// Separators before a word are skipped. A word ends before the next separator outside quotations.
 pub fn spelled_words_are_read()
     ensures gap { (s : SomeSeparators) (b : ℕ) (rest : List ℕ)
         → separates s b ≡ true → words_in s (b ∷ rest) ≡ words_in s rest }
@@ -65,8 +64,8 @@ pub fn spelled_words_are_read()
         → IsWord s word → words_in s word ≡ word ∷ [] }
 {}
 
-/// Law: if all quotations close, the words of a text are exactly those that the grammar finds in
-/// it. Unquoting removes exactly the marks that the grammar allows.
+/// Law: if all quotations of a text close, its words are exactly those that the grammar finds in
+/// it. Unquoting removes exactly the quotation marks that the grammar names.
 pub fn words_are_spelled()
     ensures words { (s : SomeSeparators) (text : List ℕ) (words : List (List ℕ)) →
         QuotesClose s false text → words_in s text ≡ words ↔ HasWords s text words }
