@@ -1,5 +1,5 @@
-//! Reads one entry: whether it is whole, how long it is, and what it says. The search for faults
-//! and the reading of the values share this code.
+//! Reads one entry: whether it is whole, its length, and its content. The search for faults and the
+//! reading of the values share this code.
 ghost use Rattle.std.specs.Prelude.{◌≡◌, ℕ, ◌+◌, ◌<◌, ◌≤◌, length, IsTrue};
 ghost use Rattle.srat_reader.specs.Entries.{entry_length_at, fits_entry_type, is_whole_entry, is_memory_overflowing, has_enabled_flag, local_apic_domain, memory_domain, srat_entry_at};
 
@@ -32,7 +32,8 @@ pub enum SratEntry {
     Block { domain: u32, base: u64, size: u64 },
 }
 
-/// Tests whether the content is a range of memory whose base plus size exceeds 2^64 - 1.
+/// Tests whether `said`, the content of an entry, is a range of memory whose base plus size exceeds
+/// 2^64 - 1. This isn't about running out of memory.
 pub fn is_memory_overflowing(said: SratEntry) -> bool
     ensures { result ≡ is_memory_overflowing said }
 {

@@ -172,8 +172,8 @@ fn read_srat_entries(alloc: Global, bytes: &[u8]) -> Result<Srat, Memory>
     Ok(srat)
 }
 
-/// Appends the content of an entry to the list that it belongs to. A range of memory must end at
-/// 2^64 - 1 or below.
+/// Appends `said`, the content of an entry, to the list that it belongs to: a processor to `cpus`,
+/// a range of memory to `blocks`. A range of memory must end at 2^64 - 1 or below.
 ///
 /// # Errors
 ///
