@@ -20,6 +20,6 @@ domains_once names = fold with_domain [] names
 abbrev pub named_domains : List ℕ → List SratBlock → List ℕ
 named_domains processors blocks = domains_once (processors ++ map (λ (b : SratBlock). b.domain) blocks)
 
--- the node of a domain: its index in the list of domains, from 0
+-- the node of a domain: its index in `domains`, from 0; a domain that isn't in the list has node 0
 abbrev pub node_of_domain : List ℕ → ℕ → ℕ
 node_of_domain domains d = unwrap_or (position (λ e. e == d) domains) 0

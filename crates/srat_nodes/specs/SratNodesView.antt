@@ -14,7 +14,7 @@ use Rattle.srat_nodes.specs.Domains.{named_domains}
 use Rattle.srat_nodes.specs.NodeAt.{NumaBlock, node_at, same_node}
 use Rattle.srat_nodes.specs.Kept.{is_any_kept, numa_blocks_of, count_with_addresses, first_clash, keep_blocks}
 
--- node n for an address that is memory without a node; None for any other address
+-- node n for an address of memory that has no node yet; None for any other address
 abbrev pub node_if_uncovered : (ℕ → Bool) → (ℕ → Option ℕ) → ℕ → ℕ → Option ℕ
 node_if_uncovered memory nodes n x = if memory x && is_none (nodes x) then Some n else None
 
@@ -23,10 +23,11 @@ node_if_uncovered memory nodes n x = if memory x && is_none (nodes x) then Some 
 unfoldable pub count_frames_with_node : (ℕ → Option ℕ) → ℕ
 count_frames_with_node nodes = count_below (λ frame. is_some (nodes (FRAME_SIZE * frame))) (2 ^ 52)
 
--- the lowest node of the blocks, or 0 if there are no blocks
+-- the lower of the two nodes: this one, and that of the block
 abbrev pub lower_node : ℕ → NumaBlock → ℕ
 lower_node n b = min n b.value
 
+-- the lowest node of the blocks, or 0 if there are no blocks
 abbrev pub lowest_node : List NumaBlock → ℕ
 lowest_node [] = 0
 lowest_node (b ∷ bs) = fold lower_node b.value bs
@@ -39,6 +40,7 @@ pub record SratNodesView : Type 0 where
   pub rest : List NumaBlock
   pub uncovered : ℕ
 
+-- what contracts see of these results of the code
 abbrev pub srat_nodes_view : SratNodes → SratNodesView
 srat_nodes_view j = record { why = j.why; domains = j.domains.items; joined = j.joined.items; rest = j.rest.items; uncovered = j.uncovered }
 
@@ -62,27 +64,32 @@ abbrev pub nodes_if_covering : List ℕ → (ℕ → Option ℕ) → (ℕ → Op
 nodes_if_covering domains nodes left =
     if nat_le UNCOVERED_FRAMES (count_frames_with_node left) then unused_srat (why.NotCovered (count_frames_with_node left)) else used_srat domains nodes left
 
--- the reason before that: kept blocks of different nodes overlap
+-- the table isn't used if kept blocks of different nodes overlap: the first argument has the
+-- numbers of the first such pair. Else the result is the second argument.
 abbrev pub nodes_if_apart : Option (ℕ × ℕ) → SratNodesView → SratNodesView
 nodes_if_apart (Some numbers) given = unused_srat (why.Overlap numbers.0 numbers.1)
 nodes_if_apart None given = given
 
--- the node of each address by the kept blocks; the memory that they don't cover; and the result
--- that follows
+-- the node of each address, from the kept blocks; None for an address without a node
 abbrev pub nodes_by_blocks : List KeptBlock → ℕ → Option ℕ
 nodes_by_blocks kept = node_at (numa_blocks_of kept)
 
+-- the node of each address of memory that has none from the kept blocks: the lowest of their nodes
 abbrev pub node_outside_blocks : (ℕ → Bool) → List KeptBlock → ℕ → Option ℕ
 node_outside_blocks memory kept = node_if_uncovered memory (nodes_by_blocks kept) (lowest_node (numa_blocks_of kept))
 
+-- the result that depends on the kept blocks: whether they overlap, and whether they cover enough
+-- memory
 unfoldable pub judge_kept_blocks : (ℕ → Bool) → List ℕ → List KeptBlock → SratNodesView
 judge_kept_blocks memory domains kept = nodes_if_apart (first_clash kept) (nodes_if_covering domains (nodes_by_blocks kept) (node_outside_blocks memory kept))
 
--- the first reasons in their order: no block is kept, there are too many domains, there are too
--- many blocks; then those that depend on the kept blocks
+-- the domains that a table names, in the order of their nodes
 abbrev pub srat_domains : SratView → List ℕ
 srat_domains lists = named_domains lists.processors lists.blocks
 
+-- the result for a table that is present. The first reasons not to use it are, in this order: no
+-- block is kept, there are too many domains, there are too many blocks. Then follow those that
+-- depend on the kept blocks.
 unfoldable pub judge_srat_table : (ℕ → Bool) → SratView → SratNodesView
 judge_srat_table memory lists =
     if not (is_any_kept memory lists.blocks) then unused_srat why.NoBlocks
@@ -90,7 +97,8 @@ judge_srat_table memory lists =
     else (if nat_lt MAX_BLOCKS (count_with_addresses lists.blocks) then unused_srat why.TooManyBlocks
     else judge_kept_blocks memory (srat_domains lists) (keep_blocks memory (srat_domains lists) lists.blocks)))
 
--- `numa=off` is tested first, then whether there is a table
+-- the result for a table that may be missing (None). `off` is true if `numa=off` was given, which
+-- is tested first.
 abbrev pub judge_srat : (ℕ → Bool) → Bool → Option SratView → SratNodesView
 judge_srat memory off None = if off then unused_srat why.Off else unused_srat why.Absent
 judge_srat memory off (Some lists) = if off then unused_srat why.Off else judge_srat_table memory lists

@@ -31,7 +31,7 @@ pub fn runs_overlap(first: &NodeRange, second: &NodeRange) -> bool
 /// A block that is kept.
 #[derive(Clone, Copy, Debug, PartialEq, Eq)]
 pub struct KeptBlock {
-    /// The number of the block among the enabled blocks of the table, from 0.
+    /// The number of the block among all enabled blocks of the table, kept or not, from 0.
     pub number: u32,
     /// The addresses of the block, in whole frames, and its node.
     pub block: NodeRange,
@@ -130,8 +130,9 @@ fn block_in_frames(domains: &[u32], block: &SratBlock) -> NodeRange
 }
 
 /// Returns the numbers of two kept blocks of different nodes that share an address, or `None` if
-/// there are none. The first number is the least possible, and then the second. `laid` has the
-/// overlaid blocks; pairs are compared only if there is an overlap.
+/// there are no such blocks. It is the least such pair, by its first number and then by its second.
+/// `laid` has the runs of the overlaid blocks. They show whether any blocks overlap; only then are
+/// pairs compared.
 pub fn first_clash(kept: &[KeptBlock], laid: &Vec<NodeRange>) -> Option<(u32, u32)>
     requires { IsRunsOf (value_at (numa_blocks_of kept.now)) laid.now.items }
     ensures { result ≡ first_clash kept.now }
@@ -142,8 +143,9 @@ pub fn first_clash(kept: &[KeptBlock], laid: &Vec<NodeRange>) -> Option<(u32, u3
     first_pair(kept)
 }
 
-/// Tests whether no two blocks of different nodes share an address. That is so if each address of
-/// each block has the block's own node in the overlaid blocks. Takes one look-up for each block.
+/// Tests whether no two blocks of different nodes share an address. That holds if each address of
+/// each block has the block's own node in `laid`, the runs of the overlaid blocks. So one look-up
+/// for each block is enough.
 fn are_apart(kept: &[KeptBlock], laid: &Vec<NodeRange>) -> bool
     requires { IsRunsOf (value_at (numa_blocks_of kept.now)) laid.now.items }
     ensures { IsTrue result ↔ (first_clash kept.now ≡ None) }

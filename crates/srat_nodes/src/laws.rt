@@ -15,8 +15,8 @@ ghost use Rattle.srat_nodes.specs.NodeAt.{NumaBlock, belongs_to_node};
 ghost use Rattle.srat_nodes.specs.SratNodesView.{judge_srat, node_outside_blocks, nodes_by_blocks};
 ghost use Rattle.srat_nodes.specs.Kept.{numa_blocks_of, is_clash_of_numbers, first_clash, frame_base, is_node_of, keep_blocks};
 
-/// Law: if no two kept blocks of different nodes share an address, and none is empty, the node of
-/// an address is the only node that it has, if any.
+/// Law: an address belongs to at most one node, if no kept block is empty and no two kept blocks of
+/// different nodes share an address.
 pub fn one_node_an_address()
     ensures { (kept : List AnyKept) → first_clash kept ≡ None → HaveAddresses (numa_blocks_of kept)
         →
@@ -24,8 +24,8 @@ pub fn one_node_an_address()
         ↔ (nodes_by_blocks kept x ≡ Some n) }
 {}
 
-/// Law: two named domains with the same node are the same domain, and a node is below the number
-/// of named domains. So blocks of different nodes have different domains.
+/// Law: two named domains with the same node are the same domain. So blocks of different nodes have
+/// different domains. A node is below the number of named domains.
 pub fn one_node_a_domain()
     ensures one { (domains : List ℕ) (d e : ℕ) → is_named_domain domains d ≡ true
         → is_named_domain domains e ≡ true →
@@ -63,9 +63,9 @@ pub fn least_overlap()
         → is_clash_of_numbers (keep_blocks memory domains blocks) k l ≡ false }
 {}
 
-/// Law: an address has the same node as the first address of its frame. If memory consists of
-/// whole frames, an address also is memory without a node exactly if the first address of its
-/// frame is. So counting frames by their first address counts the frames of memory without a node.
+/// Law: an address has the same node as the first address of its frame. If memory consists of whole
+/// frames, an address is memory outside all blocks exactly if the first address of its frame is. So
+/// it is enough to look at the first address of each frame to count the frames without a node.
 pub fn one_node_a_frame()
     ensures node { (memory : ℕ → Bool) (domains : List ℕ) (blocks : List AnyBlock) (x : ℕ) →
         nodes_by_blocks (keep_blocks memory domains blocks) x
@@ -76,9 +76,9 @@ pub fn one_node_a_frame()
         ≡ node_outside_blocks memory (keep_blocks memory domains blocks) (frame_base x) }
 {}
 
-/// Law: if no two kept blocks of different nodes share an address, the node of each kept block has
-/// a byte of memory. Each node that an address gets, from the blocks or as memory without a node,
-/// is that of a kept block, if any block is kept.
+/// Law: if no two kept SRAT blocks of different nodes overlap, each of their nodes has at least one
+/// byte of memory. If any block is kept, an address only ever gets the node of a kept block. That
+/// also holds for memory outside all blocks, which gets the lowest of their nodes.
 pub fn kept_nodes_have_memory()
     ensures memory { (memory : ℕ → Bool) (domains : List ℕ) (blocks : List AnyBlock) →
         first_clash (keep_blocks memory domains blocks) ≡ None →
@@ -90,9 +90,10 @@ pub fn kept_nodes_have_memory()
         → is_node_of kept n ≡ true }
 {}
 
-/// Law: the lists of a judgement are canonical runs, and each run has a node below
-/// [`crate::MAX_NODES`]. If the table is used, each byte of memory is in one of the runs. If
-/// memory consists of whole frames, all addresses of a frame have the same node in each list.
+/// Law: both lists of runs that [`crate::judge_srat`] returns, `joined` and `rest`, are canonical
+/// runs. Each run has a node below [`crate::MAX_NODES`]. If the table is used, each byte of memory
+/// lies in a run of one of the lists. If memory consists of whole frames, all addresses of a frame
+/// have the same node in each list.
 pub fn runs_cover_memory()
     ensures runs { (memory : ℕ → Bool) (off : Bool) (table : Option SratView) →
         AreRuns (judge_srat memory off table).joined × AreRuns (judge_srat memory off table).rest }

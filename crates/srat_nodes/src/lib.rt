@@ -5,10 +5,10 @@
 //! (`numa_cleanup_meminfo`). It uses the table only if the blocks cover enough of memory
 //! (`numa_meminfo_cover_memory`). This crate does the same on lists.
 //!
-//! [`judge_srat`] takes the ranges of memory and the content of the table, and returns a [`SratNodes`]. It
-//! has the reason why the table is or isn't used ([`Why`]). If it is used, it also has the domain
-//! of each node, the runs of addresses with a node, and the runs of memory that no block covers.
-//! These last get the lowest node that has a block.
+//! [`judge_srat`] takes the ranges of memory and the content of the table, and returns a
+//! [`SratNodes`]. It has the reason why the table is or isn't used ([`Why`]). If the table is used,
+//! it also has the domain of each node, the runs of addresses with a node, and the runs of memory
+//! that no block covers. The latter get the lowest node that has a block.
 //!
 //! The definitions look at each address by itself (`specs/NodeAt.antt`). An address has a node if
 //! it lies in a kept block of that node. It also has the node if it lies between two of them, and

@@ -1,5 +1,5 @@
-//! Memory as runs. Its ranges come in any order. They are overlaid once; after that, one look-up
-//! tells whether a range contains a byte of memory.
+//! Memory as runs. Its ranges come in any order. They are overlaid once. After that, one look-up
+//! finds out whether a range contains a byte of memory.
 
 ghost use Rattle.std.specs.Prelude.{◌≡◌, ℕ, ◌++◌, OnOk, IfOk, map};
 ghost use Rattle.address_runs.specs.Runs.{AreRuns};
@@ -28,7 +28,8 @@ pub fn memory_runs(alloc: Global, memory: &[Range]) -> Result<Vec<RunOf<bool>>, 
     overlay_all(alloc, &told)
 }
 
-/// Appends each range of memory, as a run without a node.
+/// Appends each range of `memory` to the list `told`, as a run with the value `false`: no node so
+/// far.
 ///
 /// # Errors
 ///

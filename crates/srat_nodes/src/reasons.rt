@@ -1,5 +1,4 @@
-//! Decides whether the table is used. The reasons against it are tested in the order in which the
-//! boot meets them.
+//! Decides whether the table is used. The reasons not to use it are tested in the order of [`Why`].
 
 ghost use Rattle.std.specs.Prelude.{◌≡◌, ℕ, ◌^◌, ◌<◌, ◌≤◌, IfOk, IsFalse, IsSome, OnErr, length};
 ghost use Rattle.std.specs.Option.{ForSome, option_map, option_copied};
@@ -26,7 +25,7 @@ pub const MAX_NODES: usize = 1024;
 /// The largest number of blocks that aren't empty (`NR_NODE_MEMBLKS`).
 pub const MAX_BLOCKS: usize = 2048;
 
-/// The number of frames of memory without a node from which on the table isn't used: 1 MiB
+/// If this number of frames of memory, 1 MiB, or more have no node, the table isn't used
 /// (`numa_meminfo_cover_memory`).
 pub const UNCOVERED_FRAMES: u64 = 256;
 
@@ -69,13 +68,14 @@ pub struct SratNodes {
     pub uncovered: u64,
 }
 
-/// Decides whether the table is used, and computes the nodes of memory. `memory` has the ranges of
-/// memory, in any order, none of them empty. `off` is true if `numa=off` was given. The table must
-/// have fewer than 2^32 blocks.
+/// Decides whether the SRAT is used, and if so, returns which memory belongs to which node.
+/// `memory` has the ranges of memory, in any order, none of them empty. `off` is true if `numa=off`
+/// was given. `None` means that there is no table. The table must have fewer than 2^32 blocks.
 ///
 /// # Errors
 ///
-/// - `Memory`: the program ran out of memory; there is a table, and `off` is false.
+/// - `Memory`: the program ran out of memory. This happens only if there is a table and `off` is
+///   false.
 pub fn judge_srat(
     alloc: Global,
     memory: &[Range],

@@ -1,5 +1,5 @@
-//! Finds the memory that no block covers, and counts its frames. The kernel counts them as what is
-//! left of its map (`numa_meminfo_cover_memory`).
+//! Finds the memory that no block covers, and counts its frames. The kernel subtracts the frames
+//! with a node from those of its map (`numa_meminfo_cover_memory`).
 
 ghost use Rattle.std.specs.Prelude.{◌≡◌, ℕ, ◌+◌, ◌-◌, ◌^◌, ◌<◌, ◌≤◌, ◌++◌, [], ◌∷◌, if◌then◌else◌, OnOk, IfOk, map};
 ghost use Rattle.address_runs.specs.Runs.{AreRuns, IsRunsOf, run_end, value_at};
@@ -36,8 +36,8 @@ pub fn uncovered_runs(
     uncovered_runs_with_node(alloc, &covered, node)
 }
 
-/// Returns the runs with a node, followed by the ranges of memory. Each says whether it has a
-/// node; when they are overlaid, the first one with an address decides.
+/// Returns the runs with a node, followed by the ranges of memory. The value of each says whether
+/// it has a node. If they are overlaid, the first one that has an address decides.
 ///
 /// # Errors
 ///
@@ -56,7 +56,7 @@ fn mark_covered(
     Ok(told)
 }
 
-/// Appends the runs with a node, each with the value `true`.
+/// Appends the runs of `joined`, which have a node, to the list `told`, each with the value `true`.
 ///
 /// # Errors
 ///
@@ -73,7 +73,8 @@ fn mark_with_nodes(told: &mut Vec<RunOf<bool>>, joined: &[NodeRange]) -> Result<
     Ok(())
 }
 
-/// Returns those of the runs that have no node, each with the node that it gets.
+/// Returns the runs without a node, each with `node`. In `covered`, the value of a run says whether
+/// it has a node: those with the value `true` are left out.
 ///
 /// # Errors
 ///
@@ -93,7 +94,7 @@ fn uncovered_runs_with_node(
     Ok(rest)
 }
 
-/// Appends the run with this node, if it has no node.
+/// Appends the run with `node`, if it has no node so far (its value is `false`).
 ///
 /// # Errors
 ///
