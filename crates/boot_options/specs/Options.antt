@@ -20,19 +20,21 @@ use Rattle.boot_options.specs.declared.map_option.MapOption.TheVariants.{ExactMa
 use Rattle.boot_options.specs.Crash.{CrashOptionView, CrashFormView, CrashPlainView, Plain, High, Low, crash_option_view, crash_form_of}
 use Rattle.boot_options.specs.MapOptions.{map_option_of, mem_of}
 
--- the line: the bytes before the first zero byte, without a newline at the end. It must have at
--- most 2,047 bytes (`COMMAND_LINE_SIZE` less the zero byte) and an even number of `"`.
+-- the line in the file: the bytes before the first zero byte, without a newline at the end
 abbrev pub raw_line : List ℕ → List ℕ
 raw_line bytes = without_last 10 (text_before 0 bytes)
 
+-- each quotation of the line closes: it has an even number of `"`
 abbrev pub is_closed : List ℕ → Bool
 is_closed line = count_by (λ b. b == 34) line % 2 == 0
 
+-- the line, if it has at most 2,047 bytes (`COMMAND_LINE_SIZE` less the zero byte) and is closed
 abbrev pub checked_line : List ℕ → Result (List ℕ) OptionFault
 checked_line line =
     if nat_lt LONGEST_LINE (length line) then Err faults.TooLong
     else (if is_closed line then Ok line else Err faults.OpenQuote)
 
+-- the line in these bytes, or its fault
 abbrev pub command_line_of : List ℕ → Result (List ℕ) OptionFault
 command_line_of bytes = checked_line (raw_line bytes)
 
@@ -43,26 +45,28 @@ pub data WordMeaning : Type 0 where
   NumaOff : WordMeaning
   AddEfi : WordMeaning
 
--- the value of `memmap=` is one or more map options, with commas between them
+-- the map options that these texts spell; None if one is malformed
 abbrev pub map_options_of : List (List ℕ) → Option (List MapOption)
 map_options_of [] = Some []
 map_options_of (text ∷ texts) = option_and_then (λ p. option_map (λ ps. p ∷ ps) (map_options_of texts)) (map_option_of text)
 
+-- the meaning of the value of `memmap=`: one or more map options, with commas between them
 abbrev pub memmap_of : List ℕ → Option WordMeaning
 memmap_of value = option_map OfMap (map_options_of (parts_in (Byte 44) value))
 
--- the value of `mem=` is one map option
+-- the meaning of a value of `mem=`, which is one map option
 abbrev pub one_map_option : MapOption → WordMeaning
 one_map_option p = OfMap (p ∷ [])
 
--- the value of `crashkernel=` has one form
+-- the meaning of the value of `crashkernel=`, which has one form
 abbrev pub crash_of : List ℕ → Option WordMeaning
 crash_of value = option_map OfCrash (crash_form_of value)
 
--- the value of `numa=` must be `off`; a word without a meaning has this fault
+-- the meaning of the value of `numa=`, which must be `off`
 abbrev pub numa_of : List ℕ → Option WordMeaning
 numa_of value = if bytes_eq value (codes "off") then Some NumaOff else None
 
+-- the meaning of a word, or this fault if it has none
 abbrev pub meaning_or_fault : OptionFault → Option WordMeaning → Result WordMeaning OptionFault
 meaning_or_fault fault None = Err fault
 meaning_or_fault fault (Some said) = Ok said
@@ -79,12 +83,13 @@ word_meaning number word =
     (if bytes_eq word.0 (codes "add_efi_memmap") then Ok AddEfi else
     Ok (OfMap [])))))
 
--- the name of a word is the text before its first `=`; the value is the text after it, without
--- quotation marks
+-- the name and the value of a word, from its halves around the first `=`. The value loses its
+-- quotation marks. Without a `=` (None) the whole word is the name, and there is no value.
 abbrev pub split_name_value : List ℕ → Option (List ℕ × List ℕ) → List ℕ × Option (List ℕ)
 split_name_value word None = (word, None)
 split_name_value word (Some halves) = (halves.0, Some (unquote halves.1))
 
+-- the name and the value of a word: the texts before and after its first `=` (byte 61)
 abbrev pub name_value_of : List ℕ → List ℕ × Option (List ℕ)
 name_value_of word = split_name_value word (split_once 61 word)
 
@@ -93,6 +98,7 @@ abbrev pub until_end : List (List ℕ) → List (List ℕ)
 until_end [] = []
 until_end (word ∷ words) = if bytes_eq word (codes "--") then [] else word ∷ until_end words
 
+-- the words of the line before `--`, without the quotation marks around them
 abbrev pub option_words : List ℕ → List (List ℕ)
 option_words line = until_end (map unquote (words_in CommandLine line))
 
@@ -104,11 +110,12 @@ word_meanings_from number (word ∷ words) = do
   others ← word_meanings_from (number + 1) words
   Ok ((number, said) ∷ others)
 
--- all map options in the order of the line, each with the number of its word
+-- the map options of one word, each with the number of the word, followed by the list `behind`
 abbrev pub numbered_map_options : ℕ → List MapOption → List (ℕ × MapOption) → List (ℕ × MapOption)
 numbered_map_options number [] behind = behind
 numbered_map_options number (p ∷ ps) behind = (number, p) ∷ numbered_map_options number ps behind
 
+-- all map options in the order of the line, each with the number of its word
 abbrev pub all_map_options : List (ℕ × WordMeaning) → List (ℕ × MapOption)
 all_map_options [] = []
 all_map_options ((number, OfMap ps) ∷ said) = numbered_map_options number ps (all_map_options said)
@@ -122,6 +129,7 @@ edit_of ExactMap = Some Clear
 edit_of (Adding edit) = edit
 edit_of (Other edit) = edit
 
+-- the edits of the numbered map options, in their order; an option without an edit is left out
 abbrev pub edits_of : List (ℕ × MapOption) → List Edit
 edits_of ps = filter_map (λ p. edit_of p.1) ps
 
@@ -141,7 +149,7 @@ is_efi_added ((number, OfCrash form) ∷ said) = is_efi_added said
 is_efi_added ((number, NumaOff) ∷ said) = is_efi_added said
 is_efi_added ((number, AddEfi) ∷ said) = true
 
--- the value of one form of `crashkernel=`, if the word has that form
+-- the plain form of `crashkernel=`, if the word has that form
 abbrev pub plain_crash_value : WordMeaning → Option CrashPlainView
 plain_crash_value (OfMap ps) = None
 plain_crash_value (OfCrash (Plain form)) = Some form
@@ -150,6 +158,7 @@ plain_crash_value (OfCrash (Low size)) = None
 plain_crash_value NumaOff = None
 plain_crash_value AddEfi = None
 
+-- the size of `crashkernel=S,high`, if the word has that form
 abbrev pub high_crash_value : WordMeaning → Option ℕ
 high_crash_value (OfMap ps) = None
 high_crash_value (OfCrash (Plain form)) = None
@@ -158,6 +167,7 @@ high_crash_value (OfCrash (Low size)) = None
 high_crash_value NumaOff = None
 high_crash_value AddEfi = None
 
+-- the size of `crashkernel=S,low`, if the word has that form
 abbrev pub low_crash_value : WordMeaning → Option ℕ
 low_crash_value (OfMap ps) = None
 low_crash_value (OfCrash (Plain form)) = None
@@ -166,7 +176,7 @@ low_crash_value (OfCrash (Low size)) = Some size
 low_crash_value NumaOff = None
 low_crash_value AddEfi = None
 
--- the value in the last word that has one
+-- the value that `pick` finds in a word, for the last word in which it finds one
 abbrev pub last_value : {A : Type 0} → (WordMeaning → Option A) → List (ℕ × WordMeaning) → Option A
 last_value pick [] = None
 last_value pick (s ∷ said) = option_or (last_value pick said) (pick s.1)
@@ -182,14 +192,17 @@ count_adding ((number, ExactMap) ∷ ps) = count_adding ps
 count_adding ((number, Adding edit) ∷ ps) = count_adding ps + 1
 count_adding ((number, Other edit) ∷ ps) = count_adding ps
 
--- the last `exactmap`: the number of its word, and the number of map options that add a range after
--- it
+-- The last `exactmap` of a list of map options, if the first option is `p` in the word `number`.
+-- The first argument is the last `exactmap` of the options after `p`; `behind` counts those of them
+-- that add a range.
 abbrev pub last_exact_map : Option (ℕ × ℕ) → ℕ → MapOption → ℕ → Option (ℕ × ℕ)
 last_exact_map (Some found) number p behind = Some found
 last_exact_map None number ExactMap behind = Some (number, behind)
 last_exact_map None number (Adding edit) behind = None
 last_exact_map None number (Other edit) behind = None
 
+-- the last `exactmap`: the number of its word, and the number of map options after it that add a
+-- range
 abbrev pub last_exact : List (ℕ × MapOption) → Option (ℕ × ℕ)
 last_exact [] = None
 last_exact (p ∷ ps) = last_exact_map (last_exact ps) p.0 p.1 (count_adding ps)
@@ -224,6 +237,7 @@ abbrev pub check_user_map : OptionsView → Option (ℕ × ℕ) → Result Optio
 check_user_map options_view None = Ok options_view
 check_user_map options_view (Some exact) = if nat_lt exact.1 2 then Err (faults.UserMapInvalid exact.0) else Ok options_view
 
+-- the options that these words set, or the fault of the user map
 abbrev pub options_with_user_map : List (ℕ × WordMeaning) → Result OptionsView OptionFault
 options_with_user_map said = check_user_map (options_of_words said) (last_exact (all_map_options said))
 
@@ -243,6 +257,7 @@ HasRange (RemoveAll range) = 0 < range.size
 HasRange (Change range from to) = 0 < range.size
 HasRange Clear = Unit {0}
 
+-- no edit of the list has an empty range
 abbrev pub HaveRanges : List Edit → Type 0
 HaveRanges [] = Unit {0}
 HaveRanges (e ∷ es) = HasRange e × HaveRanges es

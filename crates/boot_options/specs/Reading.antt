@@ -27,15 +27,18 @@ pub record ReadingState : Type 0 where
 abbrev pub start_state : ReadingState
 start_state = record { edits = []; crash = no_crash; numa_off = false; add_efi = false; user_map = None }
 
--- the state after another map option: an option that adds memory is one fewer to come
+-- the user map after an option that adds a range: one fewer such option is missing
 abbrev pub user_map_less_one : UserMap → UserMap
 user_map_less_one m = record { word = m.word; wanting = m.wanting - 1 }
 
+-- the user map after another map option, in the word `number`. After `exactmap` two options that
+-- add a range are missing.
 abbrev pub user_map_after_option : ℕ → MapOption → Option UserMap → Option UserMap
 user_map_after_option number ExactMap m = Some (record { word = number; wanting = 2 })
 user_map_after_option number (Adding edit) m = option_map user_map_less_one m
 user_map_after_option number (Other edit) m = m
 
+-- the state after another map option, which is in the word `number`
 abbrev pub after_map_option : ℕ → ReadingState → MapOption → ReadingState
 after_map_option number st p = record {
   edits = st.edits ++ cons_option (edit_of p) [];
@@ -45,16 +48,18 @@ after_map_option number st p = record {
   user_map = user_map_after_option number p st.user_map;
 }
 
+-- the state after all map options of the word `number`
 abbrev pub after_map_options : ℕ → ReadingState → List MapOption → ReadingState
 after_map_options number st [] = st
 after_map_options number st (p ∷ ps) = after_map_options number (after_map_option number st p) ps
 
--- the state after another word: a later value of a form of `crashkernel=` replaces an earlier one
+-- the `crashkernel=` options after another value: it replaces an earlier value of the same form
 abbrev pub crash_option_after_form : CrashOptionView → CrashFormView → CrashOptionView
 crash_option_after_form c (Plain form) = record { plain = Some form; high = c.high; low = c.low }
 crash_option_after_form c (High size) = record { plain = c.plain; high = Some size; low = c.low }
 crash_option_after_form c (Low size) = record { plain = c.plain; high = c.high; low = Some size }
 
+-- the state after another word, whose number is `number`
 abbrev pub reading_after_word : ℕ → ReadingState → WordMeaning → ReadingState
 reading_after_word number st (OfMap ps) = after_map_options number st ps
 reading_after_word number st (OfCrash form) =
@@ -70,27 +75,33 @@ reading_after_word number st NumaOff =
 reading_after_word number st AddEfi =
     record { edits = st.edits; crash = st.crash; numa_off = st.numa_off; add_efi = true; user_map = st.user_map }
 
+-- the state after all these words
 abbrev pub after_words : ReadingState → List (ℕ × WordMeaning) → ReadingState
 after_words st [] = st
 after_words st (s ∷ said) = after_words (reading_after_word s.0 st s.1) said
 
--- the state after a word, all words, or map options that may be malformed
+-- the state after a word that may be malformed, or its fault
 abbrev pub after_meaning : ℕ → ReadingState → Result WordMeaning OptionFault → Result ReadingState OptionFault
 after_meaning number st (Ok said) = Ok (reading_after_word number st said)
 after_meaning number st (Err fault) = Err fault
 
+-- the state after all words, or the fault of the first malformed one
 abbrev pub after_meanings : ReadingState → Result (List (ℕ × WordMeaning)) OptionFault → Result ReadingState OptionFault
 after_meanings st (Ok said) = Ok (after_words st said)
 after_meanings st (Err fault) = Err fault
 
+-- the state after the map options of a word, or None if one is malformed
 abbrev pub read_map_options : ℕ → ReadingState → Option (List MapOption) → Option ReadingState
 read_map_options number st ps = option_map (after_map_options number st) ps
 
--- at the end of the line no map option may still be needed for the user map
+-- The options at the end of the line. After the last `memmap=exactmap` at least two further map
+-- options must add a range; otherwise the fault names the word of that `exactmap`. `wanting` is the
+-- number of such options that are still missing.
 abbrev pub options_of_end_state : OptionsView → Option UserMap → Result OptionsView OptionFault
 options_of_end_state chosen None = Ok chosen
 options_of_end_state chosen (Some m) = if m.wanting == 0 then Ok chosen else Err (UserMapInvalid m.word)
 
+-- the options that the state gives at the end of the line, or the fault of the user map
 abbrev pub at_line_end : ReadingState → Result OptionsView OptionFault
 at_line_end st =
     options_of_end_state (record { edits = st.edits; crash = st.crash; numa_off = st.numa_off; add_efi = st.add_efi }) st.user_map

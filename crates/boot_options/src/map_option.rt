@@ -98,8 +98,8 @@ fn percent_map_option(size: u64, place: &[u8]) -> Option<MapOption>
     retype_option(range, from, to)
 }
 
-/// Returns the map option that changes type `from` to type `to` in the range; 0 stands for a type
-/// that isn't given. Returns `None` if both types are given and equal.
+/// Returns the map option that changes type `from` to type `to` in the range. A type of 0 means
+/// that the option doesn't give it. Returns `None` if both types are given and equal.
 fn retype_option(range: Range, from: u32, to: u32) -> Option<MapOption>
     ensures { result ≡ retype_option range from to }
 {

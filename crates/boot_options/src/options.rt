@@ -1,5 +1,5 @@
-//! Reads the options of a whole line: its limits first, then its words, and then what all words
-//! together must fulfil. This is the entry point of the crate.
+//! Reads the options of a whole line. The limits of the line are tested first, then its words are
+//! read, and then the user map is checked. This is the entry point of the crate.
 
 ghost use Rattle.std.specs.Prelude.{◌≡◌, ◌↔◌, ℕ, List, ◌<◌, ◌≤◌, length, MatchResult, Ok, Err, IfOk, IfErr, IfSome, Option, IsOkAnd, IsErr, OnErr, ◌⊎◌};
 ghost use Rattle.bm_base.specs.Answers.{Answers};
@@ -60,9 +60,9 @@ pub fn read_options(alloc: Global, bytes: &[u8]) -> Result<Options, OptionFault>
 }
 
 /// Law: a line has the fault [`OptionFault::BadMemmap`] of a word exactly if that word is the
-/// lowest malformed one, and its name is `memmap`. The other clauses say this of `mem`,
-/// `crashkernel` and `numa`. A word is malformed if it has no `=`, or if its value, without
-/// quotation marks, isn't spelled in any form of its name.
+/// lowest malformed one, and its name is `memmap`. The same holds for `mem`, `crashkernel` and
+/// `numa` and their faults. A word is malformed if it has no `=`, or if its value, without
+/// quotation marks, has none of the forms that its name allows.
 pub fn malformed_words_are_faults()
     ensures mem { (bytes : List ℕ) (word : ℕ) →
         options_of bytes ≡ Err (faults.BadMem word) ↔ IsFirstWordFault bytes word IsBadMem }
@@ -74,8 +74,8 @@ pub fn malformed_words_are_faults()
         options_of bytes ≡ Err (faults.BadNuma word) ↔ IsFirstWordFault bytes word IsBadNuma }
 {}
 
-/// Law: a word has exactly the meaning that its name and its value, without quotation marks,
-/// spell. A line has the meanings of its words: the texts between separators, up to `--`.
+/// Law: a word has exactly the meaning that the grammar gives to its name and its value, without
+/// quotation marks. A line has the meanings of its words, the texts between separators, up to `--`.
 pub fn words_say_what_they_spell()
     ensures word { (number : ℕ) (word : List ℕ) (said : WordMeaning) →
         word_meaning number (name_value_of word) ≡ Ok said ↔ SpellsMeaning word said }

@@ -45,8 +45,8 @@ pub struct CrashRead {
     pub low: Option<u64>,
 }
 
-/// The last `exactmap` so far: the number of its word, and how many map options that add a range
-/// are still needed after it.
+/// The last `exactmap` so far: the number of its word, and `wanting`, the number of map options
+/// that add a range and are still missing after it. At least two must follow.
 #[derive(Clone, Copy, Debug, PartialEq, Eq)]
 pub struct UserMap {
     pub word: u32,
@@ -189,7 +189,8 @@ fn read_crash(
     Ok(())
 }
 
-/// Adds the result of one map option, which is in the word `number`.
+/// Adds one map option to `reading`: its edit, and what it means for the user map. The option is in
+/// the word `number`.
 fn take_map_option(option: &MapOption, number: u32, reading: &mut Reading)
     ensures { (st : ReadingState) → IsReadTo reading.old st →
         IsReadTo reading.new (after_map_option number st option.now) }
@@ -210,7 +211,7 @@ fn take_map_option(option: &MapOption, number: u32, reading: &mut Reading)
     }
 }
 
-/// Returns the user map with one map option fewer to come.
+/// Returns the user map after an option that adds a range: one fewer such option is missing.
 fn user_map_less_one(map: &Option<UserMap>) -> Option<UserMap>
     ensures { result ≡ option_map user_map_less_one map.now }
 {
