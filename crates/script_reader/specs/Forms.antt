@@ -11,16 +11,19 @@ use Rattle.script_reader.specs.declared.fault.Wrong.{Wrong}
 use Rattle.script_reader.specs.declared.fault.Wrong.TheVariants as wrong
 use Rattle.script_reader.specs.Numbers.{Words, expect_no_words, first_word, one_word, two_words, three_words, word_after_key, number_in_word, number_within, optional_number, check_power_of_two, check_not_zero, range_or_fault}
 
--- the largest ID, number of a node, value of a byte, and length of a `peek`
+-- the largest ID
 abbrev pub greatest_id : ℕ
 greatest_id = 2 ^ 32 - 1
 
+-- the largest number of a node
 abbrev pub greatest_node : ℕ
 greatest_node = 1023
 
+-- the largest value of a byte
 abbrev pub greatest_byte : ℕ
 greatest_byte = 255
 
+-- the largest length of a `peek`, in bytes
 abbrev pub greatest_len : ℕ
 greatest_len = 64
 
@@ -44,6 +47,7 @@ optional_exact None words = (false, words)
 optional_exact (Some node) [] = (false, [])
 optional_exact (Some node) (w ∷ ws) = if bytes_eq w (codes "exact") then (true, ws) else (false, w ∷ ws)
 
+-- the words after `alloc`, split but not read as numbers
 abbrev pub alloc_words : Words → Result AllocWords Wrong
 alloc_words words = do
   id ← first_word words
@@ -56,7 +60,8 @@ alloc_words words = do
   none ← expect_no_words exact.1
   Ok (record { id = id.0; size = size.0; align = align.0; min = min.0; max = max.0; node = node.0; exact = exact.0 })
 
--- alloc ID SIZE ALIGN [min A] [max A] [node N [exact]]
+-- the act of the line `alloc ID SIZE ALIGN [min A] [max A] [node N [exact]]`, from the words after
+-- `alloc`
 abbrev pub alloc_line : Words → Result Act Wrong
 alloc_line words = do
   said ← alloc_words words
@@ -70,7 +75,7 @@ alloc_line words = do
   large ← check_not_zero size
   Ok (acts.Alloc id (record { size = large; align = aligned; min = unwrap_or min 0; max = max; node = node; exact = said.exact }))
 
--- reserve ID BASE SIZE
+-- the act of the line `reserve ID BASE SIZE`, from the words after `reserve`
 abbrev pub reserve_line : Words → Result Act Wrong
 reserve_line words = do
   said ← three_words words
@@ -81,14 +86,14 @@ reserve_line words = do
   range ← range_or_fault base large
   Ok (acts.Reserve id range)
 
--- free ID
+-- the act of the line `free ID`, from the words after `free`
 abbrev pub free_line : Words → Result Act Wrong
 free_line words = do
   said ← one_word words
   id ← number_within greatest_id said
   Ok (acts.Free id)
 
--- trim ID KEEP
+-- the act of the line `trim ID KEEP`, from the words after `trim`
 abbrev pub trim_line : Words → Result Act Wrong
 trim_line words = do
   said ← two_words words
@@ -97,7 +102,7 @@ trim_line words = do
   large ← check_not_zero keep
   Ok (acts.Trim id large)
 
--- fill ID BYTE
+-- the act of the line `fill ID BYTE`, from the words after `fill`
 abbrev pub fill_line : Words → Result Act Wrong
 fill_line words = do
   said ← two_words words
@@ -105,7 +110,7 @@ fill_line words = do
   byte ← number_within greatest_byte said.1
   Ok (acts.Fill id byte)
 
--- peek ADDR LEN
+-- the act of the line `peek ADDR LEN`, from the words after `peek`
 abbrev pub peek_line : Words → Result Act Wrong
 peek_line words = do
   said ← two_words words
@@ -115,7 +120,7 @@ peek_line words = do
   range ← range_or_fault at large
   Ok (acts.Peek range.base range.size)
 
--- sections; a fault if an earlier line is `sections`
+-- the act of the line `sections`; a fault if words follow, or if an earlier line is `sections`
 abbrev pub sections_line : Bool → Words → Result Act Wrong
 sections_line seen words = do
   none ← expect_no_words words

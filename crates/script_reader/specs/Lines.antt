@@ -60,7 +60,7 @@ script_lines_from kind seen number (text ∷ texts) = do
 abbrev pub lines_of : {A L : Type 0} → ScriptKind A L → List ℕ → Result (List L) (ℕ × Wrong)
 lines_of kind bytes = script_lines_from kind false 1 (parts_in (separators.Byte 10) bytes)
 
--- this can be wrong with a line that isn't read
+-- if the error is a fault of a line, that fault is one of those that the first argument allows
 abbrev pub CanBe : (Wrong → Type 0) → LinesError → Type 0
 CanBe MayBeWrong (unread.Faulty line wrong) = MayBeWrong wrong
 CanBe MayBeWrong unread.Memory = Unit {0}

@@ -5,7 +5,7 @@
 /// What is wrong with a line. If several apply, the first of this list is reported.
 #[derive(Clone, Copy, Debug, PartialEq, Eq)]
 pub enum Wrong {
-    /// The words have no form, whatever their numbers are.
+    /// The words have the form of no command, whatever their numbers are.
     Form,
     /// A word isn't entirely a number, or the number is above its limit.
     Number,
@@ -24,7 +24,7 @@ pub enum Wrong {
 /// from 1 on. If the line has several faults, the first of this list is reported.
 #[derive(Clone, Copy, Debug, PartialEq, Eq)]
 pub enum ScriptFault {
-    /// The words of the line have no form, whatever their numbers are.
+    /// The words of the line have the form of no command, whatever their numbers are.
     BadLine { line: u32 },
     /// A word isn't entirely a number, or the number is above its limit: 2^32 - 1 for an ID, 1,023
     /// for a node, 255 for a byte, and 64 for the length of a `peek`.

@@ -1,5 +1,5 @@
-//! Reads the words of one line. The first selects the form; the steps of each form are in the order
-//! of the faults.
+//! Reads the words of one line. The first word selects the form. Each form tests for faults in the
+//! order in which they are reported.
 
 ghost use Rattle.std.specs.Prelude.{◌≡◌, ℕ, ◌<◌, ◌≤◌, ◌^◌, Option, Some, Ok, Err, MatchResult, IfOk};
 ghost use Rattle.std.specs.Option.{option_map};
@@ -17,8 +17,8 @@ use memblock_model::Request;
 use std::marker::Model;
 use text_words::{Separators, next_word};
 
-/// Reads the words after the first one, which is the name of the command. `seen` is true if an
-/// earlier line is `sections`.
+/// Returns the command of a line. `name` is its first word, and `rest` the text after that. `seen`
+/// is true if an earlier line is `sections`.
 ///
 /// # Errors
 ///
@@ -52,7 +52,7 @@ pub fn act_by_name(seen: bool, name: &[u8], rest: &[u8]) -> Result<Act, Wrong>
     Err(Wrong::Form)
 }
 
-/// The words of an `alloc` after the first.
+/// The words after `alloc`. An optional word is `None` if the line lacks it.
 #[derive(Clone, Copy)]
 struct AllocWords<'a> {
     id: &'a [u8],
@@ -64,7 +64,8 @@ struct AllocWords<'a> {
     exact: bool,
 }
 
-/// Reads the words `ID SIZE ALIGN [min A] [max A] [node N [exact]]`. The numbers are read later.
+/// Splits the words `ID SIZE ALIGN [min A] [max A] [node N [exact]]` after `alloc`. The caller
+/// reads their numbers.
 ///
 /// # Errors
 ///
@@ -101,8 +102,8 @@ fn alloc_words(text: &[u8]) -> Result<AllocWords<'_>, Wrong>
     })
 }
 
-/// Tests whether `exact` comes next, and returns the rest of the text after it. Without a node the
-/// answer is false, and the text is unchanged.
+/// Tests whether the next word is `exact`, and returns the text after it. Returns false and the
+/// unchanged text if there is another word, or if the line names no node.
 fn optional_exact<'a>(node: Option<&'a [u8]>, text: &'a [u8]) -> (bool, &'a [u8])
     ensures { optional_exact (option_map (λ word. word.now) node.entry)
         (words_in separators.Script text.now)
@@ -117,6 +118,12 @@ fn optional_exact<'a>(node: Option<&'a [u8]>, text: &'a [u8]) -> (bool, &'a [u8]
     }
 }
 
+/// Reads the words after `alloc`: an ID, and the request for a range. Sizes, alignments and
+/// addresses are in bytes. Without `min` the lowest address is 0.
+///
+/// # Errors
+///
+/// - The first fault of the words: `Form`, `Number`, `Align` or `ZeroSize`.
 fn alloc_line(text: &[u8]) -> Result<Act, Wrong>
     ensures value { result ≡ alloc_line (words_in separators.Script text.now) }
     ensures bounds { IfOk result HasBounds }
@@ -153,6 +160,11 @@ const GREATEST_BYTE: u64 = 255;
 /// The largest length of a `peek`, in bytes.
 const GREATEST_LEN: u64 = 64;
 
+/// Reads the words after `reserve`: an ID, and the base and the size of the range in bytes.
+///
+/// # Errors
+///
+/// - The first fault of the words: `Form`, `Number`, `ZeroSize` or `TooFar`.
 fn reserve_line(text: &[u8]) -> Result<Act, Wrong>
     ensures value { result ≡ reserve_line (words_in separators.Script text.now) }
     ensures bounds { IfOk result HasBounds }
@@ -165,6 +177,11 @@ fn reserve_line(text: &[u8]) -> Result<Act, Wrong>
     Ok(Act::Reserve { id, range })
 }
 
+/// Reads the word after `free`: an ID.
+///
+/// # Errors
+///
+/// - The first fault of the words: `Form` or `Number`.
 fn free_line(text: &[u8]) -> Result<Act, Wrong>
     ensures value { result ≡ free_line (words_in separators.Script text.now) }
     ensures bounds { IfOk result HasBounds }
@@ -173,6 +190,11 @@ fn free_line(text: &[u8]) -> Result<Act, Wrong>
     Ok(Act::Free { id })
 }
 
+/// Reads the words after `trim`: an ID, and the number of bytes to keep, at least 1.
+///
+/// # Errors
+///
+/// - The first fault of the words: `Form`, `Number` or `ZeroSize`.
 fn trim_line(text: &[u8]) -> Result<Act, Wrong>
     ensures value { result ≡ trim_line (words_in separators.Script text.now) }
     ensures bounds { IfOk result HasBounds }
@@ -183,6 +205,11 @@ fn trim_line(text: &[u8]) -> Result<Act, Wrong>
     Ok(Act::Trim { id, keep })
 }
 
+/// Reads the words after `fill`: an ID, and the value of the bytes, from 0 to 255.
+///
+/// # Errors
+///
+/// - The first fault of the words: `Form` or `Number`.
 fn fill_line(text: &[u8]) -> Result<Act, Wrong>
     ensures value { result ≡ fill_line (words_in separators.Script text.now) }
     ensures bounds { IfOk result HasBounds }
@@ -193,6 +220,11 @@ fn fill_line(text: &[u8]) -> Result<Act, Wrong>
     Ok(Act::Fill { id, byte })
 }
 
+/// Reads the words after `peek`: an address, and a length of 1 to 64 bytes.
+///
+/// # Errors
+///
+/// - The first fault of the words: `Form`, `Number`, `ZeroSize` or `TooFar`.
 fn peek_line(text: &[u8]) -> Result<Act, Wrong>
     ensures value { result ≡ peek_line (words_in separators.Script text.now) }
     ensures bounds { IfOk result HasBounds }
@@ -207,6 +239,12 @@ fn peek_line(text: &[u8]) -> Result<Act, Wrong>
     })
 }
 
+/// Checks that no word follows `sections`. `seen` is true if an earlier line is `sections`.
+///
+/// # Errors
+///
+/// - `Form`: a word follows.
+/// - `SecondSections`: no word follows, and `seen` is true.
 fn sections_line(seen: bool, text: &[u8]) -> Result<Act, Wrong>
     ensures value { result ≡ sections_line seen (words_in separators.Script text.now) }
     ensures bounds { IfOk result HasBounds }

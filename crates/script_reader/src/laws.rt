@@ -1,5 +1,5 @@
-//! The laws of lines and of whole scripts: they are read as what they spell, and nothing else is
-//! accepted.
+//! The laws of lines and of whole scripts: the reader accepts exactly what the grammar allows, and
+//! reads it with the grammar's meaning.
 
 ghost use Rattle.std.specs.Prelude.{◌≡◌, ◌↔◌, ℕ, Bool, false, List, [], Some, None, Ok, Err};
 ghost use Rattle.text_words.specs.Parts.{parts_in};
@@ -17,16 +17,16 @@ ghost use Rattle.script_reader.specs.Grammar.{HasNoCommand, HasWordsFault};
 ghost use Rattle.script_reader.specs.Spelling.{script_grammar, SpellsAct, Fails};
 ghost use Rattle.script_reader.specs.ScriptSpelling.{LinesHaveActs, IsFirstLineFault};
 
-/// Law: each text has exactly one list of words.
+/// Law: a text of a line can be split into words in exactly one way.
 pub fn each_line_has_its_words()
     ensures some { (text : List ℕ) → (words : Words) × HasWords Script text words }
     ensures one { (text : List ℕ) (words others : Words) →
         HasWords Script text words → HasWords Script text others → words ≡ others }
 {}
 
-/// Law: a line is read as an act exactly if its words spell that act, and it isn't a second
-/// `sections`. It has no command exactly if it has no words or is a comment. It has a fault
-/// exactly if that is the first condition that its words don't meet.
+/// Law: a line is read as an act exactly if its words follow the grammar of that act, and it isn't
+/// a second `sections`. It has no command exactly if it has no words or is a comment. Otherwise its
+/// fault is the first condition of the grammar that its words break.
 pub fn lines_of_spelling()
     ensures act { (seen : Bool) (text : List ℕ) (words : Words) (act : AnyAct) →
         HasWords Script text words →
@@ -41,9 +41,9 @@ pub fn lines_of_spelling()
         ↔ HasWordsFault script_grammar (Fails seen) words wrong) }
 {}
 
-/// Law: a script is read as a list of lines exactly if these are the commands of its lines, with
-/// their numbers, and all other lines have no command. It has a fault exactly if that is the fault
-/// of the lowest line that has one.
+/// Law: reading a script gives exactly the commands of its lines, each with the number of its line.
+/// Lines without a command are left out. A script is refused exactly if some line has a fault, with
+/// the fault of the lowest such line.
 pub fn scripts_of_spelling()
     ensures lines { (bytes : List ℕ) (lines : List AnyLine) →
         ((script_of bytes ≡ Ok lines) ↔ LinesHaveActs [] (parts_in (Byte 10) bytes) lines) }

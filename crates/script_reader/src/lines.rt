@@ -23,16 +23,16 @@ pub trait ScriptLine: Copy {
 
     type Act: Copy;
 
-    // `kind` has the forms of the lines. `IsWithinLimits` is true of each line that is read, and
-    // `MayBeWrong` of all that can be wrong with a line.
+    // `kind` has the forms of the lines. `IsWithinLimits` holds for each line that is read, and
+    // `MayBeWrong` for each fault that a line can have.
     ghost kind: { ScriptKind Self.Act Self };
 
     ghost IsWithinLimits: { Self → Type 0 };
 
     ghost MayBeWrong: { Wrong → Type 0 };
 
-    /// Reads the words after the first one, which is the name of the command. `seen` is true if
-    /// an earlier line has the command that may occur only once.
+    /// Returns the command of a line. `name` is its first word, and `rest` the text after that.
+    /// `seen` is true if an earlier line has a command that may occur only once.
     ///
     /// # Errors
     ///
