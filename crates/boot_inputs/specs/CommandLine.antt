@@ -15,16 +15,17 @@ use Rattle.boot_inputs.specs.File.{File, with_value}
 abbrev pub options_or_fault : List ℕ → Result OptionsView Fault
 options_or_fault bytes = with_error faults.CommandLine (options_of bytes)
 
--- an edit needs memory, and so does a plain `crashkernel=`
+-- reading the line needs memory: the line has an edit or a plain `crashkernel=`
 abbrev pub options_need_memory : Result OptionsView OptionFault → Bool
 options_need_memory (Ok chosen) = nat_lt 0 (length chosen.edits) || is_some chosen.crash.plain
 options_need_memory (Err fault) = false
 
--- the options are put into the inputs
+-- the inputs with the options put in
 abbrev pub set_command_line : OptionsView → InputsView → InputsView
 set_command_line chosen given = record given { options = chosen }
 
--- at most 4,096 bytes, twice what the kernel keeps of a line (`COMMAND_LINE_SIZE`)
+-- the input file with the command line: at most 4,096 bytes, twice what the kernel keeps of a line
+-- (`COMMAND_LINE_SIZE`)
 abbrev pub command_line : File
 command_line = record {
   input = inputs.CommandLine;
@@ -33,7 +34,8 @@ command_line = record {
   says = λ bytes given. with_value set_command_line given (options_or_fault bytes);
 }
 
--- what the line of a fault says, or `None` for out of memory, which is no fault of the bytes
+-- the content of a fault's error line; None for `Memory`, which isn't a fault of the file's
+-- contents
 abbrev pub command_line_diagnostic : OptionFault → Option Diagnostic
 command_line_diagnostic options.TooLong = Some (Diagnostic.Whole (codes "line too long"))
 command_line_diagnostic options.OpenQuote = Some (Diagnostic.Whole (codes "open quote"))

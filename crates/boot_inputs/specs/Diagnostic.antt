@@ -1,4 +1,4 @@
--- What the line of a fault says after the word for its file.
+-- The content of a fault's error line, after the word for the file.
 use Rattle.std.specs.Prelude.{ℕ, List}
 use Rattle.boot_inputs.specs.declared.fault.Diagnostic.{Diagnostic as DiagnosticBy}
 use Rattle.boot_inputs.specs.declared.fault.Diagnostic.TheVariants as told

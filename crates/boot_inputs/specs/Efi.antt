@@ -20,15 +20,15 @@ efi_map_in_frames m = record { entries = m.entries; mirrors = map frame_range_of
 abbrev pub efi_or_fault : List ℕ → Result EfiContent Fault
 efi_or_fault bytes = with_error faults.Efi (efi_of bytes)
 
--- each descriptor needs memory
+-- reading the file needs memory: it has a descriptor
 abbrev pub efi_needs_memory : List ℕ → Bool
 efi_needs_memory bytes = nat_lt 0 (length (descriptors_of bytes))
 
--- the map is put into the inputs
+-- the inputs with the map put in
 abbrev pub put_efi : EfiContent → InputsView → InputsView
 put_efi m given = record given { efi = Some (efi_map_in_frames m) }
 
--- at most 1 MiB
+-- the input file with the EFI memory map: at most 1 MiB
 abbrev pub efi_file : File
 efi_file = record {
   input = inputs.Efi;
@@ -37,7 +37,8 @@ efi_file = record {
   says = λ bytes given. with_value put_efi given (efi_or_fault bytes);
 }
 
--- what the line of a fault says, or `None` for out of memory, which is no fault of the bytes
+-- the content of a fault's error line; None for `Memory`, which isn't a fault of the file's
+-- contents
 abbrev pub efi_diagnostic : EfiFault → Option Diagnostic
 efi_diagnostic efi.Header = Some (Diagnostic.Whole (codes "header"))
 efi_diagnostic efi.Length = Some (Diagnostic.Whole (codes "length"))

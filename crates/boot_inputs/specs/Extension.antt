@@ -16,11 +16,12 @@ use Rattle.boot_inputs.specs.File.{File, value_unless_fault, with_value}
 abbrev pub extension_or_fault : List ℕ → Result (List Entry) Fault
 extension_or_fault bytes = value_unless_fault (option_map faults.Extension (ext_fault bytes)) (ext_entries_of bytes)
 
--- the entries are put into the inputs
+-- the inputs with the entries put in
 abbrev pub put_extension : List Entry → InputsView → InputsView
 put_extension entries given = record given { extension = entries }
 
--- at most 3,072 entries after a header of 16 bytes; each needs memory
+-- the input file with the E820 extension: at most 3,072 entries after a header of 16 bytes. Reading
+-- it needs memory if it has an entry.
 abbrev pub extension_file : File
 extension_file = record {
   input = inputs.Extension;
@@ -29,7 +30,8 @@ extension_file = record {
   says = λ bytes given. with_value put_extension given (extension_or_fault bytes);
 }
 
--- what the line of a fault says, or `None` for out of memory, which is no fault of the bytes
+-- the content of a fault's error line; None for `Memory`, which isn't a fault of the file's
+-- contents
 abbrev pub extension_diagnostic : ExtFault → Option Diagnostic
 extension_diagnostic (extension.EntryTooFar index) = Some (Diagnostic.Far (codes "entry") index)
 extension_diagnostic extension.ExtHeader = Some (Diagnostic.Whole (codes "header"))

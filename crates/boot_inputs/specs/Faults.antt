@@ -1,4 +1,4 @@
--- What the lines of the files' faults say.
+-- The error lines of the files' faults.
 use Rattle.std.specs.Prelude.{ℕ, List, codes, Option, Some, IfErr, IsSome}
 use Rattle.boot_model.specs.Boot.{InputsView}
 use Rattle.boot_inputs.specs.declared.fault.Fault.{Fault}
@@ -14,8 +14,8 @@ use Rattle.boot_inputs.specs.Slit.{slit_diagnostic}
 use Rattle.boot_inputs.specs.Srat.{srat_diagnostic}
 use Rattle.boot_inputs.specs.ZeroPage.{zero_page_diagnostic}
 
--- what the line of the fault says: for a file that is too long the same for all, else what the
--- file's own fault says
+-- the content of the fault's error line. A file that is too long has the same line whichever file
+-- it is; for any other fault the crate of its reader decides.
 abbrev pub diagnostic_of : Fault → Option Diagnostic
 diagnostic_of faults.TooLong = Some (Diagnostic.Whole (codes "too long"))
 diagnostic_of (faults.ZeroPage fault) = Some (zero_page_diagnostic fault)
@@ -27,10 +27,10 @@ diagnostic_of (faults.Pages fault) = pages_diagnostic fault
 diagnostic_of (faults.Slit fault) = slit_diagnostic fault
 diagnostic_of (faults.Efi fault) = efi_diagnostic fault
 
--- the line of the fault says something: the fault isn't a reader's out of memory
+-- the fault has an error line: it isn't the variant `Memory` of a reader's fault
 abbrev pub IsOfBytes : Fault → Type 0
 IsOfBytes fault = IsSome (diagnostic_of fault)
 
--- each fault that the file has for bytes is one of the bytes, whatever the inputs before it are
+-- whatever bytes the file has, and whatever the inputs before it are, its fault is never `Memory`
 abbrev pub FaultsAreOfBytes : File → Type 0
 FaultsAreOfBytes file = (bytes : List ℕ) (given : InputsView) → IfErr (file.says bytes given) IsOfBytes

@@ -4,20 +4,21 @@ use Rattle.boot_model.specs.Boot.{InputsView}
 use Rattle.boot_inputs.specs.declared.fault.Fault.{Fault}
 use Rattle.boot_inputs.specs.declared.input.Input.{Input}
 
--- Which file it is, how many bytes it may have, and which bytes need memory. `says` is what the
--- bytes make of the inputs before the file, or their first fault.
+-- an input file: which one it is (`input`), how many bytes it may have (`limit`), and whether
+-- reading given bytes needs memory (`takes`). `says` gives the inputs after the file, from its
+-- bytes and the inputs before it, or the first fault of the bytes.
 pub record File : Type 0 where
   pub input : Input
   pub limit : ℕ
   pub takes : List ℕ → Bool
   pub says : List ℕ → InputsView → Result InputsView Fault
 
--- the value is put into the inputs
+-- the inputs with the reader's value put in, or the reader's fault
 abbrev pub with_value : {A : Type 0} → (A → InputsView → InputsView) → InputsView → Result A Fault → Result InputsView Fault
 with_value put given (Ok value) = Ok (put value given)
 with_value put given (Err fault) = Err fault
 
--- the value, unless there is a fault
+-- the fault, if there is one, else the value
 abbrev pub value_unless_fault : {A : Type 0} → Option Fault → A → Result A Fault
 value_unless_fault None value = Ok value
 value_unless_fault (Some fault) value = Err fault

@@ -14,7 +14,7 @@ input_place inputs.Pages = 5
 input_place inputs.Slit = 6
 input_place inputs.Efi = 7
 
--- the word for an input in the line of its fault
+-- the word for the file in an error line
 abbrev pub input_word : Input → List ℕ
 input_word inputs.ZeroPage = codes "zeropage"
 input_word inputs.Extension = codes "e820ext"

@@ -22,15 +22,15 @@ use Rattle.boot_inputs.specs.ZeroPage.{zero_page}
 abbrev pub FileNames : Type 0
 FileNames = Input → Option (List ℕ)
 
--- the bytes, unless they are more than the limit
+-- the bytes, or `TooLong` if there are more than `limit`
 abbrev pub within_limit : ℕ → List ℕ → Result (List ℕ) Fault
 within_limit limit bytes = if nat_lt limit (length bytes) then Err faults.TooLong else Ok bytes
 
--- a fault becomes one of the input
+-- the result of reading a file, with a fault reported as that of this input (`Faulty`)
 abbrev pub answer_or_faulty_file : {A : Type 0} → Input → Result A Fault → Result A InputsReason
 answer_or_faulty_file input answer = with_error (reasons.Faulty input) answer
 
--- a name that isn't held can't be read
+-- the result of the step on the file's bytes, or `Unread` if there is no such file (None)
 abbrev pub step_or_unread_file : {A : Type 0} → Input → Option (List ℕ) → (List ℕ → Result A InputsReason) → Result A InputsReason
 step_or_unread_file input None step = Err (reasons.Unread input)
 step_or_unread_file input (Some bytes) step = step bytes
@@ -49,7 +49,7 @@ inputs_after_optional_file held file given (Some name) = inputs_after_named_file
 abbrev pub inputs_after_file : FileContents → FileNames → File → InputsView → Result InputsView InputsReason
 inputs_after_file held named file given = inputs_after_optional_file held file given (named file.input)
 
--- the inputs after the files, one after another; the first refusal ends all
+-- the inputs after reading the files one after another, up to the first that is refused
 abbrev pub inputs_after_files : FileContents → FileNames → List File → InputsView → Result InputsView InputsReason
 inputs_after_files held named [] given = Ok given
 inputs_after_files held named (file ∷ files) given = inputs_after_file held named file given >>= inputs_after_files held named files

@@ -16,16 +16,16 @@ use Rattle.boot_inputs.specs.File.{File, with_value}
 abbrev pub page_script_or_fault : List ℕ → Result (List PageLine) Fault
 page_script_or_fault bytes = with_error faults.Pages (page_lines_of bytes)
 
--- each request in a line needs memory
+-- reading the file needs memory: some line has a command
 abbrev pub page_script_needs_memory : Result (List PageLine) PageFault → Bool
 page_script_needs_memory (Ok lines) = nat_lt 0 (length lines)
 page_script_needs_memory (Err fault) = false
 
--- the lines are put into the inputs
+-- the inputs with the lines put in
 abbrev pub set_page_script : List PageLine → InputsView → InputsView
 set_page_script lines given = record given { page_lines = lines }
 
--- at most 1 MiB
+-- the input file with the page script: at most 1 MiB
 abbrev pub pages_file : File
 pages_file = record {
   input = inputs.Pages;
@@ -34,7 +34,8 @@ pages_file = record {
   says = λ bytes given. with_value set_page_script given (page_script_or_fault bytes);
 }
 
--- what the line of a fault says, or `None` for out of memory, which is no fault of the bytes
+-- the content of a fault's error line; None for `Memory`, which isn't a fault of the file's
+-- contents
 abbrev pub pages_diagnostic : PageFault → Option Diagnostic
 pages_diagnostic (pages.BadLine line) = Some (Diagnostic.Line line (codes "form"))
 pages_diagnostic (pages.BadNumber line) = Some (Diagnostic.Line line (codes "number"))

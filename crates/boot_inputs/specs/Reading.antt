@@ -10,12 +10,12 @@ use Rattle.boot_inputs.specs.File.{File}
 use Rattle.boot_inputs.specs.Input.{input_place}
 use Rattle.boot_inputs.specs.Inputs.{FileNames, inputs_after_files}
 
--- every file of the list has a later place than the input
+-- every file of the list is read after the input's file
 abbrev pub are_read_later : Input → List File → Bool
 are_read_later input [] = true
 are_read_later input (file ∷ files) = nat_lt (input_place input) (input_place file.input) && are_read_later input files
 
--- the files are in the order of their places
+-- the files are in the order in which they are read
 abbrev pub are_in_reading_order : List File → Bool
 are_in_reading_order [] = true
 are_in_reading_order (file ∷ files) = are_read_later file.input files && are_in_reading_order files

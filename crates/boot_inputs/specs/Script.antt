@@ -16,16 +16,16 @@ use Rattle.boot_inputs.specs.File.{File, with_value}
 abbrev pub script_or_fault : List ℕ → Result (List Line) Fault
 script_or_fault bytes = with_error faults.Script (script_of bytes)
 
--- each request in a line needs memory
+-- reading the file needs memory: some line has a command
 abbrev pub script_needs_memory : Result (List Line) ScriptFault → Bool
 script_needs_memory (Ok lines) = nat_lt 0 (length lines)
 script_needs_memory (Err fault) = false
 
--- the lines are put into the inputs
+-- the inputs with the lines put in
 abbrev pub set_early_script : List Line → InputsView → InputsView
 set_early_script lines given = record given { lines = lines }
 
--- at most 1 MiB
+-- the input file with the script of early allocations: at most 1 MiB
 abbrev pub script_file : File
 script_file = record {
   input = inputs.Script;
@@ -34,7 +34,8 @@ script_file = record {
   says = λ bytes given. with_value set_early_script given (script_or_fault bytes);
 }
 
--- what the line of a fault says, or `None` for out of memory, which is no fault of the bytes
+-- the content of a fault's error line; None for `Memory`, which isn't a fault of the file's
+-- contents
 abbrev pub script_diagnostic : ScriptFault → Option Diagnostic
 script_diagnostic (script.BadLine line) = Some (Diagnostic.Line line (codes "form"))
 script_diagnostic (script.BadNumber line) = Some (Diagnostic.Line line (codes "number"))

@@ -16,16 +16,16 @@ use Rattle.boot_inputs.specs.File.{File, with_value}
 abbrev pub slit_or_fault : List ℕ → Result SlitView Fault
 slit_or_fault bytes = with_error faults.Slit (slit_of bytes)
 
--- the distances need memory if there are domains
+-- reading the table needs memory: it has a domain
 abbrev pub slit_needs_memory : Result SlitView SlitFault → Bool
 slit_needs_memory (Ok m) = nat_lt 0 m.count
 slit_needs_memory (Err fault) = false
 
--- the distances are put into the inputs
+-- the inputs with the distances put in
 abbrev pub set_slit : SlitView → InputsView → InputsView
 set_slit m given = record given { slit = Some m }
 
--- at most 1 MiB
+-- the input file with the SLIT: at most 1 MiB
 abbrev pub slit_file : File
 slit_file = record {
   input = inputs.Slit;
@@ -34,7 +34,8 @@ slit_file = record {
   says = λ bytes given. with_value set_slit given (slit_or_fault bytes);
 }
 
--- what the line of a fault says, or `None` for out of memory, which is no fault of the bytes
+-- the content of a fault's error line; None for `Memory`, which isn't a fault of the file's
+-- contents
 abbrev pub slit_diagnostic : SlitFault → Option Diagnostic
 slit_diagnostic slit.Short = Some (Diagnostic.Whole (codes "short"))
 slit_diagnostic slit.Signature = Some (Diagnostic.Whole (codes "signature"))

@@ -15,16 +15,16 @@ use Rattle.boot_inputs.specs.File.{File, with_value}
 abbrev pub srat_or_fault : List ℕ → Result SratView Fault
 srat_or_fault bytes = with_error faults.Srat (srat_of bytes)
 
--- a processor needs memory, and so does a range of memory
+-- reading the table needs memory: it has a processor or a range of memory
 abbrev pub srat_needs_memory : Result SratView SratFault → Bool
 srat_needs_memory (Ok table) = nat_lt 0 (length table.processors) || nat_lt 0 (length table.blocks)
 srat_needs_memory (Err fault) = false
 
--- the table is put into the inputs
+-- the inputs with the table put in
 abbrev pub set_srat : SratView → InputsView → InputsView
 set_srat table given = record given { domains = Some table }
 
--- at most 1 MiB
+-- the input file with the SRAT: at most 1 MiB
 abbrev pub srat_file : File
 srat_file = record {
   input = inputs.Srat;
@@ -33,7 +33,8 @@ srat_file = record {
   says = λ bytes given. with_value set_srat given (srat_or_fault bytes);
 }
 
--- what the line of a fault says, or `None` for out of memory, which is no fault of the bytes
+-- the content of a fault's error line; None for `Memory`, which isn't a fault of the file's
+-- contents
 abbrev pub srat_diagnostic : SratFault → Option Diagnostic
 srat_diagnostic srat.Short = Some (Diagnostic.Whole (codes "short"))
 srat_diagnostic srat.Signature = Some (Diagnostic.Whole (codes "signature"))

@@ -15,11 +15,12 @@ use Rattle.boot_inputs.specs.File.{File, value_unless_fault, with_value}
 abbrev pub zero_page_or_fault : List ℕ → Result ZeroPageView Fault
 zero_page_or_fault bytes = value_unless_fault (option_map faults.ZeroPage (zero_fault bytes)) (zero_page_of bytes)
 
--- the page's entries and initrd are put into the inputs
+-- the inputs with the page's entries and initrd put in
 abbrev pub set_zero_page : ZeroPageView → InputsView → InputsView
 set_zero_page page given = record given { entries = page.entries; initrd = page.initrd }
 
--- one page; its entries go into an array with room for all of them, so reading it needs no memory
+-- the input file with the zero page, which is one page. Its entries go into an array with room for
+-- all of them, so reading it needs no memory.
 abbrev pub zero_page : File
 zero_page = record {
   input = inputs.ZeroPage;
@@ -28,7 +29,7 @@ zero_page = record {
   says = λ bytes given. with_value set_zero_page given (zero_page_or_fault bytes);
 }
 
--- what the line of a fault says
+-- the content of a fault's error line
 abbrev pub zero_page_diagnostic : ZeroFault → Diagnostic
 zero_page_diagnostic zero.WrongLength = Diagnostic.Whole (codes "wrong length")
 zero_page_diagnostic zero.TooFew = Diagnostic.Whole (codes "too few entries")

@@ -48,8 +48,8 @@ pub fn exhaustion_is_no_line_fault()
     ensures { (bytes : List ℕ) → ¬ IsErrOf (options_of bytes) OptionFault.Memory }
 {}
 
-/// Returns what the line of the fault says, or `None` for out of memory, which is no fault of the
-/// bytes.
+/// Returns the content of the fault's error line. Returns `None` only for `Memory`, which isn't a
+/// fault of the file's contents.
 pub(crate) fn command_line_diagnostic(fault: OptionFault) -> Option<Diagnostic>
     ensures { option_map diagnostic_view result ≡ command_line_diagnostic fault }
 {

@@ -49,8 +49,8 @@ pub fn exhaustion_is_no_efi_fault()
     ensures { (bytes : List ℕ) → ¬ IsErrOf (efi_of bytes) EfiFault.Memory }
 {}
 
-/// Returns what the line of the fault says, or `None` for out of memory, which is no fault of the
-/// bytes.
+/// Returns the content of the fault's error line. Returns `None` only for `Memory`, which isn't a
+/// fault of the file's contents.
 pub(crate) fn efi_diagnostic(fault: EfiFault) -> Option<Diagnostic>
     ensures { option_map diagnostic_view result ≡ efi_diagnostic fault }
 {

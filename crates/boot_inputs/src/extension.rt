@@ -51,8 +51,8 @@ pub fn exhaustion_is_no_ext_fault()
     ensures { (bytes : List ℕ) → ext_fault bytes ≢ Some ExtFault.Memory }
 {}
 
-/// Returns what the line of the fault says, or `None` for out of memory, which is no fault of the
-/// bytes.
+/// Returns the content of the fault's error line. Returns `None` only for `Memory`, which isn't a
+/// fault of the file's contents.
 pub(crate) fn extension_diagnostic(fault: ExtFault) -> Option<Diagnostic>
     ensures { option_map diagnostic_view result ≡ extension_diagnostic fault }
 {

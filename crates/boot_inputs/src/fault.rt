@@ -1,6 +1,6 @@
-//! What is wrong with the bytes of a file, in one type for all files: the fault that the crate of
-//! the file's reader gives. Out of memory is never a fault of bytes (`bytes_want_no_memory`), and
-//! a [`Misread`] keeps it apart.
+//! What is wrong with the contents of an input file, in one type for all files. Each crate that
+//! reads a file has its own faults; [`Fault`] holds any of them. Out of memory is never a fault of
+//! a file's contents (`exhaustion_is_no_file_fault`). A [`Misread`] reports it separately.
 
 ghost use Rattle.std.specs.Prelude.{◌≡◌};
 ghost use Rattle.std.specs.Option.{option_map};
@@ -25,20 +25,22 @@ use script_reader::ScriptFault;
 use slit_zonelists::SlitFault;
 use srat_reader::SratFault;
 
-/// Why words and files give no report.
+/// The reason why the program prints no report: a fault of its command line, an input file that
+/// can't be read or has a fault, or the cause for which the boot stopped.
 pub type InputsReason = program_end::Reason<Input, Fault, Cause>;
 
-/// Why there are no inputs: a reason, or out of memory.
+/// The error if the inputs can't be read: a reason, or out of memory.
 pub type NoInputs = program_end::NoResult<InputsReason>;
 
-/// What the line of a fault says after the word for its file.
+/// The content of a fault's error line, after the word for the file.
 #[derive(Clone, Copy, Debug, PartialEq, Eq)]
 pub enum Diagnostic {
-    /// A fault of the whole file, and its text.
+    /// What is wrong with the whole file.
     Whole(&'static str),
-    /// An entry or a descriptor that ends too far: its name, and its index, from 0.
+    /// An entry or a descriptor whose address plus size exceeds 2^64 - 1: what it is called, and
+    /// its index, from 0.
     Far(&'static str, u32),
-    /// The number of a word, from 1, and what the word is about.
+    /// The number of a word of the command line, from 1, and the option that is malformed.
     Word(u32, &'static str),
     /// The number of a line, from 1, and what is wrong with it.
     Line(u32, &'static str),
@@ -46,32 +48,33 @@ pub enum Diagnostic {
     Offset(&'static str, u32),
 }
 
-/// What is wrong with a file that could be read. A reader's `Memory` is never among these faults.
+/// What is wrong with the contents of an input file. Out of memory is reported separately, never as
+/// a fault.
 #[derive(Clone, Copy, Debug, PartialEq, Eq)]
 pub enum Fault {
     /// The file has more bytes than its limit.
     TooLong,
-    /// The fault is one of the zero page.
+    /// A fault of the zero page.
     ZeroPage(ZeroFault),
-    /// The fault is one of the extension.
+    /// A fault of the extension.
     Extension(ExtFault),
-    /// The fault is one of the command line.
+    /// A fault of the command line.
     CommandLine(OptionFault),
-    /// The fault is one of the SRAT.
+    /// A fault of the SRAT.
     Srat(SratFault),
-    /// The fault is one of the script.
+    /// A fault of the script.
     Script(ScriptFault),
-    /// The fault is one of the page script.
+    /// A fault of the page script.
     Pages(PageFault),
-    /// The fault is one of the SLIT.
+    /// A fault of the SLIT.
     Slit(SlitFault),
-    /// The fault is one of the EFI memory map.
+    /// A fault of the EFI memory map.
     Efi(EfiFault),
 }
 
 impl Fault {
-    /// Returns what the line of the fault says. It is `None` only for a reader's out of memory,
-    /// which no bytes have as their fault (`bytes_want_no_memory`).
+    /// Returns the content of the fault's error line. Returns `None` only for the variant `Memory`
+    /// of a reader's fault, which no file has (`exhaustion_is_no_file_fault`).
     pub fn diagnostic(self) -> Option<Diagnostic>
         ensures { option_map diagnostic_view result ≡ diagnostic_of self }
     {
@@ -89,11 +92,11 @@ impl Fault {
     }
 }
 
-/// Why bytes give no value.
+/// The reason why a reader returns no value for the bytes of a file.
 #[derive(Clone, Copy, Debug, PartialEq, Eq)]
 pub enum Misread {
-    /// The bytes have this fault first.
+    /// The first fault of the bytes.
     Fault(Fault),
-    /// This program is out of memory.
+    /// The program ran out of memory.
     Memory,
 }

@@ -16,7 +16,7 @@ use bm_io::{Fetch, Files};
 use boot_model::Inputs;
 use std::alloc::Global;
 
-/// What knows the name of each input's file.
+/// The names of the input files, such as those given on the program's command line.
 pub trait Names {
     // The name of the input's file, if there is one.
     ghost named: { Self → AnyInput → Option (List ℕ) };
@@ -26,16 +26,14 @@ pub trait Names {
         ensures { option_copied result ≡ named self.now input };
 }
 
-/// Puts the value of the reader's file into the inputs. If the file has no name, changes nothing
-/// and needs no memory.
+/// Fetches and reads one input file, and puts its value into the inputs. Changes nothing and
+/// allocates nothing if the file has no name. An error always names the input of this reader.
 ///
 /// # Errors
 ///
 /// - `Unread`: the file couldn't be fetched
 /// - `Faulty`: the file is longer than its limit, or its bytes have a fault
 /// - out of memory
-///
-/// The input named in an error is always this one.
 pub fn add_file<R: Reader, F: Files, N: Names>(
     alloc: Global,
     files: &mut F,
@@ -59,7 +57,7 @@ pub fn add_file<R: Reader, F: Files, N: Names>(
     }
 }
 
-/// Puts the value of the file of that name into the inputs.
+/// Fetches the file of that name, reads it, and puts its value into the inputs.
 ///
 /// # Errors
 ///
@@ -90,7 +88,7 @@ fn fetch<R: Reader, F: Files>(
     }
 }
 
-/// Puts the value of the file's bytes into the inputs.
+/// Reads the bytes of a file, and puts their value into the inputs.
 ///
 /// # Errors
 ///

@@ -3,7 +3,7 @@
 ghost use Rattle.std.specs.Prelude.{◌≡◌};
 ghost use Rattle.boot_inputs.specs.Input.{input_word};
 
-/// An input file. The variants stand in the order in which the files are read.
+/// An input file. The variants are in the order in which the files are read.
 #[derive(Clone, Copy, Debug, PartialEq, Eq)]
 pub enum Input {
     /// The zero page (`struct boot_params`).
@@ -25,7 +25,7 @@ pub enum Input {
 }
 
 impl Input {
-    /// Returns the word for the input in the line of its fault.
+    /// Returns the word for the file in an error line.
     pub fn input_word(self) -> &'static str
         ensures { result.now ≡ input_word self }
     {

@@ -40,8 +40,8 @@ type FromSlit = (Slits, FromEfi);
 
 type FromEfi = (EfiMaps, ());
 
-/// Fetches each named file, in the order of reading, and puts its value into `begun`. Files
-/// without a name are skipped.
+/// Reads all input files that have a name, in the order of [`Input`](crate::Input). Returns the
+/// inputs `begun` with the values of the files put in. Files without a name are skipped.
 ///
 /// # Errors
 ///

@@ -1,4 +1,4 @@
-//! Laws about the definitions, for all bytes.
+//! Laws about what the input files mean, whatever bytes they have.
 
 ghost use Rattle.std.specs.Prelude.{◌≡◌, All, Ok, Err};
 ghost use Rattle.boot_inputs.specs.Faults.{IsOfBytes, FaultsAreOfBytes};
@@ -13,8 +13,8 @@ ghost use Rattle.program_end.specs.declared.failure.Reason.TheVariants as reason
 use crate::inputs::FromZeroPage;
 use crate::list::Readers;
 
-/// Law: "out of memory" is never a fault of an input file's contents. So no file is refused with
-/// it as its fault.
+/// Law: "out of memory" is never a fault of an input file's contents. So no file is ever refused
+/// with that fault.
 pub fn exhaustion_is_no_file_fault()
     ensures files { All FaultsAreOfBytes input_files }
     ensures refused { (held : FileContents) (named : FileNames) (begun : InputsView)

@@ -18,18 +18,18 @@
 //! The program does the same with each file ([`add_file`]): it looks up the name, fetches the file
 //! up to its limit, and reads it into the inputs. So an input file is one value in one module, a
 //! [`Reader`]. The reader says which [`Input`] it is, how many bytes it may have, and how they are
-//! read. Its definition is one value too, a `File` of `specs/File.antt`. [`Diagnostic`] is what
-//! the line of a file's fault says.
+//! read. Its definition is one value too, a `File` of `specs/File.antt`. [`Diagnostic`] is the
+//! content of a fault's error line.
 //!
 //! The order of the files is a list in the code (`src/inputs.rt`) and a list in the definition
 //! (`input_files` of `specs/Inputs.antt`). [`Readers`] reads any list, and the facts about a list
-//! (`AreRead` of `specs/Reading.antt`) are proved once. [`Names`] is whatever knows the name of an
-//! input's file; the layer above has it.
+//! (`AreRead` of `specs/Reading.antt`) are proved once. [`Names`] gives the name of each file; the
+//! layer above implements it.
 //!
-//! The layer above may rest on this: the inputs are what the definition makes of the files' bytes,
-//! put into the inputs begun with. A file is reported unread only if the number of faults counted
-//! for its name has risen. Out of memory may come at any time, and [`NoInputs`] keeps it apart
-//! from what is wrong with the files.
+//! The layer above may rest on this. The result is the inputs that the caller passes, with the
+//! values put in that the definition gives for the files' bytes. A file is reported unread only if
+//! the number of faults counted for its name has risen. Out of memory may come at any time;
+//! [`NoInputs`] reports it separately from what is wrong with the files.
 //!
 //! A law is an empty function whose contract is a proven fact. In contracts, a name means the
 //! definition in `specs/`, here or in a crate below.

@@ -19,8 +19,8 @@ pub trait Readers {
     // The files, in their order.
     ghost list: { List File };
 
-    /// Fetches each named file in order and puts its value into the inputs. Checks each before it
-    /// fetches the next.
+    /// Reads each file of the list that has a name, in order, and puts its value into the inputs.
+    /// Fetches a file only after the one before it was read without a fault.
     ///
     /// # Errors
     ///

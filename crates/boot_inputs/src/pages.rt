@@ -48,8 +48,8 @@ pub fn exhaustion_is_no_page_script_fault()
     ensures { (bytes : List ℕ) → ¬ IsErrOf (page_lines_of bytes) PageFault.Memory }
 {}
 
-/// Returns what the line of the fault says, or `None` for out of memory, which is no fault of the
-/// bytes.
+/// Returns the content of the fault's error line. Returns `None` only for `Memory`, which isn't a
+/// fault of the file's contents.
 pub(crate) fn pages_diagnostic(fault: PageFault) -> Option<Diagnostic>
     ensures { option_map diagnostic_view result ≡ pages_diagnostic fault }
 {

@@ -27,7 +27,8 @@ pub trait Reader {
     fn limit() -> u64
         ensures { result ≡ file.limit };
 
-    /// Puts the value of `bytes`, which are within the limit, into the inputs.
+    /// Reads `bytes`, the contents of the file, and puts their value into the inputs. There must be
+    /// at most as many bytes as the limit allows.
     ///
     /// # Errors
     ///

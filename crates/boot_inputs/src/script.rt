@@ -52,8 +52,8 @@ pub fn exhaustion_is_no_script_fault()
     ensures { (bytes : List ℕ) → ¬ IsErrOf (script_of bytes) ScriptFault.Memory }
 {}
 
-/// Returns what the line of the fault says, or `None` for out of memory, which is no fault of the
-/// bytes.
+/// Returns the content of the fault's error line. Returns `None` only for `Memory`, which isn't a
+/// fault of the file's contents.
 pub(crate) fn script_diagnostic(fault: ScriptFault) -> Option<Diagnostic>
     ensures { option_map diagnostic_view result ≡ script_diagnostic fault }
 {

@@ -39,7 +39,7 @@ impl Reader for ZeroPages {
     fn exhaustion_is_no_fault() {}
 }
 
-/// Returns what the line of the fault says.
+/// Returns the content of the fault's error line.
 pub(crate) fn zero_page_diagnostic(fault: ZeroFault) -> Diagnostic
     ensures { diagnostic_view result ≡ zero_page_diagnostic fault }
 {
