@@ -40,40 +40,44 @@ map_in index text = do
   nothing ← is_at_end left
   Some (record { range = range.0; kind = kind.0 })
 
--- the text is exactly this word
+-- there is a rest of the text, and it is empty
 abbrev pub is_empty_rest : Option (List ℕ) → Bool
 is_empty_rest (Some []) = true
 is_empty_rest (Some (b ∷ bs)) = false
 is_empty_rest None = false
 
+-- the text is exactly this word
 unfoldable pub is_exactly : List ℕ → List ℕ → Bool
 is_exactly word text = is_empty_rest (rest_after word text)
 
--- the text is this word followed by a number
+-- there is a rest of the text, and it is a number
 abbrev pub is_number_rest : Option (List ℕ) → Bool
 is_number_rest None = false
 is_number_rest (Some text) = is_empty_rest (option_map (λ number. number.1) (number_in (2 ^ 32 - 1) text))
 
+-- the text is this word followed by a number
 unfoldable pub is_numbered : List ℕ → List ℕ → Bool
 is_numbered front text = is_number_rest (rest_after front text)
 
--- the names of the owners of reserved memory: those at the start of the boot, those of later
--- stages, and those with a number
+-- the text is the name of an owner that reserves memory at the start of the boot
 abbrev pub is_first_owner : List ℕ → Bool
 is_first_owner text =
     is_exactly (codes "kernel") text || is_exactly (codes "low-64k") text || is_exactly (codes "initrd") text || is_exactly (codes "low-1m") text
     || is_exactly (codes "soft-reserved") text
 
+-- the text is the name of a table, or of an owner of a later stage without a number
 abbrev pub is_later_owner : List ℕ → Bool
 is_later_owner text =
     is_exactly (codes "table-memory") text || is_exactly (codes "table-reserved") text || is_exactly (codes "crash") text
     || is_exactly (codes "crash-low") text || is_exactly (codes "roots") text
 
+-- the text is the name of an owner with a number, followed by that number
 abbrev pub is_numbered_owner : List ℕ → Bool
 is_numbered_owner text =
     is_numbered (codes "node-data ") text || is_numbered (codes "root ") text || is_numbered (codes "usage ") text
     || is_numbered (codes "map ") text || is_numbered (codes "script ") text
 
+-- the text is the name of an owner of reserved memory, as the report `owners` prints it
 unfoldable pub is_owner : List ℕ → Bool
 is_owner text = is_first_owner text || is_later_owner text || is_numbered_owner text
 

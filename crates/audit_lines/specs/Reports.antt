@@ -5,18 +5,21 @@ use Rattle.bm_base.specs.ResultSteps.{◌>>=◌}
 use Rattle.audit_lines.specs.declared.report.LineFault.{LineFault}
 use Rattle.audit_lines.specs.declared.report.LineFault.TheVariants as faults
 
--- the lines of a text, without their newlines, and the text after the last newline
+-- lines without their newlines, and a text after the last newline
 abbrev pub LinesAndRest : Type 0
 LinesAndRest = List (List ℕ) × List ℕ
 
--- a newline before a text ends an empty line; any other byte belongs to the first line
+-- the lines of a text with one more byte at its start, which isn't a newline: the byte belongs to
+-- the first line
 abbrev pub with_byte : ℕ → LinesAndRest → LinesAndRest
 with_byte b ([], left) = ([], b ∷ left)
 with_byte b (line ∷ lines, left) = ((b ∷ line) ∷ lines, left)
 
+-- the lines of a text with one more newline at its start: it ends an empty line
 abbrev pub with_newline : LinesAndRest → LinesAndRest
 with_newline (lines, left) = ([] ∷ lines, left)
 
+-- the lines of a text, without their newlines, and the text after the last newline
 unfoldable pub split_lines : List ℕ → LinesAndRest
 split_lines [] = ([], [])
 split_lines (b ∷ bs) = if b == 10 then with_newline (split_lines bs) else with_byte b (split_lines bs)

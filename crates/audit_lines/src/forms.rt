@@ -20,7 +20,7 @@ impl ReportLine for MapLine {
 
     ghost extent = { λ l. l.range };
 
-    /// Reads `A..A T NAME`.
+    /// Returns the run that the line `A..A T NAME` states, or `None` if the text has another form.
     #[tactic(auto, unfolding(crate::specs::Forms::map_in))]
     fn read(_index: u64, text: &[u8]) -> Option<MapLine> {
         let Some((range, rest)) = range_at_start(text) else {
@@ -51,7 +51,8 @@ impl ReportLine for Range {
 
     ghost extent = { λ r. r };
 
-    /// Reads `INDEX: A..A OWNER`.
+    /// Returns the range that the line `INDEX: A..A OWNER` states, or `None` if the text has
+    /// another form.
     #[tactic(auto, unfolding(crate::specs::Forms::owner_in))]
     fn read(index: u64, text: &[u8]) -> Option<Range> {
         let rest = rest_after(rest_after_index(text, index)?, b": ")?;
@@ -82,7 +83,8 @@ impl ReportLine for BlockLine {
 
     ghost extent = { bytes_of_block };
 
-    /// Reads `node N zone Z order O A`.
+    /// Returns the block that the line `node N zone Z order O A` states, or `None` if the text has
+    /// another form.
     #[tactic(auto, unfolding(crate::specs::Forms::block_in))]
     fn read(_index: u64, text: &[u8]) -> Option<BlockLine> {
         let (node, rest) = number_in(rest_after(text, b"node ")?, u32::MAX)?;
@@ -109,8 +111,8 @@ fn is_at_end(text: &[u8]) -> Option<()>
     if text.is_empty() { Some(()) } else { None }
 }
 
-/// Returns the rest of the text after the index, which is right-aligned in four columns. Returns
-/// `None` if the text doesn't begin with that.
+/// Returns the rest of the text after `index`, which is right-aligned in four columns. Returns
+/// `None` if the text doesn't begin with this index.
 fn rest_after_index(text: &[u8], index: u64) -> Option<&[u8]>
     ensures { option_map (λ rest. rest.now) result ≡ rest_after (padded_decimal 4 index) text.now }
 {
@@ -120,7 +122,7 @@ fn rest_after_index(text: &[u8], index: u64) -> Option<&[u8]>
     rest_after(text, &digits[from..])
 }
 
-/// Returns the name of a type of memory.
+/// Returns the name that the report `map` prints for a type of memory (`enum e820_type`).
 #[tactic(auto, unfolding(crate::specs::Forms::map_type_name))]
 fn map_type_name(kind: u32) -> &'static [u8]
     ensures { result.now ≡ map_type_name kind }

@@ -1,4 +1,4 @@
-//! The types of lines that have more than a range.
+//! A line of the report `map` and a line of the report `blocks`, as records.
 
 ghost use Rattle.std.specs.Prelude.{◌≡◌};
 ghost use Rattle.audit_lines.specs.Blocks.{bytes_of_block};

@@ -40,7 +40,7 @@ impl From<LineFault> for ReadError {
 
 /// A line of a report.
 pub trait ReportLine: Copy + Drop {
-    // the line that a text spells at an index, from 0 on
+    // the line that a text spells if it has this index in the report, from 0 on
     ghost form: { ℕ → List ℕ → Option Self };
 
     // the addresses of the line
@@ -66,7 +66,7 @@ pub trait ReportLine: Copy + Drop {
 /// # Errors
 ///
 /// - `Fault`: the fault of the lowest line that has one.
-/// - `Memory`: the program ran out of memory; the report isn't empty.
+/// - `Memory`: the program ran out of memory. This never happens for an empty report.
 pub fn read_report<L: ReportLine>(alloc: Global, bytes: &[u8]) -> Result<Vec<L>, ReadError>
     ensures answers { Answers ReadError.Memory (λ lines. lines.items) result
         (with_error ReadError.Fault (report_of L.form L.extent bytes.now)) }
@@ -93,12 +93,13 @@ pub fn read_report<L: ReportLine>(alloc: Global, bytes: &[u8]) -> Result<Vec<L>,
     Err(ReadError::Fault(LineFault::Form { line: index + 1 }))
 }
 
-/// Returns the line that the text spells, which must begin at or above `at`.
+/// Returns the line that the text spells. `index` is its index in the report, from 0. Its range
+/// must begin at or above address `at`.
 ///
 /// # Errors
 ///
 /// - `Form`: the text isn't a line of this report.
-/// - `Order`: the line begins below `at`.
+/// - `Order`: the range of the line begins below `at`.
 fn report_line_at<L: ReportLine>(index: u64, at: u64, text: &[u8]) -> Result<L, LineFault>
     requires { index + 1 < 2 ^ 64 }
     ensures { result ≡ report_line_at L.form L.extent index at text.now }
