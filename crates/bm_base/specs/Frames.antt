@@ -16,6 +16,7 @@ frame_around x = record { base = x - x % FRAME_SIZE; size = FRAME_SIZE }
 abbrev pub range_between : ℕ → ℕ → Option RangeView
 range_between from until = if nat_lt from until then Some (record { base = from; size = until - from }) else None
 
--- the whole frames of the range: its start is rounded up to a frame (`PFN_UP`), its end down (`PFN_DOWN`); none if that is empty
+-- the whole frames of the range: its start is rounded up to a frame (`PFN_UP`), its end down
+-- (`PFN_DOWN`); none if that is empty
 abbrev pub frames_within : RangeView → Option RangeView
 frames_within r = range_between (next_multiple_of r.base FRAME_SIZE) (end_of r - end_of r % FRAME_SIZE)

@@ -3,8 +3,8 @@ use Rattle.std.specs.Prelude.{◌≡◌, ℕ, ◌+◌, ◌<◌, ◌≤◌, List,
 use Rattle.std.specs.declared.alloc.Global.{Global}
 use Rattle.bm_base.specs.declared.memory.Memory.{Memory}
 
--- after Ok the bytes are appended and the capacity hasn't shrunk; the call fails only if the text had too little room for all bytes,
--- so never if the room was reserved
+-- After Ok the bytes are appended, and the capacity hasn't shrunk. The call fails only if the text
+-- had too little room for all bytes, so never if the room was reserved.
 abbrev pub PutsText : Vec ℕ Global → Vec ℕ Global → Result (Unit {0}) Memory → List ℕ → Type 0
 PutsText old new (Ok _) bytes = (new.items ≡ old.items ++ bytes) × (vec_capacity old ≤ vec_capacity new)
 PutsText old new (Err _) bytes = vec_capacity old < length old.items + length bytes

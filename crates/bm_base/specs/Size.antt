@@ -1,5 +1,6 @@
--- Numbers and sizes in texts, as the kernel reads them: digits as `_parse_integer_fixup_radix` (lib/kstrtox.c) and `simple_strtoull`
--- (lib/vsprintf.c) do, suffixes as `memparse` (lib/cmdline.c) does. Values don't wrap: those above 2^64 - 1 are faults.
+-- Numbers and sizes in texts, as the kernel reads them: digits as `_parse_integer_fixup_radix`
+-- (lib/kstrtox.c) and `simple_strtoull` (lib/vsprintf.c) do, suffixes as `memparse` (lib/cmdline.c)
+-- does. Values don't wrap: those above 2^64 - 1 are faults.
 use Rattle.std.specs.Prelude.{◌≡◌, ℕ, ◌+◌, ◌*◌, ◌^◌, ◌==◌, Bool, false, ◌&&◌, ◌||◌, nat_lt, if◌then◌else◌, List, [], ◌∷◌, length, drop, Result, Ok, Err}
 use Rattle.std.specs.Char.{is_digit}
 use Rattle.std.specs.Str.Parse.{digits_value}
@@ -32,17 +33,20 @@ abbrev pub begins_with_digit : List ℕ → Bool
 begins_with_digit [] = false
 begins_with_digit (b ∷ bs) = is_digit b 10
 
--- the number of bytes before the digits, and the base. The `0` of an octal number counts as a digit
+-- the number of bytes before the digits: 2 for `0x`, else 0. The `0` of an octal number counts as a
+-- digit.
 abbrev pub prefix_of : List ℕ → ℕ
 prefix_of text = if is_hexadecimal text then 2 else 0
 
+-- the base of the number: 16, 8 or 10
 abbrev pub radix_of : List ℕ → ℕ
 radix_of text = if is_hexadecimal text then 16 else (if begins_with_zero text then 8 else 10)
 
--- the number at the start, and its length in bytes
+-- the value of the number at the start of the text
 abbrev pub number_value : List ℕ → ℕ
 number_value text = front_digits_value (radix_of text) (drop (prefix_of text) text)
 
+-- the length in bytes of the number at the start of the text
 abbrev pub number_end : List ℕ → ℕ
 number_end text = prefix_of text + length (front_digits (radix_of text) (drop (prefix_of text) text))
 
@@ -56,7 +60,8 @@ suffix_at b =
     (if (b == 80) || (b == 112) then (2 ^ 50, 1) else
     (if (b == 69) || (b == 101) then (2 ^ 60, 1) else (1, 0))))))
 
--- the same for the text that follows the number: K, M, G, T, P or E at its start, or no suffix
+-- the factor and the length of the suffix at the start of a text: K, M, G, T, P or E, or none (1
+-- and 0)
 abbrev pub suffix_of : List ℕ → ℕ × ℕ
 suffix_of [] = (1, 0)
 suffix_of (b ∷ bs) = suffix_at b
@@ -65,6 +70,7 @@ suffix_of (b ∷ bs) = suffix_at b
 abbrev pub fit_in_u64 : ℕ → ℕ → Result (ℕ × ℕ) NumFault
 fit_in_u64 value taken = if nat_lt value (2 ^ 64) then Ok (value, taken) else Err TooLarge
 
+-- the value times the factor of the suffix, and the length of both
 abbrev pub with_suffix : ℕ → ℕ → ℕ × ℕ → Result (ℕ × ℕ) NumFault
 with_suffix value end suffix = fit_in_u64 (value * suffix.0) (end + suffix.1)
 
@@ -79,9 +85,10 @@ size_of text =
     then with_suffix (number_value text) (number_end text) (suffix_of (drop (number_end text) text))
     else Err NoDigits
 
--- the whole text is a size, or a number, of that value
+-- the whole text is a size of that value in bytes
 abbrev pub IsSize : List ℕ → ℕ → Type 0
 IsSize text n = size_of text ≡ Ok (n, length text)
 
+-- the whole text is a number, without a suffix, of that value
 abbrev pub IsNumber : List ℕ → ℕ → Type 0
 IsNumber text n = number_of text ≡ Ok (n, length text)

@@ -4,8 +4,8 @@ use Rattle.std.specs.Char.{is_digit}
 use Rattle.std.specs.Str.Parse.{AllDigits, digits_value}
 use Rattle.bm_base.specs.Size.{suffix_at}
 
--- the text spells the number in the base: `0x` or `0X` and at least one hexadecimal digit; `0` and any number of octal digits; or
--- decimal digits that don't begin with `0`
+-- the text spells the number in the base: `0x` or `0X` and at least one hexadecimal digit; `0` and
+-- any number of octal digits; or decimal digits that don't begin with `0`
 pub data SpellsIn : ℕ → List ℕ → ℕ → Type 0 where
   hexadecimal : (x d : ℕ) (ds : List ℕ) → (x ∷ [] ≡ codes "x") ⊎ (x ∷ [] ≡ codes "X") → AllDigits 16 (d ∷ ds)
       → SpellsIn 16 (codes "0" ++ (x ∷ d ∷ ds)) (digits_value 16 (d ∷ ds))
@@ -18,8 +18,9 @@ pub record SpellsNumber (text : List ℕ) (n : ℕ) : Type 0 where
   pub number : SpellsIn radix text n
   pub fits : n < 2 ^ 64
 
--- the text spells the size, which is at most 2^64 - 1: a number, or a number and one of the suffixes K, M, G, T, P and E, in either case, that
--- isn't a digit of the number's base (`E` is a digit in base 16)
+-- the text spells the size, which is at most 2^64 - 1: a number, or a number and one of the
+-- suffixes K, M, G, T, P and E, in either case, that isn't a digit of the number's base (`E` is a
+-- digit in base 16)
 pub data SpellsSize : List ℕ → ℕ → Type 0 where
   number_alone : (text : List ℕ) (n : ℕ) → SpellsNumber text n → SpellsSize text n
   number_with_suffix : (radix n factor b : ℕ) (text : List ℕ) → SpellsIn radix text n → suffix_at b ≡ (factor, 1) → is_digit b radix ≡ false

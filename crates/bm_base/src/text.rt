@@ -59,6 +59,7 @@ pub fn put_dec(out: &mut Vec<u8>, value: u64, width: u32) -> Result<(), Memory>
     put_text(out, &text[from..])
 }
 
+/// Returns the lower-case hexadecimal digit of this value, which must be below 16.
 fn hex_digit(digit: u64) -> u8
     requires { digit < 16 }
     ensures { result ≡ digit_glyph false digit }
