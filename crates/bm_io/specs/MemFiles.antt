@@ -20,9 +20,11 @@ pub record MemFilesView : Type 0 where
   pub faults : ℕ
   pub taken : ℕ
 
+-- what contracts see of one file
 abbrev pub file_view : MemFile → MemFileView
 file_view f = record { name = string_bytes f.name; bytes = f.bytes.items }
 
+-- what contracts see of a list of files
 abbrev pub file_views : List MemFile → List MemFileView
 file_views files = map file_view files
 

@@ -25,6 +25,11 @@ pub fn put_all<S: Sink, P: AsSlice<u8>>(out: &mut S, chunks: &[P]) -> Result<(),
     Ok(())
 }
 
+/// Appends the chunk, with one put. An empty chunk makes no call.
+///
+/// # Errors
+///
+/// The error of the put.
 fn put_some<S: Sink>(out: &mut S, chunk: &[u8]) -> Result<(), Put>
     ensures puts { Puts S.Sink out.old out.new result chunk.now }
     ensures untouched { chunk.now ≡ [] → out.new ≡ out.old }

@@ -127,6 +127,7 @@ fn bytes_named<'a>(files: &'a [MemFile], name: &str) -> Option<&'a [u8]>
     Some(file_named(files, name)?.bytes.as_slice())
 }
 
+/// Returns the file with the name, if there is one.
 fn file_named<'a>(files: &'a [MemFile], name: &str) -> Option<&'a MemFile>
     ensures { option_copied result ≡ find (has_name name.now) files.now }
 {
