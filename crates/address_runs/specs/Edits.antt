@@ -1,10 +1,12 @@
--- What an edit of a range does to each address, whatever the addresses carry: a label, an owner, a node.
+-- What an edit of a range does to each address, whatever the addresses carry: a label, an owner, a
+-- node.
 use Rattle.std.specs.Prelude.{◌≡◌, ◌≤◌, ℕ, Bool, true, false, ◌&&◌, is_none, if◌then◌else◌, Option, Some, None, unwrap_or}
 use Rattle.std.specs.Option.{option_map}
 use Rattle.bm_base.specs.Range.{RangeView, covers}
 
 module _ {X : Type 0} where
-  -- applies the change to what each address of the range carries, if anything; other addresses keep theirs
+  -- applies the change to what each address of the range carries, if anything; other addresses keep
+  -- theirs
   abbrev pub change_range : (Option X → Option X) → RangeView → (ℕ → Option X) → ℕ → Option X
   change_range change r f x = if covers r x then change (f x) else f x
 
@@ -16,7 +18,8 @@ module _ {X : Type 0} where
   abbrev pub uncover_range : RangeView → (ℕ → Option X) → ℕ → Option X
   uncover_range r f x = change_range (λ carried. None) r f x
 
-  -- changes what the addresses of the range carry; those that carry nothing still do (`memblock_set_node`)
+  -- changes what the addresses of the range carry; those that carry nothing still do
+  -- (`memblock_set_node`)
   abbrev pub relabel_range : RangeView → (X → X) → (ℕ → Option X) → ℕ → Option X
   relabel_range r change f x = change_range (option_map change) r f x
 

@@ -1,5 +1,6 @@
--- Runs of a function over addresses, for any type of values: types of memory, owners, nodes. A run is a maximal set of consecutive
--- addresses with one value, as `e820__update_table` and `memblock_merge_regions` keep their tables.
+-- Runs of a function over addresses, for any type of values: types of memory, owners, nodes. A run
+-- is a maximal set of consecutive addresses with one value, as `e820__update_table` and
+-- `memblock_merge_regions` keep their tables.
 use Rattle.std.specs.Prelude.{◌≡◌, ◌≢◌, ℕ, zero, suc, ◌+◌, ◌^◌, ◌<◌, ◌≤◌, ◌==◌, Bool, true, ◌&&◌, if◌then◌else◌, Option, Some, None, List, [], ◌∷◌}
 use Rattle.bm_base.specs.Range.{RangeView, covers}
 
@@ -27,7 +28,8 @@ module _ {X : Type 0} where
   abbrev pub lies_in : RunOf X → ℕ → Bool
   lies_in r x = covers (extent_of r) x
 
-  -- what a list of runs gives at an address: the value of the first run that contains it, if any does
+  -- what a list of runs gives at an address: the value of the first run that contains it, if any
+  -- does
   abbrev pub value_at : List (RunOf X) → ℕ → Option X
   value_at [] x = None
   value_at (r ∷ rs) x = if lies_in r x then Some r.value else value_at rs x
@@ -51,7 +53,8 @@ module _ {X : Type 0} where
   abbrev pub one_address : ℕ → X → RunOf X
   one_address x v = record { base = x; size = 1; value = v }
 
-  -- puts an address and its value before runs that begin above it: the first run grows by it, or a new run begins
+  -- puts an address and its value before runs that begin above it: the first run grows by it, or a
+  -- new run begins
   abbrev pub prepend_address : (X → X → Bool) → ℕ → Option X → List (RunOf X) → List (RunOf X)
   prepend_address same x None rs = rs
   prepend_address same x (Some v) [] = one_address x v ∷ []
