@@ -17,7 +17,8 @@ module _ {X : Type 0} where
   abbrev pub edges : (X → X → Bool) → (ℕ → Option X) → ℕ → ℕ
   edges same f x = edge same (f x) (f (x + 1))
 
-  -- while an edit turns f into g, at every address that it can have reached there is room for the runs of g below it and those of f above
+  -- while an edit turns f into g, at every address that it can have reached there is room for the
+  -- runs of g below it and those of f above
   abbrev pub HasRoomToEdit : (X → X → Bool) → (ℕ → Option X) → (ℕ → Option X) → ℕ → Type 0
   HasRoomToEdit same f g room = (at : ℕ) → at ≤ 2 ^ 64 → total (edges same g) 0 at + total (edges same f) at (2 ^ 64 - at) ≤ room
 

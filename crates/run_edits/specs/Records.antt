@@ -18,6 +18,7 @@ module _ {X : Type 0} where
   IsUncut at [] = Unit {0}
   IsUncut at (r ∷ rs) = r.base < at → run_end r ≤ at
 
-  -- the change can't end a run inside its range: it leaves empty addresses empty, or gives all addresses the same
+  -- the change can't end a run inside its range: it leaves empty addresses empty, or gives all
+  -- addresses the same
   abbrev pub EndsNoRun : (Option X → Option X) → Type 0
   EndsNoRun change = (change None ≡ None) ⊎ ((carried : Option X) → change carried ≡ change None)
