@@ -16,6 +16,7 @@ Types = ℕ → Bool
 abbrev pub Claims : Type 0
 Claims = ℕ → Types
 
+-- no address has a claim
 abbrev pub no_claims : Claims
 no_claims x k = false
 
@@ -72,6 +73,7 @@ HasTypes (edit.RemoveAll range) = Unit {0}
 HasTypes (edit.Change range from to) = (0 < from) × (0 < to)
 HasTypes edit.Clear = Unit {0}
 
+-- no type in any of the edits is 0
 abbrev pub HaveTypes : List Edit → Type 0
 HaveTypes [] = Unit {0}
 HaveTypes (e ∷ es) = HasTypes e × HaveTypes es
@@ -81,14 +83,16 @@ abbrev pub after_edits : List Edit → Claims → Claims
 after_edits [] c = c
 after_edits (e ∷ es) c = after_edits es (after_edit e c)
 
--- the first page belongs to the BIOS even if firmware calls it RAM, and from 640 KiB to 1 MiB there
--- is no RAM (`trim_bios_range`)
+-- the first page, which belongs to the BIOS even if firmware calls it RAM
 abbrev pub first_page : RangeView
 first_page = record { base = 0; size = FRAME_SIZE }
 
+-- the addresses from 640 KiB to 1 MiB, where there is no RAM
 abbrev pub bios_area : RangeView
 bios_area = record { base = 0xA0000; size = 0x60000 }
 
+-- the claims after trimming (`trim_bios_range`): RAM in the first page becomes reserved, and RAM
+-- from 640 KiB to 1 MiB is removed
 abbrev pub after_bios_trim : Claims → Claims
 after_bios_trim c = after_edit (edit.Remove bios_area E820_TYPE_RAM) (after_edit (edit.Change first_page E820_TYPE_RAM E820_TYPE_RESERVED) c)
 

@@ -3,17 +3,19 @@ use Rattle.std.specs.Prelude.{ℕ, ◌+◌, ◌^◌, ◌==◌, ◌<◌, Bool, �
 use Rattle.address_runs.specs.Runs.{RunOf, lies_in, runs_of}
 use Rattle.e820_model.specs.Claims.{Claims, type_of}
 
--- the type of each address that has one
+-- a type for each address, or None for an address without a type
 abbrev pub TypeAt : Type 0
 TypeAt = ℕ → Option ℕ
 
+-- the type as an option: 0 is no type
 abbrev pub some_kind : ℕ → Option ℕ
 some_kind k = if k == 0 then None else Some k
 
--- the types that result from the claims
+-- the type of each address, from its claims: the greatest one
 abbrev pub kinds : Claims → TypeAt
 kinds c x = some_kind (type_of c x)
 
+-- the two types are equal
 abbrev pub same_kind : ℕ → ℕ → Bool
 same_kind a b = a == b
 

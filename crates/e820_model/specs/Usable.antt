@@ -16,7 +16,8 @@ unfoldable pub count_below : (ℕ → Bool) → ℕ → ℕ
 count_below p zero = 0
 count_below p (suc n) = if p n then count_below p n + 1 else count_below p n
 
--- the types of the addresses below the limit of physical addresses (`MAX_PHYSMEM_BITS`); others have none
+-- the types of the addresses below the limit of physical addresses (`MAX_PHYSMEM_BITS`); others
+-- have none
 abbrev pub types_below : ℕ → TypeAt → TypeAt
 types_below limit f x = if nat_lt x limit then f x else None
 
