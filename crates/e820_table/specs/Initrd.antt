@@ -32,6 +32,7 @@ to_frame_end image = record { base = image.base; size = end_of (frame_around (en
 abbrev pub reserved_initrd_range : ℕ → RangeView → Option RangeView
 reserved_initrd_range loader image = if has_initrd loader image then Some (to_frame_end image) else None
 
+-- the range that is reserved for the initrd of this zero page, or None if it has none
 unfoldable pub initrd_of : List ℕ → Option RangeView
 initrd_of bytes = reserved_initrd_range (loader_of bytes) (image_of bytes)
 
@@ -40,6 +41,7 @@ initrd_of bytes = reserved_initrd_range (loader_of bytes) (image_of bytes)
 abbrev pub is_initrd_too_far : ℕ → RangeView → Bool
 is_initrd_too_far loader image = has_initrd loader image && nat_lt (2 ^ 64 - FRAME_SIZE) (end_of image)
 
+-- this zero page has an initrd that is too far
 unfoldable pub is_initrd_far : List ℕ → Bool
 is_initrd_far bytes = is_initrd_too_far (loader_of bytes) (image_of bytes)
 

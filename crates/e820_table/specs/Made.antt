@@ -15,10 +15,11 @@ next_generator_state x = (1103515245 * x + 12345) % 2 ^ 31
 abbrev pub frames_of_entry : ℕ → ℕ
 frames_of_entry x = 1 + x / 65536 % 16
 
--- the first two entries: RAM below 640 KiB, and 128 MiB of RAM from 1 MiB on
+-- the first entry of a made table: RAM below 640 KiB
 abbrev pub low_ram : Entry
 low_ram = record { addr = 0; size = 0xA0000; kind = E820_TYPE_RAM }
 
+-- the second entry of a made table: 128 MiB of RAM from 1 MiB on
 abbrev pub high_ram : Entry
 high_ram = record { addr = 0x100000; size = 0x8000000; kind = E820_TYPE_RAM }
 

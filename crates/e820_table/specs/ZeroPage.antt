@@ -27,6 +27,7 @@ pub record ZeroPageView : Type 0 where
   pub entries : List Entry
   pub initrd : Option RangeView
 
+-- the information about memory in these bytes, which are a whole zero page
 abbrev pub zero_page_of : List ℕ → ZeroPageView
 zero_page_of bytes = record { entries = zero_page_entries bytes; initrd = initrd_of bytes }
 

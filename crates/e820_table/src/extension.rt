@@ -12,8 +12,10 @@ use byteorder::{ByteOrder, LittleEndian};
 use e820_model::Entry;
 use std::alloc::Global;
 
+/// The number of bytes before the first entry (`struct setup_data`).
 const HEADER_BYTES: usize = 16;
 
+/// The type of an extension (`SETUP_E820_EXT`).
 const EXTENSION_TYPE: u32 = 1;
 
 /// The reason why bytes are not an E820 extension. If several apply, the reader reports the header

@@ -12,13 +12,14 @@ use bm_base::{FRAME_SIZE, Memory};
 use e820_model::{E820_TYPE_RAM, E820_TYPE_RESERVED, Entry};
 use std::alloc::Global;
 
-/// The first two entries of every made table: RAM below 640 KiB, and 128 MiB of RAM from 1 MiB on.
+/// The first entry of every made table: RAM below 640 KiB.
 const LOW_RAM: Entry = Entry {
     addr: 0,
     size: 0xA0000,
     kind: E820_TYPE_RAM,
 };
 
+/// The second entry of every made table: 128 MiB of RAM from 1 MiB on.
 const HIGH_RAM: Entry = Entry {
     addr: 0x100000,
     size: 0x8000000,

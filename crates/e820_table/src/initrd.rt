@@ -12,14 +12,19 @@ use crate::zero_page::ZeroFault;
 use bm_base::{FRAME_SIZE, Range, round_up};
 use byteorder::{ByteOrder, LittleEndian};
 
+/// The offset of the boot loader's type, in bytes (`type_of_loader`).
 const LOADER_OFFSET: usize = 0x210;
 
+/// The offset of the lower half of the address (`ramdisk_image`).
 const IMAGE_OFFSET: usize = 0x218;
 
+/// The offset of the upper half of the address (`ext_ramdisk_image`).
 const UPPER_IMAGE_OFFSET: usize = 0x0C0;
 
+/// The offset of the lower half of the size (`ramdisk_size`).
 const SIZE_OFFSET: usize = 0x21C;
 
+/// The offset of the upper half of the size (`ext_ramdisk_size`).
 const UPPER_SIZE_OFFSET: usize = 0x0C4;
 
 /// Returns the range of the initrd, or `None` if there is no initrd. The bytes must be a whole

@@ -17,10 +17,13 @@ use e820_model::Entry;
 /// The largest number of entries in a zero page (`E820_MAX_ENTRIES_ZEROPAGE`).
 pub const ZERO_PAGE_ENTRIES: usize = 128;
 
+/// The number of bytes of a zero page.
 const ZERO_PAGE_BYTES: usize = 4096;
 
+/// The offset of the number of entries, in bytes (`e820_entries`).
 const COUNT_OFFSET: usize = 0x1E8;
 
+/// The offset of the first entry, in bytes (`e820_table`).
 const TABLE_OFFSET: usize = 0x2D0;
 
 /// The information about memory that a zero page contains.
