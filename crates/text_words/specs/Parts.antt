@@ -1,11 +1,12 @@
--- How a text is split into parts: the lines of a file, the words of a line, the items of a list. The command line is split as in
--- `next_arg` of lib/cmdline.c.
+-- How a text is split into parts: the lines of a file, the words of a line, the items of a list.
+-- The command line is split as in `next_arg` of lib/cmdline.c.
 use Rattle.std.specs.Prelude.{ℕ, ◌==◌, Bool, false, not, ◌&&◌, ◌||◌, nat_le, if◌then◌else◌, Option, Some, None, List, [], ◌∷◌, ◌++◌}
 use Rattle.std.specs.Option.{option_map}
 use Rattle.text_words.specs.declared.separators.Separators.{Separators}
 use Rattle.text_words.specs.declared.separators.Separators.TheVariants.{CommandLine, Script, Byte}
 
--- whether the byte separates: 0x20 and 0x09 to 0x0D in a command line; 0x20, 0x09 and 0x0D in a line of a script; or the one given byte
+-- whether the byte separates: 0x20 and 0x09 to 0x0D in a command line; 0x20, 0x09 and 0x0D in a
+-- line of a script; or the one given byte
 abbrev pub separates : Separators → ℕ → Bool
 separates CommandLine b = (b == 32) || (nat_le 9 b && nat_le b 13)
 separates Script b = (b == 32) || ((b == 9) || (b == 13))
@@ -26,8 +27,8 @@ abbrev pub with_front : ℕ → List (List ℕ) → List (List ℕ)
 with_front b [] = (b ∷ []) ∷ []
 with_front b (p ∷ ps) = (b ∷ p) ∷ ps
 
--- the parts of a text, split at the separators outside quotations; a part may be empty. The flag says whether a quotation is open at the
--- start
+-- the parts of a text, split at the separators outside quotations; a part may be empty. The flag
+-- says whether a quotation is open at the start
 abbrev pub parts_from : Separators → Bool → List ℕ → List (List ℕ)
 parts_from s quoted [] = [] ∷ []
 parts_from s quoted (b ∷ bs) =
@@ -35,6 +36,8 @@ parts_from s quoted (b ∷ bs) =
     then [] ∷ parts_from s quoted bs
     else with_front b (parts_from s (quoted_after s quoted b) bs)
 
+-- the parts of a text, split at the separators outside quotations; no quotation is open at its
+-- start
 abbrev pub parts_in : Separators → List ℕ → List (List ℕ)
 parts_in s text = parts_from s false text
 

@@ -9,7 +9,8 @@ abbrev pub QuotesClose : Separators → Bool → List ℕ → Type 0
 QuotesClose s quoted [] = quoted ≡ false
 QuotesClose s quoted (b ∷ bs) = QuotesClose s (quoted_after s quoted b) bs
 
--- the text has exactly those words, with at least one separator between two of them, and any number before the first and after the last
+-- the text has exactly those words, with at least one separator between two of them, and any number
+-- before the first and after the last
 pub data HasWords (s : Separators) : List ℕ → List (List ℕ) → Type 0 where
   no_byte : HasWords s [] []
   blank_first : (b : ℕ) (text : List ℕ) (words : List (List ℕ)) → separates s b ≡ true → HasWords s text words
@@ -18,7 +19,8 @@ pub data HasWords (s : Separators) : List ℕ → List (List ℕ) → Type 0 whe
   word_first : (word : List ℕ) (b : ℕ) (text : List ℕ) (words : List (List ℕ)) → IsWord s word → separates s b ≡ true
       → HasWords s text words → HasWords s (word ++ (b ∷ text)) (word ∷ words)
 
--- unquoting the first text gives the second: only a text that begins with `"` loses it, and then one at its end
+-- unquoting the first text gives the second: only a text that begins with `"` loses it, and then
+-- one at its end
 pub data Unquotes : List ℕ → List ℕ → Type 0 where
   no_mark : (text : List ℕ) → ((rest : List ℕ) → text ≢ codes "\"" ++ rest) → Unquotes text text
   both_marks : (inner : List ℕ) → Unquotes (codes "\"" ++ (inner ++ codes "\"")) inner

@@ -3,11 +3,12 @@ use Rattle.std.specs.Prelude.{◌≡◌, ℕ, ◌<◌, ◌==◌, Bool, true, fal
 use Rattle.text_words.specs.declared.separators.Separators.{Separators}
 use Rattle.text_words.specs.Parts.{separates, quoted_after, parts_in}
 
--- a word is a part that isn't empty
+-- the part is a word: it isn't empty
 abbrev pub is_word : List ℕ → Bool
 is_word [] = false
 is_word (b ∷ bs) = true
 
+-- the words of a text: its parts that aren't empty
 abbrev pub words_in : Separators → List ℕ → List (List ℕ)
 words_in s text = filter is_word (parts_in s text)
 
@@ -22,13 +23,15 @@ abbrev pub unquote : List ℕ → List ℕ
 unquote [] = []
 unquote (b ∷ bs) = if b == 34 then without_last 34 bs else b ∷ bs
 
--- the text has no separator outside quotations, and each of its quotations closes. The flag says whether one is open at the start
+-- the text has no separator outside quotations, and each of its quotations closes. The flag says
+-- whether one is open at the start
 abbrev pub IsClosed : Separators → Bool → List ℕ → Type 0
 IsClosed s quoted [] = quoted ≡ false
 IsClosed s true (b ∷ bs) = IsClosed s (quoted_after s true b) bs
 IsClosed s false (b ∷ bs) = (separates s b ≡ false) × IsClosed s (quoted_after s false b) bs
 
--- the text can be a word: it isn't empty, has no separator outside quotations, and closes its quotations
+-- the text can be a word: it isn't empty, has no separator outside quotations, and closes its
+-- quotations
 pub record IsWord (s : Separators) (word : List ℕ) : Type 0 where
   pub some : 0 < length word
   pub closed : IsClosed s false word
