@@ -13,11 +13,11 @@ number_at width offset bytes = little_number width (drop offset bytes)
 abbrev pub revision_of : List ℕ → ℕ
 revision_of bytes = slice_index bytes 8
 
--- the type and the length of the entry at offset `at`, its first two bytes (`struct
--- acpi_subtable_header`)
+-- the type of the entry at offset `at`: its first byte (`struct acpi_subtable_header`)
 abbrev pub entry_type_at : ℕ → List ℕ → ℕ
 entry_type_at at bytes = slice_index bytes at
 
+-- the length in bytes of the entry at offset `at`: its second byte
 abbrev pub entry_length_at : ℕ → List ℕ → ℕ
 entry_length_at at bytes = slice_index bytes (at + 1)
 
@@ -56,13 +56,16 @@ memory_domain at bytes = if nat_lt (revision_of bytes) 2 then slice_index bytes 
 abbrev pub x2apic_domain : ℕ → List ℕ → ℕ
 x2apic_domain at bytes = number_at 4 (at + 4) bytes
 
--- the content of the entry at the offset: nothing if it is of another type or isn't enabled
+-- the content, or nothing if the entry isn't enabled
 abbrev pub entry_if_enabled : Bool → SratEntry → SratEntry
 entry_if_enabled enabled what = if enabled then what else said.Nothing
 
+-- the content of the memory entry at offset `at`: its domain, and its base and size at offsets 8
+-- and 16
 abbrev pub memory_entry_at : ℕ → List ℕ → SratEntry
 memory_entry_at at bytes = said.Block (memory_domain at bytes) (number_at 8 (at + 8) bytes) (number_at 8 (at + 16) bytes)
 
+-- the content of the entry at offset `at`: nothing if it is of another type or isn't enabled
 unfoldable pub srat_entry_at : ℕ → List ℕ → SratEntry
 srat_entry_at at bytes =
     if entry_type_at at bytes == 0 then entry_if_enabled (has_enabled_flag (at + 4) bytes) (said.Processor (local_apic_domain at bytes)) else

@@ -51,36 +51,40 @@ first_srat_fault bytes (at ∷ rest) = option_or (srat_fault_at bytes at) (first
 abbrev pub srat_fault : List ℕ → Option SratFault
 srat_fault bytes = option_or (srat_header_fault bytes) (first_srat_fault bytes (entry_offsets bytes))
 
--- the domain, if the entry is a processor, and the range with its domain, if it is memory: of a
--- content, and of the entry at an offset
+-- the domain of the content of an entry, if it is a processor
 abbrev pub processor_of : SratEntry → Option ℕ
 processor_of said.Nothing = None
 processor_of (said.Processor domain) = Some domain
 processor_of (said.Block domain base size) = None
 
+-- the range and the domain of the content of an entry, if it is memory
 abbrev pub srat_block_of : SratEntry → Option SratBlock
 srat_block_of said.Nothing = None
 srat_block_of (said.Processor domain) = None
 srat_block_of (said.Block domain base size) = Some (record { domain = domain; range = record { base = base; size = size } })
 
+-- the domain of the entry at offset `at`, if it is a processor
 abbrev pub processor_domain_at : List ℕ → ℕ → Option ℕ
 processor_domain_at bytes at = processor_of (srat_entry_at at bytes)
 
+-- the range and the domain of the entry at offset `at`, if it is memory
 abbrev pub srat_block_at : List ℕ → ℕ → Option SratBlock
 srat_block_at bytes at = srat_block_of (srat_entry_at at bytes)
 
--- the domains of the processors, and the ranges of memory, both in the order of the table
+-- the domains of the processors, in the order of the table
 abbrev pub processors_of : List ℕ → List ℕ
 processors_of bytes = filter_map (processor_domain_at bytes) (entry_offsets bytes)
 
+-- the ranges of memory with their domains, in the order of the table
 abbrev pub srat_blocks_of : List ℕ → List SratBlock
 srat_blocks_of bytes = filter_map (srat_block_at bytes) (entry_offsets bytes)
 
--- what contracts see of the code's `Srat`: its two lists
+-- the content of a table: the domains of the processors, and the ranges of memory
 pub record SratView : Type 0 where
   pub processors : List ℕ
   pub blocks : List SratBlock
 
+-- what contracts see of the code's `Srat`
 abbrev pub srat_view : Srat → SratView
 srat_view srat = record { processors = srat.cpus.items; blocks = srat.blocks.items }
 
