@@ -12,10 +12,11 @@ use Rattle.srat_nodes.specs.declared.kept.KeptBlock.{KeptBlock}
 use Rattle.srat_nodes.specs.Domains.{node_of_domain}
 use Rattle.srat_nodes.specs.NodeAt.{NumaBlock, block_meets}
 
--- memory as a list of ranges: an address is memory if one of them has it; none of them is empty
+-- the address lies in one of the ranges of memory
 abbrev pub is_in_any_range : List RangeView → ℕ → Bool
 is_in_any_range ranges x = list_any (λ r. covers r x) ranges
 
+-- no range of memory is empty
 abbrev pub NoMemoryIsEmpty : List RangeView → Type 0
 NoMemoryIsEmpty [] = Unit {0}
 NoMemoryIsEmpty (r ∷ rs) = (0 < r.size) × NoMemoryIsEmpty rs
@@ -36,14 +37,16 @@ meets_memory memory r = not (each_in r (λ y. not (memory y)))
 abbrev pub block_in_frames : List ℕ → SratBlock → NumaBlock
 block_in_frames domains b = record { base = (round_ends_down b.range).base; size = (round_ends_down b.range).size; value = node_of_domain domains b.domain }
 
--- the kept blocks: those with a byte of memory, each with its number in the table
+-- the block with the number `i`, if it is kept: if it has a byte of memory
 abbrev pub keep_block : (ℕ → Bool) → ℕ → NumaBlock → List KeptBlock
 keep_block memory i b = if meets_memory memory (extent_of b) then record { number = i; block = b } ∷ [] else []
 
+-- the kept ones of these blocks, whose numbers begin with `i`
 abbrev pub keep_blocks_from : (ℕ → Bool) → List ℕ → ℕ → List SratBlock → List KeptBlock
 keep_blocks_from memory domains i [] = []
 keep_blocks_from memory domains i (b ∷ bs) = keep_block memory i (block_in_frames domains b) ++ keep_blocks_from memory domains (i + 1) bs
 
+-- the kept blocks of a table, each with its number among all its blocks, from 0
 abbrev pub keep_blocks : (ℕ → Bool) → List ℕ → List SratBlock → List KeptBlock
 keep_blocks memory domains blocks = keep_blocks_from memory domains 0 blocks
 

@@ -36,12 +36,13 @@ is_in_gap_of_node blocks n x =
 abbrev pub belongs_to_node : List NumaBlock → ℕ → ℕ → Bool
 belongs_to_node blocks n x = is_in_block_of_node blocks n x || is_in_gap_of_node blocks n x
 
--- the node of an address: the first that it has, in the order of the blocks. If blocks of
--- different nodes share no address, it has at most one.
+-- the first node that the address has, among the nodes of the blocks of the second list
 abbrev pub first_node_among : List NumaBlock → ℕ → List NumaBlock → Option ℕ
 first_node_among blocks x [] = None
 first_node_among blocks x (b ∷ bs) = if belongs_to_node blocks b.value x then Some b.value else first_node_among blocks x bs
 
+-- the node of an address: the first that it has, in the order of the blocks. If blocks of different
+-- nodes share no address, it has at most one.
 unfoldable pub node_at : List NumaBlock → ℕ → Option ℕ
 node_at blocks x = first_node_among blocks x blocks
 

@@ -11,6 +11,7 @@ use Rattle.srat_nodes.specs.NodeAt.{NumaBlock}
 abbrev pub with_domain_if_room : List ℕ → ℕ → List ℕ
 with_domain_if_room domains d = if nat_le (length domains) 1024 then with_domain domains d else domains
 
+-- the list with the domain of the block, under the same condition
 abbrev pub with_domain_of_block : List ℕ → SratBlock → List ℕ
 with_domain_of_block domains b = with_domain_if_room domains b.domain
 
@@ -25,11 +26,11 @@ abbrev pub fill_gaps : List NumaBlock → List NumaBlock
 fill_gaps [] = []
 fill_gaps (r ∷ rs) = prepend_joined r (fill_gaps rs)
 
--- a range of memory as a run without a node, and a run with a node: the value says whether it has
--- one
+-- a range of memory as a run with the value `false`: it has no node
 abbrev pub run_without_node : RangeView → RunOf Bool
 run_without_node r = record { base = r.base; size = r.size; value = false }
 
+-- a run with a node, as a run with the value `true`
 abbrev pub run_with_node : NumaBlock → RunOf Bool
 run_with_node r = record { base = r.base; size = r.size; value = true }
 
@@ -37,10 +38,11 @@ run_with_node r = record { base = r.base; size = r.size; value = true }
 abbrev pub is_in_runs : List (RunOf Bool) → ℕ → Bool
 is_in_runs runs x = is_some (value_at runs x)
 
--- the runs that have no node, each with the node that it gets
+-- the run with this node as its value
 abbrev pub run_of_node : ℕ → RunOf Bool → NumaBlock
 run_of_node node r = record { base = r.base; size = r.size; value = node }
 
+-- the runs that have no node (their value is `false`), each with `node`
 abbrev pub uncovered_runs_with_node : ℕ → List (RunOf Bool) → List NumaBlock
 uncovered_runs_with_node node [] = []
 uncovered_runs_with_node node (r ∷ rs) = if r.value then uncovered_runs_with_node node rs else run_of_node node r ∷ uncovered_runs_with_node node rs
