@@ -45,11 +45,12 @@ unfoldable pub far_descriptor_from : ℕ → List Descriptor → Option ℕ
 far_descriptor_from i [] = None
 far_descriptor_from i (d ∷ ds) = if is_descriptor_too_far d then Some i else far_descriptor_from (i + 1) ds
 
--- the mirrored ranges of a list of descriptors, in their order
+-- the ranges, with this one before them if there is one
 abbrev pub prepend_mirror : Option RangeView → List RangeView → List RangeView
 prepend_mirror None others = others
 prepend_mirror (Some range) others = range ∷ others
 
+-- the mirrored ranges of a list of descriptors, in their order
 unfoldable pub mirrors_of_descriptors : List Descriptor → List RangeView
 mirrors_of_descriptors [] = []
 mirrors_of_descriptors (d ∷ ds) = prepend_mirror (mirror_of_descriptor d) (mirrors_of_descriptors ds)
@@ -60,6 +61,7 @@ pub record EfiContent : Type 0 where
   pub entries : List Entry
   pub mirrors : List RangeView
 
+-- the content of these descriptors, or the fault for the index of one that is too far
 abbrev pub efi_unless_far : List Descriptor → Option ℕ → Result EfiContent EfiFault
 efi_unless_far ds (Some index) = Err (faults.TooFar index)
 efi_unless_far ds None = Ok (record { entries = map entry_of_descriptor ds; mirrors = mirrors_of_descriptors ds })

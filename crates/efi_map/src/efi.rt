@@ -12,11 +12,13 @@ use byteorder::{ByteOrder, LittleEndian};
 use e820_model::Entry;
 use std::alloc::Global;
 
+/// The number of bytes before the first descriptor.
 const HEADER_BYTES: usize = 8;
 
 /// The number of bytes that are read of a descriptor, which may have more.
 const LEAST_STRIDE: usize = 40;
 
+/// The only version of descriptors that can be read.
 const VERSION: u32 = 1;
 
 /// The reason why bytes are not an EFI memory map. If several apply, the reader reports the first
