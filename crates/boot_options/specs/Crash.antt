@@ -12,16 +12,19 @@ use Rattle.boot_options.specs.declared.crash.CrashPlain.{CrashPlain}
 use Rattle.boot_options.specs.declared.crash.CrashOption.{CrashOption}
 use Rattle.boot_options.specs.MapOptions.{whole_size}
 
--- the marks in a value: `:`, `-`, `,` and `@`
+-- the byte `:`, between a range and its size
 abbrev pub colon : ℕ
 colon = 58
 
+-- the byte `-`, between the start and the end of a range
 abbrev pub dash : ℕ
 dash = 45
 
+-- the byte `,`, between ranges, or before `high` or `low`
 abbrev pub comma : ℕ
 comma = 44
 
+-- the byte `@`, before the base
 abbrev pub at_sign : ℕ
 at_sign = 64
 
@@ -47,6 +50,7 @@ abbrev pub is_above : Option ℕ → ℕ → Bool
 is_above None start = true
 is_above (Some end) start = nat_lt start end
 
+-- the range, or None if it ends at or below its start
 abbrev pub range_if_in_order : CrashRange → Option CrashRange
 range_if_in_order r = if is_above r.end r.start then Some r else None
 
@@ -68,11 +72,13 @@ crash_ranges_of (text ∷ texts) = do
   ranges ← crash_ranges_of texts
   Some (range ∷ ranges)
 
--- the text before the first `@`, and the base after it; the base is 0 if there is no `@`
+-- the text before the first `@` and the base after it, from the halves around it; without a `@`
+-- (None) the base is 0
 abbrev pub text_and_base_at : List ℕ → Option (List ℕ × List ℕ) → Option (List ℕ × ℕ)
 text_and_base_at text None = Some (text, 0)
 text_and_base_at text (Some halves) = option_map (λ base. (halves.0, base)) (whole_size halves.1)
 
+-- the text before the first `@`, and the base after it; the base is 0 if there is no `@`
 abbrev pub text_and_base : List ℕ → Option (List ℕ × ℕ)
 text_and_base text = text_and_base_at text (split_once at_sign text)
 
@@ -83,22 +89,24 @@ ranges_form value = do
   ranges ← crash_ranges_of (parts_in (Byte comma) place.0)
   Some (Plain (record { ranges = ranges; base = place.1 }))
 
--- a size and an optional base: one range from 0 without an end
+-- the plain form with a single range, from 0 without an end
 abbrev pub one_range : ℕ → ℕ → CrashPlainView
 one_range size base = record { ranges = record { start = 0; end = None; size = size } ∷ []; base = base }
 
+-- the form `S` or `S@BASE`
 abbrev pub simple_form : List ℕ → Option CrashFormView
 simple_form value = do
   place ← text_and_base value
   size ← whole_size place.0
   Some (Plain (one_range size place.1))
 
--- a size, and after the comma the name of the part that it is for
+-- the form with this size, by the name after the comma: `high` or `low`
 abbrev pub form_by_suffix : List ℕ → ℕ → Option CrashFormView
 form_by_suffix name size =
     if bytes_eq name (codes "high") then Some (High size)
     else (if bytes_eq name (codes "low") then Some (Low size) else None)
 
+-- the form `S,high` or `S,low`, from the texts before and after the comma
 abbrev pub suffix_form : List ℕ × List ℕ → Option CrashFormView
 suffix_form halves = do
   size ← whole_size halves.0
@@ -120,13 +128,15 @@ pub record CrashOptionView : Type 0 where
   pub high : Option ℕ
   pub low : Option ℕ
 
+-- no word has a `crashkernel=` option
 abbrev pub no_crash : CrashOptionView
 no_crash = record { plain = None; high = None; low = None }
 
--- what contracts see of the code's `CrashPlain` and `CrashOption`
+-- what contracts see of the code's `CrashPlain`
 abbrev pub crash_plain_view : CrashPlain → CrashPlainView
 crash_plain_view plain = record { ranges = plain.ranges.items; base = plain.base }
 
+-- what contracts see of the code's `CrashOption`
 abbrev pub crash_option_view : CrashOption → CrashOptionView
 crash_option_view crash = record { plain = option_map crash_plain_view crash.plain; high = crash.high; low = crash.low }
 

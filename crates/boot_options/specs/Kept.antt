@@ -26,7 +26,7 @@ pub record KeepsPlain (kept : PlainRead) (form : CrashPlainView) : Type 0 where
   pub ranges : KeepsItems kept.ranges form.ranges
   pub base : kept.base ≡ form.base
 
--- the reader has the form that the definition gives for a value, or neither has one
+-- the reader has the form that the definition gives for a value
 abbrev pub KeepsSame : CrashForm → CrashFormView → Type 0
 KeepsSame (forms.Plain kept) (Plain form) = KeepsPlain kept form
 KeepsSame (forms.Plain kept) (High size) = ⊥
@@ -34,6 +34,7 @@ KeepsSame (forms.Plain kept) (Low size) = ⊥
 KeepsSame (forms.High kept) said = said ≡ High kept
 KeepsSame (forms.Low kept) said = said ≡ Low kept
 
+-- the same for a value that may be malformed (None)
 abbrev pub KeepsForm : Option CrashForm → Option CrashFormView → Type 0
 KeepsForm None said = said ≡ None
 KeepsForm (Some kept) None = ⊥

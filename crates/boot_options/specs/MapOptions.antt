@@ -12,26 +12,31 @@ use Rattle.e820_model.specs.declared.entry.Edit.TheVariants.{Add, Remove, Remove
 use Rattle.boot_options.specs.declared.map_option.MapOption.{MapOption}
 use Rattle.boot_options.specs.declared.map_option.MapOption.TheVariants.{ExactMap, Adding, Other}
 
--- the marks in a map option: `@`, `#`, `$`, `!` and `%` after its size, and `-` and `+` before its
--- types
+-- `@` after the size: adds RAM
 abbrev pub ram_mark : ℕ
 ram_mark = 64
 
+-- `#` after the size: adds ACPI data
 abbrev pub acpi_mark : ℕ
 acpi_mark = 35
 
+-- `$` after the size: adds a reserved range
 abbrev pub reserved_mark : ℕ
 reserved_mark = 36
 
+-- `!` after the size: adds persistent memory, by its older type
 abbrev pub persistent_mark : ℕ
 persistent_mark = 33
 
+-- `%` after the size: removes or changes types
 abbrev pub change_mark : ℕ
 change_mark = 37
 
+-- `-` before the type that is changed
 abbrev pub from_mark : ℕ
 from_mark = 45
 
+-- `+` before the new type
 abbrev pub to_mark : ℕ
 to_mark = 43
 
@@ -39,6 +44,7 @@ to_mark = 43
 abbrev pub NumberAndRest : Type 0
 NumberAndRest = ℕ × List ℕ
 
+-- the number that was found at the start of the text, and the text after it
 abbrev pub number_and_rest : List ℕ → Result (ℕ × ℕ) NumFault → Option NumberAndRest
 number_and_rest text (Ok found) = Some (found.0, drop found.1 text)
 number_and_rest text (Err fault) = None
@@ -70,11 +76,11 @@ range_if_addressable base size = if nat_lt (base + size) (2 ^ 64) then Some (rec
 abbrev pub unless_empty : RangeView → Edit → Option Edit
 unless_empty range edit = if nat_lt 0 range.size then Some edit else None
 
--- the range from this address up to 2^64 - 2 (a range ends at 2^64 - 1 or below), and the edit
--- that removes RAM in it
+-- the range from this address up to 2^64 - 2 (a range ends at 2^64 - 1 or below)
 abbrev pub range_above : ℕ → RangeView
 range_above size = record { base = size; size = 2 ^ 64 - 1 - size }
 
+-- the edit that removes RAM from this address on, or None if there is no such address
 abbrev pub ram_above : ℕ → Option Edit
 ram_above size = unless_empty (range_above size) (Remove (range_above size) E820_TYPE_RAM)
 
@@ -86,11 +92,12 @@ adding_option kind size place = do
   range ← range_if_addressable base size
   Some (Adding (unless_empty range (Add range kind)))
 
--- the type after its mark, at most 2^32 - 1, and the rest of the text; the type is 0 if the mark
--- isn't there
+-- the number and the rest of the text, if the number is a type: at most 2^32 - 1
 abbrev pub small_kind : NumberAndRest → Option NumberAndRest
 small_kind front = if nat_lt front.0 (2 ^ 32) then Some front else None
 
+-- the type after its mark, and the rest of the text; the type is 0 if the text doesn't begin with
+-- the mark
 abbrev pub kind_after_mark : ℕ → List ℕ → Option NumberAndRest
 kind_after_mark mark [] = Some (0, [])
 kind_after_mark mark (b ∷ bs) = if b == mark then front_number bs >>= small_kind else Some (0, b ∷ bs)
@@ -129,6 +136,7 @@ map_option_by_mark size (mark ∷ place) =
     (if mark == persistent_mark then adding_option E820_TYPE_PRAM size place else
     (if mark == change_mark then percent_map_option size place else None))))
 
+-- a map option that begins with a size
 abbrev pub sized_map_option : List ℕ → Option MapOption
 sized_map_option text = do
   size ← front_size text

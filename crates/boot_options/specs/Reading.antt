@@ -17,6 +17,7 @@ use Rattle.boot_options.specs.Crash.{CrashOptionView, CrashFormView, Plain, High
 use Rattle.boot_options.specs.Kept.{KeepsItems, KeepsLast}
 use Rattle.boot_options.specs.Options.{WordMeaning, OfMap, OfCrash, NumaOff, AddEfi, OptionsView, edit_of}
 
+-- the state of the reader after some words; `user_map` is the last `exactmap`
 pub record ReadingState : Type 0 where
   pub edits : List Edit
   pub crash : CrashOptionView
@@ -24,6 +25,7 @@ pub record ReadingState : Type 0 where
   pub add_efi : Bool
   pub user_map : Option UserMap
 
+-- the state before the first word
 abbrev pub start_state : ReadingState
 start_state = record { edits = []; crash = no_crash; numa_off = false; add_efi = false; user_map = None }
 

@@ -66,11 +66,12 @@ pub data SpellsMem : List ℕ → MapOption → Type 0 where
   nopentium : SpellsMem (codes "nopentium") (Other None)
   end_of_ram : (s : List ℕ) (size : ℕ) → IsSize s size → 0 < size → SpellsMem s (Other (ram_above size))
 
--- the end of a range, which may be missing, and a range
+-- the text spells the end of a range, which is above its start; an empty text spells no end
 abbrev pub SpellsEnd : List ℕ → Option ℕ → ℕ → Type 0
 SpellsEnd text None start = text ≡ []
 SpellsEnd text (Some end) start = IsSize text end × (start < end)
 
+-- the text spells the range: `START-END:SIZE`, where END may be missing
 pub record SpellsRange (spelled : List ℕ) (r : CrashRange) : Type 0 where
   pub start_text : List ℕ
   pub end_text : List ℕ
@@ -106,16 +107,19 @@ pub data SpellsForm : List ℕ → CrashFormView → Type 0 where
   high : (s : List ℕ) (size : ℕ) → IsSize s size → SpellsForm (s ++ codes ",high") (High size)
   low : (s : List ℕ) (size : ℕ) → IsSize s size → SpellsForm (s ++ codes ",low") (Low size)
 
--- the values that each of the four names may have
+-- the values that `mem` may have
 abbrev pub IsMemValue : List ℕ → Type 0
 IsMemValue value = (option : MapOption) × SpellsMem value option
 
+-- the values that `memmap` may have
 abbrev pub IsMemmapValue : List ℕ → Type 0
 IsMemmapValue value = (options : List MapOption) × SpellsMapOptions value options
 
+-- the values that `crashkernel` may have
 abbrev pub IsCrashValue : List ℕ → Type 0
 IsCrashValue value = (form : CrashFormView) × SpellsForm value form
 
+-- the only value that `numa` may have
 abbrev pub IsNumaValue : List ℕ → Type 0
 IsNumaValue value = value ≡ codes "off"
 
@@ -125,15 +129,19 @@ pub data IsMalformed (name : List ℕ) (IsValue : List ℕ → Type 0) : List �
   no_value : IsMalformed name IsValue name
   other_value : (raw value : List ℕ) → Unquotes raw value → (IsValue value → ⊥) → IsMalformed name IsValue (name ++ (codes "=" ++ raw))
 
+-- the word is a malformed `mem=`
 abbrev pub IsBadMem : List ℕ → Type 0
 IsBadMem = IsMalformed (codes "mem") IsMemValue
 
+-- the word is a malformed `memmap=`
 abbrev pub IsBadMemmap : List ℕ → Type 0
 IsBadMemmap = IsMalformed (codes "memmap") IsMemmapValue
 
+-- the word is a malformed `crashkernel=`
 abbrev pub IsBadCrash : List ℕ → Type 0
 IsBadCrash = IsMalformed (codes "crashkernel") IsCrashValue
 
+-- the word is a malformed `numa=`
 abbrev pub IsBadNuma : List ℕ → Type 0
 IsBadNuma = IsMalformed (codes "numa") IsNumaValue
 
