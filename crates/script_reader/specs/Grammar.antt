@@ -17,11 +17,12 @@ pub data HasNoCommand : Words → Type 0 where
 abbrev pub IsWithin : ℕ → List ℕ → Type 0
 IsWithin most word = (n : ℕ) × IsSize word n × (n ≤ most)
 
--- the size at the start of a word; it is the value of the word if it takes the whole word
+-- the size that was found at the start of a word, or 0 if there is none
 abbrev pub front_value : Result (ℕ × ℕ) NumFault → ℕ
 front_value (Ok found) = found.0
 front_value (Err fault) = 0
 
+-- the value of a word that is a size
 abbrev pub value_of_word : List ℕ → ℕ
 value_of_word word = front_value (size_of word)
 
@@ -44,11 +45,12 @@ pub record SpellsNumbers {A : Type 0} (grammar : Grammar A) (words : Words) (act
   pub numbers : grammar.HasNumbers form
   pub asks : act ≡ grammar.act_of form
 
--- an act whose numbers are right meets all conditions
+-- no act breaks a further condition once its numbers are right
 abbrev pub NeverFails : {A : Type 0} → A → Wrong → Type 0
 NeverFails act wrong = ⊥
 
--- the first condition that these words don't meet; `Fails` says it of an act with right numbers
+-- the first condition that these words break: the form, then the numbers, then those that `Fails`
+-- states for an act whose numbers are right
 abbrev pub HasWordsFault : {A : Type 0} → Grammar A → (A → Wrong → Type 0) → Words → Wrong → Type 0
 HasWordsFault grammar Fails words wrong.Form = (¬ (HasNoCommand words)) × (¬ (HasLineForm grammar words))
 HasWordsFault grammar Fails words wrong.Number =

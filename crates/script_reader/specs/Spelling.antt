@@ -32,6 +32,7 @@ abbrev pub key_with_word : List ℕ → Option (List ℕ) → Words
 key_with_word key None = []
 key_with_word key (Some word) = key ∷ word ∷ []
 
+-- the words for a node, or none
 abbrev pub node_words : NodeWords → Words
 node_words no_node = []
 node_words (near_node node) = codes "node" ∷ node ∷ []
@@ -48,12 +49,13 @@ words_of_form (fill id byte) = codes "fill" ∷ id ∷ byte ∷ []
 words_of_form (peek address len) = codes "peek" ∷ address ∷ len ∷ []
 words_of_form sections = codes "sections" ∷ []
 
--- the word for the node's number, and whether `exact` follows it
+-- the word for the node's number, if a node is named
 abbrev pub node_number : NodeWords → Option (List ℕ)
 node_number no_node = None
 node_number (near_node node) = Some node
 node_number (exact_node node) = Some node
 
+-- `exact` follows the number of the node
 abbrev pub is_exact : NodeWords → Bool
 is_exact no_node = false
 is_exact (near_node node) = false
