@@ -26,18 +26,25 @@ use std::alloc::Global;
 /// The list of the readers of all files, in the order in which they are read.
 pub(crate) type FromZeroPage = (ZeroPages, FromExtension);
 
+/// The readers from the E820 extension on.
 type FromExtension = (Extensions, FromCommandLine);
 
+/// The readers from the command line on.
 type FromCommandLine = (CommandLines, FromSrat);
 
+/// The readers from the SRAT on.
 type FromSrat = (Srats, FromScript);
 
+/// The readers from the script of early allocations on.
 type FromScript = (Scripts, FromPages);
 
+/// The readers from the page script on.
 type FromPages = (PageScripts, FromSlit);
 
+/// The readers from the SLIT on.
 type FromSlit = (Slits, FromEfi);
 
+/// The readers from the EFI memory map on.
 type FromEfi = (EfiMaps, ());
 
 /// Reads all input files that have a name, in the order of [`Input`](crate::Input). Returns the
