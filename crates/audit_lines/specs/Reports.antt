@@ -40,11 +40,14 @@ module _ {L : Type 0} (form : ℕ → List ℕ → Option L) (extent : L → Ran
     line ← line_or_fault index (form index text)
     line_if_in_order index at line
 
-  -- a text after the last newline is a line that lacks its own
+  -- no lines, if the text after the last newline is empty; else the fault of a line without a
+  -- newline
   abbrev pub no_lines_if_ended : ℕ → List ℕ → Result (List L) LineFault
   no_lines_if_ended index [] = Ok []
   no_lines_if_ended index (b ∷ bs) = Err (faults.Form (index + 1))
 
+  -- the lines of these texts, the first of which has this index and must begin at or above `at`; or
+  -- the fault of the lowest line that has one
   abbrev pub report_from : ℕ → ℕ → List (List ℕ) → List ℕ → Result (List L) LineFault
   report_from index at [] left = no_lines_if_ended index left
   report_from index at (text ∷ texts) left = do

@@ -34,6 +34,7 @@ pub fn number_in(text: &[u8], most: u32) -> Option<(u32, &[u8])>
     Some((value as u32, text.split_at(taken).1))
 }
 
+/// Tests whether the text begins with the digit 0.
 fn begins_with_zero(text: &[u8]) -> bool
     ensures value { result ≡ begins_with_zero text.now }
     ensures some { IsTrue result → 1 ≤ length text.now }
@@ -81,12 +82,14 @@ fn is_address(text: &[u8]) -> bool
     }
 }
 
+/// Tests whether all bytes are lower-case hexadecimal digits.
 fn are_lower_hex(bytes: &[u8]) -> bool
     ensures { result ≡ list_all is_lower_hex bytes.now }
 {
     bytes.iter().all(|byte| is_lower_hex(*byte))
 }
 
+/// Tests whether the byte is a lower-case hexadecimal digit.
 fn is_lower_hex(byte: u8) -> bool
     ensures { result ≡ is_lower_hex byte }
 {

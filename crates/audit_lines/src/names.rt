@@ -47,6 +47,7 @@ fn is_numbered_owner(text: &[u8]) -> bool
         || is_numbered(text, b"script ")
 }
 
+/// Tests whether the text is exactly this word.
 #[tactic(auto, unfolding(crate::specs::Forms::is_exactly))]
 fn is_exactly(text: &[u8], word: &[u8]) -> bool
     ensures { result ≡ is_exactly word.now text.now }
@@ -57,6 +58,7 @@ fn is_exactly(text: &[u8], word: &[u8]) -> bool
     }
 }
 
+/// Tests whether the text is `front`, followed by a number below 2^32 and nothing else.
 #[tactic(auto, unfolding(crate::specs::Forms::is_numbered))]
 fn is_numbered(text: &[u8], front: &[u8]) -> bool
     ensures { result ≡ is_numbered front.now text.now }
