@@ -1,7 +1,7 @@
 //! Tests whether records already are a list of runs: ascending, disjoint, and no two of them
 //! mergeable.
 //!
-//! Firmware usually hands over a table in this order, and a sanitised table always has it. The
+//! Firmware usually passes its table in this order, and a sanitised table always has it. The
 //! test looks at each record and the next one; for two lists of runs it looks only at the last of
 //! one and the first of the other.
 
