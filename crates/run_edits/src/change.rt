@@ -12,7 +12,8 @@ pub trait Change<V: Copy>: Copy {
         ensures { result ≡ makes self carried };
 }
 
-/// Gives the value to addresses that carry nothing (`memblock_add_range`).
+/// The change that gives the value to an address that carries nothing, and leaves others as they
+/// are (`memblock_add_range`).
 #[derive(Clone, Copy)]
 pub struct Cover<V>(pub V);
 
@@ -26,7 +27,7 @@ impl<V: Copy> Change<V> for Cover<V> {
     }
 }
 
-/// Removes what the addresses carry (`memblock_remove_range`).
+/// The change that removes what an address carries (`memblock_remove_range`).
 #[derive(Clone, Copy)]
 pub struct Uncover;
 
@@ -40,7 +41,7 @@ impl<V: Copy> Change<V> for Uncover {
     }
 }
 
-/// Gives the value to all addresses, whatever they carry.
+/// The change that gives the value to an address, whatever it carries.
 #[derive(Clone, Copy)]
 pub struct Replace<V>(pub V);
 

@@ -98,7 +98,8 @@ pub fn value_and_end<S: Stretch, T: Rows<S>>(
     }
 }
 
-/// Returns the index of the first record that ends above the address.
+/// Returns the index of the first record that ends above the address, or the number of records if
+/// there is no such record.
 pub fn seek<S: Stretch, T: Rows<S>>(table: &T, at: u64) -> u64
     requires { AreRuns (T.list table.now) }
     ensures rest { IsRestFrom (value_at (T.list table.now)) at (drop result (T.list table.now)) }
@@ -108,7 +109,7 @@ pub fn seek<S: Stretch, T: Rows<S>>(table: &T, at: u64) -> u64
     skip_ended(table, first, at)
 }
 
-/// Returns what the address carries.
+/// Returns what the address `x` carries, or `None` if it carries nothing.
 pub fn value_at<S: Stretch, T: Rows<S>>(table: &T, x: u64) -> Option<S::Value>
     requires { AreRuns (T.list table.now) }
     ensures { result ≡ value_at (T.list table.now) x }

@@ -47,7 +47,7 @@ pub trait Slots<S: Stretch>: Rows<S> {
         ensures small { length (Self.list self.new) < 2 ^ 64 }
         ensures keeps { keeps self.old self.new };
 
-    /// Removes `n` records from the index on; the records after them move down.
+    /// Removes the `n` records from index `i` on. The records after them move down by `n` places.
     fn close(&mut self, i: u64, n: u64)
         requires { i + n ≤ length (Self.list self.old) }
         ensures list { Self.list self.new
