@@ -98,8 +98,8 @@ pub fn judge_srat(
     }
 }
 
-/// Decides about a table that is present: first by the reasons that don't depend on the kept
-/// blocks.
+/// Decides whether a table that is present is used. The reasons that don't depend on the kept
+/// blocks are tested first.
 ///
 /// # Errors
 ///
@@ -131,7 +131,8 @@ fn judge_srat_table(
     judge_kept_blocks(alloc, memory, domains, &kept)
 }
 
-/// Decides about the table by the kept blocks, none of which may be empty.
+/// Decides whether the table is used, by the reasons that depend on the kept blocks: an overlap,
+/// and too much memory without a node. No kept block may be empty.
 ///
 /// # Errors
 ///
