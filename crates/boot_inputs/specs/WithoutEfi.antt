@@ -38,8 +38,8 @@ abbrev pub without_efi_map : InputsView → InputsView
 without_efi_map given = record given { efi = None }
 
 -- The inputs are also accepted without the EFI file, and differ only in its map. Each address has
--- the same claims with the file and without it. The judgement of the map is the same too: the same
--- map, or a stop for the same cause.
+-- the same claims with the file and without it. The boot gets the same map in both cases, or stops
+-- for the same cause.
 pub record HasMapWithoutEfi (held : FileContents) (named : FileNames) (begun given : InputsView) : Type 0 where
   pub inputs : inputs_of held (without_efi named) begun ≡ Ok (without_efi_map given)
   pub claims : (x : ℕ) → claims given x ≡ claims (without_efi_map given) x

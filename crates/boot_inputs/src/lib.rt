@@ -26,7 +26,7 @@
 //! (`AreRead` of `specs/Reading.antt`) are proved once. [`Names`] gives the name of each file; the
 //! layer above implements it.
 //!
-//! The layer above may rest on this. The result is the inputs that the caller passes, with the
+//! The layer above can rely on this. The result is the inputs that the caller passes, with the
 //! values put in that the definition gives for the files' bytes. A file is reported unread only if
 //! the number of faults counted for its name has risen. Out of memory may come at any time;
 //! [`NoInputs`] reports it separately from what is wrong with the files.

@@ -1,6 +1,6 @@
 //! The script of early allocations as an input. The boot requires that a script places the
-//! sections at most once. The contract of `read_script` doesn't say so, and a law of
-//! `early_script` does.
+//! sections at most once. That isn't in the contract of `read_script`; a law of
+//! `early_script` states it.
 
 ghost use Rattle.std.specs.Prelude.{◌≡◌, ◌≤◌, ℕ, IsErrOf, List};
 ghost use Rattle.std.specs.Option.{option_map};
