@@ -11,8 +11,8 @@
 //! lower-case digits, a line of `owners` has its own index, and a line of `map` has the name of
 //! its own type. So a text that is accepted has only one meaning.
 //!
-//! The layer above may rest on this: the lines are ascending and disjoint, and there are at most
-//! as many as bytes. In contracts, a name means the definition in `specs/`.
+//! The layer above can rely on this: the lines are ascending and disjoint, and there are at most
+//! as many lines as bytes. In contracts, a name means the definition in `specs/`.
 //!
 //! [`Range`]: bm_base::Range
 #![tactic(auto)]

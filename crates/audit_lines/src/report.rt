@@ -60,8 +60,8 @@ pub trait ReportLine: Copy + Drop {
         ensures { result ≡ end_of (extent self.now) };
 }
 
-/// Reads a report, and returns its lines. They are ascending and disjoint, and there are at most
-/// as many as the report has bytes.
+/// Reads a report, and returns its lines. Their ranges are ascending and disjoint. There are at
+/// most as many lines as bytes in the report.
 ///
 /// # Errors
 ///
