@@ -34,7 +34,8 @@ KeepsSame (forms.Plain kept) (Low size) = ⊥
 KeepsSame (forms.High kept) said = said ≡ High kept
 KeepsSame (forms.Low kept) said = said ≡ Low kept
 
--- the same for a value that may be malformed (None)
+-- the reader has the form that the definition gives for a value, or both find the value malformed
+-- (None)
 abbrev pub KeepsForm : Option CrashForm → Option CrashFormView → Type 0
 KeepsForm None said = said ≡ None
 KeepsForm (Some kept) None = ⊥

@@ -27,7 +27,7 @@
 //! accepts exactly what the grammar spells: [`map_options_are_spelled`],
 //! [`crash_forms_are_spelled`], [`words_say_what_they_spell`] and [`malformed_words_are_faults`].
 //!
-//! The layer above may rest on four facts. No type in an edit is 0, and no range in one is empty.
+//! The layer above can rely on four facts. No type in an edit is 0, and no range in one is empty.
 //! A plain form has at least one range, and each of its ranges ends above its start. Words are
 //! numbered from 1. The reader runs out of memory only on a line without a fault that has an edit
 //! or a plain form of `crashkernel=`.
