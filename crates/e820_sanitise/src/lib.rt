@@ -11,7 +11,7 @@
 //! - [`Table::settle`]: `e820__update_table`
 //! - [`Table::trim_bios`]: `trim_bios_range`
 //!
-//! The layer above may rest on three facts. Each method's postcondition is one equation between
+//! The layer above can rely on three facts. Each method's postcondition is one equation between
 //! the claims before and after (`specs/Claims.antt` of `e820_model`), so a chain of calls is the
 //! definition of the finished map. [`Table::runs`] returns exactly the runs of that map, or their
 //! number if there are too many. If a method runs out of memory, the table is unchanged.
@@ -32,7 +32,7 @@
 //! - [`judge_frames`] returns why the boot stops at its map, if it does: there is no usable frame
 //!   ([`MapStop::NoRam`]), or there are more than 2^32 of them ([`MapStop::TooMuchRam`]).
 //!
-//! The layer above may rest on both results for every limit. The count holds for runs in ascending
+//! The layer above can rely on both results for every limit. The count holds for runs in ascending
 //! order (`Ascend` of `address_runs`), the decision for a canonical list of runs. Neither call
 //! allocates memory. A map with too many runs is refused earlier, by [`Table::runs`].
 //!
