@@ -12,7 +12,7 @@
 //!   above.
 //!
 //! A reader that refuses its bytes returns the first fault that they have: [`ZeroFault`] or
-//! [`ExtFault`]. The layer above may rest on two facts. Every entry that a reader returns has an
+//! [`ExtFault`]. The layer above can rely on two facts. Every entry that a reader returns has an
 //! address plus size below 2^64. The range of an initrd isn't empty, and ends at the end of a
 //! frame.
 //!
