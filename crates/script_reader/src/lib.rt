@@ -29,7 +29,7 @@
 //! [`read_lines`] reads a script of any kind, and [`ScriptLine`] says what makes a kind. Both kinds
 //! read words and numbers by the same functions ([`one_word`], [`number_within`]).
 //!
-//! The layer above, which runs the lines, may rest on three facts. Each act has the limits that
+//! The layer above, which runs the lines, can rely on three facts. Each act has the limits that
 //! running it requires (`HasBounds`). `sections` occurs at most once. The reader runs out of
 //! memory only if no line has a fault.
 #![tactic(auto)]
