@@ -13,7 +13,7 @@
 //!
 //! [`read_srat`] returns an [`Srat`], or the first fault of the bytes as a [`SratFault`]. It reads
 //! the bytes twice: first for faults, without allocating, and then for the values. So it runs out
-//! of memory only on bytes without a fault. The layer above may rest on each of the two lists
+//! of memory only on bytes without a fault. The layer above can rely on each of the two lists
 //! having fewer than 2^32 members. That layer decides what the domains mean: the numbers of the
 //! nodes, and which ranges count.
 //!
