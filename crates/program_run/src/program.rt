@@ -17,7 +17,7 @@ ghost use Rattle.program_end.specs.Fetches.{Fetches};
 ghost use Rattle.program_end.specs.Line.{PutsLine};
 ghost use Rattle.program_end.specs.Status.{failure_status};
 ghost use Rattle.program_args.specs.View.{bootmem_args_view};
-ghost use Rattle.program_args.specs.Args.{BootmemArgs as Asked, read_args, bytes_of_words};
+ghost use Rattle.program_args.specs.Args.{BootmemArgsView, read_args, bytes_of_words};
 ghost use Rattle.program_run.specs.Bootmem.{bootmem};
 ghost use Rattle.program_run.specs.Headline.{AppendsReports};
 ghost use Rattle.program_run.specs.Line.{bootmem_failure_line};
@@ -236,7 +236,7 @@ fn reports_on_boot(alloc: Global, inputs: Inputs, list: &str) -> Result<Vec<Vec<
     ensures fetches { Fetches input_place (λ bytes_of_words.
         flat_map (λ text. text.items) bytes_of_words.items) result
         (reports_on_boot (reports_in list.now) (inputs_view inputs)) }
-    ensures cause { (before now : List ℕ → ℕ) (asked : Asked)
+    ensures cause { (before now : List ℕ → ℕ) (asked : BootmemArgsView)
         → IfErr result (ErrorHasCause bootmem before now (Some asked)) }
 {
     let booted = match boot(alloc, inputs) {
