@@ -18,7 +18,7 @@ use crate::words::{NoStrings, strings_of_words};
 use boot_model::Booted;
 use boot_stages::boot;
 use program_args::{ArgsError, BootmemArgs, read_args};
-use program_run::{NoReport, Reason, no_report, read_boot_inputs};
+use program_run::{InputsReason, NoReport, no_report, read_boot_inputs};
 use std::alloc::Global;
 
 /// Returns what the boot with these words and files made.
@@ -38,7 +38,7 @@ pub fn boot_lent(alloc: Global, words: &[Bytes<'_>], files: &[File<'_>]) -> Resu
 {
     match strings_of_words(alloc, words) {
         Ok(texts) => boot_with_strings(alloc, &texts, files),
-        Err(NoStrings::NotUtf8) => Err(NoReport::Reason(Reason::Usage)),
+        Err(NoStrings::NotUtf8) => Err(NoReport::Reason(InputsReason::Usage)),
         Err(NoStrings::Memory) => Err(NoReport::Memory),
     }
 }
@@ -61,7 +61,7 @@ fn boot_with_strings(
 {
     match read_args(alloc, words) {
         Ok(wanted) => boot_with_args(alloc, &wanted, files),
-        Err(ArgsError::Usage) => Err(NoReport::Reason(Reason::Usage)),
+        Err(ArgsError::Usage) => Err(NoReport::Reason(InputsReason::Usage)),
         Err(ArgsError::Memory) => Err(NoReport::Memory),
     }
 }

@@ -9,16 +9,16 @@ pub returns-clause-written : goal.returns-clause-written
 returns-clause-written c = λ zero.
     let ran = whole_run c.run_lent-ran.new.line.is_short c.run_lent-ran.result c.status_with-status.result
     c.status_with-status.ensures.whole c.status_with-status.ensures.short (λ seven. omega (arith, zero, seven)) in
-    taken_by (outcome_of c.args.words.now c.args.files.now) c.run_lent-ran.new.report.text c.args.out.now c.hand_over.new.out
+    taken_by (outcome_of c.args.words.now c.args.files.now) c.run_lent-ran.new.report.text c.args.out.now c.copy_text.new.out
     (c.run_lent-ran.ensures.written (sym ran.1 ∙ zero))
-    (subst (λ (text : List ℕ). CopiesText text c.args.out.now c.hand_over.new.out) (c.text_after.ensures.written zero) c.hand_over.ensures)
+    (subst (λ (text : List ℕ). CopiesText text c.args.out.now c.copy_text.new.out) (c.text_after.ensures.written zero) c.copy_text.ensures)
 
 pub returns-clause-headline : goal.returns-clause-headline
 returns-clause-headline c = λ zero.
     let ran = whole_run c.run_lent-ran.new.line.is_short c.run_lent-ran.result c.status_with-status.result
     c.status_with-status.ensures.whole c.status_with-status.ensures.short (λ seven. omega (arith, zero, seven)) in (
       c.run_lent-ran.new.report.text,
-      subst (λ (text : List ℕ). CopiesText text c.args.out.now c.hand_over.new.out) (c.text_after.ensures.written zero) c.hand_over.ensures,
+      subst (λ (text : List ℕ). CopiesText text c.args.out.now c.copy_text.new.out) (c.text_after.ensures.written zero) c.copy_text.ensures,
       c.run_lent-ran.ensures.headline (sym ran.1 ∙ zero),
     )
 
@@ -26,7 +26,7 @@ pub returns-clause-line : goal.returns-clause-line
 returns-clause-line c = λ some other.
     let ran = whole_run c.run_lent-ran.new.line.is_short c.run_lent-ran.result c.status_with-status.result
     c.status_with-status.ensures.whole c.status_with-status.ensures.short other in
-    subst (λ (text : List ℕ). CopiesText text c.args.err.now c.hand_over-2.new.out)
+    subst (λ (text : List ℕ). CopiesText text c.args.err.now c.copy_text-2.new.out)
     (c.line_after.ensures.line some other
     ∙ c.run_lent-ran.ensures.line (λ zero. some (ran.1 ∙ zero)) (λ seven. other (ran.1 ∙ seven)) ran.0)
-    c.hand_over-2.ensures
+    c.copy_text-2.ensures
