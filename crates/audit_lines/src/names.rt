@@ -5,7 +5,8 @@ ghost use Rattle.audit_lines.specs.Forms.{is_first_owner, is_exactly, is_later_o
 
 use crate::fields::{number_in, rest_after};
 
-/// Tests whether the text is the name of an owner.
+/// Tests whether the text is an owner's name as the report `owners` prints it: `kernel`, `initrd`,
+/// `crash`, `map 3` and so on. An owner is whoever claimed a range of reserved memory.
 #[tactic(auto, unfolding(crate::specs::Forms::is_owner))]
 pub fn is_owner(text: &[u8]) -> bool
     ensures { result ≡ is_owner text.now }

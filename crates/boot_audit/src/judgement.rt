@@ -13,8 +13,9 @@ use crate::sweep::sweep;
 use audit_lines::{BlockLine, MapLine};
 use bm_base::{Memory, Range, Width};
 
-/// Whether memory was conserved, or the first fault. `line` is a line of `blocks`, counted from 1.
-/// `frame` is the number of a frame of 4096 bytes; frame n begins at address 4096 n.
+/// The verdict of an audit: memory was conserved, or the first fault. A frame (4096 bytes; frame n
+/// begins at address 4096 n) is usable if all its bytes are memory, and touched if any of its bytes
+/// has an owner in the report `owners`. `line` is a line of the report `blocks`, counted from 1.
 #[derive(Clone, Copy, Debug, PartialEq, Eq)]
 pub enum Verdict {
     /// Memory was conserved. Each usable frame is either touched or in exactly one block, and each

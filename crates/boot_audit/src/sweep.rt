@@ -130,6 +130,8 @@ struct Coverage {
     until: u64,
 }
 
+/// Returns whether the address `at` is in a line that counts, and the next address at which that
+/// may change. The first line must end above `at`. Since the lines ascend, only that one matters.
 fn coverage_at<L: RangeLine>(lines: &[L], at: u64) -> Coverage
     requires order { AscendApart (map L.extent lines.now) }
     requires behind { FirstEndsAbove at (map L.extent lines.now) }

@@ -159,8 +159,8 @@ impl Journal {
     }
 
     /// Returns whether the byte at address `x` is memory, on which node, and whether it is
-    /// mirrored. Allocates nothing. Goes through all items a few times, and twice more for each
-    /// end of a range inside the frame of `x`.
+    /// mirrored. Allocates nothing. Walks the items at most three times, and two more times for
+    /// each beginning or end of an item's range that is inside the frame of `x`.
     pub fn tag_at(&self, x: u64) -> Tag
         ensures { result ≡ tag_of self.now.items x }
     {

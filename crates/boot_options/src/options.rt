@@ -138,11 +138,12 @@ fn finish(reading: Reading) -> Result<Options, OptionFault>
     })
 }
 
-/// Returns the crash options after all words have been read.
+/// Returns the `crashkernel=` options after all words of the command line have been read.
 ///
 /// # Errors
 ///
-/// - `Memory`: the program ran out of memory for the ranges of the last plain form.
+/// - `Memory`: the program ran out of memory for the ranges of the last `crashkernel=` without
+///   `,high` or `,low`.
 fn finish_crash(crash: CrashRead) -> Result<CrashOption, Memory>
     ensures value { (said : CrashOptionView) → KeepsCrash crash said →
         IfOk result (λ option. said ≡ crash_option_view option) }

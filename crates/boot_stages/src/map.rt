@@ -69,7 +69,7 @@ fn append_and_sanitise(table: &mut Table, entries: &[Entry]) -> Result<(), Memor
     table.settle()
 }
 
-/// Makes the edits, appends the entries `added` (`do_add_efi_memmap`), and settles the table
+/// Applies the edits, appends the entries `added` (`do_add_efi_memmap`), and sanitises the table
 /// (`e820__finish_early_params`).
 fn edit_and_sanitise(table: &mut Table, edits: &[Edit], added: &[Entry]) -> Result<(), Memory>
     requires types { HaveTypes edits.now }

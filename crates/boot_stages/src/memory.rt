@@ -152,8 +152,12 @@ fn begin_memory(memblock: &mut Memblock, inputs: &Inputs) -> Result<(), Refusal>
     turn_upward(memblock, inputs.upward)
 }
 
-/// Marks the memory of each range as mirrored (`efi_find_mirror`). The ranges must be whole
-/// frames.
+/// Marks the memory of each range as mirrored (`efi_find_mirror`). The ranges must be whole frames.
+///
+/// # Errors
+///
+/// - `NoGapForTable`: memblock's table must grow and finds no place. The ranges before stay marked.
+/// - `Memory`: the program ran out of memory. The ranges before stay marked.
 fn add_mirrors(memblock: &mut Memblock, mirrors: &[Range]) -> Result<(), Refusal>
     requires whole { All IsMirror mirrors.now }
     requires begun { HasBegun memblock.old.journal.items }
@@ -187,8 +191,13 @@ fn mirror_memory(memblock: &mut Memblock, inputs: &Inputs) -> Result<(), Refusal
     }
 }
 
-/// Makes the map's runs memory, trims memory to whole frames (`e820__memblock_setup`), and marks
-/// what is mirrored.
+/// Adds the memory of the map's runs to memblock, trims it to whole frames
+/// (`e820__memblock_setup`), and marks the mirrored ranges.
+///
+/// # Errors
+///
+/// - `NoGapForTable`: memblock's table must grow and finds no place.
+/// - `Memory`: the program ran out of memory.
 fn map_memory(memblock: &mut Memblock, inputs: &Inputs, map: &[Run]) -> Result<(), Refusal>
     requires begun { HasBegun memblock.old.journal.items }
     requires runs { AreRuns map.now }

@@ -50,9 +50,11 @@ pub extern "C" fn bootmem_map(
     }
 }
 
-/// Writes to `out` the crash area, its part below 4 GiB, and why there is or isn't an area. Returns
-/// the exit status: that of the outcome, or 7 if out of memory. A part that the boot didn't reserve
-/// has base and size 0. With a status other than 0 every number is 0.
+/// Runs the boot with these command-line words and files. Writes to `out` the crash area, the
+/// second area below 4 GiB that an area at or above 4 GiB gets (`reserve_crashkernel_low`), and why
+/// there is or isn't an area. Base and size of an area that isn't reserved are 0. Returns the exit
+/// status that `bootmem_run` has for the same words and files, or 7 if out of memory. With a status
+/// other than 0 every number in `out` is 0.
 #[unsafe(no_mangle)]
 pub extern "C" fn bootmem_crash(
     alloc: Global,

@@ -42,8 +42,9 @@ fn is_whole_frames(region: &Region) -> bool
     region.base % FRAME_SIZE == 0 && region.size % FRAME_SIZE == 0
 }
 
-/// Tests whether the bytes at the head are an ascending list of records. No record may be empty,
-/// and each must end at or below the address `bound`.
+/// Tests whether the head's fields are possible (`count` is at most `room`, and the room ends below
+/// 2^64), and whether its `count` records are in ascending order, don't overlap, aren't empty, and
+/// end at or below the address `bound`.
 pub fn has_records(store: &Store, head: &Head, bound: u64) -> bool
     ensures list { IsTrue result ↔ HasRecords store.now head.now bound }
     ensures space { IsTrue result → HasRecords store.now head.now (2 ^ 64) }

@@ -7,9 +7,9 @@ ghost use Rattle.phys_store.specs.Extents.{extent_view, nth_extent, AreApart};
 
 use bm_base::Range;
 
-/// An extent: consecutive prepared bytes. The addresses right before and right after it aren't
-/// prepared. There may be spare room before the first byte, so that an extent that grows downward
-/// is seldom moved.
+/// A longest run of consecutive prepared addresses, for which `Store::prepare` has allocated bytes,
+/// with these bytes. The addresses right before and right after it aren't prepared. There may be
+/// spare room before the first byte, so that an extent that grows downward is seldom moved.
 #[derive(Debug, Drop)]
 pub struct Extent {
     /// The address of the first byte.

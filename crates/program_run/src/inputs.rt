@@ -18,8 +18,8 @@ use e820_table::made;
 use program_args::BootmemArgs;
 use std::alloc::Global;
 
-/// Reads the files that the command line names, in their order. If the command line asks for a
-/// made table, its entries replace those of the zero page and of the extension.
+/// Reads the files that the arguments of `bootmem` name, in their order. With `--make N`, a
+/// generated e820 table of N entries replaces the entries of the zero page and of the extension.
 ///
 /// # Errors
 ///

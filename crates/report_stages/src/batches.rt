@@ -21,8 +21,9 @@ pub(crate) const BATCH_BLOCKS: u64 = 1024;
 /// The number of frames in these blocks.
 pub(crate) const BATCH_FRAMES: u64 = BATCH_BLOCKS << MAX_ORDER;
 
-/// Appends a line for each block of the row, which must fill 4 GiB or a multiple of it. Also
-/// allocates about 48 KB, for the lines of the first 4 GiB.
+/// Appends a line for each block of the row, 1,024 lines at a time. The row's blocks must have the
+/// order `MAX_ORDER`. The row must begin at a multiple of 4 GiB and cover a positive multiple of 4
+/// GiB. Besides the text, allocates about 48 KB for one batch of lines.
 ///
 /// # Errors
 ///

@@ -87,7 +87,8 @@ fn put_max_order_row(text: &mut Vec<u8>, row: &BlockRow) -> Result<(), Memory>
     put_each_block(text, &part_of_row(row, row.count - after, after))
 }
 
-/// Returns `count` blocks of a row of the largest order, after the first `skipped`.
+/// Returns the part of the row that has `count` blocks and begins after its first `skipped` blocks.
+/// The order of the row must be `MAX_ORDER`.
 fn part_of_row(row: &BlockRow, skipped: u64, count: u64) -> BlockRow
     requires { row.now.first + skipped * 1024 ≤ MAX_FRAMES }
     ensures { result ≡ record row.now { first = row.now.first + skipped * 1024; count = count } }

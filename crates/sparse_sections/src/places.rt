@@ -41,8 +41,8 @@ const ROOT_SIZE: u64 = FRAME_SIZE;
 /// The number of sections for which a root has entries (`SECTIONS_PER_ROOT`).
 const SECTIONS_PER_ROOT: u32 = 256;
 
-/// Returns a request for `size` bytes, aligned to a cache line. If a node is given, the memory is
-/// on that node if there is room.
+/// Returns a request for `size` bytes, aligned to a cache line (64 bytes). It prefers memory of
+/// `node`, if one is given, and accepts any other.
 fn small_request(size: u64, node: Option<u32>) -> Request
     ensures { result ≡ small_request size node }
 {

@@ -46,7 +46,8 @@ fn add_processor_domains(domains: &mut Vec<u32>, processors: &[u32]) -> Result<(
     Ok(())
 }
 
-/// Appends the domains of memory that aren't in the list yet, in their order.
+/// Appends the domains of the memory blocks that aren't in the list yet, in the order of `blocks`.
+/// Adds none once the list has more than `MAX_NODES`.
 ///
 /// # Errors
 ///

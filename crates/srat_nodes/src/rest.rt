@@ -56,7 +56,8 @@ fn mark_covered(
     Ok(told)
 }
 
-/// Appends the runs of `joined`, which have a node, to the list `told`, each with the value `true`.
+/// Appends the ranges of `joined` to the list `told`, each with the value `true`, which says that
+/// it has a node.
 ///
 /// # Errors
 ///
