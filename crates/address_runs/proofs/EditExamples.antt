@@ -21,7 +21,8 @@ uncovered_examples : (uncover_range (bytes 2 2) one_value 3 ≡ None) × (uncove
 uncovered_examples = (refl, refl)
 
 -- relabelling changes a value inside the range, keeps an empty address empty, and changes nothing outside
-relabelled_examples : (relabel_range (bytes 2 2) (λ v. v + 1) one_value 3 ≡ Some 8) × (relabel_range (bytes 2 2) (λ v. v + 1) one_value 2 ≡ None)
+relabelled_examples : (relabel_range (bytes 2 2) (λ v. v + 1) one_value 3 ≡ Some 8)
+    × (relabel_range (bytes 2 2) (λ v. v + 1) one_value 2 ≡ None)
     × (relabel_range (bytes 4 2) (λ v. v + 1) one_value 3 ≡ Some 7)
 relabelled_examples = (refl, refl, refl)
 

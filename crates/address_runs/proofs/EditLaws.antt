@@ -37,7 +37,8 @@ module _ {X : Type 0} where
   -- an edit that adds nothing to empty addresses leaves them empty, wherever its range ends
   pub nothing-uncovered : (at : ℕ) (r : RangeView) (f : ℕ → Option X) → NothingFrom at f → NothingFrom at (uncover_range r f)
   nothing-uncovered at r f none x le =
-      elim (cases_Bool (covers r x)) as (λ _. uncover_range r f x ≡ None) [ inl inside ↦ rw inside refl | inr outside ↦ rw outside (none x le) ]
+      elim (cases_Bool (covers r x)) as (λ _.
+      uncover_range r f x ≡ None) [ inl inside ↦ rw inside refl | inr outside ↦ rw outside (none x le) ]
 
   pub nothing-relabelled : (at : ℕ) (r : RangeView) (change : X → X) (f : ℕ → Option X) → NothingFrom at f
       → NothingFrom at (relabel_range r change f)

@@ -163,7 +163,8 @@ start_led same x None (r ∷ rs) start = omega arith
 start_led same x (Some v) [] start = omega arith
 start_led same x (Some v) (r ∷ rs) start = by_test ((r.base == x + 1) && same v r.value)
   where
-    by_test : (t : Bool) → StartAtOrPast x (if t then record { base = x; size = r.size + 1; value = v } ∷ rs else one_address x v ∷ (r ∷ rs))
+    by_test : (t : Bool)
+        → StartAtOrPast x (if t then record { base = x; size = r.size + 1; value = v } ∷ rs else one_address x v ∷ (r ∷ rs))
     by_test true = omega arith
     by_test false = omega arith
 
@@ -223,7 +224,8 @@ all_runs f rs known none = record {
 }
 
 -- `runs_from` returns the runs of its addresses
-pub from_runs : {X : Type 0} (same : X → X → Bool) → DecidesEquality same → (f : ℕ → Option X) (n x : ℕ) → IsRunsBetween f x n (runs_from same f x n)
+pub from_runs : {X : Type 0} (same : X → X → Bool) → DecidesEquality same → (f : ℕ → Option X) (n x : ℕ)
+    → IsRunsBetween f x n (runs_from same f x n)
 unfolding runs_from
 from_runs same tells f zero x = record { runs = tt; start = tt; within = λ y above below_end. absurd (omega arith); past = λ y h. refl }
 from_runs same tells f (suc n) x = between_led same tells f x n (runs_from same f (x + 1) n) (from_runs same tells f n (x + 1))

@@ -62,7 +62,8 @@ is_numbered front text = is_number_rest (rest_after front text)
 -- the text is the name of an owner that reserves memory at the start of the boot
 abbrev pub is_first_owner : List ℕ → Bool
 is_first_owner text =
-    is_exactly (codes "kernel") text || is_exactly (codes "low-64k") text || is_exactly (codes "initrd") text || is_exactly (codes "low-1m") text
+    is_exactly (codes "kernel") text || is_exactly (codes "low-64k") text || is_exactly (codes "initrd") text
+    || is_exactly (codes "low-1m") text
     || is_exactly (codes "soft-reserved") text
 
 -- the text is the name of a table, or of an owner of a later stage without a number

@@ -170,7 +170,8 @@ number_read most (suc n) rest small most_small ends =
     (first_decimal (suc n) (omega arith) (omega arith)) (decimal_is_IsNumeral (suc n) (omega arith)).1 small
   where
     by_digits : (m : ℕ) (ds : List ℕ) → AllDigits 10 ds → 48 < get_or ds 0 0 → digits_value 10 ds ≡ m → m ≤ most
-        → (if begins_with_zero (ds ++ rest) then Some (0, drop 1 (ds ++ rest)) else number_at_most most (ds ++ rest) (number_of (ds ++ rest)))
+        → (if begins_with_zero (ds ++ rest) then Some (0, drop 1 (ds ++ rest))
+        else number_at_most most (ds ++ rest) (number_of (ds ++ rest)))
         ≡ Some (m, rest)
     by_digits m [] all above is small = absurd (omega (arith, above))
     by_digits m (d ∷ ds) all above is small =
@@ -182,7 +183,8 @@ number_read most (suc n) rest small most_small ends =
 
 -- a range that isn't empty and ends below 2^64
 range_by : (first last : ℕ) (rest : List ℕ) → first ≤ last → last < 2 ^ 64 - 1
-    → range_at_start (hex_text first ++ (codes ".." ++ (hex_text last ++ rest))) ≡ Some (record { base = first; size = last + 1 - first }, rest)
+    → range_at_start (hex_text first ++ (codes ".." ++ (hex_text last ++ rest)))
+    ≡ Some (record { base = first; size = last + 1 - first }, rest)
 unfolding range_at_start
 range_by first last rest up below =
     let begins : address_in (hex_text first ++ (codes ".." ++ (hex_text last ++ rest)))

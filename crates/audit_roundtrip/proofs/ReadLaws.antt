@@ -99,7 +99,8 @@ number_is most n (b ∷ bs) rest found =
     spelled false radix prefix digit other base none found = cc
     spelled true radix prefix digit other base none found =
         let front : front_digits 10 (b ∷ bs) ≡ b ∷ front_digits 10 bs = rw digit refl in
-        let read : number_at_most most (b ∷ bs) (fit_in_u64 (digits_value 10 (front_digits 10 (b ∷ bs))) (length (front_digits 10 (b ∷ bs))))
+        let read : number_at_most most (b ∷ bs)
+        (fit_in_u64 (digits_value 10 (front_digits 10 (b ∷ bs))) (length (front_digits 10 (b ∷ bs))))
         ≡ Some (n, rest) =
         rw (base, none, zero-add (length (front_digits 10 (b ∷ bs)))) at found in
         let digits : AllDigits 10 (front_digits 10 (b ∷ bs)) = front_all (b ∷ bs) in
@@ -109,7 +110,8 @@ number_is most n (b ∷ bs) rest found =
         rw front (digits_text b (front_digits 10 bs) (rw front at digits) other (rw front at bound))) read
 
     by_zero : (zero_first : Bool) → b == 48 ≡ zero_first
-        → ◌≡◌ {A = Option (ℕ × List ℕ)} (if zero_first then Some (0, bs) else number_at_most most (b ∷ bs) (number_of (b ∷ bs))) (Some (n, rest))
+        → ◌≡◌ {A = Option (ℕ × List ℕ)} (if zero_first then Some (0, bs)
+        else number_at_most most (b ∷ bs) (number_of (b ∷ bs))) (Some (n, rest))
         → b ∷ bs ≡ decimal n ++ rest
     by_zero true is found =
         let first : b ≡ 48 = (Decides-eqb b 48).0 is in
@@ -175,7 +177,8 @@ address_is n text rest found = by_front (rest_after (codes "0x") (take 18 text))
   where
     by_value : (ds : List ℕ) → take 18 text ≡ codes "0x" ++ ds → length ds ≡ 16 → list_all is_lower_hex ds ≡ true → (fits : Bool)
         → nat_lt (digits_value 16 ds) (2 ^ 64) ≡ fits
-        → value_and_rest (drop 18 text) (if◌then◌else◌ {A = Result (ℕ × ℕ) NumFault} fits (Ok (digits_value 16 ds, 2 + length ds)) (Err TooLarge))
+        → value_and_rest (drop 18 text)
+        (if◌then◌else◌ {A = Result (ℕ × ℕ) NumFault} fits (Ok (digits_value 16 ds, 2 + length ds)) (Err TooLarge))
         ≡ Some (n, rest) → text ≡ hex_text n ++ rest
     by_value ds front long lower false test found = cc
     by_value ds front long lower true test found =
@@ -199,7 +202,8 @@ address_is n text rest found = by_front (rest_after (codes "0x") (take 18 text))
         by_value ds front long parts.1 (nat_lt (digits_value 16 ds) (2 ^ 64)) refl (sym (ap (value_and_rest (drop 18 text)) read) ∙ found)
 
     by_front : (found_front : Option (List ℕ)) → rest_after (codes "0x") (take 18 text) ≡ found_front
-        → ◌≡◌ {A = Option (ℕ × List ℕ)} (if are_sixteen_digits found_front then value_and_rest (drop 18 text) (number_of (take 18 text)) else None)
+        → ◌≡◌ {A = Option (ℕ × List ℕ)} (if are_sixteen_digits found_front then value_and_rest (drop 18 text) (number_of (take 18 text))
+        else None)
         (Some (n, rest))
         → text ≡ hex_text n ++ rest
     by_front None is found = cc

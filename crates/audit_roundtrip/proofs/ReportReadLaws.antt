@@ -85,7 +85,8 @@ module _ {L X : Type 0} (form : ℕ → List ℕ → Option L) (extent : L → R
       ∙ sym (append_assoc (words l) (10 ∷ []) (indexed_lines line (n + 1) (map back ls)))
       ∙ ap (λ (xs : List ℕ). xs ++ indexed_lines line (n + 1) (map back ls)) (sym (lined n l (All-head P l ls all)))
 
-  pub report_is : (bytes : List ℕ) (ls : List L) → report_of form extent bytes ≡ Ok ls → All P ls → bytes ≡ indexed_lines line 0 (map back ls)
+  pub report_is : (bytes : List ℕ) (ls : List L) → report_of form extent bytes ≡ Ok ls → All P ls
+      → bytes ≡ indexed_lines line 0 (map back ls)
   report_is bytes ls is all =
       let theirs = lines_are 0 0 (split_lines bytes).0 (split_lines bytes).1 ls is in
       sym (bytes_joined bytes) ∙ parts (split_lines bytes) theirs.0 theirs.1 ∙ lines_text 0 ls all

@@ -125,7 +125,8 @@ pub owners_back : (runs : List (RunOf Owner)) → length runs < 2 ^ 64 → All I
 owners_back runs few told order =
     lines_read owner_in (λ e. e) owner_line (λ n x. owner_words n (extent_of x) (owner_text x.value)) extent_of runs 0 0
     (omega (arith, few))
-    (all_back owner_in (λ e. e) owner_line (λ n x. owner_words n (extent_of x) (owner_text x.value)) extent_of IsPrintableOwnerRun owner_back
+    (all_back owner_in (λ e. e) owner_line (λ n x.
+    owner_words n (extent_of x) (owner_text x.value)) extent_of IsPrintableOwnerRun owner_back
     runs told)
     (from_first (map (λ e. e) (map extent_of runs))) (rw (same_ranges (map extent_of runs)) order)
 
@@ -134,5 +135,6 @@ pub blocks_back : (blocks : List Block) → length blocks < 2 ^ 64 → All IsPri
     → report_of block_in bytes_of_block (indexed_lines block_line 0 blocks) ≡ Ok (map line_of_block blocks)
 blocks_back blocks few told order =
     lines_read block_in bytes_of_block block_line (λ n x. block_words (line_of_block x)) line_of_block blocks 0 0 (omega (arith, few))
-    (all_back block_in bytes_of_block block_line (λ n x. block_words (line_of_block x)) line_of_block IsPrintableBlock block_back blocks told)
+    (all_back block_in bytes_of_block block_line (λ n x.
+    block_words (line_of_block x)) line_of_block IsPrintableBlock block_back blocks told)
     (from_first (map bytes_of_block (map line_of_block blocks))) order

@@ -46,13 +46,15 @@ record HasKin (b : Block) (bs : List Block) (frame : ℕ) : Type 0 where
   pub zone : block.zone ≡ b.zone
   pub inside : has_frame block frame ≡ true
 
-kin_found : (b : Block) (bs : List Block) (frame : ℕ) → is_in_same_zone_block (line_of_block b) (map line_of_block bs) frame ≡ true → HasKin b bs frame
+kin_found : (b : Block) (bs : List Block) (frame : ℕ) → is_in_same_zone_block (line_of_block b) (map line_of_block bs) frame ≡ true
+    → HasKin b bs frame
 kin_found b [] frame found = cc
 kin_found b (c ∷ cs) frame found =
     by_first (are_of_one_zone (line_of_block b) (line_of_block c) && covers (frames_of_block (line_of_block c)) frame) refl found
     (kin_found b cs frame)
   where
-    by_first : (first : Bool) → (are_of_one_zone (line_of_block b) (line_of_block c) && covers (frames_of_block (line_of_block c)) frame) ≡ first
+    by_first : (first : Bool)
+        → (are_of_one_zone (line_of_block b) (line_of_block c) && covers (frames_of_block (line_of_block c)) frame) ≡ first
         → (first || is_in_same_zone_block (line_of_block b) (map line_of_block cs) frame) ≡ true
         → (is_in_same_zone_block (line_of_block b) (map line_of_block cs) frame ≡ true → HasKin b cs frame) → HasKin b (c ∷ cs) frame
     by_first true is some rest =
@@ -107,7 +109,8 @@ module _ (given : InputsView) (items : List Item) (bs : List Block) (whole : (b 
     λ frame inside.
         (let ends = parent_frame b frame inside in
         let free : IsFreeFor given items b frame = kin_free b frame (kin_found b bs frame
-        (each_in-each (parent_of (line_of_block b)) (is_in_same_zone_block (line_of_block b) (map line_of_block bs)) (and_parts (nat_lt b.order 10) _ joins).1
+        (each_in-each (parent_of (line_of_block b)) (is_in_same_zone_block (line_of_block b) (map line_of_block bs))
+        (and_parts (nat_lt b.order 10) _ joins).1
         frame ends.0 ends.1)) in
         record { usable = free.usable; untouched = free.untouched; node = free.node; zone = free.zone }),
   )
@@ -124,7 +127,8 @@ module _ (given : InputsView) (items : List Item) (bs : List Block) (whole : (b 
         | inr apart ↦ apart
       ]
 
-  each_told : (cs : List Block) → ((b : Block) → ListsBlock cs b → ListsBlock bs b) → All (IsSoundBlock (map line_of_block bs)) (map line_of_block cs)
+  each_told : (cs : List Block) → ((b : Block) → ListsBlock cs b → ListsBlock bs b)
+      → All (IsSoundBlock (map line_of_block bs)) (map line_of_block cs)
   each_told [] among = All-nil (IsSoundBlock (map line_of_block bs))
   each_told (c ∷ cs) among =
       All-cons (IsSoundBlock (map line_of_block bs)) (line_of_block c) (map line_of_block cs) (record {

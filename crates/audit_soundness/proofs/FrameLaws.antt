@@ -100,7 +100,8 @@ counted_told (b ∷ bs) frame =
     let counts : count_blocks_with (b ∷ bs) frame ≡ cond (has_frame b frame) 1 0 + count_blocks_with bs frame =
     sum_by-cons (λ (c : Block). cond (has_frame c frame) 1 0) b bs in
     let rest : count_blocks_of_frame (map line_of_block bs) frame ≡ count_blocks_with bs frame = counted_told bs frame in
-    elim (cases_Bool (has_frame b frame)) as (λ _. count_blocks_of_frame (map line_of_block (b ∷ bs)) frame ≡ count_blocks_with (b ∷ bs) frame) [
+    elim (cases_Bool (has_frame b frame)) as (λ _.
+    count_blocks_of_frame (map line_of_block (b ∷ bs)) frame ≡ count_blocks_with (b ∷ bs) frame) [
       | inl inside ↦
           (let here : covers (frames_of_block (line_of_block b)) frame ≡ true = frame_told b frame ∙ inside in
           let one : count_blocks_with (b ∷ bs) frame ≡ 1 + count_blocks_with bs frame =

@@ -87,6 +87,7 @@ module _ (given : InputsView) (told : BootedView) (ends : whole_boot given ≡ O
       lines = told_lines;
       words = refl;
       texts = lines_told;
-      conserved = subst (λ (w : Width). LinesConserveMemory (reach_of w) told_lines.map_lines told_lines.owners told_lines.blocks) (sym is.width)
+      conserved = subst (λ (w : Width). LinesConserveMemory (reach_of w) told_lines.map_lines told_lines.owners told_lines.blocks)
+          (sym is.width)
           (lines_conserved given told ends can.within);
     }

@@ -21,7 +21,8 @@ pub owner_runs : (items : List Item) → NothingFrom (2 ^ 64) (owner_of items) �
 unfolding owner_runs_of
 owner_runs items ends = by_address same_owner owner_tells (owner_of items) ends
 
-module _ (given : InputsView) (told : BootedView) (ends : whole_boot given ≡ Ok told) (near : NothingFrom (2 ^ 64) (owner_of told.items)) where
+module _ (given : InputsView) (told : BootedView) (ends : whole_boot given ≡ Ok told)
+    (near : NothingFrom (2 ^ 64) (owner_of told.items)) where
   runs : IsRunsOf (owner_of told.items) (owner_runs_of told.items)
   runs = owner_runs told.items near
 
@@ -36,7 +37,8 @@ module _ (given : InputsView) (told : BootedView) (ends : whole_boot given ≡ O
     counted_told (booted_blocks told) frame ∙ bare.1,
   )
 
-  pub lines_conserved : LinesConserveMemory (booted_address_limit told) (map line_of_run told.map) (map extent_of (owner_runs_of told.items))
+  pub lines_conserved : LinesConserveMemory (booted_address_limit told) (map line_of_run told.map)
+      (map extent_of (owner_runs_of told.items))
       (map line_of_block (booted_blocks told))
   lines_conserved = record {
     frames = λ frame usable.

@@ -35,7 +35,8 @@ no_line p n (b ∷ bs) none k d inside =
     at_place zero inside others fails = fails
     at_place (suc j) inside others fails = others j (omega arith)
 
-pub first_none : (p : BlockLineView → Bool) (n : ℕ) (bs : List BlockLineView) → ((k : ℕ) (d : BlockLineView) → k < length bs → p (get_or bs k d) ≡ false)
+pub first_none : (p : BlockLineView → Bool) (n : ℕ) (bs : List BlockLineView)
+    → ((k : ℕ) (d : BlockLineView) → k < length bs → p (get_or bs k d) ≡ false)
     → first_line p n bs ≡ None
 first_none p n [] each = refl
 first_none p n (b ∷ bs) each =
@@ -75,7 +76,8 @@ out_of_others at f (b ∷ bs) start order below =
     let out : covers (frames_of_block b) f ≡ false = covers_below (frames_of_block b) f (omega arith) in
     rw out (out_of_others (end_of (frames_of_block b)) f bs order.0 order.1 (omega arith))
 
-pub one_with : (bs : List BlockLineView) (f : ℕ) → AscendApart (map frames_of_block bs) → is_in_a_block bs f ≡ true → count_blocks_of_frame bs f ≡ 1
+pub one_with : (bs : List BlockLineView) (f : ℕ) → AscendApart (map frames_of_block bs) → is_in_a_block bs f ≡ true
+    → count_blocks_of_frame bs f ≡ 1
 one_with [] f order in_it = cc
 one_with (b ∷ bs) f order in_it = by_first (covers (frames_of_block b) f) refl in_it (one_with bs f order.1)
   where
@@ -83,7 +85,8 @@ one_with (b ∷ bs) f order in_it = by_first (covers (frames_of_block b) f) refl
         → (is_in_a_block bs f ≡ true → count_blocks_of_frame bs f ≡ 1) → count_blocks_of_frame (b ∷ bs) f ≡ 1
     by_first true is some rest =
         let under : f < end_of (frames_of_block b) = grind (arith, nat_tests) in
-        let none : count_blocks_of_frame bs f ≡ 0 = none_with bs f (out_of_others (end_of (frames_of_block b)) f bs order.0 order.1 under) in
+        let none : count_blocks_of_frame bs f ≡ 0 =
+        none_with bs f (out_of_others (end_of (frames_of_block b)) f bs order.0 order.1 under) in
         rw (is, none) refl
     by_first false is some rest = rw is (rest some)
 
@@ -91,7 +94,8 @@ one_with (b ∷ bs) f order in_it = by_first (covers (frames_of_block b) f) refl
 usable_near : (limit : ℕ) (lines : List MapLine) (f : ℕ) → limit ≤ 2 ^ 52 → is_usable limit lines f ≡ true → f < 2 ^ 40
 unfolding is_usable
 usable_near limit lines f near usable =
-    let first = each_in-each (bytes_of_frame f) (λ x. nat_lt x limit && is_in_memory lines x) usable (4096 * f) (omega arith) (omega arith) in
+    let first = each_in-each (bytes_of_frame f) (λ x.
+    nat_lt x limit && is_in_memory lines x) usable (4096 * f) (omega arith) (omega arith) in
     let below : nat_lt (4096 * f) limit ≡ true = (and_parts (nat_lt (4096 * f) limit) (is_in_memory lines (4096 * f)) first).0 in
     let under : 4096 * f < limit = grind (arith, nat_tests) in
     omega arith
@@ -99,7 +103,8 @@ usable_near limit lines f near usable =
 block_end : (a n : ℕ) → a + 4096 * n ≤ 2 ^ 52 → a / 4096 + n ≤ 2 ^ 40
 block_end a n near = omega arith
 
-in_block_near : (bs : List BlockLineView) (f : ℕ) → ((k : ℕ) (d : BlockLineView) → k < length bs → IsBlockLine (get_or bs k d)) → is_in_a_block bs f ≡ true
+in_block_near : (bs : List BlockLineView) (f : ℕ) → ((k : ℕ) (d : BlockLineView) → k < length bs → IsBlockLine (get_or bs k d))
+    → is_in_a_block bs f ≡ true
     → f < 2 ^ 40
 in_block_near [] f fit in_it = cc
 in_block_near (b ∷ bs) f fit in_it =
@@ -143,7 +148,8 @@ module _ (limit : ℕ) (lines : List MapLine) (owners : List RangeView) (bs : Li
       let wrong : ◌≡◌ {A = Bool} true false = rw (usable, touch, out) at kept in cc
   touched_or_one f true true touch in_it usable free kept = inr (touch, one_with bs f order in_it)
 
-  free_in_it : (f : ℕ) (in_it free : Bool) → is_in_a_block bs f ≡ in_it → is_free limit lines owners f ≡ free → 0 < count_blocks_of_frame bs f
+  free_in_it : (f : ℕ) (in_it free : Bool) → is_in_a_block bs f ≡ in_it → is_free limit lines owners f ≡ free
+      → 0 < count_blocks_of_frame bs f
       → (f < 2 ^ 40 → is_not_free limit lines owners bs f ≡ false)
       → (is_usable limit lines f ≡ true) × (is_untouched owners f ≡ true)
   free_in_it f false free out is some none = let zero_of : count_blocks_of_frame bs f ≡ 0 = none_with bs f out in absurd (omega arith)
@@ -184,7 +190,8 @@ module _ (limit : ℕ) (lines : List MapLine) (owners : List RangeView) (bs : Li
   lost_no_more f true in_it usable untouched either = rw (in_it) (and-false (is_free limit lines owners f))
   lost_no_more f false out usable untouched (inl touched) = let wrong : ◌≡◌ {A = Bool} true false = sym untouched ∙ touched.0 in cc
   lost_no_more f false out usable untouched (inr one) =
-      let none : count_blocks_of_frame bs f ≡ 0 = none_with bs f out in let some : count_blocks_of_frame bs f ≡ 1 = one.1 in absurd (omega arith)
+      let none : count_blocks_of_frame bs f ≡ 0 = none_with bs f out in let some : count_blocks_of_frame bs f ≡ 1 =
+      one.1 in absurd (omega arith)
 
   none_lost : (f : ℕ) (usable untouched : Bool) → is_usable limit lines f ≡ usable → is_untouched owners f ≡ untouched
       → LinesConserveMemory limit lines owners bs → is_lost limit lines owners bs f ≡ false
@@ -209,7 +216,8 @@ module _ (limit : ℕ) (lines : List MapLine) (owners : List RangeView) (bs : Li
       (least_frame (is_not_free limit lines owners bs)) (least_frame (is_lost limit lines owners bs))
       (first_line (could_merge bs) 1 bs) aligned zoned free found whole
     where
-      all_none : (m z f l x : Option ℕ) → m ≡ None → z ≡ None → f ≡ None → l ≡ None → x ≡ None → verdict_of_faults m z f l x ≡ verdicts.Sound
+      all_none : (m z f l x : Option ℕ) → m ≡ None → z ≡ None → f ≡ None → l ≡ None → x ≡ None
+          → verdict_of_faults m z f l x ≡ verdicts.Sound
       all_none m z f l x a b c d e = rw (a, b, c, d, e) refl
 
 pub reach_near : (width : Width) → reach_of width ≤ 2 ^ 52

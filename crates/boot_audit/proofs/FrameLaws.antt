@@ -78,7 +78,8 @@ module _ (limit : ℕ) (map_lines : List MapLine) (owners : List RangeView) wher
       (each_in-all (bytes_of_frame f) (λ x. not (has_owner owners x))
       (λ x above below. (and_parts (nat_lt x limit && is_in_memory map_lines x) (not (has_owner owners x)) (each x above below)).1))
 
-  by_parts : (f x : ℕ) (usable untouched : Bool) → (nat_lt x limit && is_in_memory map_lines x) ≡ usable → not (has_owner owners x) ≡ untouched
+  by_parts : (f x : ℕ) (usable untouched : Bool) → (nat_lt x limit && is_in_memory map_lines x) ≡ usable
+      → not (has_owner owners x) ≡ untouched
       → (usable && untouched) ≡ false → 4096 * f ≤ x → x < 4096 * f + 4096 → is_free limit map_lines owners f ≡ false
   unfolding is_usable is_untouched
   by_parts f x false untouched first second fails above below =
@@ -155,7 +156,8 @@ module _ (limit : ℕ) (map_lines : List MapLine) (owners : List RangeView) wher
     }
 
 -- the state of a byte, from four tests
-pub around : (limit : ℕ) (map_lines : List MapLine) (owners : List RangeView) (blocks : List BlockLineView) (x : ℕ) (below inside owned held : Bool)
+pub around : (limit : ℕ) (map_lines : List MapLine) (owners : List RangeView) (blocks : List BlockLineView) (x : ℕ)
+    (below inside owned held : Bool)
     → nat_lt x limit ≡ below → is_in_memory map_lines x ≡ inside → has_owner owners x ≡ owned → is_byte_in_block blocks x ≡ held
     → byte_state_at limit map_lines owners blocks x ≡ byte_state_by ((below && inside) && not owned) held
 unfolding byte_state_at
@@ -163,7 +165,8 @@ around limit map_lines owners blocks x below inside owned held first second thir
 
 -- the state of a byte is the same by lists that agree on it
 pub same_state : (limit : ℕ) (runs map_lines : List MapLine) (left owners : List RangeView) (rest blocks : List BlockLineView) (x : ℕ)
-    → is_in_memory runs x ≡ is_in_memory map_lines x → has_owner left x ≡ has_owner owners x → is_byte_in_block rest x ≡ is_byte_in_block blocks x
+    → is_in_memory runs x ≡ is_in_memory map_lines x → has_owner left x ≡ has_owner owners x
+    → is_byte_in_block rest x ≡ is_byte_in_block blocks x
     → byte_state_at limit map_lines owners blocks x ≡ byte_state_at limit runs left rest x
 unfolding byte_state_at
 same_state limit runs map_lines left owners rest blocks x first second third = rw (first, second, third) refl

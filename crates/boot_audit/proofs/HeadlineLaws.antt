@@ -84,7 +84,8 @@ module _ {L : Type 0} (form : ℕ → List ℕ → Option L) (extent : L → Ran
       by_rest : (read : Result (List L) LineFault) → rest line ≡ read → (read >>= λ others. Ok (line ∷ others)) ≡ Ok lines → All P lines
       by_rest (Err fault) reads is = cc
       by_rest (Ok rest_after) reads is =
-          let same : line ∷ rest_after ≡ lines = cc in rw (← same) (All-cons P line rest_after (one line refl) (others line rest_after reads))
+          let same : line ∷ rest_after ≡ lines =
+          cc in rw (← same) (All-cons P line rest_after (one line refl) (others line rest_after reads))
 
   lines_fit : (index at : ℕ) (texts : List (List ℕ)) (left : List ℕ) (lines : List L)
       → report_from form extent index at texts left ≡ Ok lines → All P lines
@@ -97,7 +98,8 @@ module _ {L : Type 0} (form : ℕ → List ℕ → Option L) (extent : L → Ran
       (λ line. lines_fit (index + 1) (end_of (extent line)) texts left) is
 
 -- lines that were read are those of some bytes
-read_of : {L : Type 0} (form : ℕ → List ℕ → Option L) (extent : L → RangeView) (report : SavedReport) (held : Option (List ℕ)) (lines : List L)
+read_of : {L : Type 0} (form : ℕ → List ℕ → Option L) (extent : L
+    → RangeView) (report : SavedReport) (held : Option (List ℕ)) (lines : List L)
     → lines_in_file form extent report held ≡ Ok lines → (bytes : List ℕ) × (report_of form extent bytes ≡ Ok lines)
 read_of form extent report None lines is = cc
 read_of form extent report (Some bytes) lines is = (bytes, by_length (nat_lt 536870912 (length bytes)) (report_of form extent bytes) is)
@@ -122,7 +124,8 @@ good_blocks held blocks is =
       lines_fit block_in bytes_of_block IsBlockLine block_fits 0 0 split.0 split.1 blocks read.1,
     )
 
-good_lines : (held : FileContents) (wanted : AuditArgsView) (lines : SavedView) → saved_in_files held wanted ≡ Ok lines → AreGood lines.blocks
+good_lines : (held : FileContents) (wanted : AuditArgsView) (lines : SavedView) → saved_in_files held wanted ≡ Ok lines
+    → AreGood lines.blocks
 good_lines held wanted lines is =
     by_map (lines_in_file map_in (λ l. l.range) reports.Map (held wanted.map_name))
     (lines_in_file owner_in (λ r. r) reports.Owners (held wanted.owners_name))
@@ -140,7 +143,8 @@ good_lines held wanted lines is =
         let blocks : b ≡ lines.blocks = cc in
         rw (← blocks) (good_blocks (held wanted.blocks_name) b reads)
 
-pub sound_conserved : (accepted : Option AuditArgsView) (held : FileContents) → audit_outcome accepted held ≡ Ok verdicts.Sound → FilesConserveMemory accepted held
+pub sound_conserved : (accepted : Option AuditArgsView) (held : FileContents) → audit_outcome accepted held ≡ Ok verdicts.Sound
+    → FilesConserveMemory accepted held
 sound_conserved None held is = cc
 sound_conserved (Some wanted) held is = by_lines (saved_in_files held wanted) refl is
   where
@@ -159,7 +163,8 @@ sound_conserved (Some wanted) held is = by_lines (saved_in_files held wanted) re
               (frames_ascend lines.blocks good.0) good.1 sound;
         }
 
-pub conserved_sound : (accepted : Option AuditArgsView) (held : FileContents) → FilesConserveMemory accepted held → audit_outcome accepted held ≡ Ok verdicts.Sound
+pub conserved_sound : (accepted : Option AuditArgsView) (held : FileContents) → FilesConserveMemory accepted held
+    → audit_outcome accepted held ≡ Ok verdicts.Sound
 conserved_sound accepted held kept =
     let good = good_lines held kept.wanted kept.lines kept.texts in
     let sound : verdict_by kept.wanted kept.lines ≡ verdicts.Sound =

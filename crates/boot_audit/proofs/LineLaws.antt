@@ -32,7 +32,8 @@ module _ {L : Type 0} (counts : L → Bool) (extent : L → RangeView) where
   says_below at x (l ∷ ls) start order below =
       let out : covers (extent l) x ≡ false = covers_below (extent l) x (omega arith) in
       let others : is_in_relevant_line counts extent ls x ≡ false = says_below (end_of (extent l)) x ls order.0 order.1 (omega arith) in
-      ap (λ (c : Bool). either (counts l) c (is_in_relevant_line counts extent ls x)) out ∙ first_false (counts l) (is_in_relevant_line counts extent ls x) ∙ others
+      ap (λ (c : Bool). either (counts l) c (is_in_relevant_line counts extent ls x)) out
+      ∙ first_false (counts l) (is_in_relevant_line counts extent ls x) ∙ others
 
   pub says_before : (l : L) (ls : List L) (x : ℕ) → AscendApart (map extent (l ∷ ls)) → x < (extent l).base
       → is_in_relevant_line counts extent (l ∷ ls) x ≡ false
@@ -43,13 +44,15 @@ module _ {L : Type 0} (counts : L → Bool) (extent : L → RangeView) where
   says_first l ls x order above below =
       let in_it : covers (extent l) x ≡ true = covers_in (extent l) x above below in
       let others : is_in_relevant_line counts extent ls x ≡ false = says_below (end_of (extent l)) x ls order.0 order.1 below in
-      ap (λ (c : Bool). either (counts l) c (is_in_relevant_line counts extent ls x)) in_it ∙ first_true (counts l) (is_in_relevant_line counts extent ls x) others
+      ap (λ (c : Bool). either (counts l) c (is_in_relevant_line counts extent ls x)) in_it
+      ∙ first_true (counts l) (is_in_relevant_line counts extent ls x) others
 
   pub says_past : (l : L) (ls : List L) (x : ℕ) → end_of (extent l) ≤ x
       → is_in_relevant_line counts extent (l ∷ ls) x ≡ is_in_relevant_line counts extent ls x
   says_past l ls x past =
       let out : covers (extent l) x ≡ false = covers_past (extent l) x past in
-      ap (λ (c : Bool). either (counts l) c (is_in_relevant_line counts extent ls x)) out ∙ first_false (counts l) (is_in_relevant_line counts extent ls x)
+      ap (λ (c : Bool). either (counts l) c (is_in_relevant_line counts extent ls x)) out
+      ∙ first_false (counts l) (is_in_relevant_line counts extent ls x)
 
   -- the facts above, for a list that is known to begin with a line
   pub seen_before : (lines : List L) (l : L) (ls : List L) → lines ≡ l ∷ ls → AscendApart (map extent lines)

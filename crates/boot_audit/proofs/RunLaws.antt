@@ -26,7 +26,8 @@ sound_said old new end status said is writes zero = grind arith
 module _ (accepted : Option AuditArgsView) (end : End AuditReason) (status : ℕ) (is : status ≡ exit_status end) where
   -- with status 0 memory was conserved
   pub ran_headline : (old new : Option (List ℕ)) (holds : Option FileContents)
-      → IfSome holds (λ held. WritesOutcome bootaudit old new end (audit_outcome accepted held)) → status ≡ 0 → IfSome holds (FilesConserveMemory accepted)
+      → IfSome holds (λ held. WritesOutcome bootaudit old new end (audit_outcome accepted held)) → status ≡ 0
+      → IfSome holds (FilesConserveMemory accepted)
   ran_headline old new None writes zero = tt
   ran_headline old new (Some held) writes zero =
       sound_conserved accepted held (sound_said old new end status (audit_outcome accepted held) is writes zero)
@@ -40,5 +41,6 @@ module _ (accepted : Option AuditArgsView) (end : End AuditReason) (status : ℕ
       → ((report : SavedReport) → ¬ InputFaultsRose bootaudit before now accepted report) → (status ≡ 0) ⊎ (status ≡ 7))
   ran_conserved sink old new before now cause output None writes = tt
   ran_conserved sink old new before now cause output (Some held) writes = λ kept.
-      ends_complete bootaudit sink before now accepted old new end status is cause output (audit_outcome accepted held) writes verdicts.Sound
+      ends_complete bootaudit sink before now accepted old new end status is cause output
+      (audit_outcome accepted held) writes verdicts.Sound
       (conserved_sound accepted held kept)

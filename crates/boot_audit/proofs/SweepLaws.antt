@@ -64,7 +64,8 @@ module _ (st : ℕ → ByteState) (lost not_free : ℕ → Bool) (tells : Tells 
   }
 
   found_by : (from at until : ℕ) (ends : Bool) → nat_lt until (4096 * ((from + 4095) / 4096) + 4096) ≡ ends → at < until → until ≤ 2 ^ 52
-      → ((x : ℕ) → at ≤ x → x < until → st x ≡ states.Lost) → IsOpen st lost from at → SoFar st lost from until (first_whole_frame from until)
+      → ((x : ℕ) → at ≤ x → x < until → st x ≡ states.Lost) → IsOpen st lost from at
+      → SoFar st lost from until (first_whole_frame from until)
   found_by from at until true is forward near piece known = rw is record {
     ordered = let low = known.ordered in omega arith;
     before = known.before;
@@ -118,7 +119,8 @@ module _ (st : ℕ → ByteState) (lost not_free : ℕ → Bool) (tells : Tells 
   carried_on from at until (Some k) states.Sound forward near piece least = least
   carried_on from at until (Some k) states.NotFree forward near piece least = least
 
-  pub carried_near : (from until : ℕ) (old : Option ℕ) (s : ByteState) → from ≤ 2 ^ 52 → until ≤ 2 ^ 52 → (advance_lost_frame old from until s).1 ≤ 2 ^ 52
+  pub carried_near : (from until : ℕ) (old : Option ℕ) (s : ByteState) → from ≤ 2 ^ 52 → until ≤ 2 ^ 52
+      → (advance_lost_frame old from until s).1 ≤ 2 ^ 52
   carried_near from until old states.Lost low near = low
   carried_near from until old states.Sound low near = near
   carried_near from until old states.NotFree low near = near

@@ -58,13 +58,15 @@ kin_same b c d kin =
     rw (node, zone_same b.zone c.zone d.zone parts.1) refl
 
 -- blocks of the same node and zone give the same frames
-kin_lists : (b c : BlockLineView) → are_of_one_zone b c ≡ true → (blocks : List BlockLineView) (f : ℕ) → is_in_same_zone_block c blocks f ≡ is_in_same_zone_block b blocks f
+kin_lists : (b c : BlockLineView) → are_of_one_zone b c ≡ true → (blocks : List BlockLineView) (f : ℕ)
+    → is_in_same_zone_block c blocks f ≡ is_in_same_zone_block b blocks f
 kin_lists b c kin [] f = refl
 kin_lists b c kin (d ∷ ds) f = rw (kin_same b c d kin, kin_lists b c kin ds f) refl
 
 -- if the test of cover passes, each frame from `at` up to `until` is in a block of this node and
 -- zone
-fills_true : (b : BlockLineView) (at until : ℕ) (cs : List BlockLineView) → StartFrom at (map frames_of_block cs) → AscendApart (map frames_of_block cs)
+fills_true : (b : BlockLineView) (at until : ℕ) (cs : List BlockLineView) → StartFrom at (map frames_of_block cs)
+    → AscendApart (map frames_of_block cs)
     → is_covered_up_to b at until cs ≡ true → (f : ℕ) → at ≤ f → f < until → is_in_same_zone_block b cs f ≡ true
 fills_true b at until [] start order is f above below = absurd (grind (arith, nat_tests))
 fills_true b at until (c ∷ cs) start order is f above below =
@@ -77,7 +79,8 @@ fills_true b at until (c ∷ cs) start order is f above below =
           let rest : is_covered_up_to b (end c) until cs ≡ true = rw goes at more in
           elim (cases_lt f (end c)) as (λ _. is_in_same_zone_block b (c ∷ cs) f ≡ true) [
             | inl inside ↦ says_first (are_of_one_zone b) frames_of_block c cs f order (omega arith) inside ∙ parts.1
-            | inr past ↦ says_past (are_of_one_zone b) frames_of_block c cs f past ∙ fills_true b (end c) until cs order.0 order.1 rest f past below
+            | inr past ↦
+                says_past (are_of_one_zone b) frames_of_block c cs f past ∙ fills_true b (end c) until cs order.0 order.1 rest f past below
           ]
       | inr stops ↦ let wrong : ◌≡◌ {A = Bool} false true = rw stops at more in cc
     ]
@@ -100,14 +103,16 @@ gap_here b c cs at start order stops =
           says_first (are_of_one_zone b) frames_of_block c cs at order (omega arith) (omega arith) ∙ other
     ]
 
-fills_false : (b : BlockLineView) (at until : ℕ) (cs : List BlockLineView) → StartFrom at (map frames_of_block cs) → AscendApart (map frames_of_block cs)
+fills_false : (b : BlockLineView) (at until : ℕ) (cs : List BlockLineView) → StartFrom at (map frames_of_block cs)
+    → AscendApart (map frames_of_block cs)
     → is_covered_up_to b at until cs ≡ false → IsGap b at until cs
 fills_false b at until [] start order is = (at, omega arith, grind (arith, nat_tests), refl)
 fills_false b at until (c ∷ cs) start order is =
     elim (cases_Bool (nat_le until at)) as (λ _. IsGap b at until (c ∷ cs)) [
       | inl short ↦ let wrong : ◌≡◌ {A = Bool} true false = rw short at is in cc
       | inr long ↦
-          let more : (if (first c == at) && are_of_one_zone b c then is_covered_up_to b (end c) until cs else false) ≡ false = rw long at is in
+          let more : (if (first c == at) && are_of_one_zone b c then is_covered_up_to b (end c) until cs else false) ≡ false =
+          rw long at is in
           elim (cases_Bool ((first c == at) && are_of_one_zone b c)) as (λ _. IsGap b at until (c ∷ cs)) [
             | inl goes ↦
                 let rest : is_covered_up_to b (end c) until cs ≡ false = rw goes at more in
@@ -136,7 +141,8 @@ abbrev StartsBehind : Option BlockLineView → BlockLineView → Type 0
 StartsBehind None b = Unit {0}
 StartsBehind (Some last) b = end last ≤ first b
 
-in_both : (b : BlockLineView) (front back : List BlockLineView) (f : ℕ) → is_in_same_zone_block b (front ++ back) f ≡ (is_in_same_zone_block b front f || is_in_same_zone_block b back f)
+in_both : (b : BlockLineView) (front back : List BlockLineView) (f : ℕ)
+    → is_in_same_zone_block b (front ++ back) f ≡ (is_in_same_zone_block b front f || is_in_same_zone_block b back f)
 in_both b [] back f = refl
 in_both b (c ∷ cs) back f =
     ap (λ (u : Bool). either (are_of_one_zone b c) (covers (frames_of_block c) f) u) (in_both b cs back f)
@@ -146,14 +152,16 @@ in_both b (c ∷ cs) back f =
     grouped true v w = refl
     grouped false v w = refl
 
-front_only : (b : BlockLineView) (front back : List BlockLineView) (f : ℕ) → is_in_same_zone_block b back f ≡ false → is_in_same_zone_block b (front ++ back) f ≡ is_in_same_zone_block b front f
+front_only : (b : BlockLineView) (front back : List BlockLineView) (f : ℕ) → is_in_same_zone_block b back f ≡ false
+    → is_in_same_zone_block b (front ++ back) f ≡ is_in_same_zone_block b front f
 front_only b front back f none = in_both b front back f ∙ rw none (or_none (is_in_same_zone_block b front f))
   where
     or_none : (u : Bool) → (u || false) ≡ u
     or_none true = refl
     or_none false = refl
 
-back_only : (b : BlockLineView) (front back : List BlockLineView) (f : ℕ) → is_in_same_zone_block b front f ≡ false → is_in_same_zone_block b (front ++ back) f ≡ is_in_same_zone_block b back f
+back_only : (b : BlockLineView) (front back : List BlockLineView) (f : ℕ) → is_in_same_zone_block b front f ≡ false
+    → is_in_same_zone_block b (front ++ back) f ≡ is_in_same_zone_block b back f
 back_only b front back f none = in_both b front back f ∙ rw none refl
 
 one_in : (b c : BlockLineView) (f : ℕ) → first c ≤ f → f < end c → is_in_same_zone_block b (c ∷ []) f ≡ are_of_one_zone b c
@@ -177,7 +185,8 @@ some_frame : (b : BlockLineView) → first b < end b
 some_frame b = let some = pow_pos b.order in omega arith
 
 -- one more block: after a gap or with another node or zone
-front_new : (front : List BlockLineView) (b : BlockLineView) → ((c : BlockLineView) (f : ℕ) → first b ≤ f → is_in_same_zone_block c front f ≡ false)
+front_new : (front : List BlockLineView) (b : BlockLineView)
+    → ((c : BlockLineView) (f : ℕ) → first b ≤ f → is_in_same_zone_block c front f ≡ false)
     → ((f : ℕ) → f + 1 ≡ first b → is_in_same_zone_block b front f ≡ false) → IsFront (front ++ (b ∷ [])) b (first b)
 front_new front b none apart = record {
   some = some_frame b;
@@ -188,7 +197,8 @@ front_new front b none apart = record {
   before = λ f is. front_only b front (b ∷ []) f (one_under b b f (omega arith)) ∙ apart f is;
 }
 
-front_more : (front : List BlockLineView) (last b : BlockLineView) (from : ℕ) → IsFront front last from → end last ≡ first b → are_of_one_zone last b ≡ true
+front_more : (front : List BlockLineView) (last b : BlockLineView) (from : ℕ) → IsFront front last from → end last ≡ first b
+    → are_of_one_zone last b ≡ true
     → IsFront (front ++ (b ∷ [])) b from
 front_more front last b from known touch kin = record {
   some = some_frame b;
@@ -209,7 +219,8 @@ front_more front last b from known touch kin = record {
 none_front : (front : List BlockLineView) (c : BlockLineView) (f : ℕ) → front ≡ [] → is_in_same_zone_block c front f ≡ false
 none_front front c f none = rw none refl
 
-front_apart : (front : List BlockLineView) (last b : BlockLineView) (from f : ℕ) → IsFront front last from → end last ≤ first b → is_next_in_run last b ≡ false
+front_apart : (front : List BlockLineView) (last b : BlockLineView) (from f : ℕ) → IsFront front last from → end last ≤ first b
+    → is_next_in_run last b ≡ false
     → f + 1 ≡ first b → is_in_same_zone_block b front f ≡ false
 front_apart front last b from f known start stops is =
     elim (cases_lt f (end last)) as (λ _. is_in_same_zone_block b front f ≡ false) [
@@ -222,7 +233,8 @@ front_apart front last b from f known start stops is =
       | inr past ↦ known.behind b f past
     ]
 
-next_front : (front : List BlockLineView) (last : Option BlockLineView) (from : ℕ) (b : BlockLineView) → Front front last from → StartsBehind last b
+next_front : (front : List BlockLineView) (last : Option BlockLineView) (from : ℕ) (b : BlockLineView) → Front front last from
+    → StartsBehind last b
     → IsFront (front ++ (b ∷ [])) b (run_start last from b)
 next_front front None from b none start = front_new front b (λ c f above. none_front front c f none) (λ f is. none_front front b f none)
 next_front front (Some last) from b known start =
@@ -242,7 +254,8 @@ parent_low b = omega arith
 parent_high : (b : BlockLineView) → first b < end_of (parent_of b)
 parent_high b = let some = pow_pos (b.order + 1) in let less = mod-lt (first b) some in omega arith
 
-module _ (b : BlockLineView) (front bs : List BlockLineView) (from : ℕ) (known : IsFront front b from) (start : StartFrom (end b) (map frames_of_block bs))
+module _ (b : BlockLineView) (front bs : List BlockLineView) (from : ℕ) (known : IsFront front b from)
+    (start : StartFrom (end b) (map frames_of_block bs))
     (order : AscendApart (map frames_of_block bs)) where
   joined : nat_le from (parent_of b).base ≡ true → is_covered_up_to b (end b) (end_of (parent_of b)) bs ≡ true
       → each_in (parent_of b) (is_in_same_zone_block b (front ++ bs)) ≡ true
@@ -267,7 +280,8 @@ module _ (b : BlockLineView) (front bs : List BlockLineView) (from : ℕ) (known
       (front_only b front bs (from - 1) (says_below (are_of_one_zone b) frames_of_block (end b) (from - 1) bs start order (omega arith))
       ∙ known.before (from - 1) (omega arith))
 
-  apart_behind : is_covered_up_to b (end b) (end_of (parent_of b)) bs ≡ false → each_in (parent_of b) (is_in_same_zone_block b (front ++ bs)) ≡ false
+  apart_behind : is_covered_up_to b (end b) (end_of (parent_of b)) bs ≡ false
+      → each_in (parent_of b) (is_in_same_zone_block b (front ++ bs)) ≡ false
   apart_behind gaps =
       let gap = fills_false b (end b) (end_of (parent_of b)) bs start order gaps in
       let above : end b ≤ gap.0 = gap.1 in
@@ -302,13 +316,16 @@ walk_finds_first_line front (b ∷ bs) last from line known start order =
     let here : could_merge (front ++ (b ∷ bs)) b ≡ could_merge_in_run (run_start last from b) b bs =
     subst (λ (ls : List BlockLineView). could_merge ls b ≡ could_merge_in_run (run_start last from b) b bs) same
     (joins_is b (front ++ (b ∷ [])) bs (run_start last from b) next order.0 order.1) in
-    let others : first_mergeable_from (Some b) (run_start last from b) (line + 1) bs ≡ first_line (could_merge (front ++ (b ∷ bs))) (line + 1) bs =
-    subst (λ (ls : List BlockLineView). first_mergeable_from (Some b) (run_start last from b) (line + 1) bs ≡ first_line (could_merge ls) (line + 1) bs) same
+    let others : first_mergeable_from (Some b) (run_start last from b) (line + 1) bs
+    ≡ first_line (could_merge (front ++ (b ∷ bs))) (line + 1) bs =
+    subst (λ (ls : List BlockLineView). first_mergeable_from (Some b) (run_start last from b) (line + 1) bs
+    ≡ first_line (could_merge ls) (line + 1) bs) same
     (walk_finds_first_line (front ++ (b ∷ [])) bs (Some b) (run_start last from b) (line + 1) next (next_starts bs order.0) order.1) in
     ap (λ (u : Bool). line_by u line (first_mergeable_from (Some b) (run_start last from b) (line + 1) bs)) (sym here)
     ∙ ap (line_by (could_merge (front ++ (b ∷ bs)) b) line) others
   where
-    next_starts : (cs : List BlockLineView) → StartFrom (end b) (map frames_of_block cs) → (c : BlockLineView) (ds : List BlockLineView) → cs ≡ c ∷ ds
+    next_starts : (cs : List BlockLineView) → StartFrom (end b) (map frames_of_block cs) → (c : BlockLineView) (ds : List BlockLineView)
+        → cs ≡ c ∷ ds
         → end b ≤ first c
     next_starts cs starts c ds is = let begun : StartFrom (end b) (map frames_of_block (c ∷ ds)) = rw is at starts in begun
 

@@ -35,4 +35,5 @@ three_file_names width other = None
 -- the command line is `[--la57] MAP OWNERS BLOCKS`: addresses have 52 bits with `--la57`, else 46
 abbrev pub read_audit_args : List (List ℕ) → Option AuditArgsView
 read_audit_args [] = None
-read_audit_args (w ∷ ws) = if bytes_eq w (codes "--la57") then three_file_names widths.Bits52 ws else three_file_names widths.Bits46 (w ∷ ws)
+read_audit_args (w ∷ ws) =
+    if bytes_eq w (codes "--la57") then three_file_names widths.Bits52 ws else three_file_names widths.Bits46 (w ∷ ws)

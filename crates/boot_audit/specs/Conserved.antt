@@ -12,7 +12,8 @@ use Rattle.boot_audit.specs.Frames.{could_merge, frames_of_block, is_aligned, is
 -- how many of the blocks have the frame
 abbrev pub count_blocks_of_frame : List BlockLineView → ℕ → ℕ
 count_blocks_of_frame [] frame = 0
-count_blocks_of_frame (b ∷ bs) frame = if covers (frames_of_block b) frame then count_blocks_of_frame bs frame + 1 else count_blocks_of_frame bs frame
+count_blocks_of_frame (b ∷ bs) frame =
+    if covers (frames_of_block b) frame then count_blocks_of_frame bs frame + 1 else count_blocks_of_frame bs frame
 
 -- the frame is touched and in no block, or untouched and in exactly one
 abbrev pub IsTouchedOrInOne : List RangeView → List BlockLineView → ℕ → Type 0

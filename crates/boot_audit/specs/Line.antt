@@ -71,4 +71,5 @@ bootaudit_name = codes "bootaudit"
 
 -- the line that says why the audit failed
 abbrev pub audit_failure_line : Option AuditArgsView → Failure AuditReason → List ℕ
-audit_failure_line accepted failure = failure_line bootaudit_name (report_file_text accepted) report_fault_line impossible_cause_text failure
+audit_failure_line accepted failure =
+    failure_line bootaudit_name (report_file_text accepted) report_fault_line impossible_cause_text failure

@@ -21,7 +21,8 @@ use Rattle.boot_audit.specs.Args.{AuditArgsView}
 
 -- the lines of a report, from the bytes of its file (`None` if there is no such file), which may
 -- be at most 512 MiB
-abbrev pub lines_in_file : {L : Type 0} → (ℕ → List ℕ → Option L) → (L → RangeView) → SavedReport → Option (List ℕ) → Result (List L) AuditReason
+abbrev pub lines_in_file : {L : Type 0} → (ℕ → List ℕ → Option L) → (L → RangeView) → SavedReport → Option (List ℕ)
+    → Result (List L) AuditReason
 lines_in_file form extent report None = Err (reasons.Unread report)
 lines_in_file form extent report (Some bytes) =
     if nat_lt 536870912 (length bytes) then Err (reasons.Faulty report faults.TooLong) else

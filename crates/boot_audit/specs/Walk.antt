@@ -34,4 +34,5 @@ could_merge_in_run from b others =
 abbrev pub first_mergeable_from : Option BlockLineView → ℕ → ℕ → List BlockLineView → Option ℕ
 first_mergeable_from last from line [] = None
 first_mergeable_from last from line (b ∷ bs) =
-    if could_merge_in_run (run_start last from b) b bs then Some line else first_mergeable_from (Some b) (run_start last from b) (line + 1) bs
+    if could_merge_in_run (run_start last from b) b bs then Some line
+    else first_mergeable_from (Some b) (run_start last from b) (line + 1) bs

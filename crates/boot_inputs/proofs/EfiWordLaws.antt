@@ -27,7 +27,8 @@ then_ok : {A B E : Type 0} (P : A → Type 0) (Q : B → Type 0) (x : Result A E
 then_ok P Q (Ok a) f first rest = rest a first
 then_ok P Q (Err error) f first rest = tt
 
-word_first : (fault : OptionFault) (said : Option WordMeaning) (b : Bool) (y : Result WordMeaning OptionFault) → IfSome said AsksNot → IfOk y AsksNot
+word_first : (fault : OptionFault) (said : Option WordMeaning) (b : Bool) (y : Result WordMeaning OptionFault) → IfSome said AsksNot
+    → IfOk y AsksNot
     → IfOk (if b then meaning_or_fault fault said else y) AsksNot
 word_first fault said b y first rest = grind arith
 
@@ -76,10 +77,13 @@ complete_not : (chosen : OptionsView) (exact : Option (ℕ × ℕ)) → chosen.a
     → IfOk (check_user_map chosen exact) (λ c. c.add_efi ≡ false)
 complete_not chosen exact not = grind arith
 
-user_map_not : (said : List (ℕ × WordMeaning)) → is_efi_added said ≡ false → IfOk (options_with_user_map said) (λ chosen. chosen.add_efi ≡ false)
+user_map_not : (said : List (ℕ × WordMeaning)) → is_efi_added said ≡ false
+    → IfOk (options_with_user_map said) (λ chosen. chosen.add_efi ≡ false)
 user_map_not said not = complete_not (options_of_words said) (last_exact (all_map_options said)) not
 
 pub options_not : (bytes : List ℕ) → asks_for_efi bytes ≡ false → IfOk (options_of bytes) (λ chosen. chosen.add_efi ≡ false)
 options_not bytes none =
-    then_ok _ _ (command_line_of bytes) (λ line. word_meanings_from 1 (option_words line) >>= options_with_user_map) (line_is (raw_line bytes))
-    (λ line is. then_ok _ _ (word_meanings_from 1 (option_words line)) options_with_user_map (words_not 1 (option_words line) (rw is none)) user_map_not)
+    then_ok _ _ (command_line_of bytes) (λ line. word_meanings_from 1 (option_words line)
+    >>= options_with_user_map) (line_is (raw_line bytes))
+    (λ line is. then_ok _ _ (word_meanings_from 1 (option_words line)) options_with_user_map
+    (words_not 1 (option_words line) (rw is none)) user_map_not)

@@ -18,26 +18,31 @@ use Rattle.program_end.specs.Program.{FileContents}
 use Rattle.boot_inputs.specs.Reading.{AreRead, are_read_later, are_in_reading_order}
 
 -- if the work comes to `other`, it came to each input at or before its place
-faulty_comes : (input other : Input) (x : Result InputsView Fault) → input_place input ≤ input_place other → ReachesFile input_place input (answer_or_faulty_file other x)
+faulty_comes : (input other : Input) (x : Result InputsView Fault) → input_place input ≤ input_place other
+    → ReachesFile input_place input (answer_or_faulty_file other x)
 faulty_comes input other (Ok given) below = tt
 faulty_comes input other (Err fault) below = below
 
 read_comes : (input : Input) (file : File) (given : InputsView) (held : Option (List ℕ)) → input_place input ≤ input_place file.input
-    → ReachesFile input_place input (step_or_unread_file file.input held (λ bytes. answer_or_faulty_file file.input (within_limit file.limit bytes >>= λ read. file.says read given)))
+    → ReachesFile input_place input (step_or_unread_file file.input held (λ bytes.
+    answer_or_faulty_file file.input (within_limit file.limit bytes >>= λ read. file.says read given)))
 read_comes input file given None below = below
 read_comes input file given (Some bytes) below = faulty_comes input file.input _ below
 
-step_comes : (input : Input) (held : FileContents) (file : File) (given : InputsView) (name : Option (List ℕ)) → input_place input ≤ input_place file.input
+step_comes : (input : Input) (held : FileContents) (file : File) (given : InputsView) (name : Option (List ℕ))
+    → input_place input ≤ input_place file.input
     → ReachesFile input_place input (inputs_after_optional_file held file given name)
 step_comes input held file given None below = tt
 step_comes input held file given (Some name) below = read_comes input file given (held name) below
 
-then_comes : (input : Input) (x : Result InputsView InputsReason) (f : InputsView → Result InputsView InputsReason) → ReachesFile input_place input x
+then_comes : (input : Input) (x : Result InputsView InputsReason) (f : InputsView → Result InputsView InputsReason)
+    → ReachesFile input_place input x
     → ((a : InputsView) → ReachesFile input_place input (f a)) → ReachesFile input_place input (x >>= f)
 then_comes input x f first rest = grind (arith, rest)
 
 -- all work after a file came to that file
-later_comes : (input : Input) (held : FileContents) (named : FileNames) (files : List File) → IsTrue (are_read_later input files) → (given : InputsView)
+later_comes : (input : Input) (held : FileContents) (named : FileNames) (files : List File) → IsTrue (are_read_later input files)
+    → (given : InputsView)
     → ReachesFile input_place input (inputs_after_files held named files given)
 later_comes input held named [] behind given = tt
 later_comes input held named (file ∷ files) behind given =
@@ -48,14 +53,16 @@ later_comes input held named (file ∷ files) behind given =
 
 -- an error that fits the step for the first file fits the whole list
 first_fits : (error : NoInputs) (input : Input) (x : Result InputsView InputsReason) (f : InputsView → Result InputsView InputsReason)
-    → IsErrorOfInput input error → FitsError input_place error x → ((a : InputsView) → ReachesFile input_place input (f a)) → FitsError input_place error (x >>= f)
+    → IsErrorOfInput input error → FitsError input_place error x → ((a : InputsView) → ReachesFile input_place input (f a))
+    → FitsError input_place error (x >>= f)
 first_fits error input x f own fits rest = grind (arith, rest)
 
 -- what holds of the object's files if it says what it holds
 if_some : (o : Option FileContents) (P Q : FileContents → Type 0) → ((held : FileContents) → P held → Q held) → IfSome o P → IfSome o Q
 if_some o P Q then is = grind (arith, then)
 
-if_both : (o : Option FileContents) (P Q R : FileContents → Type 0) → ((held : FileContents) → P held → Q held → R held) → IfSome o P → IfSome o Q → IfSome o R
+if_both : (o : Option FileContents) (P Q R : FileContents → Type 0) → ((held : FileContents) → P held → Q held → R held) → IfSome o P
+    → IfSome o Q → IfSome o R
 if_both o P Q R then first second = grind (arith, then)
 
 -- the error that a `?` returns is that of the result
@@ -85,7 +92,8 @@ module _ {F : Type 0} (kind : FilesOf F) (names : FileNames) (file : File) (file
       let parts = and_parts (are_read_later file.input files) (are_in_reading_order files) ascends in
       record {
         fetches = if_some (kind.holds old) _ _
-            (λ held fits. first_fits error file.input (inputs_after_file held names file before) (inputs_after_files held names files) added.own fits
+            (λ held fits.
+            first_fits error file.input (inputs_after_file held names file before) (inputs_after_files held names files) added.own fits
             (later_comes file.input held names files parts.0)) added.fetches;
         cause = added.cause;
         unnamed = λ none. added.unnamed (none file.input);

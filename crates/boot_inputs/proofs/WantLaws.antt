@@ -46,6 +46,7 @@ given_other held named (file ∷ files) say given =
     (step_other held file given (named file.input) (All-head FaultsAreOfBytes file files say))
     (given_other held named files (All-tail FaultsAreOfBytes file files say))
 
-pub refused_other : All FaultsAreOfBytes input_files → (held : FileContents) (named : FileNames) (begun : InputsView) (input : Input) (fault : Fault)
+pub refused_other : All FaultsAreOfBytes input_files
+    → (held : FileContents) (named : FileNames) (begun : InputsView) (input : Input) (fault : Fault)
     → inputs_of held named begun ≡ Err (reasons.Faulty input fault) → IsOfBytes fault
 refused_other say held named begun input fault is = rw is at (given_other held named input_files say begun)

@@ -42,17 +42,20 @@ record Says (file : File) (bytes : Option (List ℕ)) (before after : InputsView
   pub says : file.says read before ≡ Ok after
 
 read_says : (file : File) (before after : InputsView) (bytes : List ℕ)
-    → answer_or_faulty_file file.input (within_limit file.limit bytes >>= λ read. file.says read before) ≡ Ok after → file.says bytes before ≡ Ok after
+    → answer_or_faulty_file file.input (within_limit file.limit bytes >>= λ read. file.says read before) ≡ Ok after
+    → file.says bytes before ≡ Ok after
 read_says file before after bytes is = grind arith
 
 held_says : (file : File) (before after : InputsView) (bytes : Option (List ℕ))
-    → step_or_unread_file file.input bytes (λ read. answer_or_faulty_file file.input (within_limit file.limit read >>= λ r. file.says r before)) ≡ Ok after
+    → step_or_unread_file file.input bytes (λ read.
+    answer_or_faulty_file file.input (within_limit file.limit read >>= λ r. file.says r before)) ≡ Ok after
     → Says file bytes before after
 held_says file before after None is = absurd (cc is)
 held_says file before after (Some bytes) is = record { read = bytes; held = refl; says = read_says file before after bytes is }
 
 -- the step for a file changes nothing, or does what the file says
-step_says : (held : FileContents) (file : File) (before after : InputsView) (name : Option (List ℕ)) → inputs_after_optional_file held file before name ≡ Ok after
+step_says : (held : FileContents) (file : File) (before after : InputsView) (name : Option (List ℕ))
+    → inputs_after_optional_file held file before name ≡ Ok after
     → (before ≡ after) ⊎ Says file (option_and_then held name) before after
 step_says held file before after None is = inl (cc is)
 step_says held file before after (Some name) is = inr (held_says file before after (held name) is)
@@ -66,18 +69,21 @@ AllKeep part [] = Unit {0}
 AllKeep part (file ∷ files) = Keeps part file × AllKeep part files
 
 value_keeps : {A B : Type 0} (part : InputsView → B) (put : A → InputsView → InputsView) (said : Result A Fault) (before after : InputsView)
-    → ((value : A) (given : InputsView) → part (put value given) ≡ part given) → with_value put before said ≡ Ok after → part after ≡ part before
+    → ((value : A) (given : InputsView) → part (put value given) ≡ part given) → with_value put before said ≡ Ok after
+    → part after ≡ part before
 value_keeps part put (Ok value) before after puts is = let same : put value before ≡ after = cc in ap part (sym same) ∙ puts value before
 value_keeps part put (Err fault) before after puts is = absurd (cc is)
 
-step_keeps : {A : Type 0} (part : InputsView → A) (held : FileContents) (named : FileNames) (file : File) (before after : InputsView) → Keeps part file
+step_keeps : {A : Type 0} (part : InputsView → A) (held : FileContents) (named : FileNames) (file : File) (before after : InputsView)
+    → Keeps part file
     → inputs_after_file held named file before ≡ Ok after → part after ≡ part before
 step_keeps part held named file before after keeps is = elim (step_says held file before after (named file.input) is) [
   | inl same ↦ ap part (sym same)
   | inr said ↦ keeps said.read before after said.says
 ]
 
-files_keep : {A : Type 0} (part : InputsView → A) (held : FileContents) (named : FileNames) (files : List File) (before after : InputsView) → AllKeep part files
+files_keep : {A : Type 0} (part : InputsView → A) (held : FileContents) (named : FileNames) (files : List File) (before after : InputsView)
+    → AllKeep part files
     → inputs_after_files held named files before ≡ Ok after → part after ≡ part before
 files_keep part held named [] before after keep is = let same : before ≡ after = cc in ap part (sym same)
 files_keep part held named (file ∷ files) before after keep is =
@@ -90,20 +96,24 @@ then_append (Ok a) f g both are = are a
 then_append (Err error) f g both are = refl
 
 inputs_after_files-append : (held : FileContents) (named : FileNames) (files others : List File) (begun : InputsView)
-    → inputs_after_files held named (files ++ others) begun ≡ (inputs_after_files held named files begun >>= inputs_after_files held named others)
+    → inputs_after_files held named (files ++ others) begun
+    ≡ (inputs_after_files held named files begun >>= inputs_after_files held named others)
 inputs_after_files-append held named [] others begun = refl
 inputs_after_files-append held named (file ∷ files) others begun =
     then_append (inputs_after_file held named file begun) (inputs_after_files held named files) (inputs_after_files held named others)
     (inputs_after_files held named (files ++ others)) (inputs_after_files-append held named files others)
 
 -- some files are read, and then the others
-split : (held : FileContents) (named : FileNames) (files others : List File) (begun given : InputsView) → inputs_after_files held named (files ++ others) begun ≡ Ok given
+split : (held : FileContents) (named : FileNames) (files others : List File) (begun given : InputsView)
+    → inputs_after_files held named (files ++ others) begun ≡ Ok given
     → GoesBy (inputs_after_files held named files begun) (inputs_after_files held named others) given
 split held named files others begun given is =
-    goes_by (inputs_after_files held named files begun) (inputs_after_files held named others) given (sym (inputs_after_files-append held named files others begun) ∙ is)
+    goes_by (inputs_after_files held named files begun) (inputs_after_files held named others) given
+    (sym (inputs_after_files-append held named files others begun) ∙ is)
 
 -- one file
-last_step : (held : FileContents) (named : FileNames) (file : File) (before after : InputsView) → inputs_after_files held named (file ∷ []) before ≡ Ok after
+last_step : (held : FileContents) (named : FileNames) (file : File) (before after : InputsView)
+    → inputs_after_files held named (file ∷ []) before ≡ Ok after
     → inputs_after_file held named file before ≡ Ok after
 last_step held named file before after is =
     let by = goes_by (inputs_after_file held named file before) (inputs_after_files held named []) after is in
@@ -117,7 +127,8 @@ line_not before after (Ok chosen) not is =
     let same : set_command_line chosen before ≡ after = cc in ap (λ (g : InputsView). g.options.add_efi) (sym same) ∙ not
 line_not before after (Err fault) not is = absurd (cc is)
 
-options_lack : (held : FileContents) (named : FileNames) (before after : InputsView) → LacksEfiWord held named → before.options.add_efi ≡ false
+options_lack : (held : FileContents) (named : FileNames) (before after : InputsView) → LacksEfiWord held named
+    → before.options.add_efi ≡ false
     → inputs_after_file held named command_line before ≡ Ok after → after.options.add_efi ≡ false
 options_lack held named before after lacks none is = elim (step_says held command_line before after (named inputs.CommandLine) is) [
   | inl same ↦ ap (λ (g : InputsView). g.options.add_efi) (sym same) ∙ none
@@ -126,13 +137,15 @@ options_lack held named before after lacks none is = elim (step_says held comman
 
 -- a map without descriptors has no entries
 entries-of : (headless broken : Bool) (ds : List Descriptor) (far : Option ℕ) → IfOk
-    (if headless then Err efi.Header else (if broken then Err efi.Length else efi_unless_far ds far)) (λ m. m.entries ≡ map entry_of_descriptor ds)
+    (if headless then Err efi.Header else (if broken then Err efi.Length else efi_unless_far ds far)) (λ m.
+    m.entries ≡ map entry_of_descriptor ds)
 entries-of true broken ds far = tt
 entries-of false true ds far = tt
 entries-of false false ds None = refl
 entries-of false false ds (Some index) = tt
 
-map_empty : (before after : InputsView) (ds : List Descriptor) (said : Result EfiContent EfiFault) → IfOk said (λ m. m.entries ≡ map entry_of_descriptor ds)
+map_empty : (before after : InputsView) (ds : List Descriptor) (said : Result EfiContent EfiFault)
+    → IfOk said (λ m. m.entries ≡ map entry_of_descriptor ds)
     → ds ≡ [] → with_value put_efi before (with_error faults.Efi said) ≡ Ok after → efi_entries after.efi ≡ []
 map_empty before after ds (Ok m) are none is =
     let same : put_efi m before ≡ after = cc in
@@ -146,7 +159,8 @@ entries_lack held named before after lacks none is = elim (step_says held efi_fi
   | inr said ↦
       let bytes : List ℕ = said.read in
       map_empty before after (descriptors_of bytes) (efi_of bytes)
-      (entries-of (not (has_efi_header bytes)) (not (has_efi_length bytes)) (descriptors_of bytes) (far_descriptor_from 0 (descriptors_of bytes)))
+      (entries-of (not (has_efi_header bytes)) (not (has_efi_length bytes)) (descriptors_of bytes)
+      (far_descriptor_from 0 (descriptors_of bytes)))
       (rw said.held at lacks) said.says
 ]
 
@@ -167,7 +181,8 @@ start_keeps part page extension = (
 
 rest_keeps : {A : Type 0} (part : InputsView → A) → ((t : SratView) (g : InputsView) → part (set_srat t g) ≡ part g)
     → ((ls : List Line) (g : InputsView) → part (set_early_script ls g) ≡ part g)
-    → ((ls : List PageLine) (g : InputsView) → part (set_page_script ls g) ≡ part g) → ((m : SlitView) (g : InputsView) → part (set_slit m g) ≡ part g)
+    → ((ls : List PageLine) (g : InputsView) → part (set_page_script ls g) ≡ part g)
+    → ((m : SlitView) (g : InputsView) → part (set_slit m g) ≡ part g)
     → AllKeep part behind_line
 rest_keeps part domains lines pages distances = (
   (λ bytes before after. value_keeps part set_srat (srat_or_fault bytes) before after domains),
@@ -189,7 +204,8 @@ record AreRead (held : FileContents) (named : FileNames) (begun given : InputsVi
   no_map : before.efi ≡ None
   lacks : LacksEfiWord held named → before.options.add_efi ≡ false
 
-are_read : (held : FileContents) (named : FileNames) (begun given : InputsView) → IsBeforeFiles begun → inputs_of held named begun ≡ Ok given
+are_read : (held : FileContents) (named : FileNames) (begun given : InputsView) → IsBeforeFiles begun
+    → inputs_of held named begun ≡ Ok given
     → AreRead held named begun given
 are_read held named begun given start is =
     let by = split held named (until_line ++ (command_line ∷ behind_line)) (efi_file ∷ []) begun given is in
@@ -200,15 +216,18 @@ are_read held named begun given start is =
     let early = files_keep part held named until_line begun at_line.middle
     (start_keeps part (λ page g. refl) (λ es g. refl)) at_line.first in
     let asked = step_keeps (λ (g : InputsView). g.efi) held named command_line at_line.middle over_line.middle
-    (λ bytes before after. value_keeps (λ (g : InputsView). g.efi) set_command_line (options_or_fault bytes) before after (λ chosen g. refl)) line in
+    (λ bytes before after.
+    value_keeps (λ (g : InputsView). g.efi) set_command_line (options_or_fault bytes) before after (λ chosen g. refl)) line in
     let late = files_keep part held named behind_line over_line.middle by.middle
     (rest_keeps part (λ t g. refl) (λ ls g. refl) (λ ls g. refl) (λ m g. refl)) over_line.rest in
     record {
       before = by.middle;
       first = by.first;
       step = last_step held named efi_file by.middle given by.rest;
-      no_map = ap (λ (p : OptionsView × Option EfiMapView). p.1) late ∙ asked ∙ ap (λ (p : OptionsView × Option EfiMapView). p.1) early ∙ start.efi;
-      lacks = λ lacks. ap (λ (p : OptionsView × Option EfiMapView). p.0.add_efi) late ∙ options_lack held named at_line.middle over_line.middle
+      no_map = ap (λ (p : OptionsView × Option EfiMapView). p.1) late ∙ asked ∙ ap (λ (p : OptionsView × Option EfiMapView). p.1) early
+          ∙ start.efi;
+      lacks = λ lacks. ap (λ (p : OptionsView × Option EfiMapView). p.0.add_efi) late
+          ∙ options_lack held named at_line.middle over_line.middle
           lacks (ap (λ (p : OptionsView × Option EfiMapView). p.0.add_efi) early ∙ ap (λ (c : OptionsView). c.add_efi) start.options) line;
     }
 
@@ -237,7 +256,8 @@ same_map held named begun given read none =
       judged = rw (none, none_added given.options.add_efi) refl;
     }
 
-pub unasked : (held : FileContents) (named : FileNames) (begun given : InputsView) → IsBeforeFiles begun → inputs_of held named begun ≡ Ok given
+pub unasked : (held : FileContents) (named : FileNames) (begun given : InputsView) → IsBeforeFiles begun
+    → inputs_of held named begun ≡ Ok given
     → LacksEfiWord held named → HasMapWithoutEfi held named begun given
 unasked held named begun given start is lacks =
     let read = are_read held named begun given start is in
@@ -246,7 +266,8 @@ unasked held named begun given start is lacks =
     let not : given.options.add_efi ≡ false = ap (λ (c : OptionsView). c.add_efi) asked ∙ read.lacks lacks in
     same_map held named begun given read (rw not refl)
 
-pub empty : (held : FileContents) (named : FileNames) (begun given : InputsView) → IsBeforeFiles begun → inputs_of held named begun ≡ Ok given
+pub empty : (held : FileContents) (named : FileNames) (begun given : InputsView) → IsBeforeFiles begun
+    → inputs_of held named begun ≡ Ok given
     → LacksDescriptors held named → HasMapWithoutEfi held named begun given
 empty held named begun given start is lacks =
     let read = are_read held named begun given start is in

@@ -38,7 +38,8 @@ step_or_unread_file input (Some bytes) step = step bytes
 -- the inputs after the file of that name, from the inputs before it
 abbrev pub inputs_after_named_file : FileContents → File → InputsView → List ℕ → Result InputsView InputsReason
 inputs_after_named_file held file given name =
-    step_or_unread_file file.input (held name) (λ bytes. answer_or_faulty_file file.input (within_limit file.limit bytes >>= λ read. file.says read given))
+    step_or_unread_file file.input (held name) (λ bytes.
+    answer_or_faulty_file file.input (within_limit file.limit bytes >>= λ read. file.says read given))
 
 -- the inputs after a file that may have a name; without a name they don't change
 abbrev pub inputs_after_optional_file : FileContents → File → InputsView → Option (List ℕ) → Result InputsView InputsReason

@@ -39,12 +39,14 @@ label_after-step (item.Node range node) t y h = rw (covers-step range y h) refl
 label_after-step (item.Mirror range) t y h = rw (covers-step range y h) refl
 label_after-step i t y h = refl
 
-label_after_items-step : (items : List Item) (t : Option LabelView) (y : ℕ) → edge_in items (y + 1) ≡ false → label_after_items t items (y + 1)
+label_after_items-step : (items : List Item) (t : Option LabelView) (y : ℕ) → edge_in items (y + 1) ≡ false
+    → label_after_items t items (y + 1)
     ≡ label_after_items t items y
 label_after_items-step [] t y h = refl
 label_after_items-step (i ∷ is) t y h =
     let both = or_parts (edge_at i (y + 1)) (edge_in is (y + 1)) h in
-    ap (λ (u : Option LabelView). label_after_items u is (y + 1)) (label_after-step i t y both.0) ∙ label_after_items-step is (label_after y t i) y both.1
+    ap (λ (u : Option LabelView). label_after_items u is (y + 1)) (label_after-step i t y both.0)
+    ∙ label_after_items-step is (label_after y t i) y both.1
 
 -- if both ends of a range agree with the frame's first byte, so does each of them
 range_agrees-at : (whole : Option LabelView) (items : List Item) (first : ℕ) (r : RangeView) (e : ℕ) → EdgeAgrees whole items first r.base
@@ -56,7 +58,8 @@ range_agrees-at whole items first r e base_agrees end_agrees h =
       | inr at_end ↦ let is : end_of r ≡ e = grind (arith, nat_tests) in rw is at end_agrees
     ]
 
-edges_agree-at : (whole : Option LabelView) (items : List Item) (first : ℕ) (i : Item) (e : ℕ) → ItemAgrees whole items first i → edge_at i e
+edges_agree-at : (whole : Option LabelView) (items : List Item) (first : ℕ) (i : Item) (e : ℕ) → ItemAgrees whole items first i
+    → edge_at i e
     ≡ true → EdgeAgrees whole items first e
 edges_agree-at whole items first (item.Mem range) e agree h = range_agrees-at whole items first range e agree.0 agree.1 h
 edges_agree-at whole items first (item.Node range node) e agree h = range_agrees-at whole items first range e agree.0 agree.1 h
@@ -80,13 +83,15 @@ frame-agrees whole items first agree zero y is lt = let same : y ≡ first = ome
 frame-agrees whole items first agree (suc k) y is lt =
     let z : ℕ = first + k in
     let next : y ≡ z + 1 = omega arith in
-    rw next (elim (cases_Bool (edge_in items (z + 1))) as (λ _. label_after_items whole items (z + 1) ≡ label_after_items whole items first) [
+    rw next (elim (cases_Bool (edge_in items (z + 1))) as (λ _.
+    label_after_items whole items (z + 1) ≡ label_after_items whole items first) [
       | inl edge ↦ all_agree-at whole items first items (z + 1) agree edge (omega arith) (omega arith)
       | inr quiet ↦ label_after_items-step items whole z quiet ∙ frame-agrees whole items first agree k z refl (omega arith)
     ])
 
 -- a trim keeps a frame whose ends agree
-pub kept-whole : (whole : Option LabelView) (items : List Item) (x : ℕ) → ItemsAgree whole items (x - x % 4096) items → label_after_trim whole items x
+pub kept-whole : (whole : Option LabelView) (items : List Item) (x : ℕ) → ItemsAgree whole items (x - x % 4096) items
+    → label_after_trim whole items x
     ≡ label_after_items whole items (x - x % 4096)
 unfolding label_after_trim
 kept-whole whole items x agree =
@@ -97,7 +102,8 @@ kept-whole whole items x agree =
     trim_frames-whole (label_after_items whole items) x (λ y in_frame. one y in_frame ∙ sym here) ∙ here
 
 -- a trim removes a frame with an end that differs
-pub kept-parts : (whole : Option LabelView) (items : List Item) (x e : ℕ) → EdgeDiffers whole items (x - x % 4096) e → label_after_trim whole items x
+pub kept-parts : (whole : Option LabelView) (items : List Item) (x e : ℕ) → EdgeDiffers whole items (x - x % 4096) e
+    → label_after_trim whole items x
     ≡ None
 unfolding label_after_trim
 kept-parts whole items x e differs =

@@ -75,8 +75,10 @@ later_keep given =
     let map : BootSoFar → List (RunOf ℕ) = λ made. made.map in
     let memory : Keeps map (memory_stage given) = λ before after ends. steps_keep map cause_of_growth (λ done next. next)
     (items_with_growths (first_items (early_inputs given) before.map)) (λ a m. refl) (λ last. refl) before after ends in
-    let nodes = steps_keep map cause_of_stage result_with_nodes (assign_nodes given.domains given.options.numa_off) (λ a m. refl) (λ before. refl) in
-    let crash = steps_keep map cause_of_growth made_with_crash_area (reserve_crash_area given.options.crash) (λ a m. refl) (λ before. refl) in
+    let nodes = steps_keep map cause_of_stage result_with_nodes (assign_nodes given.domains given.options.numa_off) (λ a m. refl) (λ before.
+    refl) in
+    let crash = steps_keep map cause_of_growth made_with_crash_area (reserve_crash_area given.options.crash) (λ a m. refl) (λ before.
+    refl) in
     let sections = steps_keep map cause_of_stage made_with_sections (place_present_sections given.width) (λ a m. refl) (λ before. refl) in
     let before = lines_map given.kernel (before_sections given.lines) in
     let behind = lines_map given.kernel (lines_after_sections given.lines) in

@@ -19,7 +19,8 @@ abbrev items_by : List Item → StepEffect RefusedGrowth (Unit {0}) → Result (
 items_by items d = d.answer >>= λ done. Ok (items_after_step items d)
 
 step_said : (steps : List (List Item)) (refused : Option RefusedGrowth) (is items : List Item)
-    → carry_out_items is (append_groups items steps) ≡ items_by (append_groups items steps) (items_with_growths is (append_groups items steps))
+    → carry_out_items is (append_groups items steps)
+    ≡ items_by (append_groups items steps) (items_with_growths is (append_groups items steps))
     → (unless_refused refused (items ++ items_of_steps steps) >>= λ next. carry_out_items is next)
     ≡ items_by items (continue_if_ok steps (fail_if_refused refused) (λ done. items_with_growths is (append_groups items steps)))
 step_said steps None is items rest =
@@ -39,16 +40,20 @@ carried_said (i ∷ is) items =
 pub memory_carried : (given : InputsView) (made next : BootSoFar) → memory_stage given made ≡ Ok next
     → carry_out_items (first_items (early_inputs given) made.map) made.items ≡ Ok next.items
 memory_carried given made next ends =
-    let told = steps_answered cause_of_growth (λ done last. last) (items_with_growths (first_items (early_inputs given) made.map)) made next ends in
-    carried_said (first_items (early_inputs given) made.map) made.items ∙ rw told.answer (ap (λ (m : BootSoFar). Ok m.items) (sym told.same))
+    let told = steps_answered cause_of_growth (λ done last.
+    last) (items_with_growths (first_items (early_inputs given) made.map)) made next ends in
+    carried_said (first_items (early_inputs given) made.map) made.items
+    ∙ rw told.answer (ap (λ (m : BootSoFar). Ok m.items) (sym told.same))
 
-items_are : (items last : List Item) (d : StepEffect RefusedGrowth (Unit {0})) (answer : Result (Unit {0}) RefusedGrowth) → d.answer ≡ answer
+items_are : (items last : List Item) (d : StepEffect RefusedGrowth (Unit {0})) (answer : Result (Unit {0}) RefusedGrowth)
+    → d.answer ≡ answer
     → items_by items d ≡ Ok last → (d.answer ≡ Ok tt) × (items_after_step items d ≡ last)
 items_are items last d (Ok done) is ends = let told = rw is at ends in (is, cc told)
 items_are items last d (Err refused) is ends = let told = rw is at ends in absurd (cc told)
 
 pub memory_made_by : (given : InputsView) (made : BootSoFar) (items : List Item)
-    → carry_out_items (first_items (early_inputs given) made.map) made.items ≡ Ok items → memory_stage given made ≡ Ok (record made { items = items })
+    → carry_out_items (first_items (early_inputs given) made.map) made.items ≡ Ok items
+    → memory_stage given made ≡ Ok (record made { items = items })
 memory_made_by given made items ends =
     let wanted : List Item = first_items (early_inputs given) made.map in
     let told = items_are made.items items (items_with_growths wanted made.items) _ refl (sym (carried_said wanted made.items) ∙ ends) in

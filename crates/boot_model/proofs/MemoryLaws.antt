@@ -57,12 +57,14 @@ bound_by made = limit_of made.items
 
 -- each line of the script leaves memory as it is
 lines_keep : {X : Type 0} (f : List Item → X)
-    → ((items : List Item) (o : ChangeEffect) → StepsKeepMemory o.steps → f (items_after_change items o) ≡ f items) → (s : ScriptSoFar) (lines : List Line)
+    → ((items : List Item) (o : ChangeEffect) → StepsKeepMemory o.steps → f (items_after_change items o) ≡ f items)
+    → (s : ScriptSoFar) (lines : List Line)
     → f (script_after_lines s lines).state.items ≡ f s.state.items
 lines_keep f keeps s [] = refl
 lines_keep f keeps s (line ∷ lines) =
     lines_keep f keeps (script_after_line s line) lines
-    ∙ acts-keep f keeps (Ok (script_outcome_at_line s.state (line_effect s line))) s.state (state_after_line s.state (line_effect s line)) (line_effect s line)
+    ∙ acts-keep f keeps (Ok (script_outcome_at_line s.state (line_effect s line))) s.state (state_after_line s.state (line_effect s line))
+    (line_effect s line)
     (act_effect-quiet s.state (byte_from_history s.state.kernel s.state.items s.fills) line.act) (refl, refl)
 
 -- lines of the script leave the labels as they are

@@ -50,15 +50,18 @@ descriptors-whole : (ds : List Descriptor) → All IsMirror (mirrors_of_descript
 unfolding mirrors_of_descriptors
 descriptors-whole [] = All-nil IsMirror
 descriptors-whole (d ∷ ds) =
-    in_front (mirror_of_descriptor d) (mirrors_of_descriptors ds) (λ m is. mirror_whole (has_attribute 0x10000 d) (bytes_of_descriptor d) m is)
+    in_front (mirror_of_descriptor d) (mirrors_of_descriptors ds) (λ m is.
+    mirror_whole (has_attribute 0x10000 d) (bytes_of_descriptor d) m is)
     (descriptors-whole ds)
 
 unless_whole : (ds : List Descriptor) (far : Option ℕ) (efi : EfiContent) → efi_unless_far ds far ≡ Ok efi → All IsMirror efi.mirrors
 unless_whole ds (Some index) efi is = absurd (cc is)
 unless_whole ds None efi is =
-    let same : efi ≡ record { entries = map entry_of_descriptor ds; mirrors = mirrors_of_descriptors ds } = cc is in rw same (descriptors-whole ds)
+    let same : efi ≡ record { entries = map entry_of_descriptor ds; mirrors = mirrors_of_descriptors ds } =
+    cc is in rw same (descriptors-whole ds)
 
-given_whole : (header fits : Bool) (bytes : List ℕ) (efi : EfiContent) → (if header then Err faults.Header else (if fits then Err faults.Length
+given_whole : (header fits : Bool) (bytes : List ℕ) (efi : EfiContent)
+    → (if header then Err faults.Header else (if fits then Err faults.Length
     else efi_unless_far (descriptors_of bytes) (far_descriptor_from 0 (descriptors_of bytes)))) ≡ Ok efi → All IsMirror efi.mirrors
 given_whole false false bytes efi is = unless_whole (descriptors_of bytes) (far_descriptor_from 0 (descriptors_of bytes)) efi is
 given_whole header fits bytes efi is = absurd (cc is)

@@ -89,7 +89,8 @@ first_known given made items ends carried =
     }
 
 -- memory after its nodes
-pub nodes_known : (given : InputsView) (before last : BootSoFar) → IsFirstMemory (reach given) before.items → nodes_stage given before ≡ Ok last
+pub nodes_known : (given : InputsView) (before last : BootSoFar) → IsFirstMemory (reach given) before.items
+    → nodes_stage given before ≡ Ok last
     → HasNodes (reach given) (labels_by last)
 nodes_known given before last first ends =
     let told = steps_answered cause_of_stage result_with_nodes (assign_nodes given.domains given.options.numa_off) before last ends in

@@ -61,7 +61,8 @@ answer_errs P cause put next (Err e) errs = errs e
 steps_errs : {E A : Type 0} (frames : ℕ) (cause : E → Cause) (put : A → BootSoFar → BootSoFar) (doing : StageStep E A)
     → ((e : E) → IsTold frames (cause e)) → (made : BootSoFar) → IfErr (stage_of_steps cause put doing made) (IsTold frames)
 steps_errs frames cause put doing told made =
-    answer_errs (IsTold frames) cause put (record made { items = items_after_step made.items (doing made.items) }) (doing made.items).answer told
+    answer_errs (IsTold frames) cause put (record made { items = items_after_step made.items (doing made.items) })
+    (doing made.items).answer told
 
 growth_told : (frames : ℕ) (refused : RefusedGrowth) → IsTold frames (cause_of_growth refused)
 growth_told frames refused = λ same. absurd (cc same)
@@ -84,7 +85,8 @@ later_errs given =
     let frames : ℕ = usable_frames (types_in_reach given) in
     let memory = λ (made : BootSoFar). steps_errs frames cause_of_growth (λ done next. next)
     (items_with_growths (first_items (early_inputs given) made.map)) (growth_told frames) made in
-    let nodes = steps_errs frames cause_of_stage result_with_nodes (assign_nodes given.domains given.options.numa_off) (stage_told frames) in
+    let nodes = steps_errs frames cause_of_stage result_with_nodes (assign_nodes given.domains given.options.numa_off)
+    (stage_told frames) in
     let crash = steps_errs frames cause_of_growth made_with_crash_area (reserve_crash_area given.options.crash) (growth_told frames) in
     let sections = steps_errs frames cause_of_stage made_with_sections (place_present_sections given.width) (stage_told frames) in
     (memory, (nodes, (crash, ((λ made. tt), (sections, ((λ made. tt), tt))))))

@@ -50,7 +50,8 @@ pub steps_keep : {E A B : Type 0} (part : BootSoFar → B) (cause : E → Cause)
     → ((before : BootSoFar) → part (record before { items = items_after_step before.items (doing before.items) }) ≡ part before)
     → Keeps part (stage_of_steps cause put doing)
 steps_keep part cause put doing puts items before last ends =
-    answer_keeps part cause put (record before { items = items_after_step before.items (doing before.items) }) last (doing before.items).answer puts
+    answer_keeps part cause put (record before { items = items_after_step before.items (doing before.items) }) last
+    (doing before.items).answer puts
     ends
     ∙ items before
 
@@ -68,6 +69,7 @@ answered cause put next last (Err error) ends = absurd (cc)
 pub steps_answered : {E A : Type 0} (cause : E → Cause) (put : A → BootSoFar → BootSoFar) (doing : StageStep E A) (before last : BootSoFar)
     → stage_of_steps cause put doing before ≡ Ok last → Answered put doing before last
 steps_answered cause put doing before last ends =
-    let told = answered cause put (record before { items = items_after_step before.items (doing before.items) }) last (doing before.items).answer
+    let told = answered cause put (record before { items = items_after_step before.items (doing before.items) }) last
+    (doing before.items).answer
     ends in
     record { value = told.0; answer = told.1; same = told.2 }

@@ -303,7 +303,8 @@ stage_of_steps cause put doing made = finish_steps cause put made (doing made.it
 -- the first claims are made, the map becomes memory in whole frames, and the first MiB is claimed
 -- (`early_reserve_memory`, `e820__memblock_setup`, `reserve_real_mode`)
 abbrev pub memory_stage : InputsView → Stage
-memory_stage given made = stage_of_steps cause_of_growth (λ done next. next) (items_with_growths (first_items (early_inputs given) made.map)) made
+memory_stage given made =
+    stage_of_steps cause_of_growth (λ done next. next) (items_with_growths (first_items (early_inputs given) made.map)) made
 
 -- what the boot made, with these nodes
 abbrev pub result_with_nodes : NodesView → BootSoFar → BootSoFar
@@ -333,7 +334,8 @@ sections_stage given = stage_of_steps cause_of_stage made_with_sections (place_p
 -- among them
 abbrev pub later_stages : InputsView → List Stage
 later_stages given =
-    memory_stage given ∷ nodes_stage given ∷ crash_area_stage given ∷ script_stage given.kernel (before_sections given.lines) ∷ sections_stage given
+    memory_stage given ∷ nodes_stage given ∷ crash_area_stage given ∷ script_stage given.kernel (before_sections given.lines)
+    ∷ sections_stage given
     ∷ script_stage given.kernel (lines_after_sections given.lines) ∷ []
 
 -- the boot (`setup_arch`) up to the handover (`mem_init`)

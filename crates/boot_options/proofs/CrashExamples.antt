@@ -21,7 +21,8 @@ marks = refl
 -- a size with a base, without one, and with a suffix
 simple_values : (crash_form_of (codes "64M") ≡ Some (Plain (plain (range 0 None 0x4000000 ∷ []) 0)))
     × (crash_form_of (codes "16M@0x3080000") ≡ Some (Plain (plain (range 0 None 0x1000000 ∷ []) 0x3080000)))
-    × (crash_form_of (codes "0") ≡ Some (Plain (plain (range 0 None 0 ∷ []) 0))) × (crash_form_of (codes "64M@0") ≡ crash_form_of (codes "64M"))
+    × (crash_form_of (codes "0") ≡ Some (Plain (plain (range 0 None 0 ∷ []) 0)))
+    × (crash_form_of (codes "64M@0") ≡ crash_form_of (codes "64M"))
     × (crash_form_of (codes "512M,high") ≡ Some (High 0x20000000)) × (crash_form_of (codes "0,low") ≡ Some (Low 0))
 unfolding crash_form_of
 simple_values = (refl, refl, refl, refl, refl, refl)
@@ -38,12 +39,14 @@ ranged_values = (refl, refl, refl, refl)
 -- malformed values: no size, one that is too large, or one that isn't a size throughout; an
 -- unknown suffix, or two; ranges that are empty or incomplete, with a base between them, or with a
 -- suffix
-malformed_values : (crash_form_of [] ≡ None) × (crash_form_of (codes "x") ≡ None) × (crash_form_of (codes "64M@") ≡ None) × (crash_form_of (codes "@64M") ≡ None)
+malformed_values : (crash_form_of [] ≡ None) × (crash_form_of (codes "x") ≡ None) × (crash_form_of (codes "64M@") ≡ None)
+    × (crash_form_of (codes "@64M") ≡ None)
     × (crash_form_of (codes "64M,") ≡ None) × (crash_form_of (codes "64M,HIGH") ≡ None) × (crash_form_of (codes "64M,high,low") ≡ None)
     × (crash_form_of (codes "64M@1M,high") ≡ None) × (crash_form_of (codes "16E") ≡ None) × (crash_form_of (codes "64MB") ≡ None)
     × (crash_form_of (codes "64M-32M:8M") ≡ None) × (crash_form_of (codes "1-1:64M") ≡ None) × (crash_form_of (codes "0-:64M,") ≡ None)
     × (crash_form_of (codes "-1:64M") ≡ None) × (crash_form_of (codes "0:64M") ≡ None) × (crash_form_of (codes "0-1-2:64M") ≡ None)
-    × (crash_form_of (codes "0-:1:2") ≡ None) × (crash_form_of (codes "0-:1@2@3") ≡ None) × (crash_form_of (codes "0-1M:8M@0,2M-:16M") ≡ None)
+    × (crash_form_of (codes "0-:1:2") ≡ None) × (crash_form_of (codes "0-:1@2@3") ≡ None)
+    × (crash_form_of (codes "0-1M:8M@0,2M-:16M") ≡ None)
     × (crash_form_of (codes "0-:64M,high") ≡ None)
 unfolding crash_form_of
 malformed_values = (refl, refl, refl, refl, refl, refl, refl, refl, refl, refl, refl, refl, refl, refl, refl, refl, refl, refl, refl, refl)
@@ -74,7 +77,8 @@ in_order_or_not = ((omega arith, (tt, tt)), λ are. let above = are.0 in omega a
 is_plain : IsPlain (plain (range 0 None 0 ∷ []) 0) × (IsPlain (plain [] 0) → ⊥)
 is_plain = (record { some = omega arith; order = (tt, tt) }, λ is. let some = is.some in omega arith)
 
-wants_some : OptionsNeedMemory (options_of_words ((1, OfCrash (Plain (plain [] 0))) ∷ [])) × (OptionsNeedMemory (options_of_words ((1, NumaOff) ∷ [])) → ⊥)
+wants_some : OptionsNeedMemory (options_of_words ((1, OfCrash (Plain (plain [] 0))) ∷ []))
+    × (OptionsNeedMemory (options_of_words ((1, NumaOff) ∷ [])) → ⊥)
 wants_some = (search rules, λ wants. grind (arith, wants))
 
 -- what the reader has if memory ran out for a range

@@ -229,7 +229,8 @@ lacks-joined (text ∷ u ∷ texts) (r ∷ rs) spell =
 front-joined : (text : List ℕ) (texts : List (List ℕ)) (behind : List ℕ)
     → (rest : List ℕ) × (join_with_commas (text ∷ texts) ++ behind ≡ text ++ rest)
 front-joined text [] behind = (behind, refl)
-front-joined text (u ∷ texts) behind = ((44 ∷ join_with_commas (u ∷ texts)) ++ behind, append_assoc text (44 ∷ join_with_commas (u ∷ texts)) behind)
+front-joined text (u ∷ texts) behind =
+    ((44 ∷ join_with_commas (u ∷ texts)) ++ behind, append_assoc text (44 ∷ join_with_commas (u ∷ texts)) behind)
 
 has-colon : (text : List ℕ) (texts : List (List ℕ)) (rs : List CrashRange) (behind : List ℕ) → SpellRanges (text ∷ texts) rs
     → is_some (split_once 58 (join_with_commas (text ∷ texts) ++ behind)) ≡ true
@@ -252,14 +253,16 @@ form-ranges : (text : List ℕ) (texts : List (List ℕ)) (rs : List CrashRange)
     → crash_form_of (join_with_commas (text ∷ texts)) ≡ Some (Plain (record { ranges = rs; base = 0 }))
 form-ranges text texts rs spell =
     let whole : join_with_commas (text ∷ texts) ++ [] ≡ join_with_commas (text ∷ texts) = append-nil (join_with_commas (text ∷ texts)) in
-    form-ranges_form (join_with_commas (text ∷ texts)) (join_with_commas (text ∷ texts)) 0 rs (rw whole at (has-colon text texts rs [] spell))
+    form-ranges_form (join_with_commas (text ∷ texts)) (join_with_commas (text ∷ texts)) 0 rs
+    (rw whole at (has-colon text texts rs [] spell))
     (place-none (join_with_commas (text ∷ texts)) (lacks-joined (text ∷ texts) rs spell)) (ranges-spelled text texts rs spell)
 
 form-ranges-placed : (text : List ℕ) (texts : List (List ℕ)) (rs : List CrashRange) (b : List ℕ) (base : ℕ)
     → SpellRanges (text ∷ texts) rs → IsSize b base
     → crash_form_of (join_with_commas (text ∷ texts) ++ (64 ∷ b)) ≡ Some (Plain (record { ranges = rs; base = base }))
 form-ranges-placed text texts rs b base spell size =
-    form-ranges_form (join_with_commas (text ∷ texts) ++ (64 ∷ b)) (join_with_commas (text ∷ texts)) base rs (has-colon text texts rs (64 ∷ b) spell)
+    form-ranges_form (join_with_commas (text ∷ texts) ++ (64 ∷ b)) (join_with_commas (text ∷ texts)) base rs
+    (has-colon text texts rs (64 ∷ b) spell)
     (place-base (join_with_commas (text ∷ texts)) b base (lacks-joined (text ∷ texts) rs spell) size) (ranges-spelled text texts rs spell)
 
 -- each form that is spelled is read as that form

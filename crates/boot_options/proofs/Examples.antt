@@ -118,14 +118,16 @@ names = (refl, refl, refl)
 
 -- the meaning of a word depends on its whole name; a fault has the number of the word
 said_words : (word_meaning 2 (codes "mem", Some (codes "nopentium")) ≡ Ok (one_map_option (Other None)))
-    × (word_meaning 2 (codes "numa", Some (codes "off")) ≡ Ok NumaOff) × (word_meaning 2 (codes "memory", Some (codes "4G")) ≡ Ok (OfMap []))
+    × (word_meaning 2 (codes "numa", Some (codes "off")) ≡ Ok NumaOff)
+    × (word_meaning 2 (codes "memory", Some (codes "4G")) ≡ Ok (OfMap []))
     × (word_meaning 2 (codes "mem", None) ≡ Err (faults.BadMem 2))
     × (word_meaning 3 (codes "memmap", Some (codes "1G!4X")) ≡ Err (faults.BadMemmap 3))
     × (word_meaning 4 (codes "numa", Some (codes "fake=2")) ≡ Err (faults.BadNuma 4))
 said_words = (refl, refl, refl, refl, refl, refl)
 
 -- `add_efi_memmap` means the same with any value and without one; its whole name is needed
-efi_words : (word_meaning 2 (codes "add_efi_memmap", None) ≡ Ok AddEfi) × (word_meaning 2 (codes "add_efi_memmap", Some (codes "0")) ≡ Ok AddEfi)
+efi_words : (word_meaning 2 (codes "add_efi_memmap", None) ≡ Ok AddEfi)
+    × (word_meaning 2 (codes "add_efi_memmap", Some (codes "0")) ≡ Ok AddEfi)
     × (word_meaning 2 (codes "add_efi_memmaps", None) ≡ Ok (OfMap [])) × (word_meaning 2 (codes "add_efi", None) ≡ Ok (OfMap []))
 efi_words = (refl, refl, refl, refl)
 
@@ -223,7 +225,8 @@ two_wanted = record { word = 3; wanting = 2 }
 abbrev one_wanted : UserMap
 one_wanted = record { word = 3; wanting = 1 }
 
-wanted_behind : (user_map_after_option 3 ExactMap None ≡ Some two_wanted) × (user_map_after_option 4 a_page (Some two_wanted) ≡ Some one_wanted)
+wanted_behind : (user_map_after_option 3 ExactMap None ≡ Some two_wanted)
+    × (user_map_after_option 4 a_page (Some two_wanted) ≡ Some one_wanted)
     × (user_map_after_option 4 (Other None) (Some two_wanted) ≡ Some two_wanted) × (user_map_after_option 4 a_page None ≡ None)
 wanted_behind = (refl, refl, refl, refl)
 
@@ -244,7 +247,8 @@ half_read m = record {
 }
 
 -- even without memory for the edits, the reader has everything else of its state
-at_a_state_without_memory : (m : Memory) → IsReadTo (half_read m) (reading_after_word 1 (after_map_option 1 start_state (Other (Some Clear))) NumaOff)
+at_a_state_without_memory : (m : Memory)
+    → IsReadTo (half_read m) (reading_after_word 1 (after_map_option 1 start_state (Other (Some Clear))) NumaOff)
 at_a_state_without_memory m =
     record {
       edits = omega arith;

@@ -91,14 +91,16 @@ said_none numa (Some value) = by_test (bytes_eq value (codes "off")) (bytes_eq-D
     by_test false decides = (λ is off. let told : false ≡ true = decides.1 off in cc told, λ none. refl)
 
 -- the fault of a word, by its name and its value
-is_fault : (fault : OptionFault) (o : Option WordMeaning) (found : OptionFault) → meaning_or_fault fault o ≡ Err found → (o ≡ None) × (found ≡ fault)
+is_fault : (fault : OptionFault) (o : Option WordMeaning) (found : OptionFault) → meaning_or_fault fault o ≡ Err found
+    → (o ≡ None) × (found ≡ fault)
 is_fault fault None found is = (refl, cc)
 is_fault fault (Some said) found is = cc
 
 abbrev IsFaultOf : ℕ → List ℕ × Option (List ℕ) → OptionFault → Type 0
 IsFaultOf number word fault = (n : Name) × (word.0 ≡ text_of n) × NoValue n word.1 × (fault ≡ fault_at n number)
 
-word_meaning-fault : (number : ℕ) (word : List ℕ × Option (List ℕ)) (fault : OptionFault) → word_meaning number word ≡ Err fault → IsFaultOf number word fault
+word_meaning-fault : (number : ℕ) (word : List ℕ × Option (List ℕ)) (fault : OptionFault) → word_meaning number word ≡ Err fault
+    → IsFaultOf number word fault
 word_meaning-fault number word fault =
     by_tests (bytes_eq word.0 (codes "mem")) refl (bytes_eq word.0 (codes "memmap")) refl (bytes_eq word.0 (codes "crashkernel")) refl
     (bytes_eq word.0 (codes "numa")) refl (bytes_eq word.0 (codes "add_efi_memmap"))
@@ -114,7 +116,8 @@ word_meaning-fault number word fault =
         → (if a then meaning_or_fault (faults.BadMem number) (said_value mem word.1) else
         (if b then meaning_or_fault (faults.BadMemmap number) (said_value memmap word.1) else
         (if c then meaning_or_fault (faults.BadCrash number) (said_value crash word.1) else
-        (if d then meaning_or_fault (faults.BadNuma number) (said_value numa word.1) else (if e then Ok AddEfi else Ok (OfMap [])))))) ≡ Err fault
+        (if d then meaning_or_fault (faults.BadNuma number) (said_value numa word.1) else (if e then Ok AddEfi else Ok (OfMap []))))))
+        ≡ Err fault
         → IsFaultOf number word fault
     by_tests true a_is b b_is c c_is d d_is e is = named mem a_is is
     by_tests false a_is true b_is c c_is d d_is e is = named memmap b_is is
@@ -237,7 +240,8 @@ word_meanings_from-fault number (word ∷ words) n w is =
     by_said (Ok said) sound fault rest is = later (sound said refl) (rest (by_others said (word_meanings_from (number + 1) words) is))
     by_said (Err f) sound fault rest is = first f (fault f refl) cc
 
-word_meanings_from-first : (number : ℕ) (front : List (List ℕ)) (word : List ℕ) (behind : List (List ℕ)) (n : Name) → AllByRecursion IsSoundWord front
+word_meanings_from-first : (number : ℕ) (front : List (List ℕ)) (word : List ℕ) (behind : List (List ℕ)) (n : Name)
+    → AllByRecursion IsSoundWord front
     → HasNone n (name_value_of word) → word_meanings_from number (front ++ (word ∷ behind)) ≡ Err (fault_at n (number + length front))
 word_meanings_from-first number [] word behind n sound has =
     let here : number + 0 ≡ number = omega arith in
@@ -366,7 +370,8 @@ first-exactly n bytes w = (by_line (command_line_of bytes) refl, told)
           bad = none-malformed n first.word first.has;
         }
 
-    by_said : (line : List ℕ) → command_line_of bytes ≡ Ok line → (r : Result (List (ℕ × WordMeaning)) OptionFault) → word_meanings_from 1 (option_words line) ≡ r
+    by_said : (line : List ℕ) → command_line_of bytes ≡ Ok line → (r : Result (List (ℕ × WordMeaning)) OptionFault)
+        → word_meanings_from 1 (option_words line) ≡ r
         → (r >>= options_with_user_map) ≡ Err (fault_at n w) → IsFirstWordFault bytes w (IsMalformed (text_of n) (IsValue n))
     by_said line read (Ok said) from is = absurd (user_map-fault said n w is)
     by_said line read (Err fault) from is =
@@ -387,7 +392,13 @@ first-exactly n bytes w = (by_line (command_line_of bytes) refl, told)
         = ap (λ (ws : List (List ℕ)). until_end (map unquote ws)) raws
         ∙ until_end-words first.raws (first.front ++ (first.word ∷ first.rest)) first.words in
         let place : w ≡ 1 + length first.front = omega (arith, first.place) in
-        rw (first.read, words, place, word_meanings_from-first 1 first.front first.word first.rest n first.sound (malformed-none n first.word first.bad))
+        rw (
+          first.read,
+          words,
+          place,
+          word_meanings_from-first 1 first.front first.word first.rest n first.sound
+              (malformed-none n first.word first.bad),
+        )
         refl
 
 pub mem-exactly_first : (bytes : List ℕ) (w : ℕ) → options_of bytes ≡ Err (faults.BadMem w) ↔ IsFirstWordFault bytes w IsBadMem

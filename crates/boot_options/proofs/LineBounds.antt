@@ -53,7 +53,8 @@ abbrev pub IsFit : {A : Type 0} → (A → Type 0) → Result A OptionFault → 
 IsFit P (Ok a) = P a
 IsFit P (Err fault) = IsLineFault fault
 
-pub fit-or_fault : (fault : OptionFault) (o : Option WordMeaning) → IsLineFault fault → IfSome o IsSoundWord → IsFit IsSoundWord (meaning_or_fault fault o)
+pub fit-or_fault : (fault : OptionFault) (o : Option WordMeaning) → IsLineFault fault → IfSome o IsSoundWord
+    → IsFit IsSoundWord (meaning_or_fault fault o)
 fit-or_fault fault None numbered_map_options is = numbered_map_options
 fit-or_fault fault (Some said) numbered_map_options is = is
 
@@ -94,7 +95,8 @@ fit-then P Q (Err fault) f is each = is
 pub fit-said_from : (number : ℕ) (words : List (List ℕ)) → 0 < number → IsFit AreSoundWords (word_meanings_from number words)
 fit-said_from number [] above = tt
 fit-said_from number (word ∷ words) above =
-    fit-then IsSoundWord AreSoundWords (word_meaning number (name_value_of word)) _ (fit-said_by number (name_value_of word) above) (λ said is.
+    fit-then IsSoundWord AreSoundWords (word_meaning number (name_value_of word)) _ (fit-said_by number (name_value_of word) above)
+    (λ said is.
     fit-then AreSoundWords AreSoundWords (word_meanings_from (number + 1) words) _
     (fit-said_from (number + 1) words (omega arith)) (λ others are. (above, is, are)))
 
@@ -117,7 +119,8 @@ pub sound-last_plain : (said : List (ℕ × WordMeaning)) → AreSoundWords said
 sound-last_plain [] are = tt
 sound-last_plain (s ∷ said) are = or_this (last_value plain_crash_value said) s.1 (sound-last_plain said are.2) are.1
   where
-    or_this : (found : Option CrashPlainView) (s : WordMeaning) → IfSome found IsPlain → IsSoundWord s → IfSome (option_or found (plain_crash_value s)) IsPlain
+    or_this : (found : Option CrashPlainView) (s : WordMeaning) → IfSome found IsPlain → IsSoundWord s
+        → IfSome (option_or found (plain_crash_value s)) IsPlain
     or_this (Some form) s is sound = is
     or_this None (OfMap ps) is sound = tt
     or_this None (OfCrash (Plain form)) is sound = sound
@@ -194,7 +197,8 @@ pub crash-given : (bytes : List ℕ) (r : Result Options OptionFault) → Answer
     → IfOk r (λ options. IfSome options.crash.plain (λ plain. IsPlain (crash_plain_view plain)))
 crash-given bytes (Ok options) is = seen options.crash.plain (rw is at (fit-options bytes)).2
   where
-    seen : (plain : Option CrashPlain) → IfSome (option_map crash_plain_view plain) IsPlain → IfSome plain (λ p. IsPlain (crash_plain_view p))
+    seen : (plain : Option CrashPlain) → IfSome (option_map crash_plain_view plain) IsPlain
+        → IfSome plain (λ p. IsPlain (crash_plain_view p))
     seen None is = tt
     seen (Some plain) is = is
 crash-given bytes (Err fault) is = tt

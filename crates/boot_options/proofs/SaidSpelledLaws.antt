@@ -59,7 +59,8 @@ name_is : (name word : List ℕ) → Lacks 61 name → HasName name word → (na
 name_is name word lacks alone = rw (split_once-none 61 name lacks) refl
 name_is name word lacks (with_value raw) = rw (split_once-mark 61 name raw lacks) refl
 
-valued : (n : Name) (word : List ℕ) (said : WordMeaning) → (name_value_of word).0 ≡ text_of n → said_value n (name_value_of word).1 ≡ Some said
+valued : (n : Name) (word : List ℕ) (said : WordMeaning) → (name_value_of word).0 ≡ text_of n
+    → said_value n (name_value_of word).1 ≡ Some said
     → SpellsMeaning word said
 valued n word said = by_cut (split_once 61 word) (split_once-spelled 61 word)
   where
@@ -81,7 +82,8 @@ is_said fault (Some found) said is = cc
 lacks_efi : Lacks 61 (codes "add_efi_memmap")
 lacks_efi = (refl, (refl, (refl, (refl, (refl, (refl, (refl, (refl, (refl, (refl, (refl, (refl, (refl, (refl, tt))))))))))))))
 
-word-spelled : (number : ℕ) (word : List ℕ) (said : WordMeaning) → word_meaning number (name_value_of word) ≡ Ok said → SpellsMeaning word said
+word-spelled : (number : ℕ) (word : List ℕ) (said : WordMeaning) → word_meaning number (name_value_of word) ≡ Ok said
+    → SpellsMeaning word said
 word-spelled number word said =
     by_tests (bytes_eq name (codes "mem")) refl (bytes_eq name (codes "memmap")) refl (bytes_eq name (codes "crashkernel")) refl
     (bytes_eq name (codes "numa")) refl (bytes_eq name (codes "add_efi_memmap")) refl
@@ -97,7 +99,8 @@ word-spelled number word said =
         let is : bytes_eq (name_value_of word).0 n ≡ true = (bytes_eq-Decides (name_value_of word).0 n).1 (name_is n word lacks has) in
         cc (is, isnt)
 
-    by_tests : (a : Bool) → bytes_eq (name_value_of word).0 (codes "mem") ≡ a → (b : Bool) → bytes_eq (name_value_of word).0 (codes "memmap") ≡ b
+    by_tests : (a : Bool) → bytes_eq (name_value_of word).0 (codes "mem") ≡ a → (b : Bool)
+        → bytes_eq (name_value_of word).0 (codes "memmap") ≡ b
         → (c : Bool) → bytes_eq (name_value_of word).0 (codes "crashkernel") ≡ c
         → (d : Bool) → bytes_eq (name_value_of word).0 (codes "numa") ≡ d
         → (e : Bool) → bytes_eq (name_value_of word).0 (codes "add_efi_memmap") ≡ e
@@ -108,8 +111,10 @@ word-spelled number word said =
         (if e then Ok AddEfi else Ok (OfMap [])))))) ≡ Ok said → SpellsMeaning word said
     by_tests true a_is b b_is c c_is d d_is e e_is is = valued mem word said (is_name (codes "mem") a_is) (is_said _ _ said is)
     by_tests false a_is true b_is c c_is d d_is e e_is is = valued memmap word said (is_name (codes "memmap") b_is) (is_said _ _ said is)
-    by_tests false a_is false b_is true c_is d d_is e e_is is = valued crash word said (is_name (codes "crashkernel") c_is) (is_said _ _ said is)
-    by_tests false a_is false b_is false c_is true d_is e e_is is = valued numa word said (is_name (codes "numa") d_is) (is_said _ _ said is)
+    by_tests false a_is false b_is true c_is d d_is e e_is is =
+        valued crash word said (is_name (codes "crashkernel") c_is) (is_said _ _ said is)
+    by_tests false a_is false b_is false c_is true d_is e e_is is =
+        valued numa word said (is_name (codes "numa") d_is) (is_said _ _ said is)
     by_tests false a_is false b_is false c_is false d_is true e_is is =
         let said_is : AddEfi ≡ said = cc in
         rw (← said_is) (efi_word word (named (codes "add_efi_memmap") word (is_name (codes "add_efi_memmap") e_is)))
@@ -139,11 +144,13 @@ word-read : (number : ℕ) (word : List ℕ) (said : WordMeaning) → SpellsMean
 word-read number word said (mem_word raw value option unquotes spells) =
     valued-read mem number raw value (OfMap (option ∷ [])) unquotes (ap (option_map one_map_option) ((mem-exactly value option).1 spells))
 word-read number word said (memmap_word raw value options unquotes spells) =
-    valued-read memmap number raw value (OfMap options) unquotes (ap (option_map (λ ps. OfMap ps)) ((map_options-exactly value options).1 spells))
+    valued-read memmap number raw value (OfMap options) unquotes
+    (ap (option_map (λ ps. OfMap ps)) ((map_options-exactly value options).1 spells))
 word-read number word said (crash_word raw value form unquotes spells) =
     valued-read crash number raw value (OfCrash form) unquotes (ap (option_map (λ form. OfCrash form)) ((form-exactly value form).1 spells))
 word-read number word said (numa_word raw unquotes) = valued-read numa number raw (codes "off") NumaOff unquotes refl
-word-read number word said (efi_word _ has) = efi (name_value_of word).0 (name_value_of word).1 (name_is (codes "add_efi_memmap") word lacks_efi has)
+word-read number word said (efi_word _ has) =
+    efi (name_value_of word).0 (name_value_of word).1 (name_is (codes "add_efi_memmap") word lacks_efi has)
   where
     efi : (name : List ℕ) (value : Option (List ℕ)) → name ≡ codes "add_efi_memmap" → word_meaning number (name, value) ≡ Ok AddEfi
     efi name value is = rw is refl
@@ -164,11 +171,13 @@ word-read number word said (other_word _ other) =
     isnt : (n : List ℕ) → (HasName n word → ⊥) → bytes_eq (name_value_of word).0 n ≡ false
     isnt n hasnt = by_test n (bytes_eq (name_value_of word).0 n) (bytes_eq-Decides (name_value_of word).0 n).0 hasnt
 
-pub word-exactly : (number : ℕ) (word : List ℕ) (said : WordMeaning) → word_meaning number (name_value_of word) ≡ Ok said ↔ SpellsMeaning word said
+pub word-exactly : (number : ℕ) (word : List ℕ) (said : WordMeaning)
+    → word_meaning number (name_value_of word) ≡ Ok said ↔ SpellsMeaning word said
 word-exactly number word said = (word-spelled number word said, word-read number word said)
 
 -- the meanings of all words
-each-spelled : (number : ℕ) (words : List (List ℕ)) (said : List (ℕ × WordMeaning)) → word_meanings_from number words ≡ Ok said → SpellEach number words said
+each-spelled : (number : ℕ) (words : List (List ℕ)) (said : List (ℕ × WordMeaning)) → word_meanings_from number words ≡ Ok said
+    → SpellEach number words said
 each-spelled number [] said is = let none : [] ≡ said = cc in subst (SpellEach number []) none tt
 each-spelled number (word ∷ words) said is =
     by_word (word_meaning number (name_value_of word)) (word-spelled number word) (each-spelled (number + 1) words) is
@@ -188,7 +197,8 @@ each-spelled number (word ∷ words) said is =
     by_word (Ok one) spells each is = by_others one (spells one refl) (word_meanings_from (number + 1) words) each is
     by_word (Err fault) spells each is = cc
 
-each-read : (number : ℕ) (words : List (List ℕ)) (said : List (ℕ × WordMeaning)) → SpellEach number words said → word_meanings_from number words ≡ Ok said
+each-read : (number : ℕ) (words : List (List ℕ)) (said : List (ℕ × WordMeaning)) → SpellEach number words said
+    → word_meanings_from number words ≡ Ok said
 each-read number [] [] each = refl
 each-read number [] (s ∷ said) each = absurd each
 each-read number (word ∷ words) [] each = absurd each

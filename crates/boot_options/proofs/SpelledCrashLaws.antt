@@ -35,7 +35,8 @@ split_once-spelled mark (b ∷ bs) halves is = by_test (b == mark) refl (split_o
         (ap (λ (bs : List ℕ). b ∷ bs) (spelled rest.0 rest.1))
 
 -- the end of a range, and a range
-end-spelled : (text : List ℕ) (end : Option ℕ) (start : ℕ) → end_of_range text ≡ Some end → is_above end start ≡ true → SpellsEnd text end start
+end-spelled : (text : List ℕ) (end : Option ℕ) (start : ℕ) → end_of_range text ≡ Some end → is_above end start ≡ true
+    → SpellsEnd text end start
 end-spelled [] None start is above = refl
 end-spelled [] (Some end) start is above = cc
 end-spelled (b ∷ bs) end start is above =
@@ -60,7 +61,8 @@ range-spelled text r is =
     let bounds = then-both (split_once 45 halves.0.0) _ r halves.2 in
     let start = then-both (whole_size bounds.0.0) _ r bounds.2 in
     let end = then-both (end_of_range bounds.0.1) _ r start.2 in
-    let size = then-both (whole_size halves.0.1) (λ size. range_if_in_order (record { start = start.0; end = end.0; size = size })) r end.2 in
+    let size = then-both (whole_size halves.0.1) (λ size.
+    range_if_in_order (record { start = start.0; end = end.0; size = size })) r end.2 in
     let order = range_if_in_order-is (record { start = start.0; end = end.0; size = size.0 }) r size.2 in
     let at_colon : text ≡ halves.0.0 ++ (58 ∷ halves.0.1) = split_once-spelled 58 text halves.0 halves.1 in
     let at_dash : halves.0.0 ≡ bounds.0.0 ++ (45 ∷ bounds.0.1) = split_once-spelled 45 halves.0.0 bounds.0 bounds.1 in
@@ -126,7 +128,8 @@ simple_form-spelled value form is =
     (subst (λ text. SpellsForm text (Plain (one_range size.0 place.0.1))) (sym base.2)
     (one_size place.0.0 base.0 size.0 place.0.1 (whole_size-spelled place.0.0 size.0 size.1) base.1))
 
-form_by_suffix-spelled : (s name : List ℕ) (size : ℕ) (form : CrashFormView) → IsSize s size → form_by_suffix name size ≡ Some form → SpellsForm (s ++ (44 ∷ name)) form
+form_by_suffix-spelled : (s name : List ℕ) (size : ℕ) (form : CrashFormView) → IsSize s size → form_by_suffix name size ≡ Some form
+    → SpellsForm (s ++ (44 ∷ name)) form
 form_by_suffix-spelled s name size form size_is = by_tests (bytes_eq name (codes "high")) refl (bytes_eq name (codes "low")) refl
   where
     by_tests : (h : Bool) → bytes_eq name (codes "high") ≡ h → (l : Bool) → bytes_eq name (codes "low") ≡ l
@@ -154,7 +157,8 @@ form-spelled value form = by_colon (is_some (split_once 58 value))
     by_comma None spelled is = simple_form-spelled value form is
     by_comma (Some halves) spelled is = suffix_form-spelled value halves form (spelled halves refl) is
 
-    by_colon : (t : Bool) → (if t then ranges_form value else form_without_colon value (split_once 44 value)) ≡ Some form → SpellsForm value form
+    by_colon : (t : Bool) → (if t then ranges_form value else form_without_colon value (split_once 44 value)) ≡ Some form
+        → SpellsForm value form
     by_colon true is = ranges_form-spelled value form is
     by_colon false is = by_comma (split_once 44 value) (split_once-spelled 44 value) is
 

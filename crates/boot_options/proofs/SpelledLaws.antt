@@ -35,7 +35,8 @@ front_size-spelled : (text : List ℕ) (front : NumberAndRest) → front_size te
     → (s : List ℕ) × IsSize s front.0 × (text ≡ s ++ front.1)
 front_size-spelled text front = by_read (size_of text) (size-front text)
   where
-    by_read : (r : Result (ℕ × ℕ) NumFault) → ((n end : ℕ) → r ≡ Ok (n, end) → (s : List ℕ) × IsSize s n × (text ≡ s ++ drop end text) × (length s ≡ end))
+    by_read : (r : Result (ℕ × ℕ) NumFault)
+        → ((n end : ℕ) → r ≡ Ok (n, end) → (s : List ℕ) × IsSize s n × (text ≡ s ++ drop end text) × (length s ≡ end))
         → number_and_rest text r ≡ Some front → (s : List ℕ) × IsSize s front.0 × (text ≡ s ++ front.1)
     by_read (Err fault) spelled is = cc
     by_read (Ok found) spelled is =
@@ -47,7 +48,8 @@ front_number-spelled : (text : List ℕ) (front : NumberAndRest) → front_numbe
     → (s : List ℕ) × IsNumber s front.0 × (text ≡ s ++ front.1)
 front_number-spelled text front = by_read (number_of text) (number-front text)
   where
-    by_read : (r : Result (ℕ × ℕ) NumFault) → ((n end : ℕ) → r ≡ Ok (n, end) → (s : List ℕ) × IsNumber s n × (text ≡ s ++ drop end text) × (length s ≡ end))
+    by_read : (r : Result (ℕ × ℕ) NumFault)
+        → ((n end : ℕ) → r ≡ Ok (n, end) → (s : List ℕ) × IsNumber s n × (text ≡ s ++ drop end text) × (length s ≡ end))
         → number_and_rest text r ≡ Some front → (s : List ℕ) × IsNumber s front.0 × (text ≡ s ++ front.1)
     by_read (Err fault) spelled is = cc
     by_read (Ok found) spelled is =
@@ -84,7 +86,8 @@ range_if_addressable-is base size range = by_test (nat_lt (base + size) (2 ^ 64)
     by_test false test is = cc
     by_test true test is = (cc, ltb-true (base + size) (2 ^ 64) test)
 
-place-spelled : (s a : List ℕ) (size base : ℕ) (range : RangeView) → IsSize s size → IsSize a base → range_if_addressable base size ≡ Some range
+place-spelled : (s a : List ℕ) (size base : ℕ) (range : RangeView) → IsSize s size → IsSize a base
+    → range_if_addressable base size ≡ Some range
     → SpellsPlace s a range
 place-spelled s a size base range size_is base_is is =
     let found = range_if_addressable-is base size range is in
@@ -93,7 +96,8 @@ place-spelled s a size base range size_is base_is is =
 adding_option-spelled : (kind : ℕ) (s a : List ℕ) (size : ℕ) (option : MapOption) → IsSize s size → adding_option kind size a ≡ Some option
     → (range : RangeView) × SpellsPlace s a range × (option ≡ Adding (unless_empty range (Add range kind)))
 adding_option-spelled kind s a size option size_is is =
-    let base = then-both (whole_size a) (λ base. range_if_addressable base size >>= λ range. Some (Adding (unless_empty range (Add range kind)))) option is in
+    let base = then-both (whole_size a) (λ base. range_if_addressable base size >>= λ range.
+    Some (Adding (unless_empty range (Add range kind)))) option is in
     let range = then-both (range_if_addressable base.0 size) (λ range. Some (Adding (unless_empty range (Add range kind)))) option base.2 in
     (range.0, place-spelled s a size base.0 range.0 size_is (whole_size-spelled a base.0 base.1) range.1, cc range.2)
 
@@ -101,14 +105,16 @@ adding_option-spelled kind s a size option size_is is =
 small_kind-is : (found front : NumberAndRest) → small_kind found ≡ Some front → (found ≡ front) × (found.0 < 2 ^ 32)
 small_kind-is found front = by_test (nat_lt found.0 (2 ^ 32)) refl
   where
-    by_test : (t : Bool) → nat_lt found.0 (2 ^ 32) ≡ t → (if t then Some found else None) ≡ Some front → (found ≡ front) × (found.0 < 2 ^ 32)
+    by_test : (t : Bool) → nat_lt found.0 (2 ^ 32) ≡ t → (if t then Some found else None) ≡ Some front
+        → (found ≡ front) × (found.0 < 2 ^ 32)
     by_test false small is = cc
     by_test true small is = (cc, ltb-true found.0 (2 ^ 32) small)
 
 abbrev BeginsKind : ℕ → List ℕ → NumberAndRest → Type 0
 BeginsKind mark text front = (k : List ℕ) × IsKind mark k front.0 × (text ≡ k ++ front.1)
 
-kind_after_mark-spelled : (mark : ℕ) (text : List ℕ) (front : NumberAndRest) → kind_after_mark mark text ≡ Some front → BeginsKind mark text front
+kind_after_mark-spelled : (mark : ℕ) (text : List ℕ) (front : NumberAndRest) → kind_after_mark mark text ≡ Some front
+    → BeginsKind mark text front
 kind_after_mark-spelled mark [] front is = let same : (0, []) ≡ front = cc in subst (BeginsKind mark []) same ([], not_there, refl)
 kind_after_mark-spelled mark (b ∷ bs) front is = by_test (b == mark) refl is
   where
@@ -124,7 +130,8 @@ kind_after_mark-spelled mark (b ∷ bs) front is = by_test (b == mark) refl is
 
 kind-type : (mark : ℕ) (text : List ℕ) (kind : ℕ) → kind == 0 ≡ false → IsKind mark text kind → SpellsType (mark ∷ []) text kind
 kind-type mark text kind above not_there = cc
-kind-type mark text kind above (there number _ is small) = let some : 0 < kind = grind (arith, nat_tests) in a_type number kind is some small
+kind-type mark text kind above (there number _ is small) = let some : 0 < kind =
+    grind (arith, nat_tests) in a_type number kind is some small
 
 kind-no_type : (mark : ℕ) (text : List ℕ) (kind : ℕ) → kind ≡ 0 → IsKind mark text kind → SpellsNoType (mark ∷ []) text
 kind-no_type mark text kind none not_there = nothing
@@ -152,10 +159,12 @@ retype_option-spelled s a f t range from to option spell from_is to_is =
         (kind-no_type 43 t to (eqb-true to 0 t_is) to_is))
     by_tests true f_is false t_is same s_is is =
         let option_is : Adding (unless_empty range (Add range to)) ≡ option = cc in
-        rw (← option_is) (new_type s a f t range to spell (kind-no_type 45 f from (eqb-true from 0 f_is) from_is) (kind-type 43 t to t_is to_is))
+        rw (← option_is)
+        (new_type s a f t range to spell (kind-no_type 45 f from (eqb-true from 0 f_is) from_is) (kind-type 43 t to t_is to_is))
     by_tests false f_is true t_is same s_is is =
         let option_is : Other (unless_empty range (Remove range from)) ≡ option = cc in
-        rw (← option_is) (one_type s a f t range from spell (kind-type 45 f from f_is from_is) (kind-no_type 43 t to (eqb-true to 0 t_is) to_is))
+        rw (← option_is)
+        (one_type s a f t range from spell (kind-type 45 f from f_is from_is) (kind-no_type 43 t to (eqb-true to 0 t_is) to_is))
     by_tests false f_is false t_is true s_is is = cc
     by_tests false f_is false t_is false s_is is =
         let option_is : Other (unless_empty range (Change range from to)) ≡ option = cc in
@@ -163,7 +172,8 @@ retype_option-spelled s a f t range from to option spell from_is to_is =
         rw (← option_is)
         (other_type s a f t range from to spell (kind-type 45 f from f_is from_is) (kind-type 43 t to t_is to_is) differ)
 
-percent_map_option-spelled : (s : List ℕ) (size : ℕ) (place : List ℕ) (option : MapOption) → IsSize s size → percent_map_option size place ≡ Some option
+percent_map_option-spelled : (s : List ℕ) (size : ℕ) (place : List ℕ) (option : MapOption) → IsSize s size
+    → percent_map_option size place ≡ Some option
     → SpellsMapOption (s ++ (37 ∷ place)) option
 percent_map_option-spelled s size place option size_is is =
     let base = then-both (front_size place) _ option is in
@@ -188,7 +198,8 @@ marked_if a b c d e size place =
     (if d then adding_option 12 size place else
     (if e then percent_map_option size place else None))))
 
-map_option_by_mark-spelled : (s : List ℕ) (size : ℕ) (rest : List ℕ) (option : MapOption) → IsSize s size → map_option_by_mark size rest ≡ Some option
+map_option_by_mark-spelled : (s : List ℕ) (size : ℕ) (rest : List ℕ) (option : MapOption) → IsSize s size
+    → map_option_by_mark size rest ≡ Some option
     → SpellsMapOption (s ++ rest) option
 map_option_by_mark-spelled s size [] option size_is is =
     let option_is : Other (ram_above size) ≡ option = cc in rw (append-nil s, ← option_is) (size_alone s size size_is)
@@ -325,7 +336,8 @@ pub map_options-exactly : (value : List ℕ) (options : List MapOption)
     → map_options_of (parts_in (Byte 44) value) ≡ Some options ↔ SpellsMapOptions value options
 map_options-exactly value options = (spelled (join_with_commas-parts value), map_options-read value options)
   where
-    spelled : (first : List ℕ) × (others : List (List ℕ)) × (parts_in (Byte 44) value ≡ first ∷ others) × (join_with_commas (first ∷ others) ≡ value)
+    spelled : (first : List ℕ) × (others : List (List ℕ)) × (parts_in (Byte 44) value ≡ first ∷ others)
+        × (join_with_commas (first ∷ others) ≡ value)
         → map_options_of (parts_in (Byte 44) value) ≡ Some options → SpellsMapOptions value options
     spelled parts is = subst (λ text. SpellsMapOptions text options) parts.3 (each-spelled parts.0 parts.1 options (rw parts.2 at is))
 
@@ -343,7 +355,8 @@ mem-spelled value option = by_test (bytes_eq value (codes "nopentium")) refl
             let some : 0 < size = grind (arith, nat_tests) in
             rw (← option_is) (end_of_ram value size is some)
 
-    by_test : (t : Bool) → bytes_eq value (codes "nopentium") ≡ t → (if t then Some (Other None) else whole_size value >>= ram_up_to) ≡ Some option
+    by_test : (t : Bool) → bytes_eq value (codes "nopentium") ≡ t
+        → (if t then Some (Other None) else whole_size value >>= ram_up_to) ≡ Some option
         → SpellsMem value option
     by_test true test is =
         let option_is : Other None ≡ option = cc in
@@ -354,7 +367,12 @@ mem-spelled value option = by_test (bytes_eq value (codes "nopentium")) refl
 mem-read : (value : List ℕ) (option : MapOption) → SpellsMem value option → mem_of value ≡ Some option
 mem-read value option nopentium = refl
 mem-read value option (end_of_ram _ size is some) =
-    rw (begins-other value 110 (codes "opentium") (begins_with_digit-size value size is) refl, whole_size-end value size is, other_than_zero size some)
+    rw (
+      begins-other value 110 (codes "opentium")
+          (begins_with_digit-size value size is) refl,
+      whole_size-end value size is,
+      other_than_zero size some,
+    )
     refl
 
 pub mem-exactly : (value : List ℕ) (option : MapOption) → mem_of value ≡ Some option ↔ SpellsMem value option

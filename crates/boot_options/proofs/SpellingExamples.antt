@@ -81,7 +81,8 @@ first_fault = (memmap-exactly_first (codes "quiet memmap=1M@ memmap=2") 2).0 ref
 
 -- words with a quoted value, without a value, and with another name
 said_words : SpellsMeaning (codes "crashkernel=\"16M,high\"") (OfCrash (High 0x1000000)) × SpellsMeaning (codes "add_efi_memmap") AddEfi
-    × HasName (codes "numa") (codes "numa=on") × SpellsMeaning (codes "quiet") (OfMap []) × ((said : WordMeaning) → SpellsMeaning (codes "numa") said → ⊥)
+    × HasName (codes "numa") (codes "numa=on") × SpellsMeaning (codes "quiet") (OfMap [])
+    × ((said : WordMeaning) → SpellsMeaning (codes "numa") said → ⊥)
 said_words = (
   crash_word (codes "\"16M,high\"") (codes "16M,high") (High 0x1000000) (both_marks (codes "16M,high")) crash_values.2,
   efi_word (codes "add_efi_memmap") alone,

@@ -74,17 +74,20 @@ pub map_option-mark : (s : List ℕ) (n mark : ℕ) (rest : List ℕ) → IsSize
     → map_option_of (s ++ (mark ∷ rest)) ≡ map_option_by_mark n (mark ∷ rest)
 map_option-mark s n mark rest size is =
     rw (exactmap-other s (mark ∷ rest) (begins_with_digit-size s n size))
-    (then-some (front_size (s ++ (mark ∷ rest))) (λ size. map_option_by_mark size.0 size.1) (n, mark ∷ rest) (front_size-mark s n mark rest size is))
+    (then-some (front_size (s ++ (mark ∷ rest))) (λ size.
+    map_option_by_mark size.0 size.1) (n, mark ∷ rest) (front_size-mark s n mark rest size is))
 
 -- a range that ends in the address space is read, and so is its edit
-pub range_if_addressable-ends : (range : RangeView) → range.base + range.size < 2 ^ 64 → range_if_addressable range.base range.size ≡ Some range
+pub range_if_addressable-ends : (range : RangeView) → range.base + range.size < 2 ^ 64
+    → range_if_addressable range.base range.size ≡ Some range
 range_if_addressable-ends range ends = rw (lt-ltb (range.base + range.size) (2 ^ 64) ends) refl
 
 pub adding_option-spelled : (kind : ℕ) (s a : List ℕ) (range : RangeView) → SpellsPlace s a range
     → adding_option kind range.size a ≡ Some (Adding (unless_empty range (Add range kind)))
 adding_option-spelled kind s a range spell =
     then-some (whole_size a) _ range.base (whole_size-end a range.base spell.base)
-    ∙ then-some (range_if_addressable range.base range.size) (λ r. Some (Adding (unless_empty r (Add r kind)))) range (range_if_addressable-ends range spell.ends)
+    ∙ then-some (range_if_addressable range.base range.size) (λ r.
+    Some (Adding (unless_empty r (Add r kind)))) range (range_if_addressable-ends range spell.ends)
 
 -- a form whose mark adds memory of this type
 pub map_option-adding : (s a : List ℕ) (range : RangeView) (mark kind : ℕ) → is_digit mark 36 ≡ false
@@ -134,7 +137,8 @@ abbrev pub BeginsOther : ℕ → List ℕ → Type 0
 BeginsOther mark [] = Unit {0}
 BeginsOther mark (b ∷ bs) = b == mark ≡ false
 
-pub kind_after_mark-kind : (mark : ℕ) (text : List ℕ) (kind : ℕ) (rest : List ℕ) → IsKind mark text kind → IsMarked rest → BeginsOther mark rest
+pub kind_after_mark-kind : (mark : ℕ) (text : List ℕ) (kind : ℕ) (rest : List ℕ) → IsKind mark text kind → IsMarked rest
+    → BeginsOther mark rest
     → kind_after_mark mark (text ++ rest) ≡ Some (kind, rest)
 kind_after_mark-kind mark text kind rest not_there marked other = absent rest other
   where

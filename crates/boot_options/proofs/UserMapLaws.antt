@@ -31,7 +31,8 @@ edits-map_options number st (p ∷ ps) behind =
     ∙ edits-step st.edits (edit_of p) (edits_of (numbered_map_options number ps behind))
 
 -- the edits of all words
-pub edits-all : (st : ReadingState) (said : List (ℕ × WordMeaning)) → (after_words st said).edits ≡ st.edits ++ edits_of (all_map_options said)
+pub edits-all : (st : ReadingState) (said : List (ℕ × WordMeaning))
+    → (after_words st said).edits ≡ st.edits ++ edits_of (all_map_options said)
 edits-all st [] = sym (append-nil st.edits)
 edits-all st ((number, OfMap ps) ∷ said) =
     edits-all (after_map_options number st ps) said ∙ edits-map_options number st ps (all_map_options said)
@@ -97,11 +98,14 @@ crash-all st ((number, OfMap ps) ∷ said) =
     ∙ ap (later (last_crash_values said)) (same-map_options (λ (s : ReadingState). s.crash) (λ n s p. refl) number st ps)
     ∙ later-twice (last_crash_values said) no_crash st.crash
 crash-all st ((number, OfCrash (Plain form)) ∷ said) =
-    crash-all (reading_after_word number st (OfCrash (Plain form))) said ∙ later-twice (last_crash_values said) (crash_option_after_form no_crash (Plain form)) st.crash
+    crash-all (reading_after_word number st (OfCrash (Plain form))) said
+    ∙ later-twice (last_crash_values said) (crash_option_after_form no_crash (Plain form)) st.crash
 crash-all st ((number, OfCrash (High size)) ∷ said) =
-    crash-all (reading_after_word number st (OfCrash (High size))) said ∙ later-twice (last_crash_values said) (crash_option_after_form no_crash (High size)) st.crash
+    crash-all (reading_after_word number st (OfCrash (High size))) said
+    ∙ later-twice (last_crash_values said) (crash_option_after_form no_crash (High size)) st.crash
 crash-all st ((number, OfCrash (Low size)) ∷ said) =
-    crash-all (reading_after_word number st (OfCrash (Low size))) said ∙ later-twice (last_crash_values said) (crash_option_after_form no_crash (Low size)) st.crash
+    crash-all (reading_after_word number st (OfCrash (Low size))) said
+    ∙ later-twice (last_crash_values said) (crash_option_after_form no_crash (Low size)) st.crash
 crash-all st ((number, NumaOff) ∷ said) =
     crash-all (reading_after_word number st NumaOff) said ∙ later-twice (last_crash_values said) no_crash st.crash
 crash-all st ((number, AddEfi) ∷ said) =
@@ -120,7 +124,8 @@ pub user_map-map_options : (number : ℕ) (st : ReadingState) (ps : List MapOpti
 user_map-map_options number st [] behind = refl
 user_map-map_options number st (p ∷ ps) behind = user_map-map_options number (after_map_option number st p) ps behind
 
-pub user_map-all : (st : ReadingState) (said : List (ℕ × WordMeaning)) → (after_words st said).user_map ≡ map_behind (all_map_options said) st.user_map
+pub user_map-all : (st : ReadingState) (said : List (ℕ × WordMeaning))
+    → (after_words st said).user_map ≡ map_behind (all_map_options said) st.user_map
 user_map-all st [] = refl
 user_map-all st ((number, OfMap ps) ∷ said) =
     user_map-all (after_map_options number st ps) said ∙ user_map-map_options number st ps (all_map_options said)
@@ -188,7 +193,8 @@ pub options-read : (bytes line : List ℕ) (st : ReadingState) → command_line_
     → after_meanings start_state (word_meanings_from 1 (option_words line)) ≡ Ok st → options_of bytes ≡ at_line_end st
 options-read bytes line st is read = rw is (by_said (word_meanings_from 1 (option_words line)) read)
   where
-    by_said : (r : Result (List (ℕ × WordMeaning)) OptionFault) → after_meanings start_state r ≡ Ok st → (r >>= options_with_user_map) ≡ at_line_end st
+    by_said : (r : Result (List (ℕ × WordMeaning)) OptionFault) → after_meanings start_state r ≡ Ok st
+        → (r >>= options_with_user_map) ≡ at_line_end st
     by_said (Ok said) read =
         let same : after_words start_state said ≡ st = cc in
         sym (at_line_end-with_user_map said) ∙ ap at_line_end same
@@ -199,6 +205,7 @@ pub options-fault : (bytes line : List ℕ) (fault : OptionFault) → command_li
     → after_meanings start_state (word_meanings_from 1 (option_words line)) ≡ Err fault → options_of bytes ≡ Err fault
 options-fault bytes line fault is read = rw is (by_said (word_meanings_from 1 (option_words line)) read)
   where
-    by_said : (r : Result (List (ℕ × WordMeaning)) OptionFault) → after_meanings start_state r ≡ Err fault → (r >>= options_with_user_map) ≡ Err fault
+    by_said : (r : Result (List (ℕ × WordMeaning)) OptionFault) → after_meanings start_state r ≡ Err fault
+        → (r >>= options_with_user_map) ≡ Err fault
     by_said (Ok said) read = cc
     by_said (Err f) read = cc

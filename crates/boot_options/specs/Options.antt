@@ -76,7 +76,8 @@ meaning_or_fault fault (Some said) = Ok said
 -- same with and without a value (`setup_add_efi_memmap`).
 abbrev pub word_meaning : ℕ → List ℕ × Option (List ℕ) → Result WordMeaning OptionFault
 word_meaning number word =
-    if bytes_eq word.0 (codes "mem") then meaning_or_fault (faults.BadMem number) (option_map one_map_option (option_and_then mem_of word.1)) else
+    if bytes_eq word.0 (codes "mem") then meaning_or_fault (faults.BadMem number)
+    (option_map one_map_option (option_and_then mem_of word.1)) else
     (if bytes_eq word.0 (codes "memmap") then meaning_or_fault (faults.BadMemmap number) (option_and_then memmap_of word.1) else
     (if bytes_eq word.0 (codes "crashkernel") then meaning_or_fault (faults.BadCrash number) (option_and_then crash_of word.1) else
     (if bytes_eq word.0 (codes "numa") then meaning_or_fault (faults.BadNuma number) (option_and_then numa_of word.1) else
@@ -183,7 +184,8 @@ last_value pick (s ∷ said) = option_or (last_value pick said) (pick s.1)
 
 -- the `crashkernel=` options of all words: the last value of each form
 abbrev pub last_crash_values : List (ℕ × WordMeaning) → CrashOptionView
-last_crash_values said = record { plain = last_value plain_crash_value said; high = last_value high_crash_value said; low = last_value low_crash_value said }
+last_crash_values said =
+    record { plain = last_value plain_crash_value said; high = last_value high_crash_value said; low = last_value low_crash_value said }
 
 -- the number of map options that add a range
 abbrev pub count_adding : List (ℕ × MapOption) → ℕ

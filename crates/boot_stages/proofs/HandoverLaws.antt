@@ -66,11 +66,13 @@ module _ {items : List Item} {store : List ExtentView} {memory reserved : Head} 
   pub spans-told : spans_of (node_of_frame (value_at (records_of_head store memory))) ≡ spans_of_memory items
   spans-told =
       let nodes : node_of_frame (value_at (records_of_head store memory)) ≡ node_of_frame (memory_of items) = λ i frame.
-      (ap (λ (h : Head). node_of_frame (value_at (records_of_head store h)) frame) s.first_head ∙ stands_node s.first store frame s.first_stands
+      (ap (λ (h : Head). node_of_frame (value_at (records_of_head store h)) frame) s.first_head
+      ∙ stands_node s.first store frame s.first_stands
       ∙ ap (λ (f : Labels). node_of_frame f frame) s.first_says) i in
       ap spans_of nodes
 
-  pub free-told : (frame : ℕ) → free_node_in (value_at (records_of_head store memory)) (value_at (records_of_head store reserved)) frame ≡ handover_frames items
+  pub free-told : (frame : ℕ)
+      → free_node_in (value_at (records_of_head store memory)) (value_at (records_of_head store reserved)) frame ≡ handover_frames items
       frame
   free-told frame =
       rw (s.first_head, s.second_head) (stands_free s.first s.second store frame s.first_stands s.second_stands
@@ -100,11 +102,14 @@ stand-by m store heads finish_boot first second first_stands second_stands noded
 
 -- the report of what the boot made is that of what was handed over, and of what it made after the
 -- handover
-pub finish_boot-by : (given : InputsView) (map : List (RunOf ℕ)) (m : MemblockView) (later : Later) (ids : LiveView) (fills : List Fill) (items : List Item)
+pub finish_boot-by : (given : InputsView) (map : List (RunOf ℕ)) (m : MemblockView) (later : Later) (ids : LiveView) (fills : List Fill)
+    (items : List Item)
     (heads : Heads) (spans : List Span) (frames : Frames) (lists : ListsView) (answers : List PageAnswer) (after : PageState)
-    → m.kernel ≡ given.kernel → items ≡ m.journal.items → heads ≡ heads_of m.kernel m.journal.items → spans ≡ spans_of_memory m.journal.items
+    → m.kernel ≡ given.kernel → items ≡ m.journal.items → heads ≡ heads_of m.kernel m.journal.items
+    → spans ≡ spans_of_memory m.journal.items
     → frames ≡ handover_frames m.journal.items → lists ≡ zonelists_from_slit given.slit (nodes_view later.nodes).domains spans
-    → answers ≡ page_answers_of lists (first_page_state frames) given.page_lines → after ≡ page_state_after lists (first_page_state frames) given.page_lines
+    → answers ≡ page_answers_of lists (first_page_state frames) given.page_lines
+    → after ≡ page_state_after lists (first_page_state frames) given.page_lines
     → record {
       width = given.width;
       map = map;
@@ -121,11 +126,13 @@ pub finish_boot-by : (given : InputsView) (map : List (RunOf ℕ)) (m : Memblock
       page_answers = answers;
       after = after;
     } ≡ finish_boot given (made_after_stages given map m later ids fills)
-finish_boot-by given map m later ids fills items heads spans frames lists answers after kernel same head_is span_is frame_is list_is told_is after_is =
+finish_boot-by given map m later ids fills items heads spans frames lists answers after kernel same head_is span_is frame_is list_is told_is
+    after_is =
     cc
 
 -- the tables of a memblock are those of its items
-pub tables-kept : (w : Which) (kernel : RangeView) (items : List Item) (t : TablesView) (aim : AllocSettings) → TablesMatchItems kernel items t aim
+pub tables-kept : (w : Which) (kernel : RangeView) (items : List Item) (t : TablesView) (aim : AllocSettings)
+    → TablesMatchItems kernel items t aim
     → table_in w t ≡ table_for w kernel items
 tables-kept which.Memory kernel items t aim kept = kept.memory
 tables-kept which.Reserved kernel items t aim kept = kept.reserved

@@ -26,7 +26,8 @@ use Rattle.boot_model.proofs.CarriedLaws.{carried_said}
 -- a sequence of steps in two parts is the steps of the first and then those of the second
 module _ {E S X : Type 0} (f : S → X → StageStep E S) where
   second_part : (before steps : List (List Item)) (answer : Result S E) (items : List Item) (ys : List X)
-      → continue_if_ok {A = Unit {0}} before (Ok tt) (λ u. continue_if_ok steps answer (λ t. fold_steps f t ys (append_groups (append_groups items before) steps)))
+      → continue_if_ok {A = Unit {0}} before (Ok tt) (λ u.
+      continue_if_ok steps answer (λ t. fold_steps f t ys (append_groups (append_groups items before) steps)))
       ≡ continue_if_ok (before ++ steps) answer (λ t. fold_steps f t ys (append_groups items (before ++ steps)))
   second_part before steps (Ok t) items ys =
       rw (append_groups-append items before steps, append_assoc before steps) refl
@@ -51,7 +52,8 @@ module _ {E S X : Type 0} (f : S → X → StageStep E S) where
 
 -- if the first part was carried out and the second ends so, the whole ends so
 pub carries-second : (r : Result (Unit {0}) Refusal) (is js old mid new : List Item)
-    → EndsAsStage {A = Unit {0}} (items_with_growths is) refusal_for (Ok tt) old mid → EndsAsStage (items_with_growths js) refusal_for r mid new
+    → EndsAsStage {A = Unit {0}} (items_with_growths is) refusal_for (Ok tt) old mid
+    → EndsAsStage (items_with_growths js) refusal_for r mid new
     → EndsAsStage (items_with_growths (is ++ js)) refusal_for r old new
 unfolding items_with_growths
 carries-second r is js old mid new first rest =
@@ -61,7 +63,8 @@ carries-second r is js old mid new first rest =
 
 -- a `?` that returns the error of the first part ends the whole
 pub carries-exit : (e : Refusal) (r : Result (Unit {0}) Refusal) (is js old new : List Item) → r ≡ Err e
-    → EndsAsStage {A = Unit {0}} (items_with_growths is) refusal_for (Err e) old new → EndsAsStage (items_with_growths (is ++ js)) refusal_for r old new
+    → EndsAsStage {A = Unit {0}} (items_with_growths is) refusal_for (Err e) old new
+    → EndsAsStage (items_with_growths (is ++ js)) refusal_for r old new
 unfolding items_with_growths
 carries-exit e r is js old new exits first =
     rw exits (subst (λ (f : StageStep RefusedGrowth (Unit {0})). EndsAsStage {A = Unit {0}} f refusal_for (Err e) old new)
@@ -81,7 +84,8 @@ carries-change (Ok done) i old new ends =
     ends-second tt (Ok tt) refusal_for old new new (make_change (change_for i)) (λ u. items_with_growths [])
     (ends-change (Ok tt) old new (change_for i) ends) (ends-returns tt refusal_for new)
 carries-change (Err e) i old new ends =
-    ends-first e refusal_for old new (make_change (change_for i)) (λ u. items_with_growths []) (ends-change (Err e) old new (change_for i) ends)
+    ends-first e refusal_for old new (make_change (change_for i)) (λ u.
+    items_with_growths []) (ends-change (Err e) old new (change_for i) ends)
 
 -- none of the steps that are still to come has been made
 pub split_once-none : (old new : List Item) (steps : List (List Item)) → new ≡ old → 0 < length steps → StopsBeforeStep old new steps
@@ -142,7 +146,8 @@ behind_begun first None i old new is unrefused same =
     subst HasBegun (sym last) (last_begun (old ++ items_of_steps first.steps) i)
 behind_begun first (Some refused) i old new is unrefused same = let clash : Some refused ≡ None = sym is ∙ unrefused in absurd (cc)
 
-pub claim-begun : (x : Unit {0}) (old new : List Item) (range : RangeView) (who : Owner) → EndsAsChange (Ok x) old new (claim_range range who)
+pub claim-begun : (x : Unit {0}) (old new : List Item) (range : RangeView) (who : Owner)
+    → EndsAsChange (Ok x) old new (claim_range range who)
     → HasBegun new
 unfolding claim_range
 claim-begun x old new range who ends =

@@ -40,7 +40,8 @@ told_full : (full : Bool) (runs : ℕ) (map : List (RunOf ℕ)) (finish_boot : �
 told_full true runs map finish_boot is = (refl, cc)
 told_full false runs map finish_boot is = absurd (cc)
 
-pub decided : (given : InputsView) (answer : MapAnswer) → Answers faults.Memory (λ runs. runs.items) answer (map_if_room (map_of (claims given)))
+pub decided : (given : InputsView) (answer : MapAnswer)
+    → Answers faults.Memory (λ runs. runs.items) answer (map_if_room (map_of (claims given)))
     → DecidesMapStages given answer
 decided given (Ok runs) answers =
     let c : List (RunOf ℕ) = map_of (claims given) in
@@ -106,7 +107,8 @@ pub boot_left : (given : InputsView) (made : BootSoFar) → with_error stop_of (
     → boot given ≡ run_each_stage (later_stages given) made
 unfolding boot
 boot_left given made judged =
-    ap (λ (said : Result BootSoFar Cause). said >>= λ m. run_each_stage (later_stages given) m) (told_ok stop_of (judge_map given) made judged)
+    ap (λ (said : Result BootSoFar Cause). said >>= λ m.
+    run_each_stage (later_stages given) m) (told_ok stop_of (judge_map given) made judged)
 
 pub boot_told : (given : InputsView) (made : BootSoFar) → boot given ≡ Ok made → whole_boot given ≡ Ok (finish_boot given made)
 boot_told given made comes = ap (λ (said : Result BootSoFar Cause). said >>= λ m. Ok (finish_boot given m)) comes

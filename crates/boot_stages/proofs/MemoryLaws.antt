@@ -69,8 +69,10 @@ pub mapped : (e : EarlyInputs) (map : List (RunOf ℕ)) (items : List Item) → 
     → carry_out_items (items_before_memory e ++ map_memory_items e map) [] ≡ Ok items
     → memory_of items ≡ mirrored_memory e.mirrors (usable_memory e.limit (value_at map))
 mapped e map items runs ends =
-    memory_of-same items (items_before_memory e ++ map_memory_items e map) (carried-memory (items_before_memory e ++ map_memory_items e map) [] items ends)
-    ∙ ap memory_of (append_assoc (early_claims e.kernel e.initrd) (item.Limit ISA_END_ADDRESS ∷ direction_items e.upward) (map_memory_items e map))
+    memory_of-same items (items_before_memory e ++ map_memory_items e map)
+    (carried-memory (items_before_memory e ++ map_memory_items e map) [] items ends)
+    ∙ ap memory_of
+    (append_assoc (early_claims e.kernel e.initrd) (item.Limit ISA_END_ADDRESS ∷ direction_items e.upward) (map_memory_items e map))
     ∙ (λ i x. mirrored-first e map runs x i)
 
 pub table_end : (e : EarlyInputs) (map : List (RunOf ℕ)) (items : List Item) → AreRuns map

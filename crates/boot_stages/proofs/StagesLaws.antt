@@ -74,7 +74,8 @@ pub record Row (given : InputsView) (map : List (RunOf ℕ)) (stages : List Stag
   pub kernel : m.kernel ≡ given.kernel
   pub holds : HoldsFills fills m
 
-pub row-first : (given : InputsView) (map : List (RunOf ℕ)) (m : MemblockView) → m.journal.items ≡ [] → m.kernel ≡ given.kernel → HoldsFills [] m
+pub row-first : (given : InputsView) (map : List (RunOf ℕ)) (m : MemblockView) → m.journal.items ≡ [] → m.kernel ≡ given.kernel
+    → HoldsFills [] m
     → Row given map [] (begin_with_map map given.options) m [] []
 row-first given map m none kernel holds = record {
   fills = [];

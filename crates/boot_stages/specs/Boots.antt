@@ -71,7 +71,8 @@ pub record IsStoredTable (w : Which) (items : List Item) (store : List ExtentVie
 -- the heads, leave free
 abbrev pub IsFreeByStore : List ExtentView → Heads → BuddyView → Type 0
 IsFreeByStore store heads buddy =
-    (frame : ℕ) → buddy_frames buddy frame ≡ free_node_in (value_at (records_of_head store heads.memory)) (value_at (records_of_head store heads.reserved)) frame
+    (frame : ℕ) → buddy_frames buddy frame
+    ≡ free_node_in (value_at (records_of_head store heads.memory)) (value_at (records_of_head store heads.reserved)) frame
 
 -- each byte of memory is that of the items and of `fills`
 abbrev pub HoldsFills : List Fill → MemblockView → Type 0

@@ -42,7 +42,8 @@ is_boot files lent wanted given told same inputs boots =
     }
 
 -- an error of the files is that of the outcome
-pub inputs_failed : {X : Type 0} (r : Result X NoInputs) (error : NoInputs) (old new : LentFilesView) (lent : List MemFileView) (wanted : BootmemArgsView)
+pub inputs_failed : {X : Type 0} (r : Result X NoInputs) (error : NoInputs) (old new : LentFilesView) (lent : List MemFileView)
+    (wanted : BootmemArgsView)
     → r ≡ Err error → old.files ≡ lent → FitsError input_place error (read_boot_inputs (file_bytes old.files) wanted)
     → IsFileError (faults_at old) (faults_at new) wanted.named error
     → IfErr r (λ e. FailsAs e (bootmem_outcome (Some wanted) (file_bytes lent)))

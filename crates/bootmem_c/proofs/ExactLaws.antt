@@ -45,7 +45,8 @@ unread_is : (held : Option (List ℕ)) (input : Input) (step : List ℕ → Resu
 unread_is None input step is = refl
 unread_is (Some bytes) input step is = is bytes
 
-step_is : (held : FileContents) (file : File) (given : InputsView) (name : Option (List ℕ)) → Refuses file.input (inputs_after_optional_file held file given name)
+step_is : (held : FileContents) (file : File) (given : InputsView) (name : Option (List ℕ))
+    → Refuses file.input (inputs_after_optional_file held file given name)
 step_is held file given None = tt
 step_is held file given (Some name) =
     unread_is (held name) file.input _ (λ bytes. faulty_is file.input (within_limit file.limit bytes >>= λ read. file.says read given))
@@ -73,7 +74,8 @@ unread_at held named input name is none (file ∷ files) given (inl same) comes 
     let own : named file.input ≡ Some name = ap named same ∙ is in
     let step : inputs_after_file held named file given ≡ Err (reasons.Unread file.input) =
     ap (inputs_after_optional_file held file given) own ∙ named_unread held file given name none in
-    ap (λ (s : Result InputsView InputsReason). s >>= inputs_after_files held named files) step ∙ ap (λ (i : Input). Err (reasons.Unread i)) same
+    ap (λ (s : Result InputsView InputsReason). s >>= inputs_after_files held named files) step
+    ∙ ap (λ (i : Input). Err (reasons.Unread i)) same
 unread_at held named input name is none (file ∷ files) given (inr more) comes =
     behind input file (inputs_after_files held named files) more.0 (λ given. unread_at held named input name is none files given more.1)
     (inputs_after_file held named file given) (step_is held file given (named file.input)) comes
@@ -85,12 +87,14 @@ comes_to : (input : Input) (wanted : BootmemArgsView) (said : Result InputsView 
 comes_to input wanted (Ok given) reaches = tt
 comes_to input wanted (Err reason) reaches = reaches
 
-pub unread_outcome : (held : FileContents) (wanted : BootmemArgsView) (input : Input) (name : List ℕ) → wanted.named input ≡ Some name → held name ≡ None
+pub unread_outcome : (held : FileContents) (wanted : BootmemArgsView) (input : Input) (name : List ℕ) → wanted.named input ≡ Some name
+    → held name ≡ None
     → ReachesFile input_place input (bootmem_outcome (Some wanted) held) → bootmem_outcome (Some wanted) held ≡ Err (reasons.Unread input)
 unread_outcome held wanted input name is none reaches =
     let said = unread_at held wanted.named input name is none input_files wanted.begun (has input)
     (comes_to input wanted (inputs_of held wanted.named wanted.begun) reaches) in
-    ap (λ (s : Result InputsView InputsReason). (s >>= λ given. Ok (with_made_table wanted.made given)) >>= reports_on_boot wanted.reports) said
+    ap (λ (s : Result InputsView InputsReason). (s >>= λ given. Ok (with_made_table wanted.made given))
+    >>= reports_on_boot wanted.reports) said
 
 -- if the counter of a file rose, it isn't lent
 risen_file_is_not_lent : (old new : LentFilesView) (named : Option (List ℕ)) → FaultsRose (faults_at old) (faults_at new) named
@@ -109,7 +113,8 @@ unread_is_said old new (Some wanted) input rose reaches =
 
 -- over lent files the error is that of the outcome
 pub fails_as : (old new : LentFilesView) (accepted : Option BootmemArgsView) (error : NoInputs)
-    → ErrorHasCause bootmem (faults_at old) (faults_at new) accepted error → FitsError input_place error (bootmem_outcome accepted (file_bytes old.files))
+    → ErrorHasCause bootmem (faults_at old) (faults_at new) accepted error
+    → FitsError input_place error (bootmem_outcome accepted (file_bytes old.files))
     → FailsAs error (bootmem_outcome accepted (file_bytes old.files))
 fails_as old new accepted (errors.Reason reasons.Usage) cause fits = fits
 fails_as old new accepted (errors.Reason (reasons.Unread input)) cause fits = unread_is_said old new accepted input cause fits

@@ -73,7 +73,8 @@ status_by old new read_args (failures.NoResult errors.Memory) other cause fits =
 status_by old new read_args (failures.Output put.Failed) other cause fits = absurd (other refl)
 status_by old new read_args (failures.Output put.Memory) other cause fits = inr refl
 
-pub ran_status : (old new : LentFilesView) (read_args : Option BootmemArgsView) (P : List ℕ → Type 0) (BootedView : Failure InputsReason → Type 0) (status : ℕ)
+pub ran_status : (old new : LentFilesView) (read_args : Option BootmemArgsView) (P : List ℕ → Type 0) (BootedView : Failure InputsReason
+    → Type 0) (status : ℕ)
     → (status ≡ 4 → Rose 0 0) → (status ≡ 0 → IsOkAnd (bootmem_outcome read_args (file_bytes old.files)) P)
     → (status ≢ 0 → IsFailure old new read_args status BootedView)
     → (status ≡ outcome_status (bootmem_outcome read_args (file_bytes old.files))) ⊎ (status ≡ 7)
@@ -89,12 +90,14 @@ told_text : (reports : List Report) (answer : Result BootedView Cause) (told : B
 told_text reports answer told P is holds =
     subst (λ (a : Result BootedView Cause). IsOkAnd (or_stopped a >>= λ told. Ok (report_list_text reports told)) P) (sym is) holds
 
-given_text : (reports : List Report) (answer : Result InputsView InputsReason) (given : InputsView) (P : List ℕ → Type 0) → answer ≡ Ok given
+given_text : (reports : List Report) (answer : Result InputsView InputsReason) (given : InputsView) (P : List ℕ → Type 0)
+    → answer ≡ Ok given
     → IsOkAnd (reports_on_boot reports given) P → IsOkAnd (answer >>= λ given. reports_on_boot reports given) P
 given_text reports answer given P is holds =
     subst (λ (a : Result InputsView InputsReason). IsOkAnd (a >>= λ given. reports_on_boot reports given) P) (sym is) holds
 
-pub reported_text : (read_args : Option BootmemArgsView) (held : FileContents) (text : List ℕ) → AppendsReports read_args held (Some []) (Some text)
+pub reported_text : (read_args : Option BootmemArgsView) (held : FileContents) (text : List ℕ)
+    → AppendsReports read_args held (Some []) (Some text)
     → IsOkAnd (bootmem_outcome read_args held) (λ said. text ≡ said)
 reported_text read_args held text is =
     let P : List ℕ → Type 0 = λ said. text ≡ said in
@@ -116,8 +119,10 @@ line_of : (read_args : Option BootmemArgsView) (said : Result (List ℕ) InputsR
     → bootmem_failure_line read_args (failures.NoResult (errors.Reason reason)) ≡ outcome_line read_args said
 line_of read_args said reason are = sym (ap (outcome_line read_args) are)
 
-line_ends : (old new : LentFilesView) (read_args : Option BootmemArgsView) (failure : Failure InputsReason) (l0 l1 : TextSinkView) → failure_status failure ≢ 4
-    → failure_status failure ≢ 7 → l0.text ≡ [] → l0.is_short ≡ false → l1.is_short ≡ false → PutsLine ghosts l0 l1 (bootmem_failure_line read_args failure)
+line_ends : (old new : LentFilesView) (read_args : Option BootmemArgsView) (failure : Failure InputsReason) (l0 l1 : TextSinkView)
+    → failure_status failure ≢ 4
+    → failure_status failure ≢ 7 → l0.text ≡ [] → l0.is_short ≡ false → l1.is_short ≡ false
+    → PutsLine ghosts l0 l1 (bootmem_failure_line read_args failure)
     → FailureHasCause bootmem (faults_at old) (faults_at new) read_args failure
     → FitsFailure bootmem failure (bootmem_outcome read_args (file_bytes old.files))
     → l1.text ≡ outcome_line read_args (bootmem_outcome read_args (file_bytes old.files))
@@ -125,7 +130,8 @@ line_ends old new read_args (failures.NoResult (errors.Reason reason)) l0 l1 wri
     appended_text_is_line l0 l1 (bootmem_failure_line read_args (failures.NoResult (errors.Reason reason))) short empty not_short told.whole
     ∙ line_of read_args (bootmem_outcome read_args (file_bytes old.files)) reason
     (fails_as old new read_args (errors.Reason reason) cause fits)
-line_ends old new read_args (failures.NoResult errors.Memory) l0 l1 written other empty not_short short told cause fits = absurd (other refl)
+line_ends old new read_args (failures.NoResult errors.Memory) l0 l1 written other empty not_short short told cause fits =
+    absurd (other refl)
 line_ends old new read_args (failures.Output put.Failed) l0 l1 written other empty not_short short told cause fits = absurd (written refl)
 line_ends old new read_args (failures.Output put.Memory) l0 l1 written other empty not_short short told cause fits = absurd (other refl)
 
@@ -147,17 +153,20 @@ same_asked taken words are all = ap read_args are ∙ rw (are-utf8 words all) re
 pub same_outcome : (one other : Option BootmemArgsView) (files lent : List MemFileView) → one ≡ other → files ≡ lent
     → bootmem_outcome one (file_bytes files) ≡ bootmem_outcome other (file_bytes lent)
 same_outcome one other files lent same kept =
-    ap (λ (a : Option BootmemArgsView). bootmem_outcome a (file_bytes files)) same ∙ ap (λ (f : List MemFileView). bootmem_outcome other (file_bytes f)) kept
+    ap (λ (a : Option BootmemArgsView). bootmem_outcome a (file_bytes files)) same
+    ∙ ap (λ (f : List MemFileView). bootmem_outcome other (file_bytes f)) kept
 
 -- if a word isn't UTF-8, the words aren't accepted
 not_utf8 : (words : List (List ℕ)) (b : Bool) → are_utf8 words ≡ b → ¬ All IsUtf8 words → are_utf8 words ≡ false
 not_utf8 words true is other = absurd (other (all-utf8 words is))
 not_utf8 words false is other = is
 
-pub nothing_said : (words : List (List ℕ)) (held : FileContents) → ¬ All IsUtf8 words → bootmem_outcome (read_lent_args words) held ≡ Err reasons.Usage
+pub nothing_said : (words : List (List ℕ)) (held : FileContents) → ¬ All IsUtf8 words
+    → bootmem_outcome (read_lent_args words) held ≡ Err reasons.Usage
 nothing_said words held other = rw (not_utf8 words (are_utf8 words) refl other) refl
 
-pub nothing_asked : (words : List (List ℕ)) (held : FileContents) → ¬ All IsUtf8 words → outcome_status (bootmem_outcome (read_lent_args words) held) ≡ 2
+pub nothing_asked : (words : List (List ℕ)) (held : FileContents) → ¬ All IsUtf8 words
+    → outcome_status (bootmem_outcome (read_lent_args words) held) ≡ 2
 nothing_asked words held other = ap outcome_status (nothing_said words held other)
 
 pub line_asked : (words : List (List ℕ)) (line : List ℕ) → All IsUtf8 words → (if are_utf8 words then line else []) ≡ line
@@ -174,7 +183,8 @@ whole_run true ran status whole is_short other = absurd (other (is_short refl))
 whole_run false ran status whole is_short other = (refl, whole refl)
 
 -- a text that was copied is that of the outcome
-pub taken_by : (said : Result (List ℕ) InputsReason) (text : List ℕ) (old new : Text) → IsOkAnd said (λ s. text ≡ s) → CopiesText text old new
+pub taken_by : (said : Result (List ℕ) InputsReason) (text : List ℕ) (old new : Text) → IsOkAnd said (λ s. text ≡ s)
+    → CopiesText text old new
     → IsOkAnd said (λ s. CopiesText s old new)
 taken_by (Ok s) text old new same taken = subst (λ (t : List ℕ). CopiesText t old new) same taken
 taken_by (Err reason) text old new same taken = same

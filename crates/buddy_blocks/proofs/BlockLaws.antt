@@ -75,7 +75,8 @@ pub none_found : (f : Frames) (x : ℕ) → block_of f x ≡ None → f x ≡ No
 none_found f x made = none_for f x (f x) made
 
 -- the members of the list
-led_lists : (x : ℕ) (o : Option Block) (bs : List Block) (b : Block) → ListsBlock (prepend_block_at x o bs) b → (o ≡ Some b) ⊎ ListsBlock bs b
+led_lists : (x : ℕ) (o : Option Block) (bs : List Block) (b : Block) → ListsBlock (prepend_block_at x o bs) b
+    → (o ≡ Some b) ⊎ ListsBlock bs b
 led_lists x None bs b has = inr has
 led_lists x (Some c) bs b has =
     cond_both (c.first == x) (c ∷ bs) bs (λ (cs : List Block). ListsBlock cs b → (Some c ≡ Some b) ⊎ ListsBlock bs b)

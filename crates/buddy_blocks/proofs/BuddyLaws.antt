@@ -32,7 +32,8 @@ without_is order x f = record {
   kept = λ y other. rw (covers_set order x y other) refl;
 }
 
-pub with_is : (order x node : ℕ) (g : Frames) → ((y : ℕ) → IsInSet order x y → g y ≡ None) → RemovesFrameSet (with_set order x node g) g order x
+pub with_is : (order x node : ℕ) (g : Frames) → ((y : ℕ) → IsInSet order x y → g y ≡ None)
+    → RemovesFrameSet (with_set order x node g) g order x
 with_is order x node g held = record {
   gone = held;
   kept = λ y other. sym (rw (covers_set order x y other) refl);
@@ -123,7 +124,8 @@ pub buddy_in_block : (b : Block) (o x y : ℕ) → o < b.order → IsInBlock b x
 buddy_in_block b o x y below inner same = wider (o + 1) b.order y x (omega (arith, below)) (buddy_beside o x y same).0 ∙ inner
 
 -- each of these buddies is a block of what is left
-pub left_is_block : (f g : Frames) (low o x : ℕ) (b : Block) → RemovesFrameSet f g low x → IsBlock f b → IsInBlock b x → low ≤ o → o < b.order
+pub left_is_block : (f g : Frames) (low o x : ℕ) (b : Block) → RemovesFrameSet f g low x → IsBlock f b → IsInBlock b x → low ≤ o
+    → o < b.order
     → IsBlock g (buddy_of b o x)
 left_is_block f g low o x b without block inner from below = record {
   small = omega (arith, block.small, below);

@@ -47,10 +47,12 @@ one_block : (n o x order : ℕ) (z wanted : Zone) (made : Block) → made ≡ re
     → count_by (is_block_of n wanted order) (made ∷ []) ≡ if_alike o z order wanted
 one_block n o x order z wanted made is =
     let b : Block = record { order = o; first = x; node = n; zone = z } in
-    ap (λ (c : Block). count_by (is_block_of n wanted order) (c ∷ [])) is ∙ sum_by-cons (λ (c : Block). cond (is_block_of n wanted order c) 1 0) b []
+    ap (λ (c : Block). count_by (is_block_of n wanted order) (c ∷ [])) is
+    ∙ sum_by-cons (λ (c : Block). cond (is_block_of n wanted order c) 1 0) b []
     ∙ rw (eq-eqb n n refl) (omega arith)
 
-row_count : (k n o at order : ℕ) (z wanted : Zone) → count_by (is_block_of n wanted order) (row_from o at n z k) ≡ k * if_alike o z order wanted
+row_count : (k n o at order : ℕ) (z wanted : Zone)
+    → count_by (is_block_of n wanted order) (row_from o at n z k) ≡ k * if_alike o z order wanted
 unfolding row_from
 row_count zero n o at order z wanted = let h : 0 ≡ 0 * if_alike o z order wanted = omega arith in h
 row_count (suc k) n o at order z wanted =
@@ -62,7 +64,8 @@ row_count (suc k) n o at order z wanted =
     ∙ ap (λ a. a + count_by p (row_from o (at + 2 ^ o) n z k)) (one_block n o at order z wanted b refl)
     ∙ ap (λ a. v + a) (row_count k n o (at + 2 ^ o) order z wanted) ∙ total
 
-pub alike_more : (f : Frames) (first end n o s at k order : ℕ) (wanted : Zone) → IsNodeRun f first end n → first ≤ at → 0 < k → at + k * s ≤ end
+pub alike_more : (f : Frames) (first end n o s at k order : ℕ) (wanted : Zone) → IsNodeRun f first end n → first ≤ at → 0 < k
+    → at + k * s ≤ end
     → o ≤ 10 → s ≡ 2 ^ o → at % s ≡ 0 → SetFits first end at s → IsGreatest first end at o → ((o ≡ 10) ⊎ (k ≡ 1))
     → ((i : ℕ) → i < k → zone_of (at + i * s) ≡ zone_of at)
     → count_by (is_block_of n wanted order) (blocks_from f first (at + k * s - first))

@@ -103,7 +103,8 @@ row_examples = (
 )
 
 -- the last frame of the last row
-last_examples : LastRowFulfils (EndsFree pair) (great_row 0 1 0 ∷ (record { order = 1; first = 4; count = 1; node = 7; zone = zone.Dma } ∷ []))
+last_examples : LastRowFulfils (EndsFree pair)
+    (great_row 0 1 0 ∷ (record { order = 1; first = 4; count = 1; node = 7; zone = zone.Dma } ∷ []))
     × (LastRowFulfils (EndsFree pair) (great_row 0 1 0 ∷ []) → ⊥)
 last_examples = ((omega arith, refl), λ ends. let none : None ≡ Some 0 = ends.1 in cc none)
 

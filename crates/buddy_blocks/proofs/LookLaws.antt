@@ -27,7 +27,8 @@ some_size [] i d runs few = absurd (omega arith)
 some_size (r ∷ rs) zero d runs few = runs.0
 some_size (r ∷ rs) (suc i) d runs few = some_size rs i d runs.2 (omega arith)
 
-all_start : (at : ℕ) (rs : List (RunOf ℕ)) (i : ℕ) (d : RunOf ℕ) → AreRuns rs → StartAtOrPast at rs → i < length rs → at ≤ (get_or rs i d).base
+all_start : (at : ℕ) (rs : List (RunOf ℕ)) (i : ℕ) (d : RunOf ℕ) → AreRuns rs → StartAtOrPast at rs → i < length rs
+    → at ≤ (get_or rs i d).base
 all_start at [] i d runs start few = absurd (omega arith)
 all_start at (r ∷ rs) zero d runs start few = start
 all_start at (r ∷ rs) (suc i) d runs start few =

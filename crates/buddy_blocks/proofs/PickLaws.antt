@@ -16,7 +16,8 @@ use Rattle.buddy_blocks.proofs.BuddyLaws.{found_or_none, one_at}
 use Rattle.buddy_blocks.proofs.CountLaws.{zone_is, zone_self}
 
 -- the test of a block is true only of blocks with this node, order and zone
-pub is_of_tells : (n : ℕ) (z : Zone) (order : ℕ) (b : Block) → is_block_of n z order b ≡ true → (b.node ≡ n) × (b.order ≡ order) × (b.zone ≡ z)
+pub is_of_tells : (n : ℕ) (z : Zone) (order : ℕ) (b : Block) → is_block_of n z order b ≡ true
+    → (b.node ≡ n) × (b.order ≡ order) × (b.zone ≡ z)
 is_of_tells n z order b h =
     let one = and_parts (b.node == n) ((b.order == order) && is_same_zone b.zone z) h in
     let two = and_parts (b.order == order) (is_same_zone b.zone z) one.1 in
@@ -97,7 +98,8 @@ record IsFoundUp (f : Frames) (n : ℕ) (z : Zone) (order k : ℕ) (b : Block) :
   pub has : ListsBlock (blocks_of f) b
   pub serves : Serves n z order b
   pub below : b.order < order + k
-  pub least : (c : Block) → ListsBlock (blocks_of f) c → Serves n z order c → (b.order < c.order) ⊎ ((b.order ≡ c.order) × (b.first ≤ c.first))
+  pub least : (c : Block) → ListsBlock (blocks_of f) c → Serves n z order c
+      → (b.order < c.order) ⊎ ((b.order ≡ c.order) × (b.first ≤ c.first))
 
 found_up : (f : Frames) (n : ℕ) (z : Zone) (order k : ℕ) (b : Block) → picked_block_from f n z order k ≡ Some b → IsFoundUp f n z order k b
 found_up f n z order zero b is = cc

@@ -29,7 +29,8 @@ NoneServes f node zone order = (b : Block) → IsBlock f b → Serves node zone 
 -- first one that has a block there, and the lowest block of that order
 abbrev pub picked_block_from : Frames → ℕ → Zone → ℕ → ℕ → Option Block
 picked_block_from f node zone order zero = None
-picked_block_from f node zone order (suc k) = option_or (find (is_block_of node zone order) (blocks_of f)) (picked_block_from f node zone (order + 1) k)
+picked_block_from f node zone order (suc k) =
+    option_or (find (is_block_of node zone order) (blocks_of f)) (picked_block_from f node zone (order + 1) k)
 
 -- the block from which a request for `order` is served; orders go up to 10
 unfoldable pub picked_block : Frames → ℕ → Zone → ℕ → Option Block

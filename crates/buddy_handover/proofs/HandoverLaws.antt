@@ -13,7 +13,8 @@ use Rattle.memblock_frames.proofs.TakeLaws.{node_more}
 use Rattle.buddy_handover.specs.Handover.{free_unclaimed_frames, unclaimed_frames}
 
 -- one more record of memory with a node frees its unclaimed frames
-pub record_freed : (b : ℕ) (ms : List (RunOf LabelView)) (reserved : Labels) (i n : ℕ) (d : RunOf LabelView) (f g : Frames) → AscendBelow b ms
+pub record_freed : (b : ℕ) (ms : List (RunOf LabelView)) (reserved : Labels) (i n : ℕ) (d : RunOf LabelView) (f g : Frames)
+    → AscendBelow b ms
     → AreWholeFrames ms → i < length ms → (frames_of_record (get_or ms i d)).node ≡ Some n
     → ((x : ℕ) → f x ≡ unclaimed_frames (value_at (take i ms)) reserved x)
     → ((x : ℕ) → g x ≡ free_unclaimed_frames (frames_of_record (get_or ms i d)).first (frames_of_record (get_or ms i d)).end n reserved f x)

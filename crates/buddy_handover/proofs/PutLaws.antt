@@ -14,6 +14,7 @@ low_put r node rs new low none known x high = known.each x ∙ nothing-replaced 
 pub in_space : (rs : List (RunOf ℕ)) → NothingFrom MAX_FRAMES (value_at rs) → NothingFrom (2 ^ 64) (value_at rs)
 in_space rs none x high = none x (omega arith)
 
-pub low_cut : (r : RangeView) (rs new : List (RunOf ℕ)) → NothingFrom MAX_FRAMES (value_at rs) → IsRunsOf (uncover_range r (value_at rs)) new
+pub low_cut : (r : RangeView) (rs new : List (RunOf ℕ)) → NothingFrom MAX_FRAMES (value_at rs)
+    → IsRunsOf (uncover_range r (value_at rs)) new
     → NothingFrom MAX_FRAMES (value_at new)
 low_cut r rs new none known x high = known.each x ∙ cond_both (covers r x) None _ (λ o. o ≡ None) (λ on. refl) (λ off. none x high)

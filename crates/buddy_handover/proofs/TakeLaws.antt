@@ -38,7 +38,8 @@ some_left p [] some = absurd (omega (arith, some))
 some_left p (b ∷ bs) some = grind (arith, some_left p bs)
 
 -- an order without a block is passed over
-pub passed_by : (f : Frames) (n : ℕ) (z : Zone) (o k : ℕ) → count_blocks f n z o ≡ 0 → picked_block_from f n z o (suc k) ≡ picked_block_from f n z (o + 1) k
+pub passed_by : (f : Frames) (n : ℕ) (z : Zone) (o k : ℕ) → count_blocks f n z o ≡ 0
+    → picked_block_from f n z o (suc k) ≡ picked_block_from f n z (o + 1) k
 unfolding count_blocks
 passed_by f n z o k none = grind (arith, none_left (is_block_of n z o) (blocks_of f), length-filter (is_block_of n z o) (blocks_of f), none)
 
@@ -52,7 +53,8 @@ serves_at f n z o k some =
 first_there : (o : Option Block) → is_some (option_map (λ (c : Block). c.first) o) ≡ is_some o
 first_there o = grind arith
 
-pub serves_is : (f : Frames) (n : ℕ) (z : Zone) (o : ℕ) → is_some (picked_first_frame f n z o) ≡ is_some (picked_block_from f n z o (11 - o))
+pub serves_is : (f : Frames) (n : ℕ) (z : Zone) (o : ℕ)
+    → is_some (picked_first_frame f n z o) ≡ is_some (picked_block_from f n z o (11 - o))
 unfolding picked_block
 serves_is f n z o = first_there (picked_block_from f n z o (11 - o))
 

@@ -70,7 +70,8 @@ no_block_with f frame none = none_counted (λ b. has_frame b frame) (blocks_of f
     false_from_ne_true (has_frame b frame) (λ inside. cc (sym none ∙ free_inside f b frame listed inside)))
 
 -- a free frame is in exactly one block
-pub one_block_with : (f : Frames) (frame node : ℕ) → NothingFrom MAX_FRAMES f → f frame ≡ Some node → count_blocks_with (blocks_of f) frame ≡ 1
+pub one_block_with : (f : Frames) (frame node : ℕ) → NothingFrom MAX_FRAMES f → f frame ≡ Some node
+    → count_blocks_with (blocks_of f) frame ≡ 1
 one_block_with f frame node none free =
     let b : Block = block_around (greatest_free_order f frame node 10) frame node in
     let made : block_of f frame ≡ Some b = ap (block_for f frame) free in
@@ -85,7 +86,8 @@ one_block_with f frame node none free =
     cc (sym same ∙ made)))
 
 -- a frame in a block is free
-some_free : (f : Frames) (frame : ℕ) (o : Option ℕ) → f frame ≡ o → 0 < count_blocks_with (blocks_of f) frame → (node : ℕ) × (f frame ≡ Some node)
+some_free : (f : Frames) (frame : ℕ) (o : Option ℕ) → f frame ≡ o → 0 < count_blocks_with (blocks_of f) frame
+    → (node : ℕ) × (f frame ≡ Some node)
 some_free f frame None is some = (let none = no_block_with f frame is in absurd (omega (arith, some, none)))
 some_free f frame (Some node) is some = (node, is)
 

@@ -67,7 +67,8 @@ has_examples = (refl, refl, refl, refl)
 
 -- frame 7 is in one of the blocks and frame 5 in none; the frames of a block that is listed twice
 -- are in two
-with_examples : (count_blocks_with (one ∷ (two ∷ [])) 7 ≡ 1) × (count_blocks_with (one ∷ (two ∷ [])) 5 ≡ 0) × (count_blocks_with (two ∷ (two ∷ [])) 6 ≡ 2)
+with_examples : (count_blocks_with (one ∷ (two ∷ [])) 7 ≡ 1) × (count_blocks_with (one ∷ (two ∷ [])) 5 ≡ 0)
+    × (count_blocks_with (two ∷ (two ∷ [])) 6 ≡ 2)
 with_examples = (refl, refl, refl)
 
 -- the buddy of a block lies below it or above it
@@ -77,15 +78,18 @@ buddy_examples = (refl, refl)
 
 -- this and the next: a block whose first frame isn't a multiple of its number of frames isn't
 -- whole, nor is a block of order 11
-odd_example : (given : InputsView) (items : List Item) → IsWhole given items (record { order = 1; first = 5; node = 0; zone = zone.Dma }) → ⊥
+odd_example : (given : InputsView) (items : List Item) → IsWhole given items (record { order = 1; first = 5; node = 0; zone = zone.Dma })
+    → ⊥
 odd_example given items whole = let wrong : 1 ≡ 0 = whole.aligned in absurd (omega (arith, wrong))
 
-great_example : (given : InputsView) (items : List Item) → IsWhole given items (record { order = 11; first = 0; node = 0; zone = zone.Dma }) → ⊥
+great_example : (given : InputsView) (items : List Item) → IsWhole given items (record { order = 11; first = 0; node = 0; zone = zone.Dma })
+    → ⊥
 great_example given items whole = let wrong : 11 ≤ 10 = whole.small in absurd (omega (arith, wrong))
 
 -- this and the next: a block of the greatest order is maximal, and so is one whose buddy is
 -- touched
-greatest_example : (given : InputsView) (items : List Item) → IsMaximal given items (record { order = 10; first = 0; node = 0; zone = zone.Dma })
+greatest_example : (given : InputsView) (items : List Item)
+    → IsMaximal given items (record { order = 10; first = 0; node = 0; zone = zone.Dma })
 greatest_example given items less = absurd (omega (arith, less))
 
 touched_buddy_example : (given : InputsView) → IsMaximal given journal one
@@ -124,7 +128,8 @@ five_alone : (node : ℕ) → NothingFrom MAX_FRAMES (five node)
 five_alone node frame far = let other : (frame == 5) ≡ false = grind (arith, nat_tests) in rw other refl
 
 -- a boot is refused if a usable frame is untouched and in no block
-lost_frame : (given : InputsView) (told : BootedView) → IsUsable given 4 → AllTouchedOrInOneBlock given (telling told pair_of_node_one (five 1)) → ⊥
+lost_frame : (given : InputsView) (told : BootedView) → IsUsable given 4
+    → AllTouchedOrInOneBlock given (telling told pair_of_node_one (five 1)) → ⊥
 lost_frame given told usable all = elim (all 4 usable) as (λ _. ⊥) [
   | inl touched ↦ cc (touched.0.owned)
   | inr in_one ↦ (let none = no_block_with (five 1) 4 refl in omega (arith, none, in_one.1))

@@ -12,8 +12,10 @@ goes given t ends orders =
     subst (λ (s : PageState). Goes t.free s) (sym (is_told given t ends).after)
     (after_goes t.lists t.free (first_page_state t.free) given.page_lines orders (begun_goes t.free (below given t ends)))
 
-pub all_in_one_or_held : (given : InputsView) (t : BootedView) → whole_boot given ≡ Ok t → HaveValidOrders given.page_lines → AllInOneBlockOrHeld t
+pub all_in_one_or_held : (given : InputsView) (t : BootedView) → whole_boot given ≡ Ok t → HaveValidOrders given.page_lines
+    → AllInOneBlockOrHeld t
 all_in_one_or_held given t ends orders frame node free = in_one t.free t.after frame node (goes given t ends orders) free
 
-pub no_other_in_one_or_held : (given : InputsView) (t : BootedView) → whole_boot given ≡ Ok t → HaveValidOrders given.page_lines → NoOtherInABlockOrHeld t
+pub no_other_in_one_or_held : (given : InputsView) (t : BootedView) → whole_boot given ≡ Ok t → HaveValidOrders given.page_lines
+    → NoOtherInABlockOrHeld t
 no_other_in_one_or_held given t ends orders frame free = in_none t.free t.after frame (goes given t ends orders) free

@@ -61,7 +61,8 @@ middle = record { start = 0x10000000; end = Some 0x20000000; size = 0x1000000 }
 abbrev open_range : CrashRange
 open_range = record { start = 0x20000000; end = None; size = 0x4000000 }
 
-in_examples : (is_in_total_range 0xFFFFFFF middle ≡ false) × (is_in_total_range 0x10000000 middle ≡ true) × (is_in_total_range 0x1FFFFFFF middle ≡ true)
+in_examples : (is_in_total_range 0xFFFFFFF middle ≡ false) × (is_in_total_range 0x10000000 middle ≡ true)
+    × (is_in_total_range 0x1FFFFFFF middle ≡ true)
     × (is_in_total_range 0x20000000 middle ≡ false) × (is_in_total_range 0xFFFFFFFFFFFF open_range ≡ true)
 in_examples = (refl, refl, refl, refl, refl)
 

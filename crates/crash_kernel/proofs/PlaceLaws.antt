@@ -17,7 +17,8 @@ best_place-within items q place found = (found-fits items q place found).high
 
 best_fits : (items : List Item) (q : Query) (place : ℕ) → best_place items q ≡ Some place → fits items q false place ≡ true
 unfolding best_place fits
-best_fits items q place found = best_place_in-fits (upward_of items) (table_of which.Memory items) (table_of which.Reserved items) q place found
+best_fits items q place found =
+    best_place_in-fits (upward_of items) (table_of which.Memory items) (table_of which.Reserved items) q place found
 
 best_none : (items : List Item) (q : Query) → best_place items q ≡ None → (place : ℕ) → place < 2 ^ 64 → fits items q false place ≡ false
 unfolding best_place fits
@@ -25,7 +26,8 @@ best_none items q none place lt = best_place_in-none (upward_of items) (table_of
     q none place lt
 
 -- a search of exactly a range finds its base, or the range doesn't fit
-pub exact-base : (items : List Item) (size base place : ℕ) → best_place items (area_query size 1 base (base + size)) ≡ Some place → place ≡ base
+pub exact-base : (items : List Item) (size base place : ℕ) → best_place items (area_query size 1 base (base + size)) ≡ Some place
+    → place ≡ base
 exact-base items size base place found =
     let known = found-fits items (area_query size 1 base (base + size)) place found in
     let low : base ≤ place = known.low in

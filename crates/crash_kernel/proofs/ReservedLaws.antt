@@ -65,7 +65,8 @@ pub area-at : (items : List Item) (asked : CrashOptionView) (total : ℕ) (area 
 unfolding reserve_crash_area
 area-at items asked total area counted is = rw (is, counted) refl
 
-pub main-at : (items : List Item) (asked : CrashOptionView) (total : ℕ) (area : AreaRequest) (main : Option RangeView) → total ≡ memory_bytes (memory_of items)
+pub main-at : (items : List Item) (asked : CrashOptionView) (total : ℕ) (area : AreaRequest) (main : Option RangeView)
+    → total ≡ memory_bytes (memory_of items)
     → Some area ≡ request_for total asked → main ≡ main_range area.size area.placement items
     → reserve_crash_area asked items ≡ claim_area area (low_size asked) main items
 main-at items asked total area main counted is found = rw (area-at items asked total (Some area) counted is, found) refl
@@ -84,7 +85,8 @@ some-step (s ∷ ss) behind one = λ is. cc
 -- a change that ends with a written item, and then returns an outcome, has a step
 writes : (told : Crash) (items : List Item) (first : ChangeEffect) (refused : Option RefusedGrowth) (i : Item)
     (next : Unit {0} → StepEffect RefusedGrowth Crash) → first.refused ≡ refused
-    → continue_if_ok (followed_by first refused (write_item i items)).steps (fail_if_refused (followed_by first refused (write_item i items)).refused) next
+    → continue_if_ok (followed_by first refused (write_item i items)).steps
+    (fail_if_refused (followed_by first refused (write_item i items)).refused) next
     ≢ return_value told items
 writes told items first None i next same = λ is.
     some-step first.steps (next tt).steps (i ∷ []) (ap (λ (t : StepEffect RefusedGrowth Crash). t.steps) is)
@@ -97,4 +99,5 @@ pub claim-writes : (told : Crash) (items : List Item) (range : RangeView) (who :
 unfolding claim_range
 claim-writes told items range who next =
     let first : ChangeEffect = make_table_room which.Reserved (count_uncovered_pieces which.Reserved range) (reserved_growth range) items in
-    writes told items first first.refused (item.Claim range who) (λ done. next done (items_after_step items (make_change (claim_range range who) items))) refl
+    writes told items first first.refused (item.Claim range who) (λ done.
+    next done (items_after_step items (make_change (claim_range range who) items))) refl

@@ -58,7 +58,8 @@ record IsFound (items : List Item) (size hi : ℕ) (r : RangeView) : Type 0 wher
   main : IsMain items size r
   within : end_of r ≤ hi
 
-best_by : (items : List Item) (size lo hi : ℕ) (found : Option ℕ) (r : RangeView) → best_place items (area_query size 0x1000000 lo hi) ≡ found
+best_by : (items : List Item) (size lo hi : ℕ) (found : Option ℕ) (r : RangeView)
+    → best_place items (area_query size 0x1000000 lo hi) ≡ found
     → option_map (λ (base : ℕ). let e : RangeView = record { base = base; size = size } in e) found ≡ Some r → IsFound items size hi r
 best_by items size lo hi None r was is = absurd (none-some r is)
 best_by items size lo hi (Some place) r was is =
@@ -95,7 +96,8 @@ or_cases : (a b : Option RangeView) (r : RangeView) → option_or a b ≡ Some r
 or_cases None b r h = inr h
 or_cases (Some x) b r h = inl h
 
-main_found : (items : List Item) (size : ℕ) (where_to : Placement) (r : RangeView) → main_range size where_to items ≡ Some r → IsMain items size r
+main_found : (items : List Item) (size : ℕ) (where_to : Placement) (r : RangeView) → main_range size where_to items ≡ Some r
+    → IsMain items size r
 unfolding main_range
 main_found items size (placement.Fixed base) r is =
     fixed_by items size base
@@ -115,7 +117,8 @@ change_told : (change : Change) (items : List Item) (next : Unit {0} → StageSt
     → ((make_change change >>= next) items).answer ≡ Ok a → (next tt (items_after_step items (make_change change items))).answer ≡ Ok a
 change_told change items next a = by (change items).refused where
   by : (r : Option RefusedGrowth)
-      → (continue_if_ok (change items).steps (fail_if_refused r) (λ done. next done (items_after_step items (make_change change items)))).answer ≡ Ok a
+      → (continue_if_ok (change items).steps (fail_if_refused r) (λ done.
+      next done (items_after_step items (make_change change items)))).answer ≡ Ok a
       → (next tt (items_after_step items (make_change change items))).answer ≡ Ok a
   by None h = h
   by (Some r) h = cc
@@ -123,7 +126,8 @@ change_told change items next a = by (change items).refused where
 -- after the claim, by the range of the low part
 with_low_told : (asked : CrashOptionView) (items : List Item) (m main : RangeView) (low found : Option RangeView)
     → low_range (low_size asked) (items_after_claim m items) ≡ found → needs_low_part m (low_size asked) ≡ true
-    → (claim_low_part m found (items_after_claim m items)).answer ≡ Ok (crash.At main low) → HasLowPartIfNeeded asked items m low × (m ≡ main)
+    → (claim_low_part m found (items_after_claim m items)).answer ≡ Ok (crash.At main low)
+    → HasLowPartIfNeeded asked items m low × (m ≡ main)
 unfolding low_range
 with_low_told asked items m main low None is needs h =
     let told : ok crash.LowFailed ≡ Ok (crash.At main low) =
@@ -139,8 +143,10 @@ with_low_told asked items m main low (Some l) is needs h =
     (rw (← there) (needs, record { size = found.main.sized; free = found.main.free; within = found.within }), same)
 
 -- by whether a low part is needed
-needs_told : (asked : CrashOptionView) (items : List Item) (m main : RangeView) (low : Option RangeView) (b : Bool) → needs_low_part m (low_size asked) ≡ b
-    → ((if b then reserve_low_part m (low_size asked) else return_value (crash.At m None)) (items_after_claim m items)).answer ≡ Ok (crash.At main low)
+needs_told : (asked : CrashOptionView) (items : List Item) (m main : RangeView) (low : Option RangeView) (b : Bool)
+    → needs_low_part m (low_size asked) ≡ b
+    → ((if b then reserve_low_part m (low_size asked) else return_value (crash.At m None)) (items_after_claim m items)).answer
+    ≡ Ok (crash.At main low)
     → HasLowPartIfNeeded asked items m low × (m ≡ main)
 unfolding reserve_low_part
 needs_told asked items m main low true is h =

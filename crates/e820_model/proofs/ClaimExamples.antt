@@ -37,7 +37,8 @@ later_does_not_win =
 
 -- settling leaves only ACPI data at 1 MiB, and adds no claim
 settled_examples : (settled_claims (claims_of_entries ram_and_acpi) 0x100000 3 ≡ true)
-    × (settled_claims (claims_of_entries ram_and_acpi) 0x100000 1 ≡ false) × (settled_claims (claims_of_entries ram_and_acpi) 0x200000 0 ≡ false)
+    × (settled_claims (claims_of_entries ram_and_acpi) 0x100000 1 ≡ false)
+    × (settled_claims (claims_of_entries ram_and_acpi) 0x200000 0 ≡ false)
 settled_examples = (rw later_does_not_win refl, rw later_does_not_win refl, refl)
 
 -- each edit of the page at 0x1000: `memmap=4K@0x1000` and the like
@@ -51,7 +52,8 @@ add_examples : (after_edit (edit.Add page 2) ram_and_nvs 0x1FFF 2 ≡ true) × (
     × (after_edit (edit.Add page 2) ram_and_nvs 0x2000 2 ≡ false)
 add_examples = (refl, refl, refl)
 
-remove_examples : (after_edit (edit.Remove page 1) ram_and_nvs 0x1000 1 ≡ false) × (after_edit (edit.Remove page 1) ram_and_nvs 0x1000 4 ≡ true)
+remove_examples : (after_edit (edit.Remove page 1) ram_and_nvs 0x1000 1 ≡ false)
+    × (after_edit (edit.Remove page 1) ram_and_nvs 0x1000 4 ≡ true)
     × (after_edit (edit.Remove page 1) ram_and_nvs 0xFFF 1 ≡ true)
 remove_examples = (refl, refl, refl)
 
@@ -82,7 +84,8 @@ change_examples = (refl, refl, refl)
 
 -- the trim reserves the first page but not the second, and removes RAM from 640 KiB up but not below
 trim_examples : (after_bios_trim (claims_of_entries ram_and_acpi) 0xFFF 2 ≡ true)
-    × (after_bios_trim (claims_of_entries ram_and_acpi) 0x1000 1 ≡ true) × (after_bios_trim (claims_of_entries ram_and_acpi) 0xA0000 1 ≡ false)
+    × (after_bios_trim (claims_of_entries ram_and_acpi) 0x1000 1 ≡ true)
+    × (after_bios_trim (claims_of_entries ram_and_acpi) 0xA0000 1 ≡ false)
     × (after_bios_trim (claims_of_entries ram_and_acpi) 0x9FFFF 1 ≡ true)
 trim_examples = (refl, refl, refl, refl)
 
@@ -119,7 +122,8 @@ abbrev third_claims : Claims
 third_claims = with_claims (after_edits edits second_claims) (claims_of_entries efi)
 
 changed : (x t u : ℕ) → type_of (with_claims first_claims (claims_of_entries extension)) x ≡ t → u < 2 ^ 32
-    → (0 < u → (after_edit (edit.Add (record { base = 0x100000; size = 0x81000 }) 2) (λ y. alone t) x u || claims_of_entries efi x u) ≡ true)
+    → (0 < u → (after_edit (edit.Add (record { base = 0x100000; size = 0x81000 }) 2) (λ y. alone t) x u || claims_of_entries efi x u)
+    ≡ true)
     → ((k : ℕ) → u < k → k < 2 ^ 32
     → (after_edit (edit.Add (record { base = 0x100000; size = 0x81000 }) 2) (λ y. alone t) x k || claims_of_entries efi x k) ≡ false)
     → type_of third_claims x ≡ u
@@ -149,7 +153,8 @@ ram_before =
     greatest_is (claims_of_entries ram_and_acpi 0x190000) 1 (omega arith) (λ some. refl) (λ k higher small. grind (arith, nat_tests)) in
     extended 0x190000 1 1 ram (omega arith) (λ some. refl) (λ k higher small. grind (arith, nat_tests))
 
-efi_wins : (final_claims ram_and_acpi extension edits efi 0x190000 3 ≡ true) × (final_claims ram_and_acpi extension edits efi 0x190000 1 ≡ false)
+efi_wins : (final_claims ram_and_acpi extension edits efi 0x190000 3 ≡ true)
+    × (final_claims ram_and_acpi extension edits efi 0x190000 1 ≡ false)
 efi_wins =
     let acpi : type_of third_claims 0x190000 ≡ 3 =
     changed 0x190000 1 3 ram_before (omega arith) (λ some. refl) (λ k higher small. grind (arith, nat_tests)) in
@@ -173,7 +178,8 @@ ram_until_the_trim x low =
     extended x 1 1 ram (omega arith) (λ some. grind (arith, nat_tests)) (λ k higher small. grind (arith, nat_tests)) in
     changed x 1 1 still (omega arith) (λ some. grind (arith, nat_tests)) (λ k higher small. grind (arith, nat_tests))
 
-first_byte_in_the_map : (final_claims ram_and_acpi extension edits efi 0 2 ≡ true) × (final_claims ram_and_acpi extension edits efi 0 1 ≡ false)
+first_byte_in_the_map : (final_claims ram_and_acpi extension edits efi 0 2 ≡ true)
+    × (final_claims ram_and_acpi extension edits efi 0 1 ≡ false)
 first_byte_in_the_map = let ram : type_of third_claims 0 ≡ 1 = ram_until_the_trim 0 (omega arith) in (rw ram refl, rw ram refl)
 
 ram_below_640K : (final_claims ram_and_acpi extension edits efi 0xA0000 1 ≡ false)

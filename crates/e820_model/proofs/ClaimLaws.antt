@@ -90,7 +90,8 @@ greatest_small s =
       | inr ge ↦ omega arith
     ]
 
-pub greatest_is : (s : Types) (m : ℕ) → m < 2 ^ 32 → (0 < m → s m ≡ true) → ((k : ℕ) → m < k → k < 2 ^ 32 → s k ≡ false) → greatest_type s ≡ m
+pub greatest_is : (s : Types) (m : ℕ) → m < 2 ^ 32 → (0 < m → s m ≡ true) → ((k : ℕ) → m < k → k < 2 ^ 32 → s k ≡ false)
+    → greatest_type s ≡ m
 unfolding greatest_type
 greatest_is s m small is_in none = below_is s (2 ^ 32) m small is_in none
 
@@ -125,7 +126,8 @@ finished_one entries extension edits added x j k at_j at_k =
 
 -- if no entries are added, the claims are those of the edits
 pub none_added : (entries extension : List Entry) (edits : List Edit)
-    → final_claims entries extension edits [] ≡ after_bios_trim (settled_claims (after_edits edits (with_extension extension (zero_page_claims entries))))
+    → final_claims entries extension edits []
+    ≡ after_bios_trim (settled_claims (after_edits edits (with_extension extension (zero_page_claims entries))))
 none_added entries extension edits =
     let before : Claims = after_edits edits (with_extension extension (zero_page_claims entries)) in
     let same : with_claims before (claims_of_entries []) ≡ before = λ i x k. or-false (before x k) i in

@@ -18,7 +18,8 @@ kernel_inside =
     value_at (record { base = 0x800; size = 0x1000; value = 1 } ∷ record { base = 0x1800; size = 0x1000; value = 128 }
     ∷ record { base = 0x2800; size = 0x1000; value = 1 } ∷ [])
 
-frame_examples : (is_usable_frame kernel_inside 0 ≡ false) × (is_usable_frame kernel_inside 1 ≡ true) × (is_usable_frame kernel_inside 2 ≡ true)
+frame_examples : (is_usable_frame kernel_inside 0 ≡ false) × (is_usable_frame kernel_inside 1 ≡ true)
+    × (is_usable_frame kernel_inside 2 ≡ true)
     × (is_usable_frame kernel_inside 3 ≡ false) × (count_below (is_usable_frame kernel_inside) 5 ≡ 2)
 unfolding kernel_inside each_from each_in count_below is_usable_frame
 frame_examples = (refl, refl, refl, refl, refl)

@@ -94,7 +94,8 @@ bios_area = record { base = 0xA0000; size = 0x60000 }
 -- the claims after trimming (`trim_bios_range`): RAM in the first page becomes reserved, and RAM
 -- from 640 KiB to 1 MiB is removed
 abbrev pub after_bios_trim : Claims → Claims
-after_bios_trim c = after_edit (edit.Remove bios_area E820_TYPE_RAM) (after_edit (edit.Change first_page E820_TYPE_RAM E820_TYPE_RESERVED) c)
+after_bios_trim c =
+    after_edit (edit.Remove bios_area E820_TYPE_RAM) (after_edit (edit.Change first_page E820_TYPE_RAM E820_TYPE_RESERVED) c)
 
 -- step 1: the zero page's entries, settled (`e820__memory_setup`)
 abbrev pub zero_page_claims : List Entry → Claims

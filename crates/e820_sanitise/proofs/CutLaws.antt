@@ -73,7 +73,8 @@ pub remove_same : (range : RangeView) (kind : ℕ) (rs : List (RunOf ℕ))
     → claims_of (cut_out range (Some kind) None rs) ≡ after_edit (edit.Remove range kind) (claims_of rs)
 remove_same range kind [] = refl
 remove_same range kind (r ∷ rs) =
-    alike _ _ (λ x k. claims_append_at (parts_of_claim range (type_inside (Some kind) None r.value) r) (cut_out range (Some kind) None rs) x k
+    alike _ _ (λ x k.
+    claims_append_at (parts_of_claim range (type_inside (Some kind) None r.value) r) (cut_out range (Some kind) None rs) x k
     ∙ rw (parts_test range (type_inside (Some kind) None r.value) r x k, remove_same range kind rs)
     (remove_step (lies_in r x) (covers range x) (claims_of rs x k) r.value kind k))
 
@@ -109,7 +110,8 @@ claim_test e x k =
 
 entries_test : (es : List Entry) (x k : ℕ) → claims_of (flat_map type_claim_of_entry es) x k ≡ claims_of_entries es x k
 entries_test [] x k = refl
-entries_test (e ∷ es) x k = claims_append_at (type_claim_of_entry e) (flat_map type_claim_of_entry es) x k ∙ rw (claim_test e x k, entries_test es x k) refl
+entries_test (e ∷ es) x k =
+    claims_append_at (type_claim_of_entry e) (flat_map type_claim_of_entry es) x k ∙ rw (claim_test e x k, entries_test es x k) refl
 
 pub entries_same : (rs : List (RunOf ℕ)) (es : List Entry)
     → claims_of (rs ++ flat_map type_claim_of_entry es) ≡ with_claims (claims_of rs) (claims_of_entries es)

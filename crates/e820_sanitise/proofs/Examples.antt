@@ -25,7 +25,8 @@ part_in_the_middle = refl
 part_at_the_front : parts_of_claim (range 4 2) None (run 5 10 1) ≡ run 6 9 1 ∷ []
 part_at_the_front = refl
 
-nothing_inside : (parts_of_claim (range 0 5) (Some 7) (run 5 10 1) ≡ run 5 10 1 ∷ []) × (parts_of_claim (range 15 5) (Some 7) (run 5 10 1) ≡ run 5 10 1 ∷ [])
+nothing_inside : (parts_of_claim (range 0 5) (Some 7) (run 5 10 1) ≡ run 5 10 1 ∷ [])
+    × (parts_of_claim (range 15 5) (Some 7) (run 5 10 1) ≡ run 5 10 1 ∷ [])
 nothing_inside = (refl, refl)
 
 meant_types : (is_type_to_cut None 3 ≡ true) × (is_type_to_cut (Some 3) 3 ≡ true) × (is_type_to_cut (Some 1) 3 ≡ false)
@@ -45,7 +46,8 @@ all_removed = refl
 
 -- an empty entry and one of type 0 have no claim
 claims_of_one_entry : (type_claim_of_entry (record { addr = 4; size = 2; kind = 1 }) ≡ run 4 2 1 ∷ [])
-    × (type_claim_of_entry (record { addr = 4; size = 0; kind = 1 }) ≡ []) × (type_claim_of_entry (record { addr = 4; size = 2; kind = 0 }) ≡ [])
+    × (type_claim_of_entry (record { addr = 4; size = 0; kind = 1 }) ≡ [])
+    × (type_claim_of_entry (record { addr = 4; size = 2; kind = 0 }) ≡ [])
 claims_of_one_entry = (refl, refl, refl)
 
 -- a map of 3,201 runs is too long, and the fault states that number; one of 3,200 runs isn't

@@ -26,7 +26,8 @@ one_run : (size : ℕ) → 0 < size → Ascend (ram size)
 one_run size some = (some, tt, tt)
 
 -- the usable frames of that RAM are the whole frames below its end
-frames_of_ram : (size : ℕ) → 0 < size → usable_frames (types_below limit (value_at (ram size))) ≡ count_whole_frames 0 (min (0 + size) limit)
+frames_of_ram : (size : ℕ) → 0 < size
+    → usable_frames (types_below limit (value_at (ram size))) ≡ count_whole_frames 0 (min (0 + size) limit)
 frames_of_ram size some = sym (frames_usable limit (omega arith) (ram size) (one_run size some))
 
 -- two pages of RAM are two usable frames

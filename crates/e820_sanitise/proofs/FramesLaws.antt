@@ -128,7 +128,8 @@ both_frames limit p q gap apart =
     ap (λ t. count_below (all_bytes t) (2 ^ 52)) (λ i x. either x i) ∙ count_split near far gap (2 ^ 52) still
 
 -- the count along the runs is the number of whole frames of memory
-pub frames_counted : (limit : ℕ) → limit < 2 ^ 64 → (rs : List (RunOf ℕ)) (from until : ℕ) → from ≤ until → StartAtOrPast until rs → Ascend rs
+pub frames_counted : (limit : ℕ) → limit < 2 ^ 64 → (rs : List (RunOf ℕ)) (from until : ℕ) → from ≤ until → StartAtOrPast until rs
+    → Ascend rs
     → frames_from limit from until rs ≡ frames_of limit (memory_after from until rs)
 frames_counted limit space [] from until order start runs =
     stretch_frames limit from until space

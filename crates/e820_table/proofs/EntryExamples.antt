@@ -48,7 +48,8 @@ unfolding entry_at
 first_entries_examples = (refl, refl)
 
 -- the sum 2^64 - 1 isn't too far, and 2^64 is
-too_far_examples : (is_entry_too_far last ≡ false) × (is_entry_too_far (record { addr = 0x1000; size = 0xFFFFFFFFFFFFF000; kind = 2 }) ≡ true)
+too_far_examples : (is_entry_too_far last ≡ false)
+    × (is_entry_too_far (record { addr = 0x1000; size = 0xFFFFFFFFFFFFF000; kind = 2 }) ≡ true)
 too_far_examples = (refl, refl)
 
 -- the least index of two that are too far; none if the one that is too far is third of the two

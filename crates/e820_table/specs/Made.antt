@@ -40,7 +40,8 @@ made_entry index base x = record {
 unfoldable pub made_entries_from : ℕ → ℕ → ℕ → ℕ → List Entry
 made_entries_from zero index base x = []
 made_entries_from (suc n) index base x =
-    made_entry index base (next_generator_state x) ∷ made_entries_from n (index + 1) (base + FRAME_SIZE * frames_of_entry (next_generator_state x)) (next_generator_state x)
+    made_entry index base (next_generator_state x)
+    ∷ made_entries_from n (index + 1) (base + FRAME_SIZE * frames_of_entry (next_generator_state x)) (next_generator_state x)
 
 -- all entries of the made table of `count` entries; the generator is seeded with `count`
 abbrev pub made_entries : ℕ → List Entry

@@ -34,7 +34,8 @@ end_by : (limit : ℕ) (f : TypeAt) (found : Option ℕ) → last_below (is_usab
 end_by limit f None is = record {
   by = λ frame usable.
       let low = low_frame limit f frame usable in
-      absurd (true≢false (sym usable ∙ last_below-none (is_usable_frame (types_below limit f)) (limit / 4096) is frame (omega (arith, low))));
+      absurd (true≢false (sym usable
+      ∙ last_below-none (is_usable_frame (types_below limit f)) (limit / 4096) is frame (omega (arith, low))));
   last = λ some. absurd (omega (arith, some));
 }
 end_by limit f (Some a) is =

@@ -52,7 +52,8 @@ behind i items n m a b few small rooms reserved memory = record {
 -- a range that is added to a table of few records needs no growth
 covers_few : (w : Which) (r : RangeView) (items : List Item) (n : ℕ) → end_of r ≤ 2 ^ 64 → 2 * n + 1 ≤ 128 → room_of w items ≡ 128
     → NothingFrom (2 ^ 64) (table_of w items) → length (records_for (table_of w items)) ≤ n
-    → (is_full w (count_uncovered_pieces w r) items ≡ false) × (length (records_for (cover_range r plain_label (table_of w items))) ≤ 2 * n + 1)
+    → (is_full w (count_uncovered_pieces w r) items ≡ false)
+    × (length (records_for (cover_range r plain_label (table_of w items))) ≤ 2 * n + 1)
 unfolding records_of
 covers_few w r items n small low room within few =
     let some = few-pieces r (table_of w items) small within in

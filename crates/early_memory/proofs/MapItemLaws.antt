@@ -74,7 +74,8 @@ added_memory limit rs x runs =
 pub trimmed_memory : (t : TypeAt) (g : Labels) → ((x : ℕ) → g x ≡ (if is_memory (t x) then Some plain_label else None))
     → (x : ℕ) → trim_frames g x ≡ (if is_usable_frame t (x / 4096) then Some plain_label else None)
 trimmed_memory t g each x =
-    elim (cases_Bool (is_usable_frame t (x / 4096))) as (λ _. trim_frames g x ≡ (if is_usable_frame t (x / 4096) then Some plain_label else None)) [
+    elim (cases_Bool (is_usable_frame t (x / 4096))) as (λ _.
+    trim_frames g x ≡ (if is_usable_frame t (x / 4096) then Some plain_label else None)) [
       | inl usable ↦
           (let held : (y : ℕ) → IsInFrame x y → g y ≡ Some plain_label = λ y within. (
           let above = within.above in

@@ -65,7 +65,8 @@ pub first_memory : (e : EarlyInputs) (map : List (RunOf ℕ)) (items : List Item
     → (x : ℕ) → memory_of items x ≡ mirrored_memory e.mirrors (usable_memory e.limit (value_at map)) x
 first_memory e map items runs ends x =
     ap (λ (h : Labels). h x) (memory_of-same items (first_items e map) (carried-memory (first_items e map) [] items ends))
-    ∙ mapped e map (item.Limit (memory_end e.limit (value_at map)) ∷ item.Claim (range_up_to ISA_END_ADDRESS) owner.Low1M ∷ []) runs (λ f. refl) x
+    ∙ mapped e map (item.Limit (memory_end e.limit (value_at map)) ∷ item.Claim (range_up_to ISA_END_ADDRESS) owner.Low1M ∷ []) runs (λ f.
+    refl) x
 
 pub first_limit : (e : EarlyInputs) (map : List (RunOf ℕ)) (items : List Item) → carry_out_items (first_items e map) [] ≡ Ok items
     → limit_of items ≡ memory_end e.limit (value_at map)

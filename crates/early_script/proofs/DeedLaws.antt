@@ -21,11 +21,14 @@ pub record Ran (r : Result Outcome Memory) (old new : ScriptState) (f g : ℕ �
   pub acts : EndsAsLine r old new d
   pub answered : OnlyAnswers old d → IsOk r
   pub bytes : (x : ℕ) → g x ≡ byte_after_line r old new d x (f x)
-  pub holds : (fills : List Fill) → AreBytesFromHistory old.kernel old.items fills f → AreBytesFromHistory new.kernel new.items (fills_after_line r d fills) g
+  pub holds : (fills : List Fill) → AreBytesFromHistory old.kernel old.items fills f
+      → AreBytesFromHistory new.kernel new.items (fills_after_line r d fills) g
 
 -- by the deed of the act, from the IDs and the memblock before to those after
 abbrev pub RanAct : Result Outcome Memory → LiveView → MemblockView → LiveView → MemblockView → Act → Type 0
-RanAct r ids m next n a = Ran r (state_of_memblock ids m) (state_of_memblock next n) (memblock_bytes m) (memblock_bytes n) (act_effect (state_of_memblock ids m) (memblock_bytes m) a)
+RanAct r ids m next n a =
+    Ran r (state_of_memblock ids m) (state_of_memblock next n) (memblock_bytes m) (memblock_bytes n)
+    (act_effect (state_of_memblock ids m) (memblock_bytes m) a)
 
 -- by an equal act, also if its deed fills nothing
 module _ (r : Result Outcome Memory) (ids : LiveView) (m : MemblockView) (next : LiveView) (n : MemblockView) (a b : Act) (is : a ≡ b) where
@@ -47,4 +50,6 @@ module _ (r : Result Outcome Memory) (ids : LiveView) (m : MemblockView) (next :
       → Follows m.kernel m.journal.items n.journal.items (memblock_bytes m) (memblock_bytes n) → RanAct r ids m next n a
   ran-quiet none acts follows =
       ran-as acts (bytes-quiet r (state_of_memblock ids m) (state_of_memblock next n) d (memblock_bytes m) (memblock_bytes n) none follows)
-      (λ fills holds. holds-quiet r (state_of_memblock ids m) (state_of_memblock next n) d (memblock_bytes m) (memblock_bytes n) fills none acts follows holds)
+      (λ fills holds.
+      holds-quiet r (state_of_memblock ids m) (state_of_memblock next n) d (memblock_bytes m)
+      (memblock_bytes n) fills none acts follows holds)

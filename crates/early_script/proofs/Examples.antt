@@ -49,7 +49,8 @@ items = item.Claim kernel owner.Kernel ∷ item.Claim first (owner.Script 1) ∷
     ∷ item.Free (at_base 0x201 1)
     ∷ []
 
-owned_examples : (is_owned_by (owner_of items) (owner.Script 1) first ≡ true) × (is_owned_by (owner_of items) (owner.Script 5) second ≡ false)
+owned_examples : (is_owned_by (owner_of items) (owner.Script 1) first ≡ true)
+    × (is_owned_by (owner_of items) (owner.Script 5) second ≡ false)
     × (is_owned_by (owner_of items) (owner.Script 5) first ≡ false)
 unfolding is_owned_by each_in each_from
 owned_examples = (refl, refl, refl)
@@ -128,7 +129,8 @@ fill_wants m same holds = record {
   holds = holds;
 }
 
-free_out : (later : ScriptState) (count : ℕ) (line : Line) → take (count + 1) (frees_none ∷ []) ≡ take count (frees_none ∷ []) ++ line ∷ [] →
+free_out : (later : ScriptState) (count : ℕ) (line : Line) → take (count + 1) (frees_none ∷ []) ≡ take count (frees_none ∷ []) ++ line ∷ []
+    →
     RunsOutDuringLine (script_after_lines begun (take count (frees_none ∷ []))).state later
     (line_effect (script_after_lines begun (take count (frees_none ∷ []))) line) → ⊥
 unfolding act_effect
@@ -142,6 +144,7 @@ free_out later zero line next amid =
 free_out later (suc k) line next amid =
     absurd (omega (arith, simp (length-take, length-append) at (ap (λ (ls : List Line). length ls) next)))
 
-free_wants_none : (m : MemblockView) (later : LiveView) (answer_only : List Answer) → ¬ RunsOutDuringLines begun (frees_none ∷ []) later m answer_only
+free_wants_none : (m : MemblockView) (later : LiveView) (answer_only : List Answer)
+    → ¬ RunsOutDuringLines begun (frees_none ∷ []) later m answer_only
 unfolding act_effect
 free_wants_none m later answer_only ends = free_out (state_of_memblock later m) ends.count ends.line ends.next ends.amid

@@ -31,5 +31,6 @@ holds-quiet r old new d f g fills none acts follows holds =
 
 -- with an equal deed
 pub holds-by : (r : Result Outcome Memory) (new : ScriptState) (d e : LineEffect) (g : ℕ → ℕ) (fills : List Fill) → d ≡ e →
-    AreBytesFromHistory new.kernel new.items (fills_after_line r e fills) g → AreBytesFromHistory new.kernel new.items (fills_after_line r d fills) g
+    AreBytesFromHistory new.kernel new.items (fills_after_line r e fills) g
+    → AreBytesFromHistory new.kernel new.items (fills_after_line r d fills) g
 holds-by r new d e g fills same holds = rw same holds

@@ -12,12 +12,14 @@ with_at Less id range e es more some known rest = (some, known)
 with_at Equal id range e es more some known rest = (some, known.1)
 with_at Greater id range e es more some known rest = (known.0, rest)
 
-pub bytes-with : (ids : LiveView) (id : ℕ) (range : RangeView) → 0 < range.size → RangesHaveBytes ids → RangesHaveBytes (with_range ids id range)
+pub bytes-with : (ids : LiveView) (id : ℕ) (range : RangeView) → 0 < range.size → RangesHaveBytes ids
+    → RangesHaveBytes (with_range ids id range)
 bytes-with [] id range some known = (some, tt)
 bytes-with (e ∷ es) id range some known =
     with_at (nat_cmp id e.0) id range e es (with_range es id range) some known (bytes-with es id range some known.1)
 
-without_at : (here : Bool) (e : ℕ × RangeView) (es more : LiveView) → RangesHaveBytes (e ∷ es) → RangesHaveBytes more → RangesHaveBytes (cond here es (e ∷ more))
+without_at : (here : Bool) (e : ℕ × RangeView) (es more : LiveView) → RangesHaveBytes (e ∷ es) → RangesHaveBytes more
+    → RangesHaveBytes (cond here es (e ∷ more))
 without_at true e es more known rest = known.1
 without_at false e es more known rest = (known.0, rest)
 

@@ -22,7 +22,8 @@ use Rattle.early_script.proofs.StageLaws.{script_after_lines-append, act_effect-
 pub out-amid : (start : ScriptSoFar) (lines : List Line) (i : ℕ) (line : Line) (ids later : LiveView) (m next : MemblockView)
     (answers : List Answer) → take (i + 1) lines ≡ take i lines ++ line ∷ [] →
     HasReached (script_after_lines start (take i lines)) ids m answers →
-    RunsOutDuringLine (state_of_memblock ids m) (state_of_memblock later next) (act_effect (state_of_memblock ids m) (memblock_bytes m) line.act) →
+    RunsOutDuringLine (state_of_memblock ids m) (state_of_memblock later next)
+    (act_effect (state_of_memblock ids m) (memblock_bytes m) line.act) →
     ((fills : List Fill) → AreBytesFromHistory m.kernel m.journal.items fills (memblock_bytes m) →
     AreBytesFromHistory next.kernel next.journal.items fills (memblock_bytes next)) → RunsOutDuringLines start lines later next answers
 out-amid start lines i line ids later m next answers more reached amid holds =
@@ -71,13 +72,15 @@ cut-goes-on old new o cut =
       on = rw (cut.stands, append_assoc, ← items_of_steps-append (take cut.count o.steps) rest, take-append-drop cut.count o.steps) refl;
     }
 
-script_after_lines-both : (s : ScriptSoFar) (a b : List Line) → script_after_lines s (a ++ b) ≡ script_after_lines (script_after_lines s a) b
+script_after_lines-both : (s : ScriptSoFar) (a b : List Line)
+    → script_after_lines s (a ++ b) ≡ script_after_lines (script_after_lines s a) b
 script_after_lines-both s [] b = refl
 script_after_lines-both s (line ∷ a) b = script_after_lines-both (script_after_line s line) a b
 
 -- all lines are those that were run, the next one, and those after it
 all-lines : (start : ScriptSoFar) (lines : List Line) (i : ℕ) (line : Line) → take (i + 1) lines ≡ take i lines ++ line ∷ [] →
-    script_after_lines start lines ≡ script_after_lines (script_after_line (script_after_lines start (take i lines)) line) (drop (i + 1) lines)
+    script_after_lines start lines
+    ≡ script_after_lines (script_after_line (script_after_lines start (take i lines)) line) (drop (i + 1) lines)
 all-lines start lines i line more =
     let rest = drop (i + 1) lines in
     ap (script_after_lines start) (sym (take-append-drop (i + 1) lines)) ∙ script_after_lines-both start (take (i + 1) lines) rest

@@ -31,9 +31,11 @@ either false d e first second = second
 
 alloc_effect_at-quiet : (s : ScriptState) (id size : ℕ) (place : Option ℕ) → IsQuietDeed (alloc_effect_at s id size place)
 alloc_effect_at-quiet s id size None = by_change (answer_only s outcomes.NoGap) no_change-quiet
-alloc_effect_at-quiet s id size (Some place) = record { change = claim_range-quiet (record { base = place; size = size }) (owner.Script id) }
+alloc_effect_at-quiet s id size (Some place) =
+    record { change = claim_range-quiet (record { base = place; size = size }) (owner.Script id) }
 
-whole-quiet : (s : ScriptState) (id : ℕ) (act_effect : RangeView → LineEffect) (range : Option RangeView) → ((r : RangeView) → IsQuietDeed (act_effect r)) →
+whole-quiet : (s : ScriptState) (id : ℕ) (act_effect : RangeView → LineEffect) (range : Option RangeView)
+    → ((r : RangeView) → IsQuietDeed (act_effect r)) →
     IsQuietDeed (act_on_owned_range s id act_effect range)
 whole-quiet s id act_effect None quiet = by_change (answer_only s outcomes.Unknown) no_change-quiet
 whole-quiet s id act_effect (Some range) quiet = search (either, quiet, by_change, no_change-quiet)
@@ -50,7 +52,8 @@ act_effect-quiet s bytes a = by_change _ no_change-quiet
 -- what quiet steps don't change, an act doesn't change, however it ends
 pub acts-keep : {X : Type 0} (f : List Item → X) →
     ((items : List Item) (o : ChangeEffect) → StepsKeepMemory o.steps → f (items_after_change items o) ≡ f items) →
-    (r : Result Outcome Memory) (old new : ScriptState) (d : LineEffect) → IsQuietDeed d → EndsAsLine r old new d → f new.items ≡ f old.items
+    (r : Result Outcome Memory) (old new : ScriptState) (d : LineEffect) → IsQuietDeed d → EndsAsLine r old new d
+    → f new.items ≡ f old.items
 acts-keep f keeps (Ok answer) old new d quiet acts =
     ap (λ (s : ScriptState). f s.items) acts.1 ∙ keeps old.items (d.change old.items) (quiet.change.each old.items)
 acts-keep f keeps (Err memory) old new d quiet acts =

@@ -15,7 +15,8 @@ use Rattle.early_script.specs.declared.outcome.Outcome.{Outcome}
 use Rattle.early_script.specs.Effects.{ScriptState, LineEffect, RunsOutDuringChange, OnlyAnswers, EndsAsLine, alloc_effect, reserve_effect, free_effect, trim_effect, byte_after_line}
 
 -- out of memory: some of the steps are written, or all
-pub ran-cut : (takes : Bool) (old new : List Item) (o : growth.ChangeEffect) → RunsOutDuringChange takes old new o → WritesFirstSteps old new o.steps
+pub ran-cut : (takes : Bool) (old new : List Item) (o : growth.ChangeEffect) → RunsOutDuringChange takes old new o
+    → WritesFirstSteps old new o.steps
 ran-cut takes old new o ran =
     elim ran as (λ _. WritesFirstSteps old new o.steps) [
       | inl cut ↦ cut-short old new o.steps cut
@@ -27,7 +28,8 @@ ran-cut takes old new o ran =
     ]
 
 -- a line that only returns an outcome can't be out of memory
-pub only-answers : (r : Result Outcome Memory) (old new : ScriptState) (d : LineEffect) → OnlyAnswers old d → EndsAsLine r old new d → IsOk r
+pub only-answers : (r : Result Outcome Memory) (old new : ScriptState) (d : LineEffect) → OnlyAnswers old d → EndsAsLine r old new d
+    → IsOk r
 only-answers (Ok answer) old new d only acts = refl
 only-answers (Err memory) old new d only acts =
     let none = ap (λ (o : growth.ChangeEffect). length o.steps) only.unchanged in

@@ -60,7 +60,8 @@ comment-clean false r clean = clean
 
 read_line-clean : (words : Words) → IsCleanLine (act_by_forms (act_by_name true) words)
 read_line-clean [] = tt
-read_line-clean (name ∷ words) = comment-clean (is_comment name) _ (some-clean (act_by_name true name words) (act_by_name-clean name words).known)
+read_line-clean (name ∷ words) =
+    comment-clean (is_comment name) _ (some-clean (act_by_name true name words) (act_by_name-clean name words).known)
 
 -- nor do the lines after the one that did
 abbrev AreClean : Result (List Line) (ℕ × Wrong) → Type 0
@@ -69,7 +70,8 @@ AreClean (Err fault) = Unit {0}
 
 abbrev then_line : ℕ → Result (Option Act) Wrong → (Option Act → Result (List Line) (ℕ × Wrong)) → Result (List Line) (ℕ × Wrong)
 then_line number_in_word r rest =
-    with_error (λ wrong. (number_in_word, wrong)) r >>= λ act. rest act >>= λ lines. Ok (cons_option (script_line_at script_lines number_in_word act) lines)
+    with_error (λ wrong. (number_in_word, wrong)) r >>= λ act. rest act >>= λ lines.
+    Ok (cons_option (script_line_at script_lines number_in_word act) lines)
 
 line-clean : (number_in_word : ℕ) (r : Result (Option Act) Wrong) (rest : Result (List Line) (ℕ × Wrong)) → IsCleanLine r → AreClean rest →
     AreClean (then_line number_in_word r (λ act. rest))
@@ -116,7 +118,8 @@ line-once number_in_word (Err w) rest clean once = tt
 lines-once : (number_in_word : ℕ) (texts : List (List ℕ)) → IsOnce (script_lines_from script_lines false number_in_word texts)
 lines-once number_in_word [] = All-nil (λ l. CanBeRun l.act)
 lines-once number_in_word (text ∷ texts) =
-    line-once number_in_word (read_line script_lines false text) (λ seen. script_lines_from script_lines seen (number_in_word + 1) texts) (lines-clean (number_in_word + 1) texts)
+    line-once number_in_word (read_line script_lines false text) (λ seen.
+    script_lines_from script_lines seen (number_in_word + 1) texts) (lines-clean (number_in_word + 1) texts)
     (lines-once (number_in_word + 1) texts)
 
 pub script-once : (bytes : List ℕ) (lines : List Line) → script_of bytes ≡ Ok lines → PlacesSectionsOnce lines

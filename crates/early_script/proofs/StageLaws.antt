@@ -21,7 +21,8 @@ use Rattle.early_script.specs.Effects.{ScriptState, CanBeRun, EndsAsLine, add_fi
 use Rattle.early_script.specs.FromMemblock.{state_of_memblock, memblock_bytes}
 use Rattle.early_script.specs.Lines.{ScriptSoFar, HasReached, line_effect, script_after_line, script_after_lines, before_sections, lines_after_sections}
 
-pub script_after_lines-append : (s : ScriptSoFar) (lines : List Line) (line : Line) → script_after_lines s (lines ++ line ∷ []) ≡ script_after_line (script_after_lines s
+pub script_after_lines-append : (s : ScriptSoFar) (lines : List Line) (line : Line)
+    → script_after_lines s (lines ++ line ∷ []) ≡ script_after_line (script_after_lines s
     lines) line
 script_after_lines-append s [] line = refl
 script_after_lines-append s (l ∷ lines) line = script_after_lines-append (script_after_line s l) lines line
@@ -35,22 +36,27 @@ pub begun-along : (items more longer : List Item) → longer ≡ items ++ more �
 begun-along items more longer goes begun = rw goes (more-begun items more begun)
 
 -- the deed of a line in the state that the stage has reached
-pub act_effect-reached : (s : ScriptSoFar) (ids : LiveView) (m : MemblockView) (answers : List Answer) (line : Line) → HasReached s ids m answers →
+pub act_effect-reached : (s : ScriptSoFar) (ids : LiveView) (m : MemblockView) (answers : List Answer) (line : Line)
+    → HasReached s ids m answers →
     act_effect (state_of_memblock ids m) (memblock_bytes m) line.act ≡ line_effect s line
 act_effect-reached s ids m answers line reached =
     let bytes : memblock_bytes m ≡ byte_from_history m.kernel m.journal.items s.fills = λ j x. reached.holds.each x j in
     rw bytes (ap (λ (t : ScriptState). act_effect t (byte_from_history t.kernel t.items s.fills) line.act) reached.state)
 
-pub reaches-line : (s : ScriptSoFar) (ids after_ids : LiveView) (m next : MemblockView) (answers : List Answer) (line : Line) (outcome : Outcome) →
+pub reaches-line : (s : ScriptSoFar) (ids after_ids : LiveView) (m next : MemblockView) (answers : List Answer) (line : Line)
+    (outcome : Outcome) →
     HasReached s ids m answers →
-    EndsAsLine (Ok outcome) (state_of_memblock ids m) (state_of_memblock after_ids next) (act_effect (state_of_memblock ids m) (memblock_bytes m) line.act) →
+    EndsAsLine (Ok outcome) (state_of_memblock ids m) (state_of_memblock after_ids next)
+    (act_effect (state_of_memblock ids m) (memblock_bytes m) line.act) →
     ((fills : List Fill) → AreBytesFromHistory m.kernel m.journal.items fills (memblock_bytes m) →
-    AreBytesFromHistory next.kernel next.journal.items (add_fill fills (act_effect (state_of_memblock ids m) (memblock_bytes m) line.act).fill) (memblock_bytes next)) →
+    AreBytesFromHistory next.kernel next.journal.items
+    (add_fill fills (act_effect (state_of_memblock ids m) (memblock_bytes m) line.act).fill) (memblock_bytes next)) →
     HasReached (script_after_line s line) after_ids next (answers ++ record { line = line.number; outcome = outcome } ∷ [])
 reaches-line s ids after_ids m next answers line outcome reached acts holds =
     let same = act_effect-reached s ids m answers line reached in
     let done : EndsAsLine (Ok outcome) s.state (state_of_memblock after_ids next) (line_effect s line) =
-    subst (λ (t : ScriptState). EndsAsLine (Ok outcome) t (state_of_memblock after_ids next) (line_effect s line)) reached.state (rw same at acts) in
+    subst (λ (t : ScriptState). EndsAsLine (Ok outcome) t (state_of_memblock after_ids next) (line_effect s line)) reached.state
+    (rw same at acts) in
     record { state = done.1; answers_are = rw (reached.answers_are, done.0) refl; holds = rw same at (holds s.fills reached.holds) }
 
 -- an act that doesn't place the sections can be run, and so can all lines before the one that does

@@ -78,7 +78,8 @@ reserve_effect s id range =
 -- an act on the range of a live ID that owns all of it
 abbrev pub act_on_owned_range : ScriptState → ℕ → (RangeView → LineEffect) → Option RangeView → LineEffect
 act_on_owned_range s id act_effect None = answer_only s outcomes.Unknown
-act_on_owned_range s id act_effect (Some range) = if is_owned_by (owner_of s.items) (owner.Script id) range then act_effect range else answer_only s outcomes.NotWhole
+act_on_owned_range s id act_effect (Some range) =
+    if is_owned_by (owner_of s.items) (owner.Script id) range then act_effect range else answer_only s outcomes.NotWhole
 
 abbrev pub on_range_of_id : ScriptState → ℕ → (RangeView → LineEffect) → LineEffect
 on_range_of_id s id act_effect = act_on_owned_range s id act_effect (range_of_id s.ids id)
@@ -139,7 +140,8 @@ ids_unless_refused None old new = new
 ids_unless_refused (Some r) old new = old
 
 abbrev pub state_after_change : ScriptState → LiveView → growth.ChangeEffect → ScriptState
-state_after_change s ids o = record { kernel = s.kernel; items = items_after_change s.items o; ids = ids_unless_refused o.refused s.ids ids }
+state_after_change s ids o =
+    record { kernel = s.kernel; items = items_after_change s.items o; ids = ids_unless_refused o.refused s.ids ids }
 
 abbrev pub script_outcome_at_line : ScriptState → LineEffect → Outcome
 script_outcome_at_line s d = outcome_unless_refused (d.change s.items).refused d.answer
@@ -150,11 +152,13 @@ state_after_line s d = state_after_change s d.ids (d.change s.items)
 -- this program is out of memory: before a step of the change, which is then missing; or after all
 -- steps, if no growth was refused and the line also allocates memory of this program (`takes`)
 abbrev pub RunsOutDuringChange : Bool → List Item → List Item → growth.ChangeEffect → Type 0
-RunsOutDuringChange takes old new o = StopsBeforeStep old new o.steps ⊎ (IsTrue takes × (o.refused ≡ None) × (new ≡ items_after_change old o))
+RunsOutDuringChange takes old new o =
+    StopsBeforeStep old new o.steps ⊎ (IsTrue takes × (o.refused ≡ None) × (new ≡ items_after_change old o))
 
 -- this program ran out of memory during a line, and the live IDs are unchanged
 abbrev pub RunsOutDuringLine : ScriptState → ScriptState → LineEffect → Type 0
-RunsOutDuringLine old new d = RunsOutDuringChange d.takes old.items new.items (d.change old.items) × (new.kernel ≡ old.kernel) × (new.ids ≡ old.ids)
+RunsOutDuringLine old new d =
+    RunsOutDuringChange d.takes old.items new.items (d.change old.items) × (new.kernel ≡ old.kernel) × (new.ids ≡ old.ids)
 
 -- a line ends with the outcome and the state that its effect gives, or out of memory
 abbrev pub EndsAsLine : Result Outcome Memory → ScriptState → ScriptState → LineEffect → Type 0

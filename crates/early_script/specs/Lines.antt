@@ -59,12 +59,14 @@ pub record RunsOutBeforeLines (ids : LiveView) (m : MemblockView) (answers : Vec
 
 -- out of memory during a line, as that line alone may end (`RunsOutDuringLine`); the `count` lines
 -- before it have been run, and their outcomes are in the list
-pub record RunsOutDuringLines (s : ScriptSoFar) (lines : List Line) (ids : LiveView) (m : MemblockView) (answers : List Answer) : Type 0 where
+pub record RunsOutDuringLines (s : ScriptSoFar) (lines : List Line) (ids : LiveView) (m : MemblockView)
+    (answers : List Answer) : Type 0 where
   pub count : ℕ
   pub line : Line
   pub next : take (count + 1) lines ≡ take count lines ++ line ∷ []
   pub answers_are : answers ≡ (script_after_lines s (take count lines)).answers
-  pub amid : RunsOutDuringLine (script_after_lines s (take count lines)).state (state_of_memblock ids m) (line_effect (script_after_lines s (take count lines)) line)
+  pub amid : RunsOutDuringLine (script_after_lines s (take count lines)).state (state_of_memblock ids m)
+      (line_effect (script_after_lines s (take count lines)) line)
   pub holds : AreBytesFromHistory m.kernel m.journal.items (script_after_lines s (take count lines)).fills (memblock_bytes m)
 
 -- out of memory before the first line or during one of them, whatever was filled before

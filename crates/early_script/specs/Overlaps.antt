@@ -20,4 +20,5 @@ is_overlap r s = nat_lt (max r.base s.base) (min (end_of r) (end_of s))
 
 -- the range overlaps a table
 abbrev pub is_over_table : RangeView → List Item → RangeView → Bool
-is_over_table kernel items range = is_overlap range (table_bytes which.Memory kernel items) || is_overlap range (table_bytes which.Reserved kernel items)
+is_over_table kernel items range =
+    is_overlap range (table_bytes which.Memory kernel items) || is_overlap range (table_bytes which.Reserved kernel items)

@@ -24,7 +24,8 @@ pub far_here : (i : ℕ) (d : Descriptor) (ds : List Descriptor) → is_descript
 unfolding far_descriptor_from
 far_here i d ds far = rw far refl
 
-pub far_later : (i : ℕ) (d : Descriptor) (ds : List Descriptor) → is_descriptor_too_far d ≡ false → far_descriptor_from i (d ∷ ds) ≡ far_descriptor_from (i + 1) ds
+pub far_later : (i : ℕ) (d : Descriptor) (ds : List Descriptor) → is_descriptor_too_far d ≡ false
+    → far_descriptor_from i (d ∷ ds) ≡ far_descriptor_from (i + 1) ds
 unfolding far_descriptor_from
 far_later i d ds near = rw near refl
 
@@ -48,7 +49,8 @@ pub far_hit : (stride i n : ℕ) (bytes : List ℕ) → i < n → is_descriptor_
 far_hit stride i n bytes below far = rw (one_more stride i n bytes below) (far_here i _ _ far)
 
 pub far_miss : (stride i n : ℕ) (bytes : List ℕ) → i < n → is_descriptor_too_far (nth_descriptor stride i bytes) ≡ false
-    → far_descriptor_from i (descriptors_from stride i (n - i) bytes) ≡ far_descriptor_from (i + 1) (descriptors_from stride (i + 1) (n - (i + 1)) bytes)
+    → far_descriptor_from i (descriptors_from stride i (n - i) bytes)
+    ≡ far_descriptor_from (i + 1) (descriptors_from stride (i + 1) (n - (i + 1)) bytes)
 far_miss stride i n bytes below near = rw (one_more stride i n bytes below) (far_later i _ _ near)
 
 pub far_end : (stride i n : ℕ) (bytes : List ℕ) → n ≤ i → far_descriptor_from i (descriptors_from stride i (n - i) bytes) ≡ None
@@ -67,7 +69,8 @@ fits d near = grind (arith, nat_tests, near)
 -- appending the value of the descriptor at `i`, and then those after it, is appending those from
 -- `i` on
 pub entries_on : (es : List Entry) (stride i n : ℕ) (bytes : List ℕ) → i < n
-    → (es ++ entry_of_descriptor (nth_descriptor stride i bytes) ∷ []) ++ map entry_of_descriptor (descriptors_from stride (i + 1) (n - (i + 1)) bytes)
+    → (es ++ entry_of_descriptor (nth_descriptor stride i bytes) ∷ [])
+    ++ map entry_of_descriptor (descriptors_from stride (i + 1) (n - (i + 1)) bytes)
     ≡ es ++ map entry_of_descriptor (descriptors_from stride i (n - i) bytes)
 entries_on es stride i n bytes below = rw (one_more stride i n bytes below) (append_assoc es _ _)
 
@@ -75,7 +78,8 @@ abbrev pub with_mirror : List RangeView → Option RangeView → List RangeView
 with_mirror ms None = ms
 with_mirror ms (Some range) = ms ++ range ∷ []
 
-mirror_on : (ms : List RangeView) (o : Option RangeView) (others : List RangeView) → with_mirror ms o ++ others ≡ ms ++ prepend_mirror o others
+mirror_on : (ms : List RangeView) (o : Option RangeView) (others : List RangeView)
+    → with_mirror ms o ++ others ≡ ms ++ prepend_mirror o others
 mirror_on ms None others = refl
 mirror_on ms (Some range) others = append_assoc ms (range ∷ []) others
 

@@ -84,7 +84,8 @@ second_of_48 : nth_descriptor 48 1 (header 48 1 ++ acpi ++ replicate 8 255 ++ ac
 unfolding descriptor_at
 second_of_48 = refl
 
-length_examples : (has_efi_length (header 40 1) ≡ true) × (has_efi_length (header 40 1 ++ acpi) ≡ true) × (has_efi_length (header 48 1 ++ acpi) ≡ false)
+length_examples : (has_efi_length (header 40 1) ≡ true) × (has_efi_length (header 40 1 ++ acpi) ≡ true)
+    × (has_efi_length (header 48 1 ++ acpi) ≡ false)
     × (descriptor_count (header 40 1 ++ acpi ++ acpi) ≡ 2) × (descriptor_size (header 48 1) ≡ 48)
 length_examples = (refl, refl, refl, refl, refl)
 

@@ -17,7 +17,8 @@ descriptor_size bytes = little_number 4 bytes
 -- version is 1
 abbrev pub has_efi_header : List ℕ → Bool
 has_efi_header bytes =
-    nat_le 8 (length bytes) && (nat_le 40 (descriptor_size bytes) && (descriptor_size bytes % 8 == 0 && little_number 4 (drop 4 bytes) == 1))
+    nat_le 8 (length bytes)
+    && (nat_le 40 (descriptor_size bytes) && (descriptor_size bytes % 8 == 0 && little_number 4 (drop 4 bytes) == 1))
 
 -- the bytes after the header are a whole number of descriptors
 abbrev pub has_efi_length : List ℕ → Bool

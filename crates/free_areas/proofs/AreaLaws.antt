@@ -72,7 +72,8 @@ split_areas f g low x b behind bs ms cs areas without block inner order next sou
     | inr outside ↦
         let was = others_were f g low x b c without block inner order is outside in ⊎_elim
         (λ (has : ListsBlock bs c). inl ((buddies c).1 (inr (kept c (away b c outside) has))))
-        (λ (follows : FollowsLargestBlock f c). elim (cases_eq (front c).first b.first) as (λ _. ListsBlock cs c ⊎ FollowsLargestBlock g c) [
+        (λ (follows : FollowsLargestBlock f c). elim (cases_eq (front c).first b.first) as (λ _.
+        ListsBlock cs c ⊎ FollowsLargestBlock g c) [
           | inl same ↦
               let one = one_at f (front c) b follows.before block same in
               let order_is : b.order ≡ 10 = sym (ap (λ (d : Block). d.order) one) ∙ follows.great in
@@ -123,7 +124,8 @@ join_areas f g low x b bs ms cs areas without block inner order lacks put = reco
         (λ (has : ListsBlock bs c).
         inl ((put c).1 (inr ((lacks c).1
         (λ it. outside (buddy_inside b low b.order x c (omega arith) inner it), has)))))
-        (λ (follows : FollowsLargestBlock g c). elim (in_set_or_not b.order b.first (front c).first) as (λ _. ListsBlock cs c ⊎ FollowsLargestBlock f c) [
+        (λ (follows : FollowsLargestBlock g c). elim (in_set_or_not b.order b.first (front c).first) as (λ _.
+        ListsBlock cs c ⊎ FollowsLargestBlock f c) [
           | inl within ↦
               let it = rest_is_left f g low x b (front c) without block inner order follows.before within in
               let below = it.below in
@@ -236,7 +238,8 @@ lead_listed (r ∷ rs) b rows has = ⊎_elim
     (λ (rest : ListsBlock (leads rs) b). lists_right (blocks_of_row r) (blocks_of_rows rs) b (lead_listed rs b rows.3 rest))
     has
 
-only_lead : (r : BlockRow) (b : Block) (rs : List BlockRow) → ListsBlock (row_from r.order r.first r.node r.zone 1) b → ListsBlock (leads (r ∷ rs)) b
+only_lead : (r : BlockRow) (b : Block) (rs : List BlockRow) → ListsBlock (row_from r.order r.first r.node r.zone 1) b
+    → ListsBlock (leads (r ∷ rs)) b
 unfolding leads
 only_lead r b rs only =
     let one : ListsBlock (lead_block r ∷ row_from r.order (r.first + 2 ^ r.order) r.node r.zone 0) b = unfold row_from in only in
@@ -276,11 +279,13 @@ in_rows (r ∷ rs) b rows has = ⊎_elim
 -- the first blocks of all rows are an index
 pub leads_done : (f : Frames) (rs : List BlockRow) (bs : List Block) → NothingFrom MAX_FRAMES f → AreRows rs
     → blocks_of_rows rs ≡ blocks_of f
-    → ((b : Block) → ListsBlock bs b → ListsBlock (leads rs) b) → ((b : Block) → ListsBlock (leads rs) b → ListsBlock bs b) → IndexesFreeBlocks f bs
+    → ((b : Block) → ListsBlock bs b → ListsBlock (leads rs) b) → ((b : Block) → ListsBlock (leads rs) b → ListsBlock bs b)
+    → IndexesFreeBlocks f bs
 leads_done f rs bs low rows all sound complete = record {
   sound = λ b has. listed_sound f b (subst (λ (cs : List Block). ListsBlock cs b) all (lead_listed rs b rows (sound b has)));
   complete = λ b is.
-      let listed : ListsBlock (blocks_of_rows rs) b = subst (λ (cs : List Block). ListsBlock cs b) (sym all) (listed_complete f b low is) in ⊎_elim
+      let listed : ListsBlock (blocks_of_rows rs) b =
+      subst (λ (cs : List Block). ListsBlock cs b) (sym all) (listed_complete f b low is) in ⊎_elim
       (λ (leading : ListsBlock (leads rs) b). inl (complete b leading))
       (λ (behind : (b.order ≡ 10) × (1024 ≤ b.first) × ListsBlock (blocks_of_rows rs) (record b { first = b.first - 1024 })).
       let before = listed_sound f (front b) (subst (λ (cs : List Block). ListsBlock cs (front b)) all behind.2) in
@@ -316,7 +321,8 @@ pub record HasLeads (rs : List BlockRow) (i : ℕ) (bs : List Block) : Type 0 wh
   pub complete : (b : Block) → ListsBlock (leads rs) b → ListsBlock bs b ⊎ ListsBlock (leads (drop i rs)) b
 
 pub leads_more : (rs : List BlockRow) (i : ℕ) (d : BlockRow) (k : Block) (now next : List Block) → i < length rs
-    → k ≡ lead_block (get_or rs i d) → HasLeads rs i now → ((b : Block) → ListsBlock next b ↔ ((b ≡ k) ⊎ ListsBlock now b)) → HasLeads rs (i + 1) next
+    → k ≡ lead_block (get_or rs i d) → HasLeads rs i now → ((b : Block) → ListsBlock next b ↔ ((b ≡ k) ⊎ ListsBlock now b))
+    → HasLeads rs (i + 1) next
 leads_more rs i d k now next few key_is has put =
     record {
       sound = λ b in_next. ⊎_elim

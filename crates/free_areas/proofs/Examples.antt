@@ -50,7 +50,8 @@ area_examples = (
         (λ (none : ⊥). absurd none) has;
     complete = λ b is. inl (inl (lone_alone b is));
   },
-  λ areas. ⊎_elim (λ (none : ⊥). none) (λ (follows : FollowsLargestBlock lone lone_block). let ten = follows.great in absurd (omega (arith, ten)))
+  λ areas. ⊎_elim (λ (none : ⊥). none)
+      (λ (follows : FollowsLargestBlock lone lone_block). let ten = follows.great in absurd (omega (arith, ten)))
       (areas.complete lone_block lone_is_block),
 )
 
@@ -62,7 +63,8 @@ follow_examples = (
   λ follows. let ten = follows.great in absurd (omega (arith, ten)),
 )
 
-like_examples : AreLargestAlike (great 0) (great 1024) × (AreLargestAlike (great 0) (record { order = 10; first = 1024; node = 8; zone = zone.Dma }) → ⊥)
+like_examples : AreLargestAlike (great 0) (great 1024)
+    × (AreLargestAlike (great 0) (record { order = 10; first = 1024; node = 8; zone = zone.Dma }) → ⊥)
     × (AreLargestAlike (great 0) lone_block → ⊥)
 like_examples = (
   record { great = refl; order = refl; node = refl; zone = refl },

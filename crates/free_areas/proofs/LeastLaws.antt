@@ -14,7 +14,8 @@ use Rattle.free_areas.proofs.OrderLaws.{block_cmp, has_key, key_has, between, fr
 abbrev pub low_key : ℕ → Zone → ℕ → Block
 low_key n z o = record { node = n; zone = z; order = o; first = 0 }
 
-pub picked_first : (f : Frames) (s : BTreeSet Block) (n : ℕ) (z : Zone) (o : ℕ) (r rest : List Block) (b : Block) → IndexesFreeBlocks f s.keys
+pub picked_first : (f : Frames) (s : BTreeSet Block) (n : ℕ) (z : Zone) (o : ℕ) (r rest : List Block) (b : Block)
+    → IndexesFreeBlocks f s.keys
     → IsKeyRangeOf block_cmp (Included (low_key n z o)) (Excluded (low_key n z 11)) s r → r ≡ b ∷ rest → IsPicked f n z o b
 picked_first f s n z o r rest b areas range is =
     let at : IsKeyRangeOf block_cmp (Included (low_key n z o)) (Excluded (low_key n z 11)) s (b ∷ rest) =
@@ -58,7 +59,8 @@ none_first f s n z o r areas range is b block serves =
     cc (sym (has_key d s it.has) ∙ range.5 is d (above, below))
 
 -- the result of the look-up, whether it finds a block or not
-pub least_is : (f : Frames) (s : BTreeSet Block) (n : ℕ) (z : Zone) (o : ℕ) (r : List Block) (first : Option Block) → IndexesFreeBlocks f s.keys
+pub least_is : (f : Frames) (s : BTreeSet Block) (n : ℕ) (z : Zone) (o : ℕ) (r : List Block) (first : Option Block)
+    → IndexesFreeBlocks f s.keys
     → IsKeyRangeOf block_cmp (Included (low_key n z o)) (Excluded (low_key n z 11)) s r
     → MatchOption first (r ≡ []) (λ b. (rest : List Block) × (r ≡ b ∷ rest))
     → MatchOption first (NoneServes f n z o) (λ b. IsPicked f n z o b)

@@ -147,34 +147,38 @@ pub key_has : (b : Block) (s : BTreeSet Block) → contains block_cmp s b ≡ tr
 key_has b s is = list_in b s.keys is
 
 -- adding a key, and removing one
-pub inserted : (old new : BTreeSet Block) (k b : Block) → Updates block_cmp old new k true → ListsBlock new.keys b ↔ ((b ≡ k) ⊎ ListsBlock old.keys b)
-inserted old new k b updates = elim (cases_Bool (is_at (block_cmp k) b)) as (λ _. ListsBlock new.keys b ↔ ((b ≡ k) ⊎ ListsBlock old.keys b)) [
-  | inl on ↦ (λ has. inl (sym (at_is k b on)), λ either. key_has b new (updates.0 b ∙ rw on refl))
-  | inr off ↦
-      let same : contains block_cmp new b ≡ contains block_cmp old b = updates.0 b ∙ rw off refl in (
-        λ has. inr (key_has b old (sym same ∙ has_key b new has)),
-        λ either. ⊎_elim
-            (λ (is : b ≡ k). absurd (cc (sym (at_self k) ∙ ap (is_at (block_cmp k)) (sym is) ∙ off)))
-            (λ (has : ListsBlock old.keys b). key_has b new (same ∙ has_key b old has))
-            either,
-      )
-]
+pub inserted : (old new : BTreeSet Block) (k b : Block) → Updates block_cmp old new k true
+    → ListsBlock new.keys b ↔ ((b ≡ k) ⊎ ListsBlock old.keys b)
+inserted old new k b updates =
+    elim (cases_Bool (is_at (block_cmp k) b)) as (λ _. ListsBlock new.keys b ↔ ((b ≡ k) ⊎ ListsBlock old.keys b)) [
+      | inl on ↦ (λ has. inl (sym (at_is k b on)), λ either. key_has b new (updates.0 b ∙ rw on refl))
+      | inr off ↦
+          let same : contains block_cmp new b ≡ contains block_cmp old b = updates.0 b ∙ rw off refl in (
+            λ has. inr (key_has b old (sym same ∙ has_key b new has)),
+            λ either. ⊎_elim
+                (λ (is : b ≡ k). absurd (cc (sym (at_self k) ∙ ap (is_at (block_cmp k)) (sym is) ∙ off)))
+                (λ (has : ListsBlock old.keys b). key_has b new (same ∙ has_key b old has))
+                either,
+          )
+    ]
 
-pub removed : (old new : BTreeSet Block) (k b : Block) → Updates block_cmp old new k false → ListsBlock new.keys b ↔ ((b ≢ k) × ListsBlock old.keys b)
-removed old new k b updates = elim (cases_Bool (is_at (block_cmp k) b)) as (λ _. ListsBlock new.keys b ↔ ((b ≢ k) × ListsBlock old.keys b)) [
-  | inl on ↦ (
-    λ has. let none : contains block_cmp new b ≡ false = updates.0 b ∙ rw on refl in absurd (cc (sym (has_key b new has) ∙ none)),
-    λ both. absurd (both.0 (sym (at_is k b on))),
-  )
-  | inr off ↦
-      let same : contains block_cmp new b ≡ contains block_cmp old b = updates.0 b ∙ rw off refl in (
-        λ has. (
-          λ is. absurd (cc (sym (at_self k) ∙ ap (is_at (block_cmp k)) (sym is) ∙ off)),
-          key_has b old (sym same ∙ has_key b new has),
-        ),
-        λ both. key_has b new (same ∙ has_key b old both.1),
+pub removed : (old new : BTreeSet Block) (k b : Block) → Updates block_cmp old new k false
+    → ListsBlock new.keys b ↔ ((b ≢ k) × ListsBlock old.keys b)
+removed old new k b updates =
+    elim (cases_Bool (is_at (block_cmp k) b)) as (λ _. ListsBlock new.keys b ↔ ((b ≢ k) × ListsBlock old.keys b)) [
+      | inl on ↦ (
+        λ has. let none : contains block_cmp new b ≡ false = updates.0 b ∙ rw on refl in absurd (cc (sym (has_key b new has) ∙ none)),
+        λ both. absurd (both.0 (sym (at_is k b on))),
       )
-]
+      | inr off ↦
+          let same : contains block_cmp new b ≡ contains block_cmp old b = updates.0 b ∙ rw off refl in (
+            λ has. (
+              λ is. absurd (cc (sym (at_self k) ∙ ap (is_at (block_cmp k)) (sym is) ∙ off)),
+              key_has b old (sym same ∙ has_key b new has),
+            ),
+            λ both. key_has b new (same ∙ has_key b old both.1),
+          )
+    ]
 
 -- a key between the first of an order and the first after all orders, in one node and zone
 pub between : (b lo hi : Block) → lo.node ≡ hi.node → lo.zone ≡ hi.zone → is_gt (block_cmp lo b) ≡ false → block_cmp b hi ≡ Less

@@ -38,7 +38,8 @@ stays_or_left w kernel items i x here stays =
 -- several such items leave it there too
 pub still_live : (w : Which) (kernel : RangeView) (items more : List Item) (x : ℕ) → covers (table_bytes w kernel items) x ≡ true →
     is_vacated kernel items more x ≡ false → covers (table_bytes w kernel (items ++ more)) x ≡ true
-still_live w kernel items [] x here stays = subst (λ (is : List Item). covers (table_bytes w kernel is) x ≡ true) (sym (append-nil items)) here
+still_live w kernel items [] x here stays =
+    subst (λ (is : List Item). covers (table_bytes w kernel is) x ≡ true) (sym (append-nil items)) here
 still_live w kernel items (i ∷ more) x here stays =
     let parts = or_parts (is_vacated_by kernel items i x) (is_vacated kernel (items ++ i ∷ []) more x) stays in
     subst (λ (is : List Item). covers (table_bytes w kernel is) x ≡ true) (append_assoc items (i ∷ []) more)
@@ -54,7 +55,8 @@ over_bools false true false false a b d e c first second = let clash : false ≡
 over_bools false false false false a b d e c first second = refl
 
 pub byte_with_tables-over : (m r n s : TableView) (x c : ℕ) → (covers (bytes_of m) x ≡ true → covers (bytes_of n) x ≡ true) →
-    (covers (bytes_of r) x ≡ true → covers (bytes_of s) x ≡ true) → byte_with_tables n s x (byte_with_tables m r x c) ≡ byte_with_tables n s x c
+    (covers (bytes_of r) x ≡ true → covers (bytes_of s) x ≡ true)
+    → byte_with_tables n s x (byte_with_tables m r x c) ≡ byte_with_tables n s x c
 byte_with_tables-over m r n s x c first second =
     over_bools (covers (bytes_of m) x) (covers (bytes_of r) x) (covers (bytes_of n) x) (covers (bytes_of s) x)
     (table_byte_at n x) (table_byte_at s x) (table_byte_at m x) (table_byte_at r x) c first second
@@ -64,7 +66,8 @@ pub byte_with_tables-again : (m r : TableView) (x c : ℕ) → byte_with_tables 
 byte_with_tables-again m r x c = byte_with_tables-over m r m r x c (λ here. here) (λ here. here)
 
 pub byte_with_item_tables-further : (kernel : RangeView) (items more : List Item) (x c : ℕ) → is_vacated kernel items more x ≡ false →
-    byte_with_item_tables kernel (items ++ more) x (byte_with_item_tables kernel items x c) ≡ byte_with_item_tables kernel (items ++ more) x c
+    byte_with_item_tables kernel (items ++ more) x (byte_with_item_tables kernel items x c)
+    ≡ byte_with_item_tables kernel (items ++ more) x c
 byte_with_item_tables-further kernel items more x c stays =
     byte_with_tables-over (table_for which.Memory kernel items) (table_for which.Reserved kernel items)
     (table_for which.Memory kernel (items ++ more)) (table_for which.Reserved kernel (items ++ more)) x c
@@ -82,14 +85,18 @@ is_vacated-append kernel items [] further x = ap (λ (is : List Item). is_vacate
 is_vacated-append kernel items (i ∷ more) further x =
     ap (λ (b : Bool). is_vacated_by kernel items i x || b)
     (is_vacated-append kernel (items ++ i ∷ []) more further x
-    ∙ ap (λ (is : List Item). is_vacated kernel (items ++ i ∷ []) more x || is_vacated kernel is further x) (append_assoc items (i ∷ []) more))
-    ∙ or_assoc (is_vacated_by kernel items i x) (is_vacated kernel (items ++ i ∷ []) more x) (is_vacated kernel (items ++ i ∷ more) further x)
+    ∙ ap (λ (is : List Item). is_vacated kernel (items ++ i ∷ []) more x || is_vacated kernel is further x)
+    (append_assoc items (i ∷ []) more))
+    ∙ or_assoc (is_vacated_by kernel items i x) (is_vacated kernel (items ++ i ∷ []) more x)
+    (is_vacated kernel (items ++ i ∷ more) further x)
 
 pub after-is : (kernel : RangeView) (items more : List Item) (x b : ℕ) →
-    byte_after kernel items (items ++ more) x b ≡ byte_with_item_tables kernel (items ++ more) x (if is_vacated kernel items more x then 0 else b)
+    byte_after kernel items (items ++ more) x b
+    ≡ byte_with_item_tables kernel (items ++ more) x (if is_vacated kernel items more x then 0 else b)
 unfolding byte_after
 after-is kernel items more x b =
-    ap (λ (is : List Item). byte_with_item_tables kernel (items ++ more) x (if is_vacated kernel items is x then 0 else b)) (drop-append_seam items more)
+    ap (λ (is : List Item). byte_with_item_tables kernel (items ++ more) x (if is_vacated kernel items is x then 0 else b))
+    (drop-append_seam items more)
 
 pub after-along : (kernel : RangeView) (items more longer : List Item) (x b : ℕ) → longer ≡ items ++ more →
     byte_after kernel items longer x b ≡ byte_with_item_tables kernel longer x (if is_vacated kernel items more x then 0 else b)
@@ -109,12 +116,15 @@ pub after-after : (kernel : RangeView) (items more further : List Item) (x b : �
     ≡ byte_after kernel items ((items ++ more) ++ further) x b
 after-after kernel items more further x b =
     after-is kernel (items ++ more) further x (byte_after kernel items (items ++ more) x b)
-    ∙ ap (λ (n : ℕ). byte_with_item_tables kernel ((items ++ more) ++ further) x (if is_vacated kernel (items ++ more) further x then 0 else n))
+    ∙ ap (λ (n : ℕ). byte_with_item_tables kernel ((items ++ more) ++ further) x (if is_vacated kernel (items ++ more) further x then 0
+    else n))
     (after-is kernel items more x b)
-    ∙ left_twice (byte_with_item_tables kernel ((items ++ more) ++ further) x) (byte_with_item_tables kernel (items ++ more) x) (is_vacated kernel items more x)
+    ∙ left_twice (byte_with_item_tables kernel ((items ++ more) ++ further) x) (byte_with_item_tables kernel (items ++ more) x)
+    (is_vacated kernel items more x)
     (is_vacated kernel (items ++ more) further x) b (λ stays c. byte_with_item_tables-further kernel (items ++ more) further x c stays)
     ∙ sym (after-along kernel items (more ++ further) ((items ++ more) ++ further) x b (append_assoc items more further)
-    ∙ ap (λ (t : Bool). byte_with_item_tables kernel ((items ++ more) ++ further) x (if t then 0 else b)) (is_vacated-append kernel items more further x))
+    ∙ ap (λ (t : Bool). byte_with_item_tables kernel ((items ++ more) ++ further) x (if t then 0 else b))
+    (is_vacated-append kernel items more further x))
 
 pub after-chain : (kernel : RangeView) (items more further mid last : List Item) (x b : ℕ) → mid ≡ items ++ more → last ≡ mid ++ further →
     byte_after kernel mid last x (byte_after kernel items mid x b) ≡ byte_after kernel items last x b
@@ -126,15 +136,18 @@ byte_after_fills-later n m [] x b made less = refl
 byte_after_fills-later n m (f ∷ fills) x b made less =
     let earlier : f.at ≤ n = made.0 in
     let other : (f.at == m) ≡ false = ne_eqb f.at m (λ same. omega arith) in
-    ap (λ (t : Bool). byte_after_fills m fills x (if t && covers f.range x then f.byte else b)) other ∙ byte_after_fills-later n m fills x b made.1 less
+    ap (λ (t : Bool). byte_after_fills m fills x (if t && covers f.range x then f.byte else b)) other
+    ∙ byte_after_fills-later n m fills x b made.1 less
 
 pub AreMadeBy-more : (n m : ℕ) (fills : List Fill) → n ≤ m → AreMadeBy n fills → AreMadeBy m fills
 AreMadeBy-more n m [] less made = tt
 AreMadeBy-more n m (f ∷ fills) less made = let earlier : f.at ≤ n = made.0 in (omega arith, AreMadeBy-more n m fills less made.1)
 
 pub byte_outside_tables-append : (kernel : RangeView) (fills : List Fill) (items more further : List Item) (x b : ℕ) →
-    byte_outside_tables kernel fills items (more ++ further) x b ≡ byte_outside_tables kernel fills (items ++ more) further x (byte_outside_tables kernel fills items more x b)
-byte_outside_tables-append kernel fills items [] further x b = ap (λ (is : List Item). byte_outside_tables kernel fills is further x b) (sym (append-nil items))
+    byte_outside_tables kernel fills items (more ++ further) x b
+    ≡ byte_outside_tables kernel fills (items ++ more) further x (byte_outside_tables kernel fills items more x b)
+byte_outside_tables-append kernel fills items [] further x b =
+    ap (λ (is : List Item). byte_outside_tables kernel fills is further x b) (sym (append-nil items))
 byte_outside_tables-append kernel fills items (i ∷ more) further x b =
     let now = byte_after_fills (length items + 1) fills x (if is_vacated_by kernel items i x then 0 else b) in
     byte_outside_tables-append kernel fills (items ++ i ∷ []) more further x now
@@ -152,7 +165,8 @@ byte_outside_tables-beyond kernel fills items (i ∷ more) x b made =
     (byte_after_fills-later (length items) (length items + 1) fills x now made (omega arith))
     ∙ byte_outside_tables-beyond kernel fills (items ++ i ∷ []) more x now
     (AreMadeBy-more (length items) (length (items ++ i ∷ [])) fills (omega arith) made)
-    ∙ left_twice (λ (n : ℕ). n) (λ (n : ℕ). n) (is_vacated_by kernel items i x) (is_vacated kernel (items ++ i ∷ []) more x) b (λ stays c. refl)
+    ∙ left_twice (λ (n : ℕ). n) (λ (n : ℕ). n) (is_vacated_by kernel items i x) (is_vacated kernel (items ++ i ∷ []) more x) b (λ stays c.
+    refl)
 
 -- the byte of the longer list is the byte of the first items, with the further items applied
 pub after-byte : (kernel : RangeView) (items more : List Item) (fills : List Fill) (x : ℕ) → AreMadeBy (length items) fills →
@@ -161,7 +175,9 @@ unfolding byte_from_history
 after-byte kernel items more fills x made =
     let old = byte_outside_tables kernel fills [] items x (byte_after_fills 0 fills x 0) in
     after-is kernel items more x (byte_with_item_tables kernel items x old)
-    ∙ left_twice (byte_with_item_tables kernel (items ++ more) x) (byte_with_item_tables kernel items x) false (is_vacated kernel items more x) old
+    ∙ left_twice (byte_with_item_tables kernel (items ++ more) x) (byte_with_item_tables kernel items x) false
+    (is_vacated kernel items more x) old
     (λ stays c. byte_with_item_tables-further kernel items more x c stays)
     ∙ ap (λ (n : ℕ). byte_with_item_tables kernel (items ++ more) x n)
-    (sym (byte_outside_tables-append kernel fills [] items more x (byte_after_fills 0 fills x 0) ∙ byte_outside_tables-beyond kernel fills items more x old made))
+    (sym (byte_outside_tables-append kernel fills [] items more x (byte_after_fills 0 fills x 0)
+    ∙ byte_outside_tables-beyond kernel fills items more x old made))

@@ -13,7 +13,8 @@ use Rattle.growth_model.proofs.MemoryItemLaws.{memory_items-append, quiet-joined
 use Rattle.growth_model.proofs.QuietLaws.{IsQuiet, quiet-grown, reserved_growth-quiet, memory_growth-quiet}
 
 -- a result that wasn't an error, and the result of what followed
-pub record GoesOn (answer : Result (List Item) RefusedGrowth) (others : List Item → Result (List Item) RefusedGrowth) (last : List Item) : Type 0 where
+pub record GoesOn (answer : Result (List Item) RefusedGrowth) (others : List Item
+    → Result (List Item) RefusedGrowth) (last : List Item) : Type 0 where
   pub next : List Item
   pub first : answer ≡ Ok next
   pub rest : others next ≡ Ok last
@@ -38,7 +39,8 @@ one_behind items ss i quiet =
     ∙ ap (λ (t : List Item). memory_items items ++ t) (memory_items-append (items_of_steps ss) (i ∷ []))
     ∙ ap (λ (t : List Item). memory_items items ++ (t ++ memory_items (i ∷ []))) (quiet-joined ss quiet)
 
-written_behind : (first : ChangeEffect) (r : Option RefusedGrowth) (items next : List Item) (i : Item) → first.refused ≡ r → StepsKeepMemory first.steps
+written_behind : (first : ChangeEffect) (r : Option RefusedGrowth) (items next : List Item) (i : Item) → first.refused ≡ r
+    → StepsKeepMemory first.steps
     → items_or_refusal items (followed_by first r (write_item i (items_after_change items first))) ≡ Ok next
     → memory_items next ≡ memory_items items ++ memory_items (i ∷ [])
 written_behind first None items next i is quiet ends =
@@ -48,7 +50,8 @@ written_behind first (Some r) items next i is quiet ends =
     let clash : unless_refused (Some r) (items_after_change items first) ≡ Ok next = rw is at ends in absurd (cc)
 
 -- a change that writes its item after quiet growth
-grown_behind : (growth : Change) (i : Item) (items next : List Item) → IsQuiet growth → items_or_refusal items ((growth >> write_item i) items) ≡ Ok next
+grown_behind : (growth : Change) (i : Item) (items next : List Item) → IsQuiet growth
+    → items_or_refusal items ((growth >> write_item i) items) ≡ Ok next
     → memory_items next ≡ memory_items items ++ memory_items (i ∷ [])
 grown_behind growth i items next quiet ends =
     written_behind (growth items) (growth items).refused items next i refl (quiet.each items) ends
@@ -64,7 +67,8 @@ pub change_for-memory : (i : Item) (items next : List Item) → items_or_refusal
     → memory_items next ≡ memory_items items ++ memory_items (i ∷ [])
 unfolding add_range set_range_node set_range_mirror claim_range free_range
 change_for-memory (item.Mem range) items next ends =
-    grown_behind _ (item.Mem range) items next (quiet-grown which.Memory (count_uncovered_pieces which.Memory range) _ memory_growth-quiet) ends
+    grown_behind _ (item.Mem range) items next
+    (quiet-grown which.Memory (count_uncovered_pieces which.Memory range) _ memory_growth-quiet) ends
 change_for-memory (item.Node range node) items next ends =
     grown_behind _ (item.Node range node) items next (quiet-grown which.Memory split_record_count _ memory_growth-quiet) ends
 change_for-memory (item.Mirror range) items next ends =
@@ -95,9 +99,11 @@ further : (answer : Result (List Item) RefusedGrowth) (first rest all : List Ite
 further (Ok next) first rest all each = each next
 further (Err refused) first rest all each = refl
 
-pub carried-append : (is js items : List Item) → carry_out_items (is ++ js) items ≡ (carry_out_items is items >>= λ next. carry_out_items js next)
+pub carried-append : (is js items : List Item)
+    → carry_out_items (is ++ js) items ≡ (carry_out_items is items >>= λ next. carry_out_items js next)
 unfolding carry_out_items
 carried-append [] js items = refl
 carried-append (i ∷ is) js items =
-    further (items_or_refusal items (change_for i items)) (carry_out_items is) (λ next. carry_out_items js next) (carry_out_items (is ++ js))
+    further (items_or_refusal items (change_for i items)) (carry_out_items is) (λ next.
+    carry_out_items js next) (carry_out_items (is ++ js))
     (carried-append is js)

@@ -50,14 +50,17 @@ cuts-append P items (s ∷ ss) b h k = (
 )
 
 then_by : (P : List Item → Type 0) (items : List Item) (o : ChangeEffect) (n : Option RefusedGrowth) (p : ChangeEffect) → o.refused ≡ n
-    → EachCut P items o.steps → (o.refused ≡ None → EachCut P (items_after_change items o) p.steps) → EachCut P items (followed_by o n p).steps
+    → EachCut P items o.steps → (o.refused ≡ None → EachCut P (items_after_change items o) p.steps)
+    → EachCut P items (followed_by o n p).steps
 then_by P items o None p is h k = cuts-append P items o.steps p.steps h (k is)
 then_by P items o (Some r) p is h k = h
 
 pub cuts-then : (P : List Item → Type 0) (items : List Item) (first second : Change) → EachCut P items (first items).steps
-    → ((first items).refused ≡ None → EachCut P (items_after_change items (first items)) (second (items_after_change items (first items))).steps)
+    → ((first items).refused ≡ None
+    → EachCut P (items_after_change items (first items)) (second (items_after_change items (first items))).steps)
     → EachCut P items ((first >> second) items).steps
-cuts-then P items first second h k = then_by P items (first items) (first items).refused (second (items_after_change items (first items))) refl h k
+cuts-then P items first second h k =
+    then_by P items (first items) (first items).refused (second (items_after_change items (first items))) refl h k
 
 pub cuts-due : (P : List Item → Type 0) (items : List Item) (due : List Item → Bool) (change : Change) → P items
     → EachCut P items (change items).steps → EachCut P items (if_due due change items).steps
@@ -81,8 +84,10 @@ cuts-map P Q items (s ∷ ss) keep h = (keep items h.0, cuts-map P Q (items ++ s
 
 -- the items after two changes, if the first wasn't refused
 pub items_after_change-then : (items : List Item) (first second : Change) → (first items).refused ≡ None
-    → items_after_change items ((first >> second) items) ≡ items_after_change (items_after_change items (first items)) (second (items_after_change items (first items)))
-items_after_change-then items first second unrefused = ap (λ (o : ChangeEffect). items_after_change items o) (followed first second items unrefused)
+    → items_after_change items ((first >> second) items)
+    ≡ items_after_change (items_after_change items (first items)) (second (items_after_change items (first items)))
+items_after_change-then items first second unrefused =
+    ap (λ (o : ChangeEffect). items_after_change items o) (followed first second items unrefused)
     ∙ sym (items_after_change-both items (first items) (second (items_after_change items (first items))))
 
 -- if two changes in turn weren't refused, neither was
@@ -93,4 +98,5 @@ refused_by o (Some r) p is h = let clash : Some r ≡ None = sym is ∙ h in cc
 
 pub then-unrefused : (items : List Item) (first second : Change) → ((first >> second) items).refused ≡ None
     → ((first items).refused ≡ None) × ((second (items_after_change items (first items))).refused ≡ None)
-then-unrefused items first second h = refused_by (first items) (first items).refused (second (items_after_change items (first items))) refl h
+then-unrefused items first second h =
+    refused_by (first items) (first items).refused (second (items_after_change items (first items))) refl h

@@ -11,13 +11,15 @@ use Rattle.growth_model.specs.Ends.{WritesFirstSteps, StopsBeforeStep, EndsAsEff
 
 pub items_of_steps-append : (a b : List (List Item)) → items_of_steps (a ++ b) ≡ items_of_steps a ++ items_of_steps b
 items_of_steps-append [] b = refl
-items_of_steps-append (s ∷ ss) b = ap (λ (t : List Item). s ++ t) (items_of_steps-append ss b) ∙ sym (append_assoc s (items_of_steps ss) (items_of_steps b))
+items_of_steps-append (s ∷ ss) b =
+    ap (λ (t : List Item). s ++ t) (items_of_steps-append ss b) ∙ sym (append_assoc s (items_of_steps ss) (items_of_steps b))
 
 -- the steps of two changes, one after the other
 abbrev pub both_steps : ChangeEffect → ChangeEffect → ChangeEffect
 both_steps o p = record { steps = o.steps ++ p.steps; refused = p.refused }
 
-pub items_after_change-both : (items : List Item) (o p : ChangeEffect) → items_after_change (items_after_change items o) p ≡ items_after_change items (both_steps o p)
+pub items_after_change-both : (items : List Item) (o p : ChangeEffect)
+    → items_after_change (items_after_change items o) p ≡ items_after_change items (both_steps o p)
 items_after_change-both items o p = append_assoc items (items_of_steps o.steps) (items_of_steps p.steps)
     ∙ ap (λ (t : List Item). items ++ t) (sym (items_of_steps-append o.steps p.steps))
 
@@ -35,10 +37,12 @@ cut-first old new a b cut =
     record {
       count = cut.count;
       short = omega (arith, length-append a b, short);
-      stands = cut.stands ∙ ap (λ (t : List (List Item)). old ++ items_of_steps t) (sym (take-append-le cut.count a b (omega (arith, short))));
+      stands = cut.stands
+          ∙ ap (λ (t : List (List Item)). old ++ items_of_steps t) (sym (take-append-le cut.count a b (omega (arith, short))));
     }
 
-pub cut-second : (old new : List Item) (a b : List (List Item)) → StopsBeforeStep (old ++ items_of_steps a) new b → StopsBeforeStep old new (a ++ b)
+pub cut-second : (old new : List Item) (a b : List (List Item)) → StopsBeforeStep (old ++ items_of_steps a) new b
+    → StopsBeforeStep old new (a ++ b)
 cut-second old new a b cut =
     let short : cut.count < length b = cut.short in
     record {
@@ -67,7 +71,8 @@ EndsAsChange-second x r old mid new first second was h =
     let there : EndsAsEffect r (items_after_change old (first old)) new (second (items_after_change old (first old))) = rw (sym was.1) h in
     rw (followed first second old was.0) (second_by r old new (first old) (second (items_after_change old (first old))) there)
 
-first_by : (T U : Type 0) (e : Refusal) (old new : List Item) (o : ChangeEffect) (n : Option RefusedGrowth) (p : ChangeEffect) → o.refused ≡ n
+first_by : (T U : Type 0) (e : Refusal) (old new : List Item) (o : ChangeEffect) (n : Option RefusedGrowth) (p : ChangeEffect)
+    → o.refused ≡ n
     → EndsAsEffect {T = T} (Err e) old new o → EndsAsEffect {T = U} (Err e) old new (followed_by o n p)
 first_by T U refusal.NoGap old new o n p is h = absurd h
 first_by T U (refusal.NoGapForTable w room) old new o None p is h = let clash : None ≡ Some _ = sym is ∙ h.0 in cc
@@ -77,7 +82,8 @@ first_by T U refusal.Memory old new o (Some r) p is h = h
 
 -- if the first change was refused, or the program was out of memory in it, the second didn't
 -- follow
-pub EndsAsChange-first : (T U : Type 0) (e : Refusal) (old new : List Item) (first second : Change) → EndsAsChange {T = T} (Err e) old new first
+pub EndsAsChange-first : (T U : Type 0) (e : Refusal) (old new : List Item) (first second : Change)
+    → EndsAsChange {T = T} (Err e) old new first
     → EndsAsChange {T = U} (Err e) old new (first >> second)
 EndsAsChange-first T U e old new first second h = first_by T U e old new (first old) (first old).refused
     (second (items_after_change old (first old))) refl h
@@ -93,7 +99,8 @@ pub EndsAsChange-idle : {T : Type 0} (x : T) (items : List Item) (due : List Ite
     → EndsAsChange (Ok x) items items (if_due due change)
 EndsAsChange-idle x items due change is = rw is (EndsAsChange-nothing x items)
 
-pub EndsAsChange-step : {T : Type 0} (x : T) (items written : List Item) → EndsAsChange (Ok x) items (items ++ written) (write_items written)
+pub EndsAsChange-step : {T : Type 0} (x : T) (items written : List Item)
+    → EndsAsChange (Ok x) items (items ++ written) (write_items written)
 EndsAsChange-step x items written = (refl, ap (λ (t : List Item). items ++ t) (sym (append-nil written)))
 
 pub EndsAsChange-refused : (T : Type 0) (w : Which) (room : ℕ) (items : List Item)
@@ -106,7 +113,8 @@ pub EndsAsChange-wanting : (T : Type 0) (items : List Item) (change : Change) �
 EndsAsChange-wanting T items change some = record { count = 0; short = some; stands = sym (append-nil items) }
 
 -- the end of a call whose result is known
-pub EndsAsChange-along : {T : Type 0} (r s : Result T Refusal) (old new : List Item) (change : Change) → r ≡ s → EndsAsChange r old new change
+pub EndsAsChange-along : {T : Type 0} (r s : Result T Refusal) (old new : List Item) (change : Change) → r ≡ s
+    → EndsAsChange r old new change
     → EndsAsChange s old new change
 EndsAsChange-along r s old new change is h = subst (λ (t : Result _ Refusal). EndsAsChange t old new change) is h
 

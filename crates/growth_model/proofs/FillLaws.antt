@@ -23,14 +23,17 @@ byte_after_fills-newest n fills f x b now =
     ∙ ap (λ (t : Bool). if t && covers f.range x then f.byte else byte_after_fills n fills x b) (eq-eqb f.at n now)
 
 -- a fill isn't applied before its number of items is reached
-byte_after_fills-before : (n : ℕ) (fills : List Fill) (f : Fill) (x b : ℕ) → n < f.at → byte_after_fills n (fills ++ f ∷ []) x b ≡ byte_after_fills n fills x b
+byte_after_fills-before : (n : ℕ) (fills : List Fill) (f : Fill) (x b : ℕ) → n < f.at
+    → byte_after_fills n (fills ++ f ∷ []) x b ≡ byte_after_fills n fills x b
 byte_after_fills-before n fills f x b later =
     byte_after_fills-append n fills f x b
     ∙ ap (λ (t : Bool). if t && covers f.range x then f.byte else byte_after_fills n fills x b) (ne_eqb f.at n (λ same. omega arith))
 
-byte_outside_tables-newest : (kernel : RangeView) (fills : List Fill) (f : Fill) (items : List Item) (i : Item) (more : List Item) (x b : ℕ) →
+byte_outside_tables-newest : (kernel : RangeView) (fills : List Fill) (f : Fill) (items : List Item) (i : Item) (more : List Item) (x b : ℕ)
+    →
     f.at ≡ length items + length (i ∷ more) →
-    byte_outside_tables kernel (fills ++ f ∷ []) items (i ∷ more) x b ≡ byte_after_fill f x (byte_outside_tables kernel fills items (i ∷ more) x b)
+    byte_outside_tables kernel (fills ++ f ∷ []) items (i ∷ more) x b
+    ≡ byte_after_fill f x (byte_outside_tables kernel fills items (i ∷ more) x b)
 byte_outside_tables-newest kernel fills f items i [] x b last =
     byte_after_fills-newest (length items + 1) fills f x (if is_vacated_by kernel items i x then 0 else b) (omega arith)
 byte_outside_tables-newest kernel fills f items i (k ∷ more) x b last =
@@ -64,7 +67,8 @@ byte_with_tables-put m r f x b first second =
 
 -- the newest fill decides
 pub fill-newest : (kernel : RangeView) (items : List Item) (fills : List Fill) (f : Fill) (x : ℕ) → f.at ≡ length items →
-    TouchesNoTable kernel f.range items → byte_from_history kernel items (fills ++ f ∷ []) x ≡ byte_after_fill f x (byte_from_history kernel items fills x)
+    TouchesNoTable kernel f.range items
+    → byte_from_history kernel items (fills ++ f ∷ []) x ≡ byte_after_fill f x (byte_from_history kernel items fills x)
 unfolding byte_from_history
 fill-newest kernel items fills f x last away =
     ap (λ (n : ℕ). byte_with_item_tables kernel items x n) (all-newest kernel fills f items x last)
@@ -72,7 +76,8 @@ fill-newest kernel items fills f x last away =
     (byte_outside_tables kernel fills [] items x (byte_after_fills 0 fills x 0)) away.0 away.1
 
 -- after a fill both tables are in their bytes as before
-pub fill-spelled : (m r : TableView) (fill : Fill) (f g : ℕ → ℕ) → AreDisjoint fill.range (bytes_of m) → AreDisjoint fill.range (bytes_of r) →
+pub fill-spelled : (m r : TableView) (fill : Fill) (f g : ℕ → ℕ) → AreDisjoint fill.range (bytes_of m) → AreDisjoint fill.range (bytes_of r)
+    →
     TablesAreEncoded m r f → ((x : ℕ) → g x ≡ byte_after_fill fill x (f x)) → TablesAreEncoded m r g
 fill-spelled m r fill f g first second spelled filled_in = λ x.
     filled_in x ∙ ap (λ (n : ℕ). byte_after_fill fill x n) (spelled x)
@@ -84,7 +89,8 @@ AreMadeBy-append n [] f made now = (now, tt)
 AreMadeBy-append n (g ∷ fills) f made now = (made.0, AreMadeBy-append n fills f made.1 now)
 
 -- bytes that are those of items and fills are so after a call
-pub holds-call : (kernel : RangeView) (items longer : List Item) (fills : List Fill) (f g : ℕ → ℕ) → AreBytesFromHistory kernel items fills f →
+pub holds-call : (kernel : RangeView) (items longer : List Item) (fills : List Fill) (f g : ℕ → ℕ)
+    → AreBytesFromHistory kernel items fills f →
     Follows kernel items longer f g → AreBytesFromHistory kernel longer fills g
 holds-call kernel items longer fills f g holds follows =
     let long : length longer ≡ length items + length follows.more = ap length follows.goes_on ∙ length-append items follows.more in
@@ -97,7 +103,8 @@ holds-call kernel items longer fills f g holds follows =
     }
 
 -- and after a fill
-pub holds-fill : (kernel : RangeView) (items : List Item) (fills : List Fill) (fill : Fill) (f g : ℕ → ℕ) → AreBytesFromHistory kernel items fills f →
+pub holds-fill : (kernel : RangeView) (items : List Item) (fills : List Fill) (fill : Fill) (f g : ℕ → ℕ)
+    → AreBytesFromHistory kernel items fills f →
     fill.at ≡ length items → TouchesNoTable kernel fill.range items → ((x : ℕ) → g x ≡ byte_after_fill fill x (f x)) →
     AreBytesFromHistory kernel items (fills ++ fill ∷ []) g
 holds-fill kernel items fills fill f g holds last away filled_in = record {

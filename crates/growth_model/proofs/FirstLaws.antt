@@ -56,7 +56,8 @@ first_items kernel = item.Claim kernel owner.Kernel ∷ []
 abbrev first_live : Which → RangeView → RangeView
 first_live w kernel = table_bytes w kernel (first_items kernel)
 
-table_bytes-inside : (w : Which) (kernel : RangeView) (x : ℕ) → 8192 ≤ kernel.size → covers (first_live w kernel) x ≡ true → covers kernel x ≡ true
+table_bytes-inside : (w : Which) (kernel : RangeView) (x : ℕ) → 8192 ≤ kernel.size → covers (first_live w kernel) x ≡ true
+    → covers kernel x ≡ true
 table_bytes-inside which.Memory kernel x large at = grind (arith, nat_tests, large, at)
 table_bytes-inside which.Reserved kernel x large at = grind (arith, nat_tests, large, at)
 

@@ -12,7 +12,8 @@ use Rattle.growth_model.specs.Bytes.{table_for, byte_with_tables, TablesAreEncod
 use Rattle.growth_model.proofs.BytesLaws.{byte_with_tables-again, after-along, after-chain}
 
 -- two tables that are those of the items show the same bytes
-pub byte_with_item_tables-by : (kernel : RangeView) (items : List Item) (m r : TableView) (x b : ℕ) → m ≡ table_for which.Memory kernel items →
+pub byte_with_item_tables-by : (kernel : RangeView) (items : List Item) (m r : TableView) (x b : ℕ)
+    → m ≡ table_for which.Memory kernel items →
     r ≡ table_for which.Reserved kernel items → byte_with_tables m r x b ≡ byte_with_item_tables kernel items x b
 byte_with_item_tables-by kernel items m r x b first second = rw (first, second) refl
 
@@ -23,7 +24,8 @@ pub spelled-by : (kernel : RangeView) (items : List Item) (m r : TableView) (f :
 spelled-by kernel items m r f first second spelled = λ x. spelled x ∙ byte_with_item_tables-by kernel items m r x (f x) first second
 
 pub follows-along : (kernel : RangeView) (items more longer : List Item) (f g : ℕ → ℕ) → longer ≡ items ++ more →
-    ((x : ℕ) → g x ≡ byte_with_item_tables kernel longer x (if is_vacated kernel items more x then 0 else f x)) → Follows kernel items longer f g
+    ((x : ℕ) → g x ≡ byte_with_item_tables kernel longer x (if is_vacated kernel items more x then 0 else f x))
+    → Follows kernel items longer f g
 follows-along kernel items more longer f g goes each = record {
   more = more;
   goes_on = goes;
@@ -49,19 +51,22 @@ pub follows-item : (kernel : RangeView) (items : List Item) (i : Item) (m r : Ta
 follows-item kernel items i m r f g stays first second told =
     follows-along kernel items (i ∷ []) (items ++ i ∷ []) f g refl
     (λ x. told x ∙ byte_with_item_tables-by kernel (items ++ i ∷ []) m r x (f x) first second
-    ∙ ap (λ (t : Bool). byte_with_item_tables kernel (items ++ i ∷ []) x (if t then 0 else f x)) (sym (or-false (is_vacated_by kernel items i x) ∙ stays x)))
+    ∙ ap (λ (t : Bool). byte_with_item_tables kernel (items ++ i ∷ []) x (if t then 0 else f x))
+    (sym (or-false (is_vacated_by kernel items i x) ∙ stays x)))
 
 -- a table moves
 pub follows-grown : (kernel : RangeView) (items : List Item) (w : Which) (place room : ℕ) (old m r : TableView) (f g : ℕ → ℕ) →
     old ≡ table_for w kernel items → m ≡ table_for which.Memory kernel (items ++ item.Grown w place room ∷ []) →
     r ≡ table_for which.Reserved kernel (items ++ item.Grown w place room ∷ []) →
-    ((x : ℕ) → g x ≡ byte_with_tables m r x (byte_without_table old x (f x))) → Follows kernel items (items ++ item.Grown w place room ∷ []) f g
+    ((x : ℕ) → g x ≡ byte_with_tables m r x (byte_without_table old x (f x)))
+    → Follows kernel items (items ++ item.Grown w place room ∷ []) f g
 follows-grown kernel items w place room old m r f g was first second told =
     let i : Item = item.Grown w place room in
     follows-along kernel items (i ∷ []) (items ++ i ∷ []) f g refl
     (λ x. told x ∙ byte_with_item_tables-by kernel (items ++ i ∷ []) m r x (byte_without_table old x (f x)) first second
     ∙ ap (λ (t : TableView). byte_with_item_tables kernel (items ++ i ∷ []) x (byte_without_table t x (f x))) was
-    ∙ ap (λ (t : Bool). byte_with_item_tables kernel (items ++ i ∷ []) x (if t then 0 else f x)) (sym (or-false (is_vacated_by kernel items i x))))
+    ∙ ap (λ (t : Bool). byte_with_item_tables kernel (items ++ i ∷ []) x (if t then 0 else f x))
+    (sym (or-false (is_vacated_by kernel items i x))))
 
 -- one call after another
 pub follows-then : (kernel : RangeView) (items mid last : List Item) (f g h : ℕ → ℕ) → Follows kernel items mid f g →

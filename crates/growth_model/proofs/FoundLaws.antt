@@ -102,7 +102,8 @@ tried_if r limit false ps qs h k = k
 tried_attempt : (r : Request) (limit lo : ℕ) (mirror : Bool) (wanted : Option ℕ) → IsTried r limit (attempt r limit lo mirror wanted).query
 tried_attempt r limit lo mirror wanted = record { sized = refl; aligned = refl; high = omega arith }
 
-tried_anywhere : (r : Request) (limit lo : ℕ) (mirror : Bool) (wanted : Option ℕ) → AreTried r limit (any_node_attempt r limit lo mirror wanted)
+tried_anywhere : (r : Request) (limit lo : ℕ) (mirror : Bool) (wanted : Option ℕ)
+    → AreTried r limit (any_node_attempt r limit lo mirror wanted)
 tried_anywhere r limit lo mirror None = tt
 tried_anywhere r limit lo mirror (Some node) =
     tried_if r limit r.exact [] (attempt r limit lo mirror None ∷ []) tt (tried_attempt r limit lo mirror None, tt)
@@ -112,7 +113,8 @@ tried_nodes r limit lo mirror = (tried_attempt r limit lo mirror r.node, tried_a
 
 tried_round : (r : Request) (limit lo : ℕ) → AreTried r limit (attempts_from r limit lo)
 tried_round r limit lo =
-    tried_append r limit (node_attempts r limit lo true) (node_attempts r limit lo false) (tried_nodes r limit lo true) (tried_nodes r limit lo false)
+    tried_append r limit (node_attempts r limit lo true) (node_attempts r limit lo false) (tried_nodes r limit lo true)
+    (tried_nodes r limit lo false)
 
 tried_all : (r : Request) (limit : ℕ) → AreTried r limit (attempts r limit)
 tried_all r limit = tried_append r limit (attempts_from r limit r.min) (if r.min == 0 then [] else attempts_from r limit 0)
@@ -154,19 +156,22 @@ place-within r items place h =
     omega arith
 
 -- unclaimed bytes overlap no table
-pub unclaimed-away : (kernel a : RangeView) (items : List Item) → TablesAreClaimed kernel items → IsUnclaimed (owner_of items) a → TouchesNoTable kernel a items
+pub unclaimed-away : (kernel a : RangeView) (items : List Item) → TablesAreClaimed kernel items → IsUnclaimed (owner_of items) a
+    → TouchesNoTable kernel a items
 unclaimed-away kernel a items placed free = (
   unclaimed-clear (owner_of items) a (table_bytes which.Memory kernel items) free placed.seats.first,
   unclaimed-clear (owner_of items) a (table_bytes which.Reserved kernel items) free placed.seats.second,
 )
 
-pub found-away : (kernel : RangeView) (items : List Item) (q : Query) (place : ℕ) → TablesAreClaimed kernel items → best_place items q ≡ Some place
+pub found-away : (kernel : RangeView) (items : List Item) (q : Query) (place : ℕ) → TablesAreClaimed kernel items
+    → best_place items q ≡ Some place
     → TouchesNoTable kernel (record { base = place; size = q.size }) items
 found-away kernel items q place placed found =
     unclaimed-away kernel (record { base = place; size = q.size }) items placed (found-unclaimed items q place found)
 
 -- a part of a range that overlaps no table overlaps none
-pub away-within : (kernel a b : RangeView) (items : List Item) → ((x : ℕ) → covers b x ≡ true → covers a x ≡ true) → TouchesNoTable kernel a items
+pub away-within : (kernel a b : RangeView) (items : List Item) → ((x : ℕ) → covers b x ≡ true → covers a x ≡ true)
+    → TouchesNoTable kernel a items
     → TouchesNoTable kernel b items
 away-within kernel a b items inside away = (λ x at. away.0 x (inside x at), λ x at. away.1 x (inside x at))
 
@@ -187,7 +192,8 @@ away-apart kernel a items t memory reserved away (w, meet) =
 
 -- the place that was found for a table with twice the room satisfies what `Tables::relocate`
 -- requires
-pub found-apart : (kernel : RangeView) (items : List Item) (t : TablesView) (room place : ℕ) → t.memory ≡ table_for which.Memory kernel items
+pub found-apart : (kernel : RangeView) (items : List Item) (t : TablesView) (room place : ℕ)
+    → t.memory ≡ table_for which.Memory kernel items
     → t.reserved ≡ table_for which.Reserved kernel items → TablesAreClaimed kernel items
     → IsUnclaimed (owner_of items) (frames_for_bytes place (48 * room)) → ¬ OverlapsTable t (record { base = place; size = 48 * room })
 found-apart kernel items t room place memory reserved placed free =

@@ -78,7 +78,8 @@ window_last lo hi a ends within aligned above low = record {
 
 -- it is the best place, and the one that a search of any memory finds; a search of mirrored memory
 -- finds none
-window_place : (lo hi a : ℕ) → a + 8192 ≡ hi → hi ≤ 262144 → a % 4096 ≡ 0 → 81920 ≤ a → lo ≤ a → best_place small (table_query 128 lo hi) ≡ Some a
+window_place : (lo hi a : ℕ) → a + 8192 ≡ hi → hi ≤ 262144 → a % 4096 ≡ 0 → 81920 ≤ a → lo ≤ a
+    → best_place small (table_query 128 lo hi) ≡ Some a
 unfolding best_place
 window_place lo hi a ends within aligned above low =
     best_place_in-last (table_of which.Memory small) (table_of which.Reserved small) (table_query 128 lo hi) a small_is_plain
@@ -252,7 +253,8 @@ abbrev mirrored_memory : Query → Attempt
 mirrored_memory q = record { query = q; mirror = true }
 
 -- nothing is mirrored, so the search of any memory finds the place
-second_search : first_found_place small (mirrored_memory (table_query 128 0 262144) ∷ (any_memory (table_query 128 0 262144) ∷ [])) ≡ Some 253952
+second_search : first_found_place small (mirrored_memory (table_query 128 0 262144) ∷ (any_memory (table_query 128 0 262144) ∷ []))
+    ≡ Some 253952
 second_search =
     rw (nothing_mirrored (table_query 128 0 262144), window_top 0 262144 253952 refl (omega arith) refl (omega arith) (omega arith)) refl
 

@@ -9,7 +9,8 @@ use Rattle.memblock_model.specs.declared.item.Item.TheVariants as item
 use Rattle.growth_model.specs.Change.{write_item}
 use Rattle.growth_model.specs.Growth.{is_full, count_uncovered_pieces, split_record_count, claim_range, free_range, add_range, set_range_node, set_range_mirror}
 
-pub claim_range-idle : (items : List Item) (range : RangeView) (who : Owner) → is_full which.Reserved (count_uncovered_pieces which.Reserved range) items ≡ false
+pub claim_range-idle : (items : List Item) (range : RangeView) (who : Owner)
+    → is_full which.Reserved (count_uncovered_pieces which.Reserved range) items ≡ false
     → claim_range range who items ≡ write_item (item.Claim range who) items
 unfolding claim_range
 claim_range-idle items range who room = rw (room, append-nil items, room) refl
@@ -19,7 +20,8 @@ pub free_range-idle : (items : List Item) (range : RangeView) → is_full which.
 unfolding free_range
 free_range-idle items range room = rw (room, append-nil items, room) refl
 
-pub add_range-idle : (items : List Item) (range : RangeView) → is_full which.Memory (count_uncovered_pieces which.Memory range) items ≡ false
+pub add_range-idle : (items : List Item) (range : RangeView)
+    → is_full which.Memory (count_uncovered_pieces which.Memory range) items ≡ false
     → add_range range items ≡ write_item (item.Mem range) items
 unfolding add_range
 add_range-idle items range room = rw (room, append-nil items, room) refl

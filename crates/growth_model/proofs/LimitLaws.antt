@@ -64,14 +64,16 @@ free_range-stays m n a t at =
     behind-growths m n a split_record_count (item.Free a) t
     (λ u here. (moves-of which.Memory u _ ∙ here.0, rooms-of which.Memory u _ ∙ here.1)) at
 
-pub free_old_place-stays : (m : Option ℕ) (n : ℕ) (old : Option RangeView) (t : List Item) → LiesAt m n t → EachCut (LiesAt m n) t (free_old_place old t).steps
+pub free_old_place-stays : (m : Option ℕ) (n : ℕ) (old : Option RangeView) (t : List Item) → LiesAt m n t
+    → EachCut (LiesAt m n) t (free_old_place old t).steps
 free_old_place-stays m n None t at = at
 free_old_place-stays m n (Some a) t at = free_range-stays m n a t at
 
 -- the newest place is the one before the growth, or one that ends at or below the limit
 abbrev Limited : List Item → List Item → Type 0
 Limited items t = (moved_to which.Memory t ≡ moved_to which.Memory items)
-    ⊎ ((place : ℕ) × (moved_to which.Memory t ≡ Some place) × (place + round_up_to_frames (48 * room_of which.Memory items) ≤ limit_of items))
+    ⊎ ((place : ℕ) × (moved_to which.Memory t ≡ Some place)
+    × (place + round_up_to_frames (48 * room_of which.Memory items) ≤ limit_of items))
 
 growth-limited : (items : List Item) (found : Option ℕ)
     → best_place items (table_query (room_of which.Memory items) 0 (limit_of items)) ≡ found

@@ -43,7 +43,8 @@ memory_items-append (i ∷ is) js = ap (λ (t : List Item). i ∷ t) (memory_ite
 pub quiet-joined : (ss : List (List Item)) → StepsKeepMemory ss → memory_items (items_of_steps ss) ≡ []
 quiet-joined [] quiet = refl
 quiet-joined (s ∷ ss) quiet =
-    memory_items-append s (items_of_steps ss) ∙ ap (λ (t : List Item). t ++ memory_items (items_of_steps ss)) quiet.0 ∙ quiet-joined ss quiet.1
+    memory_items-append s (items_of_steps ss) ∙ ap (λ (t : List Item). t ++ memory_items (items_of_steps ss)) quiet.0
+    ∙ quiet-joined ss quiet.1
 
 pub quiet-take : (n : ℕ) (ss : List (List Item)) → StepsKeepMemory ss → StepsKeepMemory (take n ss)
 quiet-take zero ss quiet = tt

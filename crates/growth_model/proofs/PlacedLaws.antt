@@ -25,16 +25,19 @@ pub table_bytes-is : (w : Which) (kernel : RangeView) (items : List Item) (place
     → room_of w items ≡ room → table_bytes w kernel items ≡ live_by w kernel place room
 table_bytes-is w kernel items place room at wide = rw (at, wide) refl
 
-pub table_bytes-same : (w : Which) (kernel : RangeView) (items t : List Item) → moved_to w t ≡ moved_to w items → room_of w t ≡ room_of w items
+pub table_bytes-same : (w : Which) (kernel : RangeView) (items t : List Item) → moved_to w t ≡ moved_to w items
+    → room_of w t ≡ room_of w items
     → table_bytes w kernel t ≡ table_bytes w kernel items
 table_bytes-same w kernel items t at wide = table_bytes-is w kernel t (moved_to w items) (room_of w items) at wide
 
-pub AreTablePlaces-same : (own now : Owners) (m n r s : RangeView) → now ≡ own → n ≡ m → s ≡ r → AreTablePlaces own m r → AreTablePlaces now n s
+pub AreTablePlaces-same : (own now : Owners) (m n r s : RangeView) → now ≡ own → n ≡ m → s ≡ r → AreTablePlaces own m r
+    → AreTablePlaces now n s
 AreTablePlaces-same own now m n r s owners memory reserved known = rw (owners, memory, reserved) known
 
 -- further items, and the seats after them
 pub placed-more : (kernel : RangeView) (items more : List Item) (own : Owners) (m r : RangeView) → TablesAreClaimed kernel items
-    → owner_of (items ++ more) ≡ own → table_bytes which.Memory kernel (items ++ more) ≡ m → table_bytes which.Reserved kernel (items ++ more) ≡ r
+    → owner_of (items ++ more) ≡ own → table_bytes which.Memory kernel (items ++ more) ≡ m
+    → table_bytes which.Reserved kernel (items ++ more) ≡ r
     → AreTablePlaces own m r → TablesAreClaimed kernel (items ++ more)
 placed-more kernel items more own m r placed owners memory reserved seats = record {
   rest = placed.rest ++ more;
@@ -79,13 +82,20 @@ still-placed kernel items i at wide placed seats =
 abbrev pub MayTake : RangeView → List Item → RangeView → Owner → Type 0
 MayTake kernel items range who = (may_hold_table (Some who) ≡ true) ⊎ TouchesNoTable kernel range items
 
-pub claim-placed : (kernel : RangeView) (items : List Item) (r : RangeView) (o : Owner) → MayTake kernel items r o → TablesAreClaimed kernel items
+pub claim-placed : (kernel : RangeView) (items : List Item) (r : RangeView) (o : Owner) → MayTake kernel items r o
+    → TablesAreClaimed kernel items
     → TablesAreClaimed kernel (items ++ item.Claim r o ∷ [])
 claim-placed kernel items r o may placed =
     still-placed kernel items (item.Claim r o) (λ w. refl) (λ w. refl) placed
-    (elim may as (λ _. AreTablePlaces (replace_in_range r o (owner_of items)) (table_bytes which.Memory kernel items) (table_bytes which.Reserved kernel items)) [
-      | inl kept ↦ AreTablePlaces-claim (owner_of items) (table_bytes which.Memory kernel items) (table_bytes which.Reserved kernel items) r o kept placed.seats
-      | inr away ↦ AreTablePlaces-clear (owner_of items) (table_bytes which.Memory kernel items) (table_bytes which.Reserved kernel items) r o away.0 away.1
+    (elim may as (λ _.
+    AreTablePlaces (replace_in_range r o (owner_of items)) (table_bytes which.Memory kernel items)
+    (table_bytes which.Reserved kernel items)) [
+      | inl kept ↦
+          AreTablePlaces-claim (owner_of items) (table_bytes which.Memory kernel items)
+          (table_bytes which.Reserved kernel items) r o kept placed.seats
+      | inr away ↦
+          AreTablePlaces-clear (owner_of items) (table_bytes which.Memory kernel items)
+          (table_bytes which.Reserved kernel items) r o away.0 away.1
           placed.seats
     ])
 
@@ -93,25 +103,31 @@ pub free-placed : (kernel : RangeView) (items : List Item) (r : RangeView) → T
     → TablesAreClaimed kernel (items ++ item.Free r ∷ [])
 free-placed kernel items r away placed =
     still-placed kernel items (item.Free r) (λ w. refl) (λ w. refl) placed
-    (AreTablePlaces-free (owner_of items) (table_bytes which.Memory kernel items) (table_bytes which.Reserved kernel items) r away.0 away.1 placed.seats)
+    (AreTablePlaces-free (owner_of items) (table_bytes which.Memory kernel items)
+    (table_bytes which.Reserved kernel items) r away.0 away.1 placed.seats)
 
-pub mem-placed : (kernel : RangeView) (items : List Item) (r : RangeView) → TablesAreClaimed kernel items → TablesAreClaimed kernel (items ++ item.Mem r ∷ [])
+pub mem-placed : (kernel : RangeView) (items : List Item) (r : RangeView) → TablesAreClaimed kernel items
+    → TablesAreClaimed kernel (items ++ item.Mem r ∷ [])
 mem-placed kernel items r placed = still-placed kernel items (item.Mem r) (λ w. refl) (λ w. refl) placed placed.seats
 
 pub node-placed : (kernel : RangeView) (items : List Item) (r : RangeView) (node : ℕ) → TablesAreClaimed kernel items
     → TablesAreClaimed kernel (items ++ item.Node r node ∷ [])
 node-placed kernel items r node placed = still-placed kernel items (item.Node r node) (λ w. refl) (λ w. refl) placed placed.seats
 
-pub mirror-placed : (kernel : RangeView) (items : List Item) (r : RangeView) → TablesAreClaimed kernel items → TablesAreClaimed kernel (items ++ item.Mirror r ∷ [])
+pub mirror-placed : (kernel : RangeView) (items : List Item) (r : RangeView) → TablesAreClaimed kernel items
+    → TablesAreClaimed kernel (items ++ item.Mirror r ∷ [])
 mirror-placed kernel items r placed = still-placed kernel items (item.Mirror r) (λ w. refl) (λ w. refl) placed placed.seats
 
-pub trim-placed : (kernel : RangeView) (items : List Item) → TablesAreClaimed kernel items → TablesAreClaimed kernel (items ++ item.Trim ∷ [])
+pub trim-placed : (kernel : RangeView) (items : List Item) → TablesAreClaimed kernel items
+    → TablesAreClaimed kernel (items ++ item.Trim ∷ [])
 trim-placed kernel items placed = still-placed kernel items item.Trim (λ w. refl) (λ w. refl) placed placed.seats
 
-pub limit-placed : (kernel : RangeView) (items : List Item) (at : ℕ) → TablesAreClaimed kernel items → TablesAreClaimed kernel (items ++ item.Limit at ∷ [])
+pub limit-placed : (kernel : RangeView) (items : List Item) (at : ℕ) → TablesAreClaimed kernel items
+    → TablesAreClaimed kernel (items ++ item.Limit at ∷ [])
 limit-placed kernel items at placed = still-placed kernel items (item.Limit at) (λ w. refl) (λ w. refl) placed placed.seats
 
-pub upward-placed : (kernel : RangeView) (items : List Item) (on : Bool) → TablesAreClaimed kernel items → TablesAreClaimed kernel (items ++ item.Upward on ∷ [])
+pub upward-placed : (kernel : RangeView) (items : List Item) (on : Bool) → TablesAreClaimed kernel items
+    → TablesAreClaimed kernel (items ++ item.Upward on ∷ [])
 upward-placed kernel items on placed = still-placed kernel items (item.Upward on) (λ w. refl) (λ w. refl) placed placed.seats
 
 -- from the items on, the reserved table grew apart from the range: the memory table and the limit
@@ -140,9 +156,13 @@ pub record Going (kernel a : RangeView) (items t : List Item) : Type 0 where
   pub aside : Aside kernel a items t
 
 -- the range still overlaps no table, and may still be claimed
-pub away-still : (kernel a : RangeView) (items t : List Item) → Aside kernel a items t → TouchesNoTable kernel a items → TouchesNoTable kernel a t
-away-still kernel a items t aside away =
-    (subst (λ (e : RangeView). AreDisjoint a e) (sym (table_bytes-same which.Memory kernel items t aside.place aside.wide)) away.0, aside.clear away.1)
+pub away-still : (kernel a : RangeView) (items t : List Item) → Aside kernel a items t → TouchesNoTable kernel a items
+    → TouchesNoTable kernel a t
+away-still kernel a items t aside away = (
+  subst (λ (e : RangeView). AreDisjoint a e)
+      (sym (table_bytes-same which.Memory kernel items t aside.place aside.wide)) away.0,
+  aside.clear away.1,
+)
 
 pub take-still : (kernel a : RangeView) (o : Owner) (items t : List Item) → Aside kernel a items t → MayTake kernel items a o
     → MayTake kernel t a o
@@ -167,12 +187,15 @@ module _ (own : Owners) (m r : RangeView) (w : Which) (room place : ℕ) where
   pub move-seats : place % 4096 ≡ 0 → IsUnclaimed own (frames_for_bytes place (48 * room)) → AreTablePlaces own m r
       → AreTablePlaces (replace_in_range (frames_for_bytes place (48 * room)) (for_table w) own) m (place_for_twice room place)
   move-seats aligned free seats =
-      subst (λ (e : RangeView). AreTablePlaces (replace_in_range e (for_table w) own) m (place_for_twice room place)) (same-frames room place)
+      subst (λ (e : RangeView). AreTablePlaces (replace_in_range e (for_table w) own) m (place_for_twice room place))
+      (same-frames room place)
       (AreTablePlaces-move own m r (place_for_twice room place) (for_table w) refl aligned (free-frames free) seats)
 
   pub leave-seats : place % 4096 ≡ 0 → IsUnclaimed own (frames_for_bytes place (48 * room)) → AreTablePlaces own m r
-      → AreTablePlaces (uncover_range (frames r) (replace_in_range (frames_for_bytes place (48 * room)) (for_table w) own)) m (place_for_twice room place)
+      → AreTablePlaces (uncover_range (frames r) (replace_in_range (frames_for_bytes place (48 * room)) (for_table w) own)) m
+      (place_for_twice room place)
   leave-seats aligned free seats =
-      subst (λ (e : RangeView). AreTablePlaces (uncover_range (frames r) (replace_in_range e (for_table w) own)) m (place_for_twice room place))
+      subst (λ (e : RangeView). AreTablePlaces (uncover_range (frames r) (replace_in_range e (for_table w) own)) m
+      (place_for_twice room place))
       (same-frames room place)
       (AreTablePlaces-leave own m r (place_for_twice room place) (for_table w) refl aligned (free-frames free) seats)

@@ -76,8 +76,10 @@ module _ (kernel : RangeView) (t : List Item) (place : ℕ) where
   moved-placed new placed =
       placed-more kernel u (grows ∷ []) (replace_in_range a (for_table which.Memory) (owner_of t)) (new_live t place)
       (table_bytes which.Reserved kernel t) (taken-placed placed) moved-owners moved-memory moved-reserved
-      (AreTablePlaces-swap (replace_in_range a (for_table which.Memory) (owner_of t)) (table_bytes which.Reserved kernel t) (new_live t place)
-      (move-seats (owner_of t) (table_bytes which.Reserved kernel t) (table_bytes which.Memory kernel t) which.Memory (room_of which.Memory t) place
+      (AreTablePlaces-swap (replace_in_range a (for_table which.Memory) (owner_of t)) (table_bytes which.Reserved kernel t)
+      (new_live t place)
+      (move-seats (owner_of t) (table_bytes which.Reserved kernel t) (table_bytes which.Memory kernel t) which.Memory
+      (room_of which.Memory t) place
       new.aligned new.free
       (AreTablePlaces-swap (owner_of t) (table_bytes which.Memory kernel t) (table_bytes which.Reserved kernel t) placed.seats)))
 
@@ -92,7 +94,8 @@ module _ (kernel : RangeView) (t : List Item) (place : ℕ) where
       subst (λ (e : RangeView). AreTablePlaces (owner_of t) e (table_bytes which.Reserved kernel t)) is placed.seats in
       let twice : RangeView = new_live t place in
       let e : 48 * room ≡ 24 * (2 * room) = omega arith in
-      let free : IsUnclaimed (owner_of t) (frames twice) = subst (λ (n : ℕ). IsUnclaimed (owner_of t) (frames_for_bytes place n)) e new.free in
+      let free : IsUnclaimed (owner_of t) (frames twice) =
+      subst (λ (n : ℕ). IsUnclaimed (owner_of t) (frames_for_bytes place n)) e new.free in
       let first : AreDisjoint (frames before) twice = λ x at_b at_n.
       old-clear (owner_of t) before twice new.aligned free seats.first x at_b
       (subst (λ (n : ℕ). covers (frames_for_bytes place n) x ≡ true) e (place-inside room place x at_n)) in
@@ -110,7 +113,8 @@ pub record IsTaken (kernel : RangeView) (u : List Item) (room : ℕ) (old : Opti
   pub was : moved_to which.Memory u ≡ old
   pub away : TouchesNoTable kernel (frames_for_bytes place (48 * room)) u
   pub next : TablesAreClaimed kernel (u ++ item.Grown which.Memory place (2 * room) ∷ [])
-  pub left : (q : ℕ) → old ≡ Some q → TouchesNoTable kernel (frames_for_bytes q (24 * room)) (u ++ item.Grown which.Memory place (2 * room) ∷ [])
+  pub left : (q : ℕ) → old ≡ Some q
+      → TouchesNoTable kernel (frames_for_bytes q (24 * room)) (u ++ item.Grown which.Memory place (2 * room) ∷ [])
 
 taken-is : (kernel : RangeView) (t : List Item) (place : ℕ) → IsFree t place → TablesAreClaimed kernel t
     → IsTaken kernel (taken t place) (room_of which.Memory t) (moved_to which.Memory t) place
@@ -124,7 +128,8 @@ taken-is kernel t place new placed = record {
 }
 
 taken-along : (kernel : RangeView) (t : List Item) (room : ℕ) (old : Option ℕ) (place : ℕ) → room_of which.Memory t ≡ room
-    → moved_to which.Memory t ≡ old → place % 4096 ≡ 0 → IsUnclaimed (owner_of t) (frames_for_bytes place (48 * room)) → TablesAreClaimed kernel t
+    → moved_to which.Memory t ≡ old → place % 4096 ≡ 0 → IsUnclaimed (owner_of t) (frames_for_bytes place (48 * room))
+    → TablesAreClaimed kernel t
     → IsTaken kernel (t ++ item.Claim (frames_for_bytes place (48 * room)) (for_table which.Memory) ∷ []) room old place
 taken-along kernel t room old place wide was aligned free placed =
     let new : IsFree t place = record { aligned = aligned; free = rw wide free } in
@@ -154,7 +159,8 @@ left-cuts kernel u room None placed left = placed
 left-cuts kernel u room (Some q) placed left = free_range-cuts kernel u (frames_for_bytes q (24 * room)) (left q refl) placed
 
 taken-cuts : (kernel : RangeView) (u : List Item) (room : ℕ) (old : Option ℕ) (place : ℕ) → IsTaken kernel u room old place
-    → EachCut (TablesAreClaimed kernel) u ((write_item (item.Grown which.Memory place (2 * room)) >> free_old_place (old_frames room old)) u).steps
+    → EachCut (TablesAreClaimed kernel) u
+    ((write_item (item.Grown which.Memory place (2 * room)) >> free_old_place (old_frames room old)) u).steps
 taken-cuts kernel u room old place known =
     let moves : Item = item.Grown which.Memory place (2 * room) in
     cuts-then (TablesAreClaimed kernel) u (write_item moves) (free_old_place (old_frames room old)) (known.placed, known.next)
@@ -162,7 +168,8 @@ taken-cuts kernel u room old place known =
 
 growth-at : (kernel : RangeView) (items : List Item) (found : Option ℕ)
     → best_place items (table_query (room_of which.Memory items) 0 (limit_of items)) ≡ found → TablesAreClaimed kernel items
-    → EachCut (TablesAreClaimed kernel) items (memory_growth_at (room_of which.Memory items) (moved_to which.Memory items) found items).steps
+    → EachCut (TablesAreClaimed kernel) items
+    (memory_growth_at (room_of which.Memory items) (moved_to which.Memory items) found items).steps
 unfolding memory_growth_at
 growth-at kernel items None is placed = placed
 growth-at kernel items (Some place) is placed =
@@ -170,13 +177,15 @@ growth-at kernel items (Some place) is placed =
     let old = moved_to which.Memory items in
     let first = claim_range (frames_for_bytes place (48 * room)) (for_table which.Memory) in
     let u = items_after_change items (first items) in
-    cuts-then (TablesAreClaimed kernel) items first (write_item (item.Grown which.Memory place (2 * room)) >> free_old_place (old_frames room old))
+    cuts-then (TablesAreClaimed kernel) items first (write_item (item.Grown which.Memory place (2 * room))
+    >> free_old_place (old_frames room old))
     (claim_range-cuts kernel items (frames_for_bytes place (48 * room)) (for_table which.Memory) (inl refl) placed)
     (λ unrefused. taken-cuts kernel u room old place
     (claim_range-taken {T = Unit {0}} tt kernel items u place placed is (unrefused, refl)))
 
 -- throughout one growth
-pub memory-cuts : (kernel : RangeView) (items : List Item) → TablesAreClaimed kernel items → EachCut (TablesAreClaimed kernel) items (memory_growth items).steps
+pub memory-cuts : (kernel : RangeView) (items : List Item) → TablesAreClaimed kernel items
+    → EachCut (TablesAreClaimed kernel) items (memory_growth items).steps
 unfolding memory_growth
 memory-cuts kernel items placed =
     growth-at kernel items (best_place items (table_query (room_of which.Memory items) 0 (limit_of items))) refl placed
@@ -184,7 +193,8 @@ memory-cuts kernel items placed =
 -- the items after growths of the memory table
 make_table_room-placed : (kernel : RangeView) (items : List Item) (more : List Item → ℕ) → TablesAreClaimed kernel items
     → TablesAreClaimed kernel (items_after_change items (make_table_room which.Memory more memory_growth items))
-make_table_room-placed kernel items more placed = cuts-last (TablesAreClaimed kernel) items (make_table_room which.Memory more memory_growth items).steps
+make_table_room-placed kernel items more placed =
+    cuts-last (TablesAreClaimed kernel) items (make_table_room which.Memory more memory_growth items).steps
     (cuts-grown (TablesAreClaimed kernel) which.Memory more memory_growth items (memory-cuts kernel) placed)
 
 -- an item that keeps the tables seated does so after growths too
@@ -213,11 +223,13 @@ set_range_node-cuts kernel items r node placed =
 pub set_range_mirror-cuts : (kernel : RangeView) (items : List Item) (r : RangeView) → TablesAreClaimed kernel items
     → EachCut (TablesAreClaimed kernel) items (set_range_mirror r items).steps
 unfolding set_range_mirror
-set_range_mirror-cuts kernel items r placed = marked-cuts kernel items split_record_count (item.Mirror r) (λ t here. mirror-placed kernel t r here) placed
+set_range_mirror-cuts kernel items r placed =
+    marked-cuts kernel items split_record_count (item.Mirror r) (λ t here. mirror-placed kernel t r here) placed
 
 -- throughout the claim of a place that an allocation found, for any owner
 pub allocated-cuts : (kernel : RangeView) (items : List Item) (r : Request) (place : ℕ) (o : Owner) → place_for r items ≡ Some place
-    → TablesAreClaimed kernel items → EachCut (TablesAreClaimed kernel) items (claim_range (record { base = place; size = r.size }) o items).steps
+    → TablesAreClaimed kernel items
+    → EachCut (TablesAreClaimed kernel) items (claim_range (record { base = place; size = r.size }) o items).steps
 allocated-cuts kernel items r place o found placed =
     claim_range-cuts kernel items (record { base = place; size = r.size }) o
     (inr (unclaimed-away kernel (record { base = place; size = r.size }) items placed (place-unclaimed r items place found))) placed

@@ -19,7 +19,8 @@ use Rattle.growth_model.proofs.FoundLaws.{IsNew, beside-new}
 use Rattle.growth_model.proofs.PlacedLaws.{live_by, table_bytes-is, table_bytes-same, placed-more, owners-of, moves-of, rooms-of, limits-of, MayTake, claim-placed, free-placed, Aside, aside-same, aside-on, Going, away-still, take-still, for_table, move-seats, leave-seats}
 
 -- unclaimed bytes stay so when others are claimed, and when any are freed
-claim-unclaimed : (own : Owners) (a r : RangeView) (o : Owner) → AreDisjoint a r → IsUnclaimed own a → IsUnclaimed (replace_in_range r o own) a
+claim-unclaimed : (own : Owners) (a r : RangeView) (o : Owner) → AreDisjoint a r → IsUnclaimed own a
+    → IsUnclaimed (replace_in_range r o own) a
 claim-unclaimed own a r o clear free x at = rw (false_from_ne_true (covers r x) (λ in_r. clear x at in_r)) (free x at)
 
 free-unclaimed : (own : Owners) (a r : RangeView) → IsUnclaimed own a → IsUnclaimed (uncover_range r own) a
@@ -101,7 +102,8 @@ grew-going kernel a t None place was new placed =
     record {
       placed = placed-more kernel t more (claimed_place t place) memory (live_by which.Reserved kernel (Some place) (2 * room)) placed
           (grew-owners-first t place) (grew-memory kernel t None place) (grew-live kernel t None place)
-          (move-seats (owner_of t) memory (table_bytes which.Reserved kernel t) which.Reserved room place new.aligned new.free placed.seats);
+          (move-seats (owner_of t) memory
+          (table_bytes which.Reserved kernel t) which.Reserved room place new.aligned new.free placed.seats);
       aside = grew-aside kernel a t None place new (λ free.
           subst (λ (f : Owners). IsUnclaimed f a) (sym (grew-owners-first t place))
           (claim-unclaimed (owner_of t) a (new_place t place) (for_table which.Reserved) new.clear free));
@@ -170,7 +172,8 @@ room-placed kernel a more items placed =
     (λ t going. going.placed) (room-cuts kernel a more items placed)
 
 -- throughout a claim
-pub claim_range-cuts : (kernel : RangeView) (items : List Item) (r : RangeView) (o : Owner) → MayTake kernel items r o → TablesAreClaimed kernel items
+pub claim_range-cuts : (kernel : RangeView) (items : List Item) (r : RangeView) (o : Owner) → MayTake kernel items r o
+    → TablesAreClaimed kernel items
     → EachCut (TablesAreClaimed kernel) items (claim_range r o items).steps
 unfolding claim_range
 claim_range-cuts kernel items r o may placed =
@@ -181,14 +184,20 @@ claim_range-cuts kernel items r o may placed =
     (λ _. (going.placed, claim-placed kernel (roomy r more items) r o (take-still kernel r o items _ going.aside may) going.placed))
 
 -- throughout a free
-pub free_range-cuts : (kernel : RangeView) (items : List Item) (r : RangeView) → TouchesNoTable kernel r items → TablesAreClaimed kernel items
+pub free_range-cuts : (kernel : RangeView) (items : List Item) (r : RangeView) → TouchesNoTable kernel r items
+    → TablesAreClaimed kernel items
     → EachCut (TablesAreClaimed kernel) items (free_range r items).steps
 unfolding free_range
 free_range-cuts kernel items r away placed =
     let going = room-going kernel r split_record_count items placed in
-    cuts-then (TablesAreClaimed kernel) items (make_table_room which.Reserved split_record_count (reserved_growth r)) (write_item (item.Free r))
+    cuts-then (TablesAreClaimed kernel) items (make_table_room which.Reserved split_record_count (reserved_growth r))
+    (write_item (item.Free r))
     (room-placed kernel r split_record_count items placed)
-    (λ _. (going.placed, free-placed kernel (roomy r split_record_count items) r (away-still kernel r items _ going.aside away) going.placed))
+    (λ _. (
+      going.placed,
+      free-placed kernel (roomy r split_record_count items) r
+          (away-still kernel r items _ going.aside away) going.placed,
+    ))
 
 -- a claim that wasn't refused wrote its item after growths apart from its range
 pub claim_range-after : (items : List Item) (r : RangeView) (o : Owner) → (claim_range r o items).refused ≡ None

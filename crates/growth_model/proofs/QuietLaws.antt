@@ -21,7 +21,8 @@ use Rattle.growth_model.proofs.MemoryItemLaws.{quiet-append, quiet-joined, memor
 pub record IsQuiet (c : Change) : Type 0 where
   pub each : (items : List Item) → StepsKeepMemory (c items).steps
 
-quiet-followed : (first : ChangeEffect) (r : Option RefusedGrowth) (second : ChangeEffect) → StepsKeepMemory first.steps → StepsKeepMemory second.steps
+quiet-followed : (first : ChangeEffect) (r : Option RefusedGrowth) (second : ChangeEffect) → StepsKeepMemory first.steps
+    → StepsKeepMemory second.steps
     → StepsKeepMemory (followed_by first r second).steps
 quiet-followed first None second quiet then = quiet-append first.steps second.steps quiet then
 quiet-followed first (Some r) second quiet then = quiet
@@ -67,7 +68,8 @@ claim_range-quiet range who =
 
 pub free_range-quiet : (range : RangeView) → IsQuiet (free_range range)
 unfolding free_range
-free_range-quiet range = quiet-then _ _ (quiet-grown which.Reserved split_record_count _ (reserved_growth-quiet range)) (written-quiet (item.Free range) refl)
+free_range-quiet range =
+    quiet-then _ _ (quiet-grown which.Reserved split_record_count _ (reserved_growth-quiet range)) (written-quiet (item.Free range) refl)
 
 free_old_place-quiet : (room : ℕ) (old : Option ℕ) → IsQuiet (free_old_place (old_frames room old))
 free_old_place-quiet room None = record { each = λ items. tt }
@@ -88,12 +90,14 @@ memory_growth-quiet = record {
 }
 
 -- a quiet change leaves memory and the limit as they are
-pub quiet-memory_items : (items : List Item) (o : ChangeEffect) → StepsKeepMemory o.steps → memory_items (items_after_change items o) ≡ memory_items items
+pub quiet-memory_items : (items : List Item) (o : ChangeEffect) → StepsKeepMemory o.steps
+    → memory_items (items_after_change items o) ≡ memory_items items
 quiet-memory_items items o quiet =
     memory_items-append items (items_of_steps o.steps) ∙ ap (λ (t : List Item). memory_items items ++ t) (quiet-joined o.steps quiet)
     ∙ append-nil (memory_items items)
 
-pub quiet-memory : (items : List Item) (o : ChangeEffect) → StepsKeepMemory o.steps → memory_of (items_after_change items o) ≡ memory_of items
+pub quiet-memory : (items : List Item) (o : ChangeEffect) → StepsKeepMemory o.steps
+    → memory_of (items_after_change items o) ≡ memory_of items
 quiet-memory items o quiet = memory_of-same (items_after_change items o) items (quiet-memory_items items o quiet)
 
 pub quiet-limit : (items : List Item) (o : ChangeEffect) → StepsKeepMemory o.steps → limit_of (items_after_change items o) ≡ limit_of items

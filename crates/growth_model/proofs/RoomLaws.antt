@@ -51,10 +51,11 @@ module _ (w : Which) (more : List Item → ℕ) (growth : Change)
 
   -- a growth that isn't due does nothing
   by_due : (t : List Item) → ((is_full w more t ≡ false) × (items_after_change t (once t) ≡ t)) ⊎ (once t ≡ growth t)
-  by_due t = elim (cases_Bool (is_full w more t)) as (λ _. ((is_full w more t ≡ false) × (items_after_change t (once t) ≡ t)) ⊎ (once t ≡ growth t)) [
-    | inl due ↦ inr (rw due refl)
-    | inr idle ↦ inl (idle, rw idle (append-nil t))
-  ]
+  by_due t = elim (cases_Bool (is_full w more t)) as (λ _.
+      ((is_full w more t ≡ false) × (items_after_change t (once t) ≡ t)) ⊎ (once t ≡ growth t)) [
+        | inl due ↦ inr (rw due refl)
+        | inr idle ↦ inl (idle, rw idle (append-nil t))
+      ]
 
   grew-well : (t : List Item) → Bounded w t → once t ≡ growth t → (once t).refused ≡ None → Well w t (items_after_change t (once t))
   grew-well t bounded is unrefused = rw is (doubles t bounded (rw is at unrefused))
@@ -67,7 +68,8 @@ module _ (w : Which) (more : List Item → ℕ) (growth : Change)
       let room : record_count w v + more v ≤ room_of w v = omega arith in
       grind (arith, nat_tests, room)
 
-  idle-room : (t : List Item) → is_full w more t ≡ false → items_after_change t (once t) ≡ t → is_full w more (items_after_change t (once t)) ≡ false
+  idle-room : (t : List Item) → is_full w more t ≡ false → items_after_change t (once t) ≡ t
+      → is_full w more (items_after_change t (once t)) ≡ false
   idle-room t idle is = ap (is_full w more) is ∙ idle
 
   second-room : (t u : List Item) → record_count w t ≤ room_of w t → Well w t u → (once u).refused ≡ None
@@ -130,13 +132,15 @@ module _ (avoid : RangeView) (t : List Item) (place : ℕ) (new : IsNew t avoid 
   grew-few None = let few = claim_range-few in omega (arith, few)
   grew-few (Some q) =
       let few = claim_range-few in
-      let one = length-uncovered (frames_for_bytes q (24 * room_of which.Reserved t)) (cover_range claim plain_label table) claim_range-bounded in
+      let one = length-uncovered (frames_for_bytes q (24 * room_of which.Reserved t))
+      (cover_range claim plain_label table) claim_range-bounded in
       omega (arith, few, one)
 
   grew-bounded : (old : Option ℕ) → NothingFrom (2 ^ 64) (grew-table old)
   grew-bounded None = claim_range-bounded
   grew-bounded (Some q) =
-      nothing-uncovered (2 ^ 64) (frames_for_bytes q (24 * room_of which.Reserved t)) (cover_range claim plain_label table) claim_range-bounded
+      nothing-uncovered (2 ^ 64) (frames_for_bytes q (24 * room_of which.Reserved t))
+      (cover_range claim plain_label table) claim_range-bounded
 
   grew-well-by : (old : Option ℕ) → Well which.Reserved t (grew t old place)
   unfolding records_of
@@ -159,7 +163,8 @@ unfolding reserved_growth_at
 reserved-at avoid t None is bounded unrefused = cc
 reserved-at avoid t (Some place) is bounded unrefused =
     let old : Option ℕ = moved_to which.Reserved t in
-    subst (λ (s : List Item). Well which.Reserved t (t ++ s)) (sym (append-nil (reserved_growth_items (room_of which.Reserved t) old place)))
+    subst (λ (s : List Item). Well which.Reserved t (t ++ s))
+    (sym (append-nil (reserved_growth_items (room_of which.Reserved t) old place)))
     (grew-well-by avoid t place (beside-new t avoid (room_of which.Reserved t) place is) bounded old)
 
 reserved-well : (avoid : RangeView) (t : List Item) → Bounded which.Reserved t → (reserved_growth avoid t).refused ≡ None
@@ -190,7 +195,8 @@ memory-room_at t (Some place) unrefused =
     let stays : LiesAt (Some place) (2 * room) (items_after_change there (last there)) =
     cuts-last (LiesAt (Some place) (2 * room)) there (last there).steps
     (free_old_place-stays (Some place) (2 * room) (old_frames room old) there moved) in
-    ap (room_of which.Memory) (items_after_change-then t first (write_item moves >> last) (then-unrefused t first (write_item moves >> last) unrefused).0
+    ap (room_of which.Memory)
+    (items_after_change-then t first (write_item moves >> last) (then-unrefused t first (write_item moves >> last) unrefused).0
     ∙ items_after_change-then u (write_item moves) last refl) ∙ stays.1
 
 memory-room : (t : List Item) → (memory_growth t).refused ≡ None
@@ -226,7 +232,8 @@ pub memory-doubles : (items : List Item) → IsInAddressSpace items → (memory_
     → DoublesRoom which.Memory items (items_after_change items (memory_growth items))
 memory-doubles items space unrefused = (memory-well items (bounded-of which.Memory items space) unrefused).doubled
 
-few-new : (w : Which) (range : RangeView) → end_of range ≤ 2 ^ 64 → (t : List Item) → Bounded w t → count_uncovered_pieces w range t ≤ record_count w t + 2
+few-new : (w : Which) (range : RangeView) → end_of range ≤ 2 ^ 64 → (t : List Item) → Bounded w t
+    → count_uncovered_pieces w range t ≤ record_count w t + 2
 unfolding records_of
 few-new w range ends t bounded = let few = few-pieces range (table_of w t) ends bounded.ends in omega (arith, few)
 
@@ -251,14 +258,16 @@ enough-added range items space fits ends =
     room-behind which.Memory (count_uncovered_pieces which.Memory range) memory_growth memory-well (few-new which.Memory range ends) items
     (bounded-of which.Memory items space) (fits which.Memory)
 
-pub enough-labelled : (items : List Item) → IsInAddressSpace items → TablesHaveRoom items → HasRoomAfter which.Memory split_record_count memory_growth items
+pub enough-labelled : (items : List Item) → IsInAddressSpace items → TablesHaveRoom items
+    → HasRoomAfter which.Memory split_record_count memory_growth items
 enough-labelled items space fits =
     room-behind which.Memory split_record_count memory_growth memory-well (few-two which.Memory) items (bounded-of which.Memory items space)
     (fits which.Memory)
 
 -- after one growth apart from an unclaimed range, the table has room for the range, since it is
 -- one piece
-room-for-free : (kernel range : RangeView) (items : List Item) → IsInAddressSpace items → TablesHaveRoom items → TablesAreClaimed kernel items → 0 < range.size
+room-for-free : (kernel range : RangeView) (items : List Item) → IsInAddressSpace items → TablesHaveRoom items
+    → TablesAreClaimed kernel items → 0 < range.size
     → end_of range ≤ 2 ^ 64 → IsUnclaimed (owner_of items) range → (reserved_growth range items).refused ≡ None
     → is_full which.Reserved (count_uncovered_pieces which.Reserved range) (items_after_change items (reserved_growth range items)) ≡ false
 unfolding records_of
@@ -274,14 +283,16 @@ room-for-free kernel range items space fits placed some ends free unrefused =
     omega (arith, one, room, few, least, fit) in
     grind (arith, nat_tests, all)
 
-found-unrefused : (range : RangeView) (items : List Item) (found : Option ℕ) → place_beside_range range (room_of which.Reserved items) items ≡ found
+found-unrefused : (range : RangeView) (items : List Item) (found : Option ℕ)
+    → place_beside_range range (room_of which.Reserved items) items ≡ found
     → IsSome found → (reserved_growth range items).refused ≡ None
 unfolding reserved_growth reserved_growth_at
 found-unrefused range items None is some = cc
 found-unrefused range items (Some place) is some = rw is refl
 
 -- so the range is claimed, unless the table is full and finds no place
-pub free-claimed : (kernel range : RangeView) (who : Owner) (items : List Item) → IsInAddressSpace items → TablesHaveRoom items → TablesAreClaimed kernel items
+pub free-claimed : (kernel range : RangeView) (who : Owner) (items : List Item) → IsInAddressSpace items → TablesHaveRoom items
+    → TablesAreClaimed kernel items
     → 0 < range.size → end_of range ≤ 2 ^ 64 → IsUnclaimed (owner_of items) range
     → (is_full which.Reserved (count_uncovered_pieces which.Reserved range) items ≡ false)
     ⊎ IsSome (place_beside_range range (room_of which.Reserved items) items)
@@ -289,7 +300,8 @@ pub free-claimed : (kernel range : RangeView) (who : Owner) (items : List Item) 
 unfolding claim_range
 free-claimed kernel range who items space fits placed some ends free (inl idle) = rw (idle, append-nil items, idle) refl
 free-claimed kernel range who items space fits placed some ends free (inr found) =
-    elim (cases_Bool (is_full which.Reserved (count_uncovered_pieces which.Reserved range) items)) as (λ _. (claim_range range who items).refused ≡ None) [
+    elim (cases_Bool (is_full which.Reserved (count_uncovered_pieces which.Reserved range) items)) as (λ _.
+    (claim_range range who items).refused ≡ None) [
       | inl full ↦
           let unrefused = found-unrefused range items (place_beside_range range (room_of which.Reserved items) items) refl found in
           rw (full, unrefused, room-for-free kernel range items space fits placed some ends free unrefused) refl

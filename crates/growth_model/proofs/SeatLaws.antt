@@ -53,7 +53,8 @@ pub new-apart : (own : Owners) (n b : RangeView) → n.base % 4096 ≡ 0 → IsU
 new-apart own n b aligned free seat x y at_n at_b same =
     unkept own y (free y (frame-whole n x y aligned (frames-more n x at_n) (sym same))) (seat.kept y at_b)
 
-pub old-clear : (own : Owners) (a n : RangeView) → n.base % 4096 ≡ 0 → IsUnclaimed own (frames n) → IsTablePlace own a → AreDisjoint (frames a) (frames n)
+pub old-clear : (own : Owners) (a n : RangeView) → n.base % 4096 ≡ 0 → IsUnclaimed own (frames n) → IsTablePlace own a
+    → AreDisjoint (frames a) (frames n)
 old-clear own a n aligned free seat x at_a at_n =
     unkept own (4096 * (x / 4096))
     (free (4096 * (x / 4096)) (frame-whole n x (4096 * (x / 4096)) aligned at_n (first-frame x)))
@@ -65,14 +66,16 @@ kept-claim : (b : Bool) (o : Owner) (old : Option Owner) → may_hold_table (Som
 kept-claim true o old new was = new
 kept-claim false o old new was = was
 
-pub IsTablePlace-claim : (own : Owners) (a r : RangeView) (o : Owner) → may_hold_table (Some o) ≡ true → IsTablePlace own a → IsTablePlace (replace_in_range r o own) a
+pub IsTablePlace-claim : (own : Owners) (a r : RangeView) (o : Owner) → may_hold_table (Some o) ≡ true → IsTablePlace own a
+    → IsTablePlace (replace_in_range r o own) a
 IsTablePlace-claim own a r o new seat = record {
   aligned = seat.aligned;
   kept = λ x at. kept-claim (covers r x) o (own x) new (seat.kept x at);
 }
 
 -- a claim of other bytes for anyone, and a free of other bytes
-pub IsTablePlace-clear : (own : Owners) (a r : RangeView) (o : Owner) → AreDisjoint r a → IsTablePlace own a → IsTablePlace (replace_in_range r o own) a
+pub IsTablePlace-clear : (own : Owners) (a r : RangeView) (o : Owner) → AreDisjoint r a → IsTablePlace own a
+    → IsTablePlace (replace_in_range r o own) a
 IsTablePlace-clear own a r o clear seat = record {
   aligned = seat.aligned;
   kept = λ x at. rw (false_from_ne_true (covers r x) (λ in_r. clear x in_r at)) (seat.kept x at);
@@ -95,21 +98,24 @@ IsTablePlace-new own n r o aligned new inside = record {
 pub AreTablePlaces-swap : (own : Owners) (m r : RangeView) → AreTablePlaces own m r → AreTablePlaces own r m
 AreTablePlaces-swap own m r both = record { first = both.second; second = both.first; apart = Apart-swap m r both.apart }
 
-pub AreTablePlaces-claim : (own : Owners) (m r a : RangeView) (o : Owner) → may_hold_table (Some o) ≡ true → AreTablePlaces own m r → AreTablePlaces (replace_in_range a o own) m r
+pub AreTablePlaces-claim : (own : Owners) (m r a : RangeView) (o : Owner) → may_hold_table (Some o) ≡ true → AreTablePlaces own m r
+    → AreTablePlaces (replace_in_range a o own) m r
 AreTablePlaces-claim own m r a o new both = record {
   first = IsTablePlace-claim own m a o new both.first;
   second = IsTablePlace-claim own r a o new both.second;
   apart = both.apart;
 }
 
-pub AreTablePlaces-clear : (own : Owners) (m r a : RangeView) (o : Owner) → AreDisjoint a m → AreDisjoint a r → AreTablePlaces own m r → AreTablePlaces (replace_in_range a o own) m r
+pub AreTablePlaces-clear : (own : Owners) (m r a : RangeView) (o : Owner) → AreDisjoint a m → AreDisjoint a r → AreTablePlaces own m r
+    → AreTablePlaces (replace_in_range a o own) m r
 AreTablePlaces-clear own m r a o first second both = record {
   first = IsTablePlace-clear own m a o first both.first;
   second = IsTablePlace-clear own r a o second both.second;
   apart = both.apart;
 }
 
-pub AreTablePlaces-free : (own : Owners) (m r a : RangeView) → AreDisjoint a m → AreDisjoint a r → AreTablePlaces own m r → AreTablePlaces (uncover_range a own) m r
+pub AreTablePlaces-free : (own : Owners) (m r a : RangeView) → AreDisjoint a m → AreDisjoint a r → AreTablePlaces own m r
+    → AreTablePlaces (uncover_range a own) m r
 AreTablePlaces-free own m r a first second both = record {
   first = IsTablePlace-free own m a first both.first;
   second = IsTablePlace-free own r a second both.second;
@@ -117,7 +123,8 @@ AreTablePlaces-free own m r a first second both = record {
 }
 
 -- the second table moves to a new place, whose frames are claimed
-pub AreTablePlaces-move : (own : Owners) (m r n : RangeView) (o : Owner) → may_hold_table (Some o) ≡ true → n.base % 4096 ≡ 0 → IsUnclaimed own (frames n)
+pub AreTablePlaces-move : (own : Owners) (m r n : RangeView) (o : Owner) → may_hold_table (Some o) ≡ true → n.base % 4096 ≡ 0
+    → IsUnclaimed own (frames n)
     → AreTablePlaces own m r → AreTablePlaces (replace_in_range (frames n) o own) m n
 AreTablePlaces-move own m r n o new aligned free both = record {
   first = IsTablePlace-claim own m (frames n) o new both.first;
@@ -126,7 +133,8 @@ AreTablePlaces-move own m r n o new aligned free both = record {
 }
 
 -- and the frames that it left are freed
-pub AreTablePlaces-leave : (own : Owners) (m r n : RangeView) (o : Owner) → may_hold_table (Some o) ≡ true → n.base % 4096 ≡ 0 → IsUnclaimed own (frames n)
+pub AreTablePlaces-leave : (own : Owners) (m r n : RangeView) (o : Owner) → may_hold_table (Some o) ≡ true → n.base % 4096 ≡ 0
+    → IsUnclaimed own (frames n)
     → AreTablePlaces own m r → AreTablePlaces (uncover_range (frames r) (replace_in_range (frames n) o own)) m n
 AreTablePlaces-leave own m r n o new aligned free both =
     AreTablePlaces-free (replace_in_range (frames n) o own) m n (frames r)

@@ -13,7 +13,8 @@ use Rattle.growth_model.proofs.FirstLaws.{first-placed}
 use Rattle.growth_model.proofs.GrowthExamples.{image, frame}
 
 -- a table may lie in bytes of the kernel and of a table, and not in unclaimed ones
-keeps_examples : (may_hold_table (Some owner.Kernel) ≡ true) × (may_hold_table (Some (owner.Table which.Reserved)) ≡ true) × (may_hold_table None ≡ false)
+keeps_examples : (may_hold_table (Some owner.Kernel) ≡ true) × (may_hold_table (Some (owner.Table which.Reserved)) ≡ true)
+    × (may_hold_table None ≡ false)
 keeps_examples = (refl, refl, refl)
 
 -- the first four frames are the kernel's, except one byte of the script in the third

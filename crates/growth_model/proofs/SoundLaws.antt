@@ -26,8 +26,10 @@ Stands kernel items = HasBegun items → TablesAreClaimed kernel items
 
 -- a change that keeps the tables seated throughout, after the first claim
 stands-by : {T : Type 0} (kernel : RangeView) (r : Result T Refusal) (old new : List Item) (o : ChangeEffect)
-    → (TablesAreClaimed kernel old → EachCut (TablesAreClaimed kernel) old o.steps) → Stands kernel old → HasBegun old → EndsAsEffect r old new o → Stands kernel new
-stands-by kernel r old new o may_hold_table stands begun ends = λ _. cuts-ends (TablesAreClaimed kernel) r old new o (may_hold_table (stands begun)) ends
+    → (TablesAreClaimed kernel old → EachCut (TablesAreClaimed kernel) old o.steps) → Stands kernel old → HasBegun old
+    → EndsAsEffect r old new o → Stands kernel new
+stands-by kernel r old new o may_hold_table stands begun ends =
+    λ _. cuts-ends (TablesAreClaimed kernel) r old new o (may_hold_table (stands begun)) ends
 
 claim-cuts : (kernel : RangeView) (items : List Item) (r : RangeView) (o : Owner) → IsKernelImage kernel → end_of r ≤ 2 ^ 64
     → Stands kernel items → MayClaim kernel items r o → EachCut (Stands kernel) items (claim_range r o items).steps
@@ -40,7 +42,8 @@ claim-cuts kernel (i ∷ is) r o image small stands may =
 
 -- the calls, one by one
 pub claim-stands : {T : Type 0} (kernel : RangeView) (r : Result T Refusal) (old new : List Item) (range : RangeView) (who : Owner)
-    → IsKernelImage kernel → end_of range ≤ 2 ^ 64 → Stands kernel old → MayClaim kernel old range who → EndsAsChange r old new (claim_range range who)
+    → IsKernelImage kernel → end_of range ≤ 2 ^ 64 → Stands kernel old → MayClaim kernel old range who
+    → EndsAsChange r old new (claim_range range who)
     → Stands kernel new
 claim-stands kernel r old new range who image small stands may ends =
     cuts-ends (Stands kernel) r old new (claim_range range who old) (claim-cuts kernel old range who image small stands may) ends
@@ -67,7 +70,8 @@ mirror-stands kernel r old new range stands begun ends =
 
 -- an allocation, for any owner
 pub alloc-placed : (kernel : RangeView) (r : Result ℕ Refusal) (old new : List Item) (q : Request) (who : Owner)
-    → TablesAreClaimed kernel old → (found : Option ℕ) → place_for q old ≡ found → Allocates r old new found q.size who → TablesAreClaimed kernel new
+    → TablesAreClaimed kernel old → (found : Option ℕ) → place_for q old ≡ found → Allocates r old new found q.size who
+    → TablesAreClaimed kernel new
 alloc-placed kernel r old new q who placed None is ends = subst (TablesAreClaimed kernel) (sym ends.1) placed
 alloc-placed kernel r old new q who placed (Some place) is ends =
     cuts-ends (TablesAreClaimed kernel) r old new (claim_range (record { base = place; size = q.size }) who old)
@@ -111,12 +115,14 @@ ends-begun r old new change begun ends =
     let more = ends-more r old new (change old) ends in subst HasBegun (sym more.1) (more-begun old more.0 begun)
 
 -- what may be claimed after the first claim
-pub may-keep : (kernel : RangeView) (items : List Item) (range : RangeView) (who : Owner) → HasBegun items → may_hold_table (Some who) ≡ true
+pub may-keep : (kernel : RangeView) (items : List Item) (range : RangeView) (who : Owner) → HasBegun items
+    → may_hold_table (Some who) ≡ true
     → MayClaim kernel items range who
 may-keep kernel [] range who begun kept = absurd begun
 may-keep kernel (i ∷ is) range who begun kept = inl kept
 
-pub may-away : (kernel : RangeView) (items : List Item) (range : RangeView) (who : Owner) → HasBegun items → TouchesNoTable kernel range items
+pub may-away : (kernel : RangeView) (items : List Item) (range : RangeView) (who : Owner) → HasBegun items
+    → TouchesNoTable kernel range items
     → MayClaim kernel items range who
 may-away kernel [] range who begun away = absurd begun
 may-away kernel (i ∷ is) range who begun away = inr away
@@ -136,7 +142,8 @@ once-cuts kernel range more items placed =
     (reserved-cuts kernel range items items here)
 
 pub once-going : {T : Type 0} (kernel range : RangeView) (r : Result T Refusal) (old new : List Item) (more : List Item → ℕ)
-    → TablesAreClaimed kernel old → EndsAsChange r old new (if_due (is_full which.Reserved more) (reserved_growth range)) → Going kernel range old new
+    → TablesAreClaimed kernel old → EndsAsChange r old new (if_due (is_full which.Reserved more) (reserved_growth range))
+    → Going kernel range old new
 once-going kernel range r old new more placed ends =
     cuts-ends (Going kernel range old) r old new (if_due (is_full which.Reserved more) (reserved_growth range) old)
     (once-cuts kernel range more old placed) ends

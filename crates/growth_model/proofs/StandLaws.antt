@@ -25,7 +25,8 @@ table_bytes-clear kernel items placed = λ x here too. placed.seats.apart x x he
 
 -- the byte at an address of a table is that of its encoding
 pub journal-stands : (w : Which) (kernel : RangeView) (items : List Item) (f : ℕ → ℕ) (x : ℕ) → TablesAreClaimed kernel items →
-    TablesAreEncoded (table_for which.Memory kernel items) (table_for which.Reserved kernel items) f → covers (table_bytes w kernel items) x ≡ true →
+    TablesAreEncoded (table_for which.Memory kernel items) (table_for which.Reserved kernel items) f
+    → covers (table_bytes w kernel items) x ≡ true →
     f x ≡ table_byte_at (table_for w kernel items) x
 journal-stands which.Memory kernel items f x placed spelled here = spelled x ∙ rw here refl
 journal-stands which.Reserved kernel items f x placed spelled here =

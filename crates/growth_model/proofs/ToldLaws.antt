@@ -22,7 +22,8 @@ listed-told t f x spelled here =
     ∙ get-bytes_at f t.place (24 * t.room) (x - t.place) (grind (arith, nat_tests, here)) ∙ ap f back)
 
 -- a byte of a table in the store is that of the table's encoding
-pub table-told : (t : TableView) (s : List ExtentView) (x : ℕ) → IsInStore t s → covers (bytes_of t) x ≡ true → byte_of s x ≡ table_byte_at t x
+pub table-told : (t : TableView) (s : List ExtentView) (x : ℕ) → IsInStore t s → covers (bytes_of t) x ≡ true
+    → byte_of s x ≡ table_byte_at t x
 table-told t s x stands here = listed-told t (byte_of s) x stands.bytes here
 
 pub chosen : (m r : Bool) (y a b c : ℕ) → (m ≡ true → y ≡ a) → (r ≡ true → y ≡ b) → (m ≡ false → r ≡ false → y ≡ c) →

@@ -53,7 +53,8 @@ further_items items longer = drop (length items) longer
 -- the byte at the address after the items have become the longer list, if it was b before: a
 -- table's byte, else 0 if a table moved away, else b
 unfoldable pub byte_after : RangeView → List Item → List Item → ℕ → ℕ → ℕ
-byte_after kernel items longer x b = byte_with_item_tables kernel longer x (if is_vacated kernel items (further_items items longer) x then 0 else b)
+byte_after kernel items longer x b =
+    byte_with_item_tables kernel longer x (if is_vacated kernel items (further_items items longer) x then 0 else b)
 
 -- a fill: its range, its byte, and the number of items when it was made
 pub record Fill : Type 0 where
@@ -75,12 +76,14 @@ byte_after_fills n (f ∷ fs) x b = byte_after_fills n fs x (if (f.at == n) && c
 abbrev pub byte_outside_tables : RangeView → List Fill → List Item → List Item → ℕ → ℕ → ℕ
 byte_outside_tables kernel fills items [] x b = b
 byte_outside_tables kernel fills items (i ∷ is) x b =
-    byte_outside_tables kernel fills (items ++ i ∷ []) is x (byte_after_fills (length items + 1) fills x (if is_vacated_by kernel items i x then 0 else b))
+    byte_outside_tables kernel fills (items ++ i ∷ []) is x
+    (byte_after_fills (length items + 1) fills x (if is_vacated_by kernel items i x then 0 else b))
 
 -- the byte at an address: that of the table that has the address, else what the newest fill or
 -- move wrote, else 0
 unfoldable pub byte_from_history : RangeView → List Item → List Fill → ℕ → ℕ
-byte_from_history kernel items fills x = byte_with_item_tables kernel items x (byte_outside_tables kernel fills [] items x (byte_after_fills 0 fills x 0))
+byte_from_history kernel items fills x =
+    byte_with_item_tables kernel items x (byte_outside_tables kernel fills [] items x (byte_after_fills 0 fills x 0))
 
 -- each fill was made when there were at most n items
 abbrev pub AreMadeBy : ℕ → List Fill → Type 0

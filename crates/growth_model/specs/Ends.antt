@@ -28,7 +28,8 @@ pub record StopsBeforeStep (old new : List Item) (steps : List (List Item)) : Ty
 abbrev pub EndsAsEffect : {T : Type 0} → Result T Refusal → List Item → List Item → ChangeEffect → Type 0
 EndsAsEffect (Ok x) old new o = (o.refused ≡ None) × (new ≡ items_after_change old o)
 EndsAsEffect (Err refusal.NoGap) old new o = ⊥
-EndsAsEffect (Err (refusal.NoGapForTable w room)) old new o = (o.refused ≡ Some (record { which = w; room = room })) × (new ≡ items_after_change old o)
+EndsAsEffect (Err (refusal.NoGapForTable w room)) old new o =
+    (o.refused ≡ Some (record { which = w; room = room })) × (new ≡ items_after_change old o)
 EndsAsEffect (Err refusal.Memory) old new o = StopsBeforeStep old new o.steps
 
 abbrev pub EndsAsChange : {T : Type 0} → Result T Refusal → List Item → List Item → Change → Type 0

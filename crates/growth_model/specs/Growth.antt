@@ -83,7 +83,9 @@ make_table_room w more growth = if_due (is_full w more) growth >> if_due (is_ful
 
 -- the claim of a range (`memblock_reserve`)
 unfoldable pub claim_range : RangeView → Owner → Change
-claim_range range who = make_table_room which.Reserved (count_uncovered_pieces which.Reserved range) (reserved_growth range) >> write_item (item.Claim range who)
+claim_range range who =
+    make_table_room which.Reserved (count_uncovered_pieces which.Reserved range) (reserved_growth range)
+    >> write_item (item.Claim range who)
 
 -- the free of a range (`memblock_phys_free`)
 unfoldable pub free_range : RangeView → Change

@@ -23,4 +23,5 @@ pub record DoublesRoom (w : Which) (old new : List Item) : Type 0 where
 -- `more` further ones, so no further growth is due
 abbrev pub HasRoomAfter : Which → (List Item → ℕ) → Change → List Item → Type 0
 HasRoomAfter w more growth items =
-    (make_table_room w more growth items).refused ≡ None → is_full w more (items_after_change items (make_table_room w more growth items)) ≡ false
+    (make_table_room w more growth items).refused ≡ None
+    → is_full w more (items_after_change items (make_table_room w more growth items)) ≡ false

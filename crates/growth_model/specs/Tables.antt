@@ -70,7 +70,8 @@ HasBegun (i ∷ is) = Unit {0}
 
 -- the range overlaps no table
 abbrev pub TouchesNoTable : RangeView → RangeView → List Item → Type 0
-TouchesNoTable kernel range items = AreDisjoint range (table_bytes which.Memory kernel items) × AreDisjoint range (table_bytes which.Reserved kernel items)
+TouchesNoTable kernel range items =
+    AreDisjoint range (table_bytes which.Memory kernel items) × AreDisjoint range (table_bytes which.Reserved kernel items)
 
 -- what may be claimed: first the kernel's image, for the kernel; then any range, which for the
 -- script must overlap no table

@@ -45,7 +45,8 @@ pub none_begins_bare : (mirror : Bool) (memory reserved : Labels) (q : Query) (f
 none_begins_bare mirror memory reserved q from until label some known bare b fits above =
     le_from_not_lt b until (λ under. (from_run mirror memory reserved q from until b label some known fits above under).held bare)
 
-pub none_begins_refused : (mirror : Bool) (memory reserved : Labels) (q : Query) (from until : ℕ) (label : Option LabelView) (found : LabelView)
+pub none_begins_refused : (mirror : Bool) (memory reserved : Labels) (q : Query) (from until : ℕ) (label : Option LabelView)
+    (found : LabelView)
     → 1 ≤ q.size → IsRise memory reserved from until label → label ≡ Some found
     → is_allowed_label mirror q.node (Some found) ≡ false → NoPlaceBegins mirror memory reserved q from until
 none_begins_refused mirror memory reserved q from until label found some known is refused b fits above =
@@ -66,7 +67,8 @@ between_ends mirror memory reserved q from until b label some known fits above u
 
 -- in a stretch of memory that serves, the first aligned address with room is the lowest place;
 -- without one there is no place
-pub first_of_stretch : (mirror : Bool) (memory reserved : Labels) (q : Query) (from until : ℕ) (label : Option LabelView) (found : LabelView)
+pub first_of_stretch : (mirror : Bool) (memory reserved : Labels) (q : Query) (from until : ℕ) (label : Option LabelView)
+    (found : LabelView)
     (answer : Option ℕ) → 1 ≤ q.size → q.lo ≤ from → 4096 ≤ from
     → IsRise memory reserved from until label → label ≡ Some found → is_allowed_label mirror q.node (Some found) ≡ true
     → MatchOption answer ((b : ℕ) → FitsBetween from (min until q.hi) q.size q.align b → ⊥)
@@ -115,7 +117,8 @@ none_yet mirror memory reserved q low at until (Some a) past best is = absurd (t
 pub none_at_all : (mirror : Bool) (memory reserved : Labels) (q : Query) (at : ℕ) → 1 ≤ q.size
     → NoPlaceBegins mirror memory reserved q (max q.lo 4096) at → q.hi ≤ at
     → top_place_in (record { mirror = mirror; up = true }) memory reserved q ≡ None
-none_at_all mirror memory reserved q at some past high = top_place_in-fails (record { mirror = mirror; up = true }) memory reserved q (λ b less.
+none_at_all mirror memory reserved q at some past high =
+    top_place_in-fails (record { mirror = mirror; up = true }) memory reserved q (λ b less.
     false_from_ne_true (fits_in mirror memory reserved q b) (λ fits.
     let place = fits_in-parts mirror memory reserved q b fits in
     let begins = past b fits (omega (arith, place.low, place.first)) in

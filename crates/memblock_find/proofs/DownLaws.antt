@@ -10,7 +10,8 @@ use Rattle.memblock_find.specs.Walk.{nth_record, BeginAmong, BeginBelow, IsLookD
 use Rattle.memblock_find.proofs.SlotLaws.{ends_before, ends_ascend, bases_ascend, size_at, value_in, none_beside, other_under}
 
 -- if no record begins below the address, the addresses below it have no label
-pub look_bottom : (rs : List (RunOf LabelView)) (at : ℕ) → BeginBelow at rs 0 → IsLookDown rs at (record { label = None; bound = 0; slot = 0 })
+pub look_bottom : (rs : List (RunOf LabelView)) (at : ℕ) → BeginBelow at rs 0
+    → IsLookDown rs at (record { label = None; bound = 0; slot = 0 })
 look_bottom rs at begun = record {
   down = record {
     stays = λ x above under. none_beside x rs (λ i less. let base = begun.behind i (omega arith) less in inr (omega arith));
@@ -84,7 +85,8 @@ unclaimed_is memory reserved x a b m r =
 
 -- the addresses of a cursor's stretch have its label
 pub stretch_stays : (ms rs : List (RunOf LabelView)) (c : Cursor) (from : ℕ) (label : Option LabelView) → IsWalkDownAt ms rs c
-    → from ≡ max c.memory.bound c.reserved.bound → label ≡ unclaimed_label c → Stays (unclaimed_memory (value_at ms) (value_at rs)) from c.at label
+    → from ≡ max c.memory.bound c.reserved.bound → label ≡ unclaimed_label c
+    → Stays (unclaimed_memory (value_at ms) (value_at rs)) from c.at label
 stretch_stays ms rs c from label known from_is label_is x above under =
     unclaimed_is (value_at ms) (value_at rs) x c.memory.label c.reserved.label
     (known.memory.down.stays x (omega arith) under) (known.reserved.down.stays x (omega arith) under) ∙ sym label_is

@@ -57,11 +57,13 @@ begun_at_end rs count at runs within none end =
 -- an address outside all records that serve isn't memory that serves, if addresses without memory
 -- don't serve
 pub not_serving : (mirror : Bool) (node : Option ℕ) (x : ℕ) (rs : List (RunOf LabelView)) → is_allowed_label mirror node None ≡ false
-    → ((i : ℕ) → i < length rs → (nth_record rs i).base ≤ x → x < run_end (nth_record rs i) → is_allowed_label mirror node (Some (nth_record rs i).value) ≡ false)
+    → ((i : ℕ) → i < length rs → (nth_record rs i).base ≤ x → x < run_end (nth_record rs i)
+    → is_allowed_label mirror node (Some (nth_record rs i).value) ≡ false)
     → is_allowed_label mirror node (value_at rs x) ≡ false
 not_serving mirror node x [] narrow other = narrow
 not_serving mirror node x (r ∷ rs) narrow other =
-    let rest : is_allowed_label mirror node (value_at rs x) ≡ false = not_serving mirror node x rs narrow (λ i less. other (suc i) (omega arith)) in
+    let rest : is_allowed_label mirror node (value_at rs x) ≡ false =
+    not_serving mirror node x rs narrow (λ i less. other (suc i) (omega arith)) in
     elim (cases_lt x r.base) as (λ _. is_allowed_label mirror node (value_at (r ∷ rs) x) ≡ false) [
       | inl ahead ↦ rw (below r x ahead) rest
       | inr from ↦ elim (cases_lt x (run_end r)) as (λ _. is_allowed_label mirror node (value_at (r ∷ rs) x) ≡ false) [
@@ -71,7 +73,8 @@ not_serving mirror node x (r ∷ rs) narrow other =
     ]
 
 -- from the end of the last record before those that don't serve up to the bound, no address serves
-pub passed_over : (rs : List (RunOf LabelView)) (mirror : Bool) (node : Option ℕ) (from count at : ℕ) (look : Look) → IsLookDown rs from look
+pub passed_over : (rs : List (RunOf LabelView)) (mirror : Bool) (node : Option ℕ) (from count at : ℕ) (look : Look)
+    → IsLookDown rs from look
     → is_allowed_label mirror node None ≡ false → count ≤ look.slot → (0 < count → at ≡ run_end (nth_record rs (count - 1)))
     → ((i : ℕ) → count ≤ i → i < look.slot → is_allowed_label mirror node (Some (nth_record rs i).value) ≡ false)
     → NoAddressIsAllowed mirror (value_at rs) node at look.bound

@@ -52,7 +52,8 @@ pub free_says : (items : List Item) (t : TablesView)
     → unclaimed_in_tables t ≡ unclaimed_memory (table_of which.Memory items) (table_of which.Reserved items)
 free_says items t memory_ends reserved_ends memory reserved =
     ap (λ (f : Labels). unclaimed_memory f (value_at t.reserved.records)) (says which.Memory items t.memory.records memory_ends memory)
-    ∙ ap (λ (f : Labels). unclaimed_memory (table_of which.Memory items) f) (says which.Reserved items t.reserved.records reserved_ends reserved)
+    ∙ ap (λ (f : Labels). unclaimed_memory (table_of which.Memory items) f)
+    (says which.Reserved items t.reserved.records reserved_ends reserved)
 
 same_run : (r s : RunOf LabelView) → r.base ≡ s.base → run_end r ≡ run_end s → r.value ≡ s.value → r ≡ s
 same_run r s bases ends values =

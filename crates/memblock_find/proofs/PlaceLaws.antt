@@ -46,7 +46,8 @@ held_somewhere (Some v) h = λ same. cc
 -- the memory of a place serves the search
 pub place_serves : (mirror : Bool) (memory reserved : Labels) (q : Query) (b : ℕ) → IsPlace mirror memory reserved q b
     → is_allowed_label mirror q.node (memory b) ≡ true
-place_serves mirror memory reserved q b place = and_from (is_allowed_node q.node (memory b)) (is_allowed_mirror mirror (memory b)) place.allowed place.suited
+place_serves mirror memory reserved q b place =
+    and_from (is_allowed_node q.node (memory b)) (is_allowed_mirror mirror (memory b)) place.allowed place.suited
 
 -- the stretch of addresses in which a place is searched for
 pub record IsStretch (memory reserved : Labels) (from until : ℕ) (label : Option LabelView) : Type 0 where
@@ -168,7 +169,8 @@ best_of_stretch mirror memory reserved q from until label found (Some a) some wi
 -- if the walk has come below the window without a place, there is none
 pub none_found : (mirror : Bool) (memory reserved : Labels) (q : Query) (at : ℕ) → 1 ≤ q.size → NoPlaceEnds mirror memory reserved q at q.hi
     → at ≤ max q.lo 4096 → top_place_in (record { mirror = mirror; up = false }) memory reserved q ≡ None
-none_found mirror memory reserved q at some past low = top_place_in-fails (record { mirror = mirror; up = false }) memory reserved q (λ b less.
+none_found mirror memory reserved q at some past low =
+    top_place_in-fails (record { mirror = mirror; up = false }) memory reserved q (λ b less.
     false_from_ne_true (fits_in mirror memory reserved q b) (λ fits.
     let place = fits_in-parts mirror memory reserved q b fits in
     let ends = past b fits place.high in

@@ -26,7 +26,8 @@ start_at at (suc i) (r ∷ rs) runs start less =
     start_at at i rs runs.2 (start_sooner at (run_end r) rs (omega arith) (rest_from r rs runs)) (omega arith)
 
 -- a record ends before any later one begins
-pub ends_before : (i j : ℕ) (rs : List (RunOf LabelView)) → AreRuns rs → i < j → j < length rs → run_end (nth_record rs i) ≤ (nth_record rs j).base
+pub ends_before : (i j : ℕ) (rs : List (RunOf LabelView)) → AreRuns rs → i < j → j < length rs
+    → run_end (nth_record rs i) ≤ (nth_record rs j).base
 ends_before i j [] runs less within = absurd (omega arith)
 ends_before i zero (r ∷ rs) runs less within = absurd (omega arith)
 ends_before zero (suc j) (r ∷ rs) runs less within = start_at (run_end r) j rs runs.2 (rest_from r rs runs) (omega arith)
@@ -38,14 +39,16 @@ size_at zero (r ∷ rs) runs less = runs.0
 size_at (suc i) (r ∷ rs) runs less = size_at i rs runs.2 (omega arith)
 
 -- a later record begins no lower, and ends no lower
-pub bases_ascend : (i j : ℕ) (rs : List (RunOf LabelView)) → AreRuns rs → i ≤ j → j < length rs → (nth_record rs i).base ≤ (nth_record rs j).base
+pub bases_ascend : (i j : ℕ) (rs : List (RunOf LabelView)) → AreRuns rs → i ≤ j → j < length rs
+    → (nth_record rs i).base ≤ (nth_record rs j).base
 bases_ascend i j rs runs order within =
     elim (cases_lt i j) as (λ _. (nth_record rs i).base ≤ (nth_record rs j).base) [
       | inl less ↦ let ends = ends_before i j rs runs less within in omega arith
       | inr ge ↦ let same : i ≡ j = omega arith in let bases = ap (λ (k : ℕ). (nth_record rs k).base) same in omega arith
     ]
 
-pub ends_ascend : (i j : ℕ) (rs : List (RunOf LabelView)) → AreRuns rs → i ≤ j → j < length rs → run_end (nth_record rs i) ≤ run_end (nth_record rs j)
+pub ends_ascend : (i j : ℕ) (rs : List (RunOf LabelView)) → AreRuns rs → i ≤ j → j < length rs
+    → run_end (nth_record rs i) ≤ run_end (nth_record rs j)
 ends_ascend i j rs runs order within =
     elim (cases_lt i j) as (λ _. run_end (nth_record rs i) ≤ run_end (nth_record rs j)) [
       | inl less ↦ let ends = ends_before i j rs runs less within in omega arith
@@ -53,7 +56,8 @@ ends_ascend i j rs runs order within =
     ]
 
 -- the list gives a record's addresses its label
-pub value_in : (i x : ℕ) (rs : List (RunOf LabelView)) → AreRuns rs → i < length rs → (nth_record rs i).base ≤ x → x < run_end (nth_record rs i)
+pub value_in : (i x : ℕ) (rs : List (RunOf LabelView)) → AreRuns rs → i < length rs → (nth_record rs i).base ≤ x
+    → x < run_end (nth_record rs i)
     → value_at rs x ≡ Some (nth_record rs i).value
 value_in i x [] runs less above under = absurd (omega arith)
 value_in zero x (r ∷ rs) runs less above under = rw (inside r x above under) refl
@@ -62,7 +66,8 @@ value_in (suc i) x (r ∷ rs) runs less above under =
     rw (behind r x (omega arith)) (value_in i x rs runs.2 (omega arith) above under)
 
 -- an address outside all records has no label
-pub none_beside : (x : ℕ) (rs : List (RunOf LabelView)) → ((i : ℕ) → i < length rs → (run_end (nth_record rs i) ≤ x) ⊎ (x < (nth_record rs i).base))
+pub none_beside : (x : ℕ) (rs : List (RunOf LabelView))
+    → ((i : ℕ) → i < length rs → (run_end (nth_record rs i) ≤ x) ⊎ (x < (nth_record rs i).base))
     → value_at rs x ≡ None
 none_beside x [] beside = refl
 none_beside x (r ∷ rs) beside =

@@ -106,12 +106,14 @@ not_ended_from rs at middle runs behind i from within = omega (arith, ends_ascen
 
 -- the addresses of a cursor's stretch upward have its label
 pub stretch_rises : (ms rs : List (RunOf LabelView)) (c : Cursor) (until : ℕ) (label : Option LabelView) → IsWalkUpAt ms rs c
-    → until ≡ min c.memory.bound c.reserved.bound → label ≡ unclaimed_label c → Stays (unclaimed_memory (value_at ms) (value_at rs)) c.at until label
+    → until ≡ min c.memory.bound c.reserved.bound → label ≡ unclaimed_label c
+    → Stays (unclaimed_memory (value_at ms) (value_at rs)) c.at until label
 stretch_rises ms rs c until label known until_is label_is x above under =
     unclaimed_is (value_at ms) (value_at rs) x c.memory.label c.reserved.label
     (known.memory.stays x above (omega arith)) (known.reserved.stays x above (omega arith)) ∙ sym label_is
 
-stretch_stops : (ms rs : List (RunOf LabelView)) (at : ℕ) (m r : Look) → IsLookUp ms at m → IsLookUp rs at r → r.label ≡ None → m.label ≢ None
+stretch_stops : (ms rs : List (RunOf LabelView)) (at : ℕ) (m r : Look) → IsLookUp ms at m → IsLookUp rs at r → r.label ≡ None
+    → m.label ≢ None
     → unclaimed_memory (value_at ms) (value_at rs) (min m.bound r.bound) ≢ m.label
 stretch_stops ms rs at m r memory reserved bare some =
     elim (cases_lt r.bound m.bound) as (λ _. unclaimed_memory (value_at ms) (value_at rs) (min m.bound r.bound) ≢ m.label) [

@@ -16,7 +16,8 @@ use Rattle.memblock_frames.proofs.RecordLaws.{record_by_bytes}
 -- the list from an index on begins with the record that was read there
 pub left_from : (s : List ExtentView) (h : Head) (i : ℕ) (g : Region) → i < h.count
     → g ≡ decode_region (bytes_at (byte_of s) (h.place + 24 * i) 24)
-    → (r : RunOf LabelView) × (drop i (records_of_head s h) ≡ r ∷ drop (i + 1) (records_of_head s h)) × (r.base ≡ g.base) × (r.size ≡ g.size)
+    → (r : RunOf LabelView) × (drop i (records_of_head s h) ≡ r ∷ drop (i + 1) (records_of_head s h)) × (r.base ≡ g.base)
+    × (r.size ≡ g.size)
 left_from s h i g few is =
     let r : RunOf LabelView = decode_record (bytes_at (byte_of s) (h.place + 24 * i) 24) in
     let long = count_is s h in
@@ -26,7 +27,8 @@ abbrev pub Ascends : ℕ → ℕ → List (RunOf LabelView) → Type 0
 Ascends from b rs = StartAtOrPast from rs × AscendBelow b rs
 
 -- if a record is in its place, the list ascends exactly if the rest does
-pub one_in_place : (b from i next : ℕ) (rs ss : List (RunOf LabelView)) (r : RunOf LabelView) → Ascends from b (drop i rs) ↔ AscendBelow b rs
+pub one_in_place : (b from i next : ℕ) (rs ss : List (RunOf LabelView)) (r : RunOf LabelView)
+    → Ascends from b (drop i rs) ↔ AscendBelow b rs
     → drop i rs ≡ r ∷ ss → from ≤ r.base → 0 < r.size → run_end r ≤ b → next ≡ run_end r → Ascends next b ss ↔ AscendBelow b rs
 one_in_place b from i next rs ss r known left above some low is = (
   (λ both. known.0 (rw left (above, (some, low, rw (← is) both.0, both.1)))),
@@ -45,14 +47,16 @@ pub all_in_place : (b from i : ℕ) (rs : List (RunOf LabelView)) → Ascends fr
 all_in_place b from i rs known all = known.0 (rw (drop_all i rs all) (tt, tt))
 
 -- the same steps for records of whole frames
-pub one_whole : (i : ℕ) (rs ss : List (RunOf LabelView)) (r : RunOf LabelView) → AreWholeFrames (drop i rs) ↔ AreWholeFrames rs → drop i rs ≡ r ∷ ss
+pub one_whole : (i : ℕ) (rs ss : List (RunOf LabelView)) (r : RunOf LabelView) → AreWholeFrames (drop i rs) ↔ AreWholeFrames rs
+    → drop i rs ≡ r ∷ ss
     → r.base % 4096 ≡ 0 → r.size % 4096 ≡ 0 → AreWholeFrames ss ↔ AreWholeFrames rs
 one_whole i rs ss r known left base size = (
   (λ rest. known.0 (rw left (base, size, rest))),
   λ whole. (rw left at (known.1 whole)).2,
 )
 
-pub not_whole : (i : ℕ) (rs ss : List (RunOf LabelView)) (r : RunOf LabelView) → AreWholeFrames (drop i rs) ↔ AreWholeFrames rs → drop i rs ≡ r ∷ ss
+pub not_whole : (i : ℕ) (rs ss : List (RunOf LabelView)) (r : RunOf LabelView) → AreWholeFrames (drop i rs) ↔ AreWholeFrames rs
+    → drop i rs ≡ r ∷ ss
     → (r.base % 4096 ≡ 0 → r.size % 4096 ≡ 0 → ⊥) → AreWholeFrames rs → ⊥
 not_whole i rs ss r known left fails whole =
     let parts = rw left at (known.1 whole) in fails parts.0 parts.1

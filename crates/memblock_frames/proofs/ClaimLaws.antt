@@ -35,7 +35,8 @@ pub passed_none : (rs : List (RunOf LabelView)) (at : ℕ) → IsPassed rs 0 at
 passed_none rs at x above = refl
 
 -- a record that ends below the frame can be skipped
-pub passed_more : (b : ℕ) (rs : List (RunOf LabelView)) (i at : ℕ) (d : RunOf LabelView) (fs : RecordFrames) → AscendBelow b rs → i < length rs
+pub passed_more : (b : ℕ) (rs : List (RunOf LabelView)) (i at : ℕ) (d : RunOf LabelView) (fs : RecordFrames) → AscendBelow b rs
+    → i < length rs
     → fs ≡ frames_of_record (get_or rs i d) → fs.end ≤ at → IsPassed rs i at → IsPassed rs (i + 1) at
 passed_more b rs i at d fs ascend few is ends passed x above =
     let r : RunOf LabelView = get_or rs i d in
@@ -44,7 +45,8 @@ passed_more b rs i at d fs ascend few is ends passed x above =
     rw (← passed x above, add-one, drop-cons rs i d few, behind r x (omega arith)) refl
 
 -- after the last record the table has no byte
-pub unclaimed_end : (rs : List (RunOf LabelView)) (i at x : ℕ) → length rs ≤ i → IsPassed rs i at → at ≤ x → is_unclaimed (value_at rs) x ≡ true
+pub unclaimed_end : (rs : List (RunOf LabelView)) (i at x : ℕ) → length rs ≤ i → IsPassed rs i at → at ≤ x
+    → is_unclaimed (value_at rs) x ≡ true
 unclaimed_end rs i at x all passed above =
     unclaimed_bare (value_at rs) x
     (λ y low high. sym (passed y (omega arith)) ∙ at_drop_all (λ (ss : List (RunOf LabelView)). value_at ss y) rs i all)
@@ -60,7 +62,8 @@ unclaimed_gap b rs i at x d fs ascend few is passed above before =
     sym (passed y (omega arith)) ∙ ascend_none b r.base y (drop i rs) (ascend_drop b rs i ascend) starts (omega arith))
 
 -- the table has a byte of each frame of the next record
-pub claimed_by : (b : ℕ) (rs : List (RunOf LabelView)) (i at x : ℕ) (d : RunOf LabelView) (fs : RecordFrames) → AscendBelow b rs → i < length rs
+pub claimed_by : (b : ℕ) (rs : List (RunOf LabelView)) (i at x : ℕ) (d : RunOf LabelView) (fs : RecordFrames) → AscendBelow b rs
+    → i < length rs
     → fs ≡ frames_of_record (get_or rs i d) → IsPassed rs i at → at ≤ x → fs.first ≤ x → x < fs.end → is_unclaimed (value_at rs) x ≡ false
 claimed_by b rs i at x d fs ascend few is passed above from until =
     let r : RunOf LabelView = get_or rs i d in

@@ -48,7 +48,8 @@ ascend_none b at x (r ∷ rs) ascend start lt =
     rw (below r x (omega arith)) (ascend_none b (run_end r) x rs ascend.3 ascend.2 (omega arith))
 
 -- a later record begins at or above the end of an earlier one
-pub start_at : (b at : ℕ) (rs : List (RunOf LabelView)) (i : ℕ) (d : RunOf LabelView) → AscendBelow b rs → StartAtOrPast at rs → i < length rs
+pub start_at : (b at : ℕ) (rs : List (RunOf LabelView)) (i : ℕ) (d : RunOf LabelView) → AscendBelow b rs → StartAtOrPast at rs
+    → i < length rs
     → at ≤ (get_or rs i d).base
 start_at b at [] i d ascend start few = absurd (omega arith)
 start_at b at (r ∷ rs) zero d ascend start few = start
@@ -61,7 +62,8 @@ in_order b (r ∷ rs) (suc i) (suc k) d ascend order few = in_order b rs i k d a
 in_order b rs i k d ascend order few = absurd (omega arith)
 
 -- from the first byte of a record on, the records before it have no value
-pub taken_none : (b : ℕ) (rs : List (RunOf LabelView)) (i x : ℕ) (d : RunOf LabelView) → AscendBelow b rs → i < length rs → (get_or rs i d).base ≤ x
+pub taken_none : (b : ℕ) (rs : List (RunOf LabelView)) (i x : ℕ) (d : RunOf LabelView) → AscendBelow b rs → i < length rs
+    → (get_or rs i d).base ≤ x
     → value_at (take i rs) x ≡ None
 taken_none b [] i x d ascend few above = absurd (omega arith)
 taken_none b (r ∷ rs) zero x d ascend few above = refl
@@ -78,7 +80,8 @@ region_fits s h i g known few is =
 
 pub region_frames : (s : List ExtentView) (h : Head) (i : ℕ) (g : Region) (node : Option ℕ) (d : RunOf LabelView) → i < h.count
     → g ≡ decode_region (bytes_at (byte_of s) (h.place + 24 * i) 24) → node ≡ (if nat_lt g.node 1024 then Some g.node else None)
-    → record { first = g.base / 4096; end = (g.base + (g.size - 1)) / 4096 + 1; node = node } ≡ frames_of_record (get_or (records_of_head s h) i d)
+    → record { first = g.base / 4096; end = (g.base + (g.size - 1)) / 4096 + 1; node = node }
+    ≡ frames_of_record (get_or (records_of_head s h) i d)
 region_frames s h i g node d few is told =
     rw (told, is, record_by_bytes s h i d few, field_below (node_in (bytes_at (byte_of s) (h.place + 24 * i) 24))) refl
 

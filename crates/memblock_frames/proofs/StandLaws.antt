@@ -93,11 +93,13 @@ runs_ascend b (r ∷ rs) runs none =
       runs_ascend b rs runs.2 (λ x high. rw (behind r x (omega arith)) at (none x high)),
     )
 
-pub stands_below : (t : TableView) (s : List ExtentView) (b : ℕ) → IsInStore t s → NothingFrom b (value_at t.records) → HasRecords s (head_of t) b
+pub stands_below : (t : TableView) (s : List ExtentView) (b : ℕ) → IsInStore t s → NothingFrom b (value_at t.records)
+    → HasRecords s (head_of t) b
 stands_below t s b stands none = record {
   few = stands.few;
   fits = stands.fits;
-  ascend = alike_ascends b (records_of_head s (head_of t)) t.records (alike_stands t s stands) (runs_ascend b t.records stands.records.runs none);
+  ascend = alike_ascends b (records_of_head s (head_of t)) t.records (alike_stands t s stands)
+      (runs_ascend b t.records stands.records.runs none);
 }
 
 pub stands_ascending : (t : TableView) (s : List ExtentView) → IsInStore t s → HasRecords s (head_of t) (2 ^ 64)

@@ -25,7 +25,8 @@ tests_both first x end holds = grind (arith, nat_tests)
 -- the values of the records up to one, with the frames of that one
 pub node_more : (b : ℕ) (ms : List (RunOf LabelView)) (i x : ℕ) (d : RunOf LabelView) → AscendBelow b ms → AreWholeFrames ms → i < length ms
     → node_of_frame (value_at (take (i + 1) ms)) x
-    ≡ (if nat_le (frames_of_record (get_or ms i d)).first x && nat_lt x (frames_of_record (get_or ms i d)).end then (frames_of_record (get_or ms i d)).node
+    ≡ (if nat_le (frames_of_record (get_or ms i d)).first x
+    && nat_lt x (frames_of_record (get_or ms i d)).end then (frames_of_record (get_or ms i d)).node
     else node_of_frame (value_at (take i ms)) x)
 node_more b ms i x d ascend whole few =
     let r : RunOf LabelView = get_or ms i d in
@@ -49,7 +50,8 @@ node_more b ms i x d ascend whole few =
     ])
 
 -- the frames of a record: at least one, below the bound, in the order of the records
-pub frames_below : (b m : ℕ) (ms : List (RunOf LabelView)) (i : ℕ) (d : RunOf LabelView) (fs : RecordFrames) → AscendBelow b ms → i < length ms
+pub frames_below : (b m : ℕ) (ms : List (RunOf LabelView)) (i : ℕ) (d : RunOf LabelView) (fs : RecordFrames) → AscendBelow b ms
+    → i < length ms
     → fs ≡ frames_of_record (get_or ms i d) → b ≤ 4096 * m → fs.end ≤ m
 frames_below b m ms i d fs ascend few is bound =
     let r : RunOf LabelView = get_or ms i d in

@@ -49,7 +49,8 @@ free_by_first ms reserved x whole =
     let same : (y : ℕ) → 4096 * x ≤ y → y < 4096 * x + 4096 → value_at ms y ≡ first = λ y above below.
     whole_value ms y whole ∙ ap (value_at ms) (omega arith) in
     let Free : Option LabelView → Type 0 = λ v. value_at ms (4096 * x) ≡ v →
-    (if each_in (bytes_of_frame x) bare then node_of_label v else None) ≡ (if each_in (bytes_of_frame x) both then node_of_label v else None) in
+    (if each_in (bytes_of_frame x) bare then node_of_label v else None)
+    ≡ (if each_in (bytes_of_frame x) both then node_of_label v else None) in
     let at : (v : Option LabelView) → Free v = λ v. elim v as Free [
       | None ↦ λ is. grind arith
       | Some label ↦ λ is.

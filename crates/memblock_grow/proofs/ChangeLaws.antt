@@ -19,14 +19,16 @@ handed (Ok x) e h = absurd h
 handed (Err n) e h = ap (λ (m : Refusal). Err m) h
 
 pub change-fails : (growths : Change) (i : Item) (e : Refusal) (r : Result (Unit {0}) Refusal) (old new : List Item)
-    → IsErrAnd r (λ (n : Refusal). n ≡ e) → EndsAsChange {T = Unit {0}} (Err e) old new growths → EndsAsChange r old new (growths >> write_item i)
+    → IsErrAnd r (λ (n : Refusal). n ≡ e) → EndsAsChange {T = Unit {0}} (Err e) old new growths
+    → EndsAsChange r old new (growths >> write_item i)
 change-fails growths i e r old new is h = rw (handed r e is) (EndsAsChange-first (Unit {0}) (Unit {0}) e old new growths (write_item i) h)
 
 pub change-wants : (growths : Change) (i : Item) (r : Result (Unit {0}) Refusal) (old mid new : List Item)
     → IsErrAnd r (λ (n : Refusal). n ≡ refusal.Memory) → EndsAsChange {T = Unit {0}} (Ok tt) old mid growths
     → new ≡ mid → EndsAsChange r old new (growths >> write_item i)
 change-wants growths i r old mid new is h same =
-    rw (handed r refusal.Memory is, same) (EndsAsChange-second {T = Unit {0}} {U = Unit {0}} tt (Err refusal.Memory) old mid mid growths (write_item i) h
+    rw (handed r refusal.Memory is, same)
+    (EndsAsChange-second {T = Unit {0}} {U = Unit {0}} tt (Err refusal.Memory) old mid mid growths (write_item i) h
     (EndsAsChange-wanting (Unit {0}) mid (write_item i) (omega arith)))
 
 pub change-done : (growths : Change) (i : Item) (old mid new : List Item) → EndsAsChange {T = Unit {0}} (Ok tt) old mid growths
@@ -36,8 +38,10 @@ change-done growths i old mid new h is =
     (EndsAsChange-step {T = Unit {0}} tt mid (i ∷ [])))
 
 -- how the change affects each byte, if its item moves no table
-pub change-bytes : (i : Item) {old mid new : List Item} {t : TablesView} (u : TablesView) {v : TablesView} {at : AllocSettings} → new ≡ mid ++ i ∷ []
-    → ((kernel : RangeView) (x : ℕ) → is_vacated_by kernel mid i x ≡ false) → KeepsTables old t new v at → ChangesOnlyTables u v → KeepsBytes old t mid u at
+pub change-bytes : (i : Item) {old mid new : List Item} {t : TablesView} (u : TablesView) {v : TablesView} {at : AllocSettings}
+    → new ≡ mid ++ i ∷ []
+    → ((kernel : RangeView) (x : ℕ) → is_vacated_by kernel mid i x ≡ false) → KeepsTables old t new v at → ChangesOnlyTables u v
+    → KeepsBytes old t mid u at
     → KeepsBytes old t new v at
 change-bytes i {mid} u {v} {at} is stays kept told before = λ kernel known spelled.
     let after = subst (λ (l : List Item). TablesMatchItems kernel l v at) is (kept kernel known) in

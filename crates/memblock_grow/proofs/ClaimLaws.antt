@@ -19,13 +19,15 @@ use Rattle.memblock_grow.specs.Prepared.{PreparesWith, PreparesBy}
 
 pub claim-refused : (e : Refusal) (range : RangeView) (who : Owner) (items : List Item)
     → is_full which.Reserved (count_uncovered_pieces which.Reserved range) items ≡ true
-    → EndsAsChange {T = Unit {0}} (Err e) items items (reserved_growth range) → EndsAsChange {T = Unit {0}} (Err e) items items (claim_range range who)
+    → EndsAsChange {T = Unit {0}} (Err e) items items (reserved_growth range)
+    → EndsAsChange {T = Unit {0}} (Err e) items items (claim_range range who)
 unfolding claim_range
 claim-refused e range who items full h =
     let once : Change = if_due (is_full which.Reserved (count_uncovered_pieces which.Reserved range)) (reserved_growth range) in
     EndsAsChange-first (Unit {0}) (Unit {0}) e items items (once >> once) (write_item (item.Claim range who))
     (EndsAsChange-first (Unit {0}) (Unit {0}) e items items once once
-    (EndsAsChange-due {T = Unit {0}} (Err e) items items (is_full which.Reserved (count_uncovered_pieces which.Reserved range)) (reserved_growth range) full h))
+    (EndsAsChange-due {T = Unit {0}} (Err e) items items (is_full which.Reserved (count_uncovered_pieces which.Reserved range))
+    (reserved_growth range) full h))
 
 pub claim-begins : (range : RangeView) (who : Owner) (items : List Item) → (claim_range range who items).refused ≡ None
     → 0 < length (claim_range range who items).steps
@@ -37,7 +39,8 @@ claim-begins range who items unrefused =
     rw (followed growths last items (then-unrefused items growths last unrefused).0) (omega (arith, more))
 
 pub claim-prepares : (r : Result (Unit {0}) Refusal) (who : Owner) {place : RangeView} {items longer : List Item} {s t : List ExtentView}
-    → (claim_range place who items).refused ≡ None → EndsAsChange r items longer (claim_range place who) → PreparesWith place items longer s t
+    → (claim_range place who items).refused ≡ None → EndsAsChange r items longer (claim_range place who)
+    → PreparesWith place items longer s t
     → OnErr r (PreparesBy r items longer s t)
 claim-prepares (Ok x) who unrefused ends h = tt
 claim-prepares (Err refusal.NoGap) who unrefused ends h = absurd ends

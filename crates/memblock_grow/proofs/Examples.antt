@@ -51,7 +51,8 @@ kept_at_first = record {
 }
 
 -- the limit is that of the items, and so is the search direction
-kept_examples : (TablesMatchItems image [] at_first (alloc_settings 1 false) → ⊥) × (TablesMatchItems image [] at_first (alloc_settings 0 true) → ⊥)
+kept_examples : (TablesMatchItems image [] at_first (alloc_settings 1 false) → ⊥)
+    × (TablesMatchItems image [] at_first (alloc_settings 0 true) → ⊥)
 kept_examples = (λ kept. let limit = kept.limit in cc, λ kept. let upward = kept.upward in cc)
 
 -- an image of one frame is too small for two tables

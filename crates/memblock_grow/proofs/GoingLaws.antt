@@ -40,14 +40,16 @@ goes-none m memory reserved spelled = record {
   ready = λ x h. h;
 }
 
-pub place-away : (kernel : RangeView) (items : List Item) (query : Query) (place : Option ℕ) → TablesAreClaimed kernel items → place ≡ best_place items query
+pub place-away : (kernel : RangeView) (items : List Item) (query : Query) (place : Option ℕ) → TablesAreClaimed kernel items
+    → place ≡ best_place items query
     → IfSome place (λ base. TouchesNoTable kernel (record { base = base; size = query.size }) items)
 place-away kernel items query None seated same = tt
 place-away kernel items query (Some base) seated same = found-away kernel items query base seated (sym same)
 
 -- a range that overlapped no table overlaps none after its claim, since the growth for the claim
 -- avoids it
-claim_range-away : (kernel r : RangeView) (items new : List Item) (who : Owner) → TablesAreClaimed kernel items → TouchesNoTable kernel r items
+claim_range-away : (kernel r : RangeView) (items new : List Item) (who : Owner) → TablesAreClaimed kernel items
+    → TouchesNoTable kernel r items
     → EndsAsChange {T = Unit {0}} (Ok tt) items new (claim_range r who) → TouchesNoTable kernel r new
 claim_range-away kernel r items new who placed away ends =
     let t : List Item = roomy r (count_uncovered_pieces which.Reserved r) items in
@@ -59,7 +61,8 @@ claim_range-away kernel r items new who placed away ends =
     subst (AreDisjoint r) (sym (table_bytes-same w kernel t (t ++ one) (moves-of w t one) (rooms-of w t one))) in
     rw is (clear which.Memory still.0, clear which.Reserved still.1)
 
-pub claim-away : (result : Result (Unit {0}) Refusal) (kernel r : RangeView) (items new : List Item) (who : Owner) → TablesAreClaimed kernel items
+pub claim-away : (result : Result (Unit {0}) Refusal) (kernel r : RangeView) (items new : List Item) (who : Owner)
+    → TablesAreClaimed kernel items
     → TouchesNoTable kernel r items → EndsAsChange result items new (claim_range r who) → OnOk result (TouchesNoTable kernel r new)
 claim-away (Ok x) kernel r items new who placed away ends = claim_range-away kernel r items new who placed away ends
 claim-away (Err e) kernel r items new who placed away ends = tt

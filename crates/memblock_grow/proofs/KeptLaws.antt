@@ -99,7 +99,8 @@ module _ {kernel : RangeView} {items : List Item} {t : TablesView} {at : AllocSe
   far-grown which.Reserved which.Memory base room small place is = kept.far which.Reserved place is
   far-grown which.Reserved which.Reserved base room small place is = let here = same_Some base place is in omega (arith, here, small)
 
-module _ {kernel : RangeView} {items : List Item} {t : TablesView} {at : AllocSettings} (kept : TablesMatchItems kernel items t at) (u : TablesView) where
+module _ {kernel : RangeView} {items : List Item} {t : TablesView} {at : AllocSettings} (kept : TablesMatchItems kernel items t at)
+    (u : TablesView) where
   -- the tables are unchanged
   pub kept-same : u.memory ≡ t.memory → u.reserved ≡ t.reserved → TablesMatchItems kernel items u at
   kept-same first second = record {

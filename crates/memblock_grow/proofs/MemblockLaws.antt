@@ -71,8 +71,10 @@ bytes-new kernel x = shown-empty (table_for which.Memory kernel []) (table_for w
     (no_records_at_first which.Memory) (no_records_at_first which.Reserved)
 
 -- after one item that moves no table
-module _ (i : Item) {kernel : RangeView} {items longer : List Item} {t u : TablesView} {at to : AllocSettings} (m : IsMemblock kernel items t at)
-    (more : longer ≡ items ++ i ∷ []) (now : TablesMatchItems kernel (items ++ i ∷ []) u to) (stays : (x : ℕ) → is_vacated_by kernel items i x ≡ false)
+module _ (i : Item) {kernel : RangeView} {items longer : List Item} {t u : TablesView} {at to : AllocSettings}
+    (m : IsMemblock kernel items t at)
+    (more : longer ≡ items ++ i ∷ []) (now : TablesMatchItems kernel (items ++ i ∷ []) u to) (stays : (x : ℕ)
+    → is_vacated_by kernel items i x ≡ false)
     (told : ChangesOnlyTables t u) where
   pub follows-one : Follows kernel items longer (byte_of t.store) (byte_of u.store)
   follows-one = rw more (follows-item kernel items i u.memory u.reserved _ _ stays now.memory now.reserved told)
@@ -95,8 +97,10 @@ wrote-put old new fill wrote x =
     let outside = wrote.outside x in
     grind (arith, nat_tests, within, outside)
 
-pub whole-fill : {kernel : RangeView} {items : List Item} {t : TablesView} (u : TablesView) {at : AllocSettings} (fill : Fill) → u.memory ≡ t.memory
-    → u.reserved ≡ t.reserved → ((x : ℕ) → byte_of u.store x ≡ byte_after_fill fill x (byte_of t.store x)) → TouchesNoTable kernel fill.range items
+pub whole-fill : {kernel : RangeView} {items : List Item} {t : TablesView} (u : TablesView) {at : AllocSettings} (fill : Fill)
+    → u.memory ≡ t.memory
+    → u.reserved ≡ t.reserved → ((x : ℕ) → byte_of u.store x ≡ byte_after_fill fill x (byte_of t.store x))
+    → TouchesNoTable kernel fill.range items
     → IsMemblock kernel items t at → IsMemblock kernel items u at
 whole-fill {t} u fill first second wrote away m =
     let memory : AreDisjoint fill.range (bytes_of t.memory) = rw m.kept.memory away.0 in

@@ -83,17 +83,20 @@ module _ {items : List Item} {place : RangeView} (known : IsBest items place) wh
       ap (λ (e : RangeView). (taking e >> (moving items place >> leaving items)) items) known.is
       ∙ ap (λ (o : Option ℕ). memory_growth_at (room_of which.Memory items) (moved_to which.Memory items) o items) (sym known.found)
 
-  by-growth : (new : List Item) (r : Result (Unit {0}) Refusal) → EndsAsChange r items new (taking place >> (moving items place >> leaving items))
+  by-growth : (new : List Item) (r : Result (Unit {0}) Refusal)
+      → EndsAsChange r items new (taking place >> (moving items place >> leaving items))
       → EndsAsChange r items new memory_growth
   by-growth new r h = subst (λ (o : ChangeEffect). EndsAsEffect r items new o) memory-some h
 
   pub memory-fails : (new : List Item) (e : Refusal) (r : Result (Unit {0}) Refusal) → IsErrAnd r (λ (n : Refusal). n ≡ e)
-      → EndsAsChange {T = Unit {0}} (Err e) items new (claim_range place (owner.Table which.Memory)) → EndsAsChange r items new memory_growth
+      → EndsAsChange {T = Unit {0}} (Err e) items new (claim_range place (owner.Table which.Memory))
+      → EndsAsChange r items new memory_growth
   memory-fails new e r is h = by-growth new r (rw (handed r e is)
       (EndsAsChange-first (Unit {0}) (Unit {0}) e items new (taking place) (moving items place >> leaving items) h))
 
   pub memory-wants : (mid new : List Item) (r : Result (Unit {0}) Refusal) → IsErrAnd r (λ (n : Refusal). n ≡ refusal.Memory)
-      → EndsAsChange {T = Unit {0}} (Ok tt) items mid (claim_range place (owner.Table which.Memory)) → new ≡ mid → EndsAsChange r items new memory_growth
+      → EndsAsChange {T = Unit {0}} (Ok tt) items mid (claim_range place (owner.Table which.Memory)) → new ≡ mid
+      → EndsAsChange r items new memory_growth
   memory-wants mid new r is h same =
       let rest = moving items place >> leaving items in
       by-growth new r (rw (handed r refusal.Memory is, same)
@@ -103,12 +106,14 @@ module _ {items : List Item} {place : RangeView} (known : IsBest items place) wh
   pub memory-done : (mid next new : List Item) (base room : ℕ) (old : Option RangeView) (r : Result (Unit {0}) Refusal) → base ≡ place.base
       → room ≡ 2 * room_of which.Memory items → old ≡ old_frames (room_of which.Memory items) (moved_to which.Memory items)
       → EndsAsChange {T = Unit {0}} (Ok tt) items mid (claim_range place (owner.Table which.Memory))
-      → next ≡ mid ++ item.Grown which.Memory base room ∷ [] → EndsAsChange r next new (free_old_place old) → EndsAsChange r items new memory_growth
+      → next ≡ mid ++ item.Grown which.Memory base room ∷ [] → EndsAsChange r next new (free_old_place old)
+      → EndsAsChange r items new memory_growth
   memory-done mid next new base room old r here twice left was is h =
       let i : Item = item.Grown which.Memory place.base (2 * room_of which.Memory items) in
       let same : next ≡ mid ++ i ∷ [] = rw (is, here, twice) refl in
       let last : EndsAsChange r (mid ++ i ∷ []) new (leaving items) =
-      subst (λ (l : List Item). EndsAsChange r l new (leaving items)) same (subst (λ (o : Option RangeView). EndsAsChange r next new (free_old_place o)) left h) in
+      subst (λ (l : List Item). EndsAsChange r l new (leaving items)) same
+      (subst (λ (o : Option RangeView). EndsAsChange r next new (free_old_place o)) left h) in
       by-growth new r (EndsAsChange-second {T = Unit {0}} tt r items mid new (taking place) (moving items place >> leaving items) was
       (EndsAsChange-second {T = Unit {0}} tt r mid (mid ++ i ∷ []) new (moving items place) (leaving items)
       (EndsAsChange-step {T = Unit {0}} tt mid (i ∷ [])) last))
@@ -144,7 +149,8 @@ memory-apart {kernel} {items} {mid} {k} {base} place kept after same here taken 
     (away-within kernel (frames_for_bytes place.base (48 * n)) small mid (frames-more small) taken.away)))
 
 module _ {kernel : RangeView} {items mid : List Item} {t k r : TablesView} {at : AllocSettings} {base : ℕ} {place : RangeView}
-    (kept : TablesMatchItems kernel items t at) (m : MovedMemory items t k r base place) (keeps : KeepsTables items t mid k at) (room : ℕ) where
+    (kept : TablesMatchItems kernel items t at) (m : MovedMemory items t k r base place) (keeps : KeepsTables items t mid k at)
+    (room : ℕ) where
   memory-kept : TablesMatchItems kernel (mid ++ item.Grown which.Memory base room ∷ []) r at
   memory-kept =
       let after = keeps kernel kept in

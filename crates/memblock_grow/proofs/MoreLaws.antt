@@ -47,7 +47,8 @@ few-more (more.PiecesOf range) ends =
     omega (arith, few, none)
 few-more more.Two ends = omega arith
 
-pub full-begun : (m : MaxNewRecords) (items : List Item) → RangeEndsInSpace m → is_full which.Reserved (new_records_by_items which.Reserved m) items ≡ true
+pub full-begun : (m : MaxNewRecords) (items : List Item) → RangeEndsInSpace m
+    → is_full which.Reserved (new_records_by_items which.Reserved m) items ≡ true
     → HasBegun items
 unfolding records_of
 full-begun m [] ends h =
@@ -58,7 +59,8 @@ full-begun m [] ends h =
 full-begun m (i ∷ is) ends h = tt
 
 -- two growths are enough, by the law about items
-module _ {kernel : RangeView} {items : List Item} {t : TablesView} {at : AllocSettings} (kept : TablesMatchItems kernel items t at) (low : at.limit ≤ 2 ^ 64) where
+module _ {kernel : RangeView} {items : List Item} {t : TablesView} {at : AllocSettings} (kept : TablesMatchItems kernel items t at)
+    (low : at.limit ≤ 2 ^ 64) where
   pub space-of : IsInAddressSpace items
   space-of = record { ends = kept.ends; limit = subst (λ (n : ℕ). n ≤ 2 ^ 64) (sym kept.limit) low }
 
@@ -67,12 +69,15 @@ module _ {kernel : RangeView} {items : List Item} {t : TablesView} {at : AllocSe
   reserved-enough (more.PiecesOf range) avoid ends = enough-claimed avoid range items space-of kept.fits (omega arith)
   reserved-enough more.Two avoid ends = enough-freed avoid items space-of kept.fits
 
-  pub memory-enough : (m : MaxNewRecords) → RangeEndsInSpace m → HasRoomAfter which.Memory (new_records_by_items which.Memory m) memory_growth items
+  pub memory-enough : (m : MaxNewRecords) → RangeEndsInSpace m
+      → HasRoomAfter which.Memory (new_records_by_items which.Memory m) memory_growth items
   memory-enough (more.PiecesOf range) ends = enough-added range items space-of kept.fits (omega arith)
   memory-enough more.Two ends = enough-labelled items space-of kept.fits
 
-pub room-behind : (w : Which) (m : MaxNewRecords) (growth : Change) (items : List Item) {kernel : RangeView} {longer : List Item} {u : TablesView}
+pub room-behind : (w : Which) (m : MaxNewRecords) (growth : Change)
+    (items : List Item) {kernel : RangeView} {longer : List Item} {u : TablesView}
     {at : AllocSettings} (r : Result (Unit {0}) Refusal) → HasRoomAfter w (new_records_by_items w m) growth items
-    → EndsAsChange r items longer (make_table_room w (new_records_by_items w m) growth) → TablesMatchItems kernel longer u at → OnOk r (HasRoomFor m (table_in w u))
+    → EndsAsChange r items longer (make_table_room w (new_records_by_items w m) growth) → TablesMatchItems kernel longer u at
+    → OnOk r (HasRoomFor m (table_in w u))
 room-behind w m growth items (Ok x) law ends kept = room-of kept w m (ap (is_full w (new_records_by_items w m)) ends.1 ∙ law ends.0)
 room-behind w m growth items (Err e) law ends kept = tt

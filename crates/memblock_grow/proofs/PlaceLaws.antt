@@ -40,7 +40,8 @@ best_place_in-high up memory reserved q place found =
     (fits_in-parts false memory reserved q place (best_place_in-fits up memory reserved q place found)).high
 
 -- without an item that mirrors memory no search finds mirrored memory
-pub top_place-mirrorless : (items : List Item) (t : TablesView) (up : Bool) (q : Query) → MirrorsComeFromItems items t → has_mirrors items ≡ false
+pub top_place-mirrorless : (items : List Item) (t : TablesView) (up : Bool) (q : Query) → MirrorsComeFromItems items t
+    → has_mirrors items ≡ false
     → mirrored_place_in_tables t up q ≡ None
 top_place-mirrorless items t up q knows none =
     top_place_in-mirrorless up (value_at t.memory.records) (value_at t.reserved.records) q (knows none)
@@ -74,7 +75,8 @@ pub record IsPlaceOf (o : Option ℕ) (n : ℕ) (place : RangeView) : Type 0 whe
   pub found : o ≡ Some place.base
   pub is : place ≡ frames_for_bytes place.base n
 
-pub mapped-some : (o : Option ℕ) (n : ℕ) (place : RangeView) → option_map (λ (p : ℕ). frames_for_bytes p n) o ≡ Some place → IsPlaceOf o n place
+pub mapped-some : (o : Option ℕ) (n : ℕ) (place : RangeView) → option_map (λ (p : ℕ). frames_for_bytes p n) o ≡ Some place
+    → IsPlaceOf o n place
 mapped-some None n place h = cc
 mapped-some (Some p) n place h =
     let is : frames_for_bytes p n ≡ place = cc in
@@ -151,8 +153,10 @@ new_some None base size h small = absurd (h small)
 new_some (Some e) base size h small = ap (λ (x : RangeView). Some x) h.1
 
 pub between-some : (t : TablesView) (up : Bool) (room lo hi size base : ℕ) (o : Option RangeView) → size ≡ round_up_to_frames (48 * room)
-    → best_place_in_tables t up (sized lo hi size) ≡ Some base → SomeIff o (base + size < 2 ^ 64) (record { base = base; size = size }) → hi < 2 ^ 64
+    → best_place_in_tables t up (sized lo hi size) ≡ Some base → SomeIff o (base + size < 2 ^ 64) (record { base = base; size = size })
+    → hi < 2 ^ 64
     → o ≡ frames_between t up room lo hi
 between-some t up room lo hi size base o is found new small =
-    let high : base + size ≤ hi = best_place_in-high up (value_at t.memory.records) (value_at t.reserved.records) (sized lo hi size) base found in
+    let high : base + size ≤ hi =
+    best_place_in-high up (value_at t.memory.records) (value_at t.reserved.records) (sized lo hi size) base found in
     new_some o base size new (omega arith) ∙ rw (is, rw is at found) refl

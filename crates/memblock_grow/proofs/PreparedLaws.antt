@@ -40,7 +40,8 @@ prepares-item i first is none same =
 
 -- a call after a place was prepared
 pub prepares-with : {place : RangeView} {items longer : List Item} {s p t : List ExtentView}
-    → ((x : ℕ) → is_prepared_at p x ≡ (covers place x || is_prepared_at s x)) → Prepares items longer p t → PreparesWith place items longer s t
+    → ((x : ℕ) → is_prepared_at p x ≡ (covers place x || is_prepared_at s x)) → Prepares items longer p t
+    → PreparesWith place items longer s t
 prepares-with first h = record {
   more = h.more;
   goes_on = h.goes_on;

@@ -23,7 +23,8 @@ use Rattle.memblock_grow.proofs.PlaceLaws.{top_place-is, top_place-mirrorless}
 use Rattle.memblock_grow.proofs.ChangeLaws.{handed}
 
 -- if nothing is mirrored, no search in mirrored memory finds a place
-any_node_attempt-mirrorless : (items : List Item) (t : TablesView) (up : Bool) (r : Request) (limit lo : ℕ) (wanted : Option ℕ) → MirrorsComeFromItems items t
+any_node_attempt-mirrorless : (items : List Item) (t : TablesView) (up : Bool) (r : Request) (limit lo : ℕ) (wanted : Option ℕ)
+    → MirrorsComeFromItems items t
     → has_mirrors items ≡ false → first_place_in_tables t up (any_node_attempt r limit lo true wanted) ≡ None
 any_node_attempt-mirrorless items t up r limit lo None knows none = refl
 any_node_attempt-mirrorless items t up r limit lo (Some node) knows none =
@@ -43,7 +44,8 @@ module _ {kernel : RangeView} {items : List Item} {t : TablesView} {at : AllocSe
   pub place-is-for : (r : Request) {o found : Option ℕ} → o ≡ first_place_in_tables t at.upward (attempts r at.limit) → o ≡ found
       → place_for r items ≡ found
   place-is-for r is some =
-      sym (is ∙ ap (λ (n : ℕ). first_place_in_tables t at.upward (attempts r n)) (sym kept.limit) ∙ first-is (attempts r (limit_of items))) ∙ some
+      sym (is ∙ ap (λ (n : ℕ). first_place_in_tables t at.upward (attempts r n)) (sym kept.limit) ∙ first-is (attempts r (limit_of items)))
+      ∙ some
 
   pub place-small : (r : Request) {place : ℕ} → place_for r items ≡ Some place → at.limit < 2 ^ 64 → place + r.size < 2 ^ 64
   place-small r {place} found small =

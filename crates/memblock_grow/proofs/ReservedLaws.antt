@@ -39,14 +39,16 @@ use Rattle.memblock_grow.proofs.ChangeLaws.{handed}
 use Rattle.memblock_grow.proofs.PreparedLaws.{prepares-growth, prepares-item}
 
 -- the frames of a table aren't empty
-pub frames-some : (w : Which) (items : List Item) {place : RangeView} → place ≡ frames_for_bytes place.base (48 * room_of w items) → 0 < place.size
+pub frames-some : (w : Which) (items : List Item) {place : RangeView} → place ≡ frames_for_bytes place.base (48 * room_of w items)
+    → 0 < place.size
 frames-some w items {place} is =
     let least = room_of-least w items in
     let size : place.size ≡ round_up_to_frames (48 * room_of w items) = ap (λ (e : RangeView). e.size) is in
     omega (arith, least, size)
 
 -- the frames that a table leaves, if any, aren't empty
-pub items_freeing_old_place-size : (w : Which) (items : List Item) (o : Option ℕ) (range : RangeView) → old_frames (room_of w items) o ≡ Some range
+pub items_freeing_old_place-size : (w : Which) (items : List Item) (o : Option ℕ) (range : RangeView)
+    → old_frames (room_of w items) o ≡ Some range
     → 0 < range.size
 items_freeing_old_place-size w items None range h = cc
 items_freeing_old_place-size w items (Some p) range h =
@@ -70,7 +72,8 @@ module _ {kernel : RangeView} {items : List Item} {t : TablesView} {at : AllocSe
   pub twice-is : (w : Which) {head : Head} → head ≡ head_of (table_in w t) → 2 * head.room ≡ 2 * room_of w items
   twice-is w is = ap (λ (h : Head). 2 * h.room) is ∙ ap (λ (n : ℕ). 2 * n) (room-is kept w)
 
-  pub items_freeing_old_place-found : (w : Which) {head : Head} {o : Option RangeView} → head ≡ head_of (table_in w t) → o ≡ old_place_frames head.place head.room
+  pub items_freeing_old_place-found : (w : Which) {head : Head} {o : Option RangeView} → head ≡ head_of (table_in w t)
+      → o ≡ old_place_frames head.place head.room
       → o ≡ old_frames (room_of w items) (moved_to w items)
   items_freeing_old_place-found w said is = is ∙ ap (λ (h : Head). old_place_frames h.place h.room) said ∙ left-is kept w
 
@@ -92,7 +95,8 @@ module _ {kernel : RangeView} {items : List Item} {t : TablesView} {at : AllocSe
       rw (table, second) (omega (arith, one, few, least))
 
   -- the place apart from the range, by the tables and by the items
-  beside-along : (avoid : RangeView) {head : Head} {o : Option RangeView} → head ≡ head_of t.reserved → o ≡ frames_beside t at head.room avoid
+  beside-along : (avoid : RangeView) {head : Head} {o : Option RangeView} → head ≡ head_of t.reserved
+      → o ≡ frames_beside t at head.room avoid
       → o ≡ option_map (λ place. frames_for_bytes place (48 * room_of which.Reserved items))
       (place_beside_range avoid (room_of which.Reserved items) items)
   beside-along avoid said is = is ∙ ap (λ (h : Head). frames_beside t at h.room avoid) said ∙ beside-is kept avoid
@@ -133,7 +137,8 @@ module _ {items : List Item} {avoid place : RangeView} (known : IsBeside items a
   beside-free = rw known.is (beside-new items avoid (room_of which.Reserved items) place.base known.found).free
 
   -- the table may move there
-  pub beside-apart : {kernel : RangeView} {t : TablesView} {at : AllocSettings} (p : TablesView) {base : ℕ} → TablesMatchItems kernel items t at
+  pub beside-apart : {kernel : RangeView} {t : TablesView} {at : AllocSettings} (p : TablesView) {base : ℕ}
+      → TablesMatchItems kernel items t at
       → TablesAreClaimed kernel items → base ≡ place.base → p.memory ≡ t.memory → p.reserved ≡ t.reserved
       → ¬ OverlapsTable p (record { base = base; size = 48 * room_in which.Reserved p })
   beside-apart {kernel} p {base} kept placed here first second =
@@ -166,7 +171,8 @@ module _ {items : List Item} {avoid place : RangeView} (known : IsBeside items a
       let c : Item = item.Claim place (owner.Table which.Reserved) in
       let all : new ≡ items ++ reserved_growth_items n (moved_to which.Reserved items) place.base =
       is ∙ append_assoc (items ++ g ∷ []) (c ∷ []) (freed_by old) ∙ append_assoc items (g ∷ []) (c ∷ freed_by old)
-      ∙ rw (here, twice, items_freeing_old_place, items_freeing_old_place-by n (moved_to which.Reserved items)) (ap (λ (e : RangeView). items ++ item.Grown which.Reserved place.base
+      ∙ rw (here, twice, items_freeing_old_place, items_freeing_old_place-by n (moved_to which.Reserved items))
+      (ap (λ (e : RangeView). items ++ item.Grown which.Reserved place.base
       (2 * n) ∷ (item.Claim e (owner.Table which.Reserved) ∷ freed_by (old_frames n (moved_to which.Reserved items)))) known.is) in
       rw (growth-some, all) (EndsAsChange-step {T = Unit {0}} tt items (reserved_growth_items n (moved_to which.Reserved items) place.base))
 
@@ -186,7 +192,8 @@ pub record Moved (items : List Item) (t p r v : TablesView) (base : ℕ) (place 
   pub ends : end_of place < 2 ^ 64
 
 module _ {kernel : RangeView} {items : List Item} {t p r v : TablesView} {at : AllocSettings} {base : ℕ} {place : RangeView}
-    (kept : TablesMatchItems kernel items t at) (m : Moved items t p r v base place) (free : IsUnclaimed (owner_of items) place) (room : ℕ) where
+    (kept : TablesMatchItems kernel items t at) (m : Moved items t p r v base place) (free : IsUnclaimed (owner_of items) place)
+    (room : ℕ) where
   before : TablesMatchItems kernel items p at
   before = kept-same kept p m.first m.second
 

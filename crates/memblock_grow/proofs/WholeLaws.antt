@@ -20,7 +20,8 @@ whole-on {kernel} m keeps bytes stands =
     }
 
 -- one call after another
-pub keeps-then : {items mid last : List Item} {t u v : TablesView} {at : AllocSettings} → KeepsTables items t mid u at → KeepsTables mid u last v at
+pub keeps-then : {items mid last : List Item} {t u v : TablesView} {at : AllocSettings} → KeepsTables items t mid u at
+    → KeepsTables mid u last v at
     → KeepsTables items t last v at
 keeps-then first second = λ kernel kept. second kernel (first kernel kept)
 

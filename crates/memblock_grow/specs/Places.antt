@@ -18,7 +18,8 @@ MirrorsComeFromItems items t = has_mirrors items ≡ false → (x : ℕ) → is_
 
 -- the top place of a search in both tables, and of a query in mirrored memory
 abbrev pub top_place_in_tables : TablesView → Bool → Attempt → Option ℕ
-top_place_in_tables t up a = top_place_in (record { mirror = a.mirror; up = up }) (value_at t.memory.records) (value_at t.reserved.records) a.query
+top_place_in_tables t up a =
+    top_place_in (record { mirror = a.mirror; up = up }) (value_at t.memory.records) (value_at t.reserved.records) a.query
 
 abbrev pub mirrored_place_in_tables : TablesView → Bool → Query → Option ℕ
 mirrored_place_in_tables t up q = top_place_in_tables t up (record { query = q; mirror = true })
@@ -29,7 +30,8 @@ best_place_in_tables t up q = best_place_in up (value_at t.memory.records) (valu
 
 -- the frames for `2 * room` records, at the best place between the addresses `lo` and `hi`
 abbrev pub frames_between : TablesView → Bool → ℕ → ℕ → ℕ → Option RangeView
-frames_between t up room lo hi = option_map (λ place. frames_for_bytes place (48 * room)) (best_place_in_tables t up (table_query room lo hi))
+frames_between t up room lo hi =
+    option_map (λ place. frames_for_bytes place (48 * room)) (best_place_in_tables t up (table_query room lo hi))
 
 -- the frames for `2 * room` records, at the best place above the range, else at the best one below
 -- it

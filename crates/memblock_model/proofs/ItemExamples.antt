@@ -21,8 +21,10 @@ bytes base size = record { base = base; size = size }
 
 -- a range of one byte isn't empty; the range of no item may be: memory, a node, a claim, a free, a
 -- mirror
-item_examples : (ItemHasBytes (item.Mem (bytes 7 1))) × (ItemHasBytes (item.Mem (bytes 7 0)) → ⊥) × (ItemHasBytes (item.Node (bytes 7 0) 1) → ⊥)
-    × (ItemHasBytes (item.Claim (bytes 7 0) owner.Kernel) → ⊥) × (ItemHasBytes (item.Free (bytes 7 0)) → ⊥) × (ItemHasBytes (item.Mirror (bytes 7 0)) → ⊥)
+item_examples : (ItemHasBytes (item.Mem (bytes 7 1))) × (ItemHasBytes (item.Mem (bytes 7 0)) → ⊥)
+    × (ItemHasBytes (item.Node (bytes 7 0) 1) → ⊥)
+    × (ItemHasBytes (item.Claim (bytes 7 0) owner.Kernel) → ⊥) × (ItemHasBytes (item.Free (bytes 7 0)) → ⊥)
+    × (ItemHasBytes (item.Mirror (bytes 7 0)) → ⊥)
 item_examples = (omega arith, λ some. omega arith, λ some. omega arith, λ some. omega arith, λ some. omega arith, λ some. omega arith)
 
 -- the newest item that covers a byte decides: a claim over a claim, and a byte that only the older

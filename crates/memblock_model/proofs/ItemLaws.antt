@@ -45,7 +45,8 @@ free_at : (b : Bool) (old : Option Owner) → without_owner (if b then None else
 free_at true old = refl
 free_at false old = refl
 
-pub reserved_labels-replaced : (r : RangeView) (o : Owner) (f : Owners) → reserved_labels (replace_in_range r o f) ≡ cover_range r plain_label (reserved_labels f)
+pub reserved_labels-replaced : (r : RangeView) (o : Owner) (f : Owners)
+    → reserved_labels (replace_in_range r o f) ≡ cover_range r plain_label (reserved_labels f)
 reserved_labels-replaced r o f = λ k x. claim_at (covers r x) o (f x) k
 
 pub reserved_labels-uncovered : (r : RangeView) (f : Owners) → reserved_labels (uncover_range r f) ≡ uncover_range r (reserved_labels f)

@@ -122,4 +122,5 @@ turned_is_plain x = plain_or_none (covers (bytes 0 0x10000) x)
 
 best_page_upward : best_place turned page ≡ Some 0x1000
 unfolding best_place
-best_page_upward = best_place_in-plain true (table_of which.Memory turned) (table_of which.Reserved turned) page turned_is_plain ∙ lowest_page
+best_page_upward =
+    best_place_in-plain true (table_of which.Memory turned) (table_of which.Reserved turned) page turned_is_plain ∙ lowest_page

@@ -278,7 +278,8 @@ pub top_place_in-fits : (mode : Mode) (memory reserved : Labels) (q : Query) (a 
 unfolding top_place_in
 top_place_in-fits mode memory reserved q a h = outermost_below-passes mode.up (fits_in mode.mirror memory reserved q) (2 ^ 64) a h
 
-pub top_place_in-none : (mode : Mode) (memory reserved : Labels) (q : Query) → top_place_in mode memory reserved q ≡ None → (b : ℕ) → b < 2 ^ 64
+pub top_place_in-none : (mode : Mode) (memory reserved : Labels) (q : Query) → top_place_in mode memory reserved q ≡ None → (b : ℕ)
+    → b < 2 ^ 64
     → fits_in mode.mirror memory reserved q b ≡ false
 unfolding top_place_in
 top_place_in-none mode memory reserved q h b lt = outermost_below-none mode.up (fits_in mode.mirror memory reserved q) (2 ^ 64) h b lt
@@ -290,7 +291,8 @@ top_place_in-fails mode memory reserved q none = outermost_below-fails mode.up (
 
 -- to show that an address is the top place: it is the last one that fits, or the first if the
 -- search goes up
-pub top_place_in-last : (mirror : Bool) (memory reserved : Labels) (q : Query) (a : ℕ) → IsLastBelow (fits_in mirror memory reserved q) (2 ^ 64) a
+pub top_place_in-last : (mirror : Bool) (memory reserved : Labels) (q : Query) (a : ℕ)
+    → IsLastBelow (fits_in mirror memory reserved q) (2 ^ 64) a
     → top_place_in (record { mirror = mirror; up = false }) memory reserved q ≡ Some a
 unfolding top_place_in
 top_place_in-last mirror memory reserved q a known = last_below-last (fits_in mirror memory reserved q) (2 ^ 64) a known
@@ -307,7 +309,8 @@ pub best_place_in-mirrored : (up : Bool) (memory reserved : Labels) (q : Query) 
 unfolding best_place_in
 best_place_in-mirrored up memory reserved q a h = rw h refl
 
-pub best_place_in-other : (up : Bool) (memory reserved : Labels) (q : Query) → top_place_in (record { mirror = true; up = up }) memory reserved q ≡ None
+pub best_place_in-other : (up : Bool) (memory reserved : Labels) (q : Query)
+    → top_place_in (record { mirror = true; up = up }) memory reserved q ≡ None
     → best_place_in up memory reserved q ≡ top_place_in (record { mirror = false; up = up }) memory reserved q
 unfolding best_place_in
 best_place_in-other up memory reserved q h = rw h refl
@@ -325,12 +328,15 @@ best_place_in-fits up memory reserved q a h =
       | inr other ↦ top_place_in-fits (record { mirror = false; up = up }) memory reserved q a other
     ]
 
-pub best_place_in-none : (up : Bool) (memory reserved : Labels) (q : Query) → best_place_in up memory reserved q ≡ None → (b : ℕ) → b < 2 ^ 64
+pub best_place_in-none : (up : Bool) (memory reserved : Labels) (q : Query) → best_place_in up memory reserved q ≡ None → (b : ℕ)
+    → b < 2 ^ 64
     → fits_in false memory reserved q b ≡ false
 unfolding best_place_in
-best_place_in-none up memory reserved q h b lt = top_place_in-none (record { mirror = false; up = up }) memory reserved q (neither _ _ h) b lt
+best_place_in-none up memory reserved q h b lt =
+    top_place_in-none (record { mirror = false; up = up }) memory reserved q (neither _ _ h) b lt
 
-pub best_place_in-fails : (up : Bool) (memory reserved : Labels) (q : Query) → ((b : ℕ) → b < 2 ^ 64 → fits_in false memory reserved q b ≡ false)
+pub best_place_in-fails : (up : Bool) (memory reserved : Labels) (q : Query)
+    → ((b : ℕ) → b < 2 ^ 64 → fits_in false memory reserved q b ≡ false)
     → best_place_in up memory reserved q ≡ None
 unfolding best_place_in
 best_place_in-fails up memory reserved q none =
@@ -355,4 +361,5 @@ best_place_in-plain up memory reserved q none = best_place_in-other up memory re
 -- to show that an address is the best place if nothing is mirrored: it is the last one that fits
 pub best_place_in-last : (memory reserved : Labels) (q : Query) (a : ℕ) → ((x : ℕ) → is_allowed_mirror true (memory x) ≡ false)
     → IsLastBelow (fits_in false memory reserved q) (2 ^ 64) a → best_place_in false memory reserved q ≡ Some a
-best_place_in-last memory reserved q a none known = best_place_in-plain false memory reserved q none ∙ top_place_in-last false memory reserved q a known
+best_place_in-last memory reserved q a none known =
+    best_place_in-plain false memory reserved q none ∙ top_place_in-last false memory reserved q a known

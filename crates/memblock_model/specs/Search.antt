@@ -61,7 +61,8 @@ top_place_in mode memory reserved q = outermost_below mode.up (fits_in mode.mirr
 -- the top place in mirrored memory, or in any memory if no place fits in mirrored memory
 unfoldable pub best_place_in : Bool → Labels → Labels → Query → Option ℕ
 best_place_in up memory reserved q =
-    option_or (top_place_in (record { mirror = true; up = up }) memory reserved q) (top_place_in (record { mirror = false; up = up }) memory reserved q)
+    option_or (top_place_in (record { mirror = true; up = up }) memory reserved q)
+    (top_place_in (record { mirror = false; up = up }) memory reserved q)
 
 -- `fits_in`, `top_place_in` and `best_place_in` for the tables and the search direction that the
 -- items give

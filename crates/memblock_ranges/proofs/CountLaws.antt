@@ -118,7 +118,8 @@ first_or_spike r f n = elim (cases_Bool (covers r 0)) as (λ _. one (covers r 0 
   | inr out ↦ let few = spikes_few r.base 0 n in rw out (omega (arith, few))
 ]
 
-pub few-pieces : (r : RangeView) (f : Labels) → end_of r ≤ 2 ^ 64 → NothingFrom (2 ^ 64) f → uncovered_run_count r f ≤ length (records_for f) + 1
+pub few-pieces : (r : RangeView) (f : Labels) → end_of r ≤ 2 ^ 64 → NothingFrom (2 ^ 64) f
+    → uncovered_run_count r f ≤ length (records_for f) + 1
 few-pieces r f ends none =
     let h : ℕ → Bool = λ x. covers r x && is_none (f x) in
     let known = records_for-runs f none in

@@ -40,8 +40,13 @@ pub edited : (change : Option LabelView → Option LabelView) (r : RangeView) (r
     r.base + r.size ≤ 2 ^ 64 → IsRunsOf (change_range change r (value_at rs)) now →
     AreRecords now × (now ≡ records_for (change_range change r (value_at rs)))
 edited change r rs now known ends is =
-    let within = amended_ends change r (value_at rs) (2 ^ 64) ends known.within in
-    (record { runs = is.runs; within = λ x le. is.each x ∙ within x le }, records_for-is (change_range change r (value_at rs)) now within is)
+    let within = amended_ends change r (value_at rs) (2 ^ 64) ends known.within in (
+      record {
+        runs = is.runs;
+        within = λ x le. is.each x ∙ within x le;
+      },
+      records_for-is (change_range change r (value_at rs)) now within is,
+    )
 
 -- an empty range changes nothing
 pub no_edit : (change : Option LabelView → Option LabelView) (r : RangeView) (rs : List (RunOf LabelView)) → AreRecords rs → r.size ≡ 0 →

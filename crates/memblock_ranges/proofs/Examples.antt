@@ -45,7 +45,8 @@ spelling_examples : (encode_record first_run ≡ first_record) × (encode_record
 unfolding encode_fields
 spelling_examples = (refl, refl, refl)
 
-run_examples : (decode_record first_record ≡ first_run) × (decode_record mirrored_record ≡ mirrored_run) × (decode_record (encode_record kernel_run) ≡ kernel_run)
+run_examples : (decode_record first_record ≡ first_run) × (decode_record mirrored_record ≡ mirrored_run)
+    × (decode_record (encode_record kernel_run) ≡ kernel_run)
 unfolding base_in size_in flags_in node_in encode_fields
 run_examples = (refl, refl, refl)
 
@@ -118,7 +119,8 @@ empty_table : HasTable [] (nowhere 5) × ¬ HasTable [] (first_head 5)
 empty_table = (no_table 5 (omega arith), λ table. cc (table.prepared 5 (omega arith) (omega arith)))
 
 -- bytes outside a table, and in it
-outside_examples : (bytes_outside_table (λ x. 7) 24 1 23 ≡ 7) × (bytes_outside_table (λ x. 7) 24 1 24 ≡ 0) × (bytes_outside_table (λ x. 7) 24 1 47 ≡ 0)
+outside_examples : (bytes_outside_table (λ x. 7) 24 1 23 ≡ 7) × (bytes_outside_table (λ x. 7) 24 1 24 ≡ 0)
+    × (bytes_outside_table (λ x. 7) 24 1 47 ≡ 0)
     × (bytes_outside_table (λ x. 7) 24 1 48 ≡ 7)
 outside_examples = (refl, refl, refl, refl)
 

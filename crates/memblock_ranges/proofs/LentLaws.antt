@@ -63,7 +63,8 @@ pub record_is : (bs : List ℕ) (count i : ℕ) (r : RunOf LabelView) → AreRec
 record_is bs count i r lent less =
     let here : 0 + 24 * i ≡ 24 * i = omega arith in
     region_back (bytes_at (slice_index bs) (24 * i) 24) (lent.each i less)
-    ∙ sym (ap region_of (get-records_at (slice_index bs) 0 count i r less ∙ ap (λ (y : ℕ). decode_record (bytes_at (slice_index bs) y 24)) here))
+    ∙ sym (ap region_of (get-records_at (slice_index bs) 0 count i r less
+    ∙ ap (λ (y : ℕ). decode_record (bytes_at (slice_index bs) y 24)) here))
 
 run_fits : (bs : List ℕ) → IsRecord bs → FitsRecord (decode_record bs)
 run_fits bs known =
@@ -79,7 +80,8 @@ pub record_fits : (bs : List ℕ) (count i : ℕ) (r : RunOf LabelView) → AreR
     → FitsRecord (get_or (records_in_bytes bs count) i r)
 record_fits bs count i r lent less =
     let here : 0 + 24 * i ≡ 24 * i = omega arith in
-    subst FitsRecord (sym (get-records_at (slice_index bs) 0 count i r less ∙ ap (λ (y : ℕ). decode_record (bytes_at (slice_index bs) y 24)) here))
+    subst FitsRecord
+    (sym (get-records_at (slice_index bs) 0 count i r less ∙ ap (λ (y : ℕ). decode_record (bytes_at (slice_index bs) y 24)) here))
     (run_fits (bytes_at (slice_index bs) (24 * i) 24) (lent.each i less))
 
 -- the number of records of a table in a store

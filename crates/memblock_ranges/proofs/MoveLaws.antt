@@ -28,7 +28,8 @@ copied_apart old room count place few apart =
 pub moves : (s t u v : List ExtentView) (g : Head) (place used free size : ℕ) → HasTable s g → place + 48 * g.room < 2 ^ 64 →
     ArePrepared s place (48 * g.room) →
     ¬ Meet (bytes_of_head g) (bytes place (48 * g.room)) →
-    WritesBytes s t place used (λ k. byte_of s (g.place + k)) → WritesBytes t u (place + used) free (λ _. 0) → WritesBytes u v g.place size (λ _. 0) →
+    WritesBytes s t place used (λ k. byte_of s (g.place + k)) → WritesBytes t u (place + used) free (λ _. 0)
+    → WritesBytes u v g.place size (λ _. 0) →
     used ≡ 24 * g.count → free ≡ 48 * g.room - used → size ≡ 24 * g.room →
     MovesTable s v g (record { place = place; room = 2 * g.room; count = g.count }) place
 moves s t u v g place used free size table small prepared apart copied cleared zeroed used_is free_is size_is =

@@ -42,19 +42,23 @@ parted end x long lies =
     absurd (omega arith)
 
 pub new_tables : (s : List ExtentView) (end : ℕ) → 8192 ≤ end → end < 2 ^ 64 → ((x : ℕ) → byte_of s x ≡ 0) →
-    ((x : ℕ) → is_prepared_at s x ≡ (covers (bytes_of_head (first_head (end - 4096))) x || covers (bytes_of_head (first_head (end - 8192))) x)) →
+    ((x : ℕ) → is_prepared_at s x
+    ≡ (covers (bytes_of_head (first_head (end - 4096))) x || covers (bytes_of_head (first_head (end - 8192))) x)) →
     AreTables s (first_head (end - 8192)) (first_head (end - 4096))
 new_tables s end long small zeros ready = record {
   memory = empty_table s (end - 8192) (omega arith) zeros
-      (λ x lies. ready x ∙ or_right (covers (bytes_of_head (first_head (end - 4096))) x) (covers (bytes_of_head (first_head (end - 8192))) x) lies);
+      (λ x lies. ready x
+      ∙ or_right (covers (bytes_of_head (first_head (end - 4096))) x) (covers (bytes_of_head (first_head (end - 8192))) x) lies);
   reserved = empty_table s (end - 4096) (omega arith) zeros
-      (λ x lies. ready x ∙ or_left (covers (bytes_of_head (first_head (end - 4096))) x) (covers (bytes_of_head (first_head (end - 8192))) x) lies);
+      (λ x lies. ready x
+      ∙ or_left (covers (bytes_of_head (first_head (end - 4096))) x) (covers (bytes_of_head (first_head (end - 8192))) x) lies);
   apart = λ both. let x = both.0 in let lies = both.1 in absurd (parted end x long lies);
   memory_records = rw (no_records s (end - 8192)) none_known;
   reserved_records = rw (no_records s (end - 4096)) none_known;
   plain = rw (no_records s (end - 4096)) none_noded;
 }
 
-pub first_table : (s : List ExtentView) (place : ℕ) → table_of_head s (first_head place) ≡ record { records = []; place = place; room = 128 }
+pub first_table : (s : List ExtentView) (place : ℕ)
+    → table_of_head s (first_head place) ≡ record { records = []; place = place; room = 128 }
 first_table s place = ap (λ (rs : List (RunOf LabelView)). let t : TableView = record { records = rs; place = place; room = 128 } in
     t) (no_records s place)

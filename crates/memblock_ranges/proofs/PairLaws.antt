@@ -28,7 +28,8 @@ turned r s apart both = apart (swapped s r both)
 
 -- a table whose bytes stay is unchanged
 pub stays : (s t : List ExtentView) (h : Head) → ((x : ℕ) → covers (bytes_of_head h) x ≡ true → byte_of t x ≡ byte_of s x) →
-    ((x : ℕ) → is_prepared_at s x ≡ true → is_prepared_at t x ≡ true) → HasTable s h → HasTable t h × (table_of_head t h ≡ table_of_head s h)
+    ((x : ℕ) → is_prepared_at s x ≡ true → is_prepared_at t x ≡ true) → HasTable s h
+    → HasTable t h × (table_of_head t h ≡ table_of_head s h)
 stays s t h same ready table =
     let few = table.few in
     let at : (x : ℕ) → h.place ≤ x → x < h.place + 24 * h.room → byte_of t x ≡ byte_of s x =
@@ -49,7 +50,8 @@ stays s t h same ready table =
 same_bytes_by : (s t : List ExtentView) (g h : Head) → unedited_part t h ≡ unedited_part s g → bytes_of_head h ≡ bytes_of_head g
 same_bytes_by s t g h kept = ap (λ (o : UneditedPart). let r : RangeView = record { base = o.place; size = 24 * o.room } in r) kept
 
-edited_at : (s t : List ExtentView) (g h : Head) → unedited_part t h ≡ unedited_part s g → (x : ℕ) → covers (bytes_of_head g) x ≡ false → byte_of t x ≡ byte_of s x
+edited_at : (s t : List ExtentView) (g h : Head) → unedited_part t h ≡ unedited_part s g → (x : ℕ) → covers (bytes_of_head g) x ≡ false
+    → byte_of t x ≡ byte_of s x
 edited_at s t g h kept x out =
     let e : (if covers (bytes_of_head h) x then 0 else byte_of t x) ≡ (if covers (bytes_of_head g) x then 0 else byte_of s x) =
     ap (λ (o : UneditedPart). o.others x) kept in
@@ -66,7 +68,8 @@ pub record EditsTable (s t : List ExtentView) (g h o : Head) (list : List (RunOf
 abbrev pub with_records : List ExtentView → Head → List (RunOf LabelView) → TableView
 with_records s h list = record (table_of_head s h) { records = list }
 
-edits : (s t : List ExtentView) (g h o : Head) (list : List (RunOf LabelView)) → unedited_part t h ≡ unedited_part s g → records_of_head t h ≡ list →
+edits : (s t : List ExtentView) (g h o : Head) (list : List (RunOf LabelView)) → unedited_part t h ≡ unedited_part s g
+    → records_of_head t h ≡ list →
     table_of_head t o ≡ table_of_head s o → EditsTable s t g h o list
 edits s t g h o list kept is other = record {
   table = rw (is, ap (λ (k : UneditedPart). k.place) kept, ap (λ (k : UneditedPart). k.room) kept) refl;
@@ -76,7 +79,8 @@ edits s t g h o list kept is other = record {
 }
 
 -- the reserved table stays if it is apart from the edited memory table
-beside_memory : (s t : List ExtentView) (m r h : Head) → AreTables s m r → HasTable t r × (table_of_head t r ≡ table_of_head s r) → HasTable t h →
+beside_memory : (s t : List ExtentView) (m r h : Head) → AreTables s m r → HasTable t r × (table_of_head t r ≡ table_of_head s r)
+    → HasTable t h →
     ¬ Meet (bytes_of_head h) (bytes_of_head r) →
     AreRecords (records_of_head t h) →
     AreTables t h r × (table_of_head t r ≡ table_of_head s r)
@@ -94,7 +98,8 @@ beside_memory s t m r h both other table apart known =
     )
 
 pub memory_edited : (s t : List ExtentView) (m r h : Head) (list : List (RunOf LabelView)) → AreTables s m r → HasTable t h →
-    unedited_part t h ≡ unedited_part s m → AreRecords (records_of_head t h) × (records_of_head t h ≡ list) → AreTables t h r × EditsTable s t m h r list
+    unedited_part t h ≡ unedited_part s m → AreRecords (records_of_head t h) × (records_of_head t h ≡ list)
+    → AreTables t h r × EditsTable s t m h r list
 memory_edited s t m r h list both table kept known =
     let other = stays s t r (λ x lies. edited_at s t m h kept x (beside (bytes_of_head m) (bytes_of_head r) x both.apart lies))
     (λ x was. ap (λ (k : UneditedPart). k.ready x) kept ∙ was) both.reserved in
@@ -103,7 +108,8 @@ memory_edited s t m r h list both table kept known =
     (pair.0, edits s t m h r list kept known.1 pair.1)
 
 pub reserved_edited : (s t : List ExtentView) (m r h : Head) (list : List (RunOf LabelView)) → AreTables s m r → HasTable t h →
-    unedited_part t h ≡ unedited_part s r → AreRecords (records_of_head t h) × (records_of_head t h ≡ list) → HaveNoNode list → AreTables t m h × EditsTable s t r h m list
+    unedited_part t h ≡ unedited_part s r → AreRecords (records_of_head t h) × (records_of_head t h ≡ list) → HaveNoNode list
+    → AreTables t m h × EditsTable s t r h m list
 reserved_edited s t m r h list both table kept known plain =
     let other = stays s t m (λ x lies. edited_at s t r h kept x
     (beside (bytes_of_head r) (bytes_of_head m) x (turned (bytes_of_head m) (bytes_of_head r) both.apart) lies))
@@ -122,7 +128,8 @@ reserved_edited s t m r h list both table kept known plain =
 
 -- an edit of the reserved table gives no record a node, if the change gives none
 plain_amended : (change : Option LabelView → Option LabelView)
-    → ((o : Option LabelView) (label : LabelView) → ((l : LabelView) → o ≡ Some l → l ≡ plain_label) → change o ≡ Some label → label ≡ plain_label)
+    → ((o : Option LabelView) (label : LabelView) → ((l : LabelView) → o ≡ Some l → l ≡ plain_label) → change o ≡ Some label
+    → label ≡ plain_label)
     → (r : RangeView) (rs : List (RunOf LabelView)) → AreRecords rs → HaveNoNode rs → r.base + r.size ≤ 2 ^ 64 →
     HaveNoNode (records_for (change_range change r (value_at rs)))
 plain_amended change written r rs known plain ends x label is =
@@ -161,7 +168,8 @@ moved_other : (s t : List ExtentView) (g h o : Head) (place : ℕ) → MovesTabl
     HasTable s o → HasTable t o × (table_of_head t o ≡ table_of_head s o)
 moved_other s t g h o place e old new table =
     let new_too = moved_apart s t g h o place e new in
-    stays s t o (λ x lies. e.elsewhere x (beside (bytes_of_head h) (bytes_of_head o) x (turned (bytes_of_head o) (bytes_of_head h) new_too) lies)
+    stays s t o (λ x lies.
+    e.elsewhere x (beside (bytes_of_head h) (bytes_of_head o) x (turned (bytes_of_head o) (bytes_of_head h) new_too) lies)
     (beside (bytes_of_head g) (bytes_of_head o) x (turned (bytes_of_head o) (bytes_of_head g) old) lies)) (λ x was. e.ready x ∙ was) table
 
 pub move_memory : (s t : List ExtentView) (m r h : Head) (place : ℕ) → AreTables s m r → MovesTable s t m h place →
@@ -188,8 +196,10 @@ move_reserved s t m r h place both e apart =
     )
 
 -- both tables stay if no byte of theirs changes
-pub both_stay : (s t : List ExtentView) (m r : Head) → AreTables s m r → ((x : ℕ) → covers (bytes_of_head m) x ≡ true → byte_of t x ≡ byte_of s x) →
-    ((x : ℕ) → covers (bytes_of_head r) x ≡ true → byte_of t x ≡ byte_of s x) → ((x : ℕ) → is_prepared_at s x ≡ true → is_prepared_at t x ≡ true) →
+pub both_stay : (s t : List ExtentView) (m r : Head) → AreTables s m r
+    → ((x : ℕ) → covers (bytes_of_head m) x ≡ true → byte_of t x ≡ byte_of s x) →
+    ((x : ℕ) → covers (bytes_of_head r) x ≡ true → byte_of t x ≡ byte_of s x)
+    → ((x : ℕ) → is_prepared_at s x ≡ true → is_prepared_at t x ≡ true) →
     AreTables t m r × (table_of_head t m ≡ table_of_head s m) × (table_of_head t r ≡ table_of_head s r)
 both_stay s t m r both at_memory at_reserved ready =
     let first = stays s t m at_memory ready both.memory in
@@ -199,7 +209,8 @@ both_stay s t m r both at_memory at_reserved ready =
     (tables.0, first.1, tables.1)
 
 -- bytes that belong to no table are filled
-pub filled_stay : (s t : List ExtentView) (m r : Head) (range : RangeView) (g : ℕ → ℕ) → AreTables s m r → WritesBytes s t range.base range.size g →
+pub filled_stay : (s t : List ExtentView) (m r : Head) (range : RangeView) (g : ℕ → ℕ) → AreTables s m r
+    → WritesBytes s t range.base range.size g →
     ¬ OverlapsTable (let v : TablesView = record { memory = table_of_head s m; reserved = table_of_head s r; store = s } in v) range →
     AreTables t m r × (table_of_head t m ≡ table_of_head s m) × (table_of_head t r ≡ table_of_head s r)
 filled_stay s t m r range g both w apart =

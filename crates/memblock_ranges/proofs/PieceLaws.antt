@@ -61,7 +61,8 @@ module _ (r : RangeView) (f : Labels) where
   pub more_pieces : (from to next count more : ℕ) (here there : Bool) → r.base ≤ from → from < to → to ≤ r.base + r.size → to ≤ next →
       Stays f from next (f from) → here ≡ is_none (f from) → there ≡ is_none (f to) →
       more ≡ (if here && not (nat_lt to (r.base + r.size) && there) then 1 else 0) →
-      count ≡ total (edges same_label (gaps_in_range r plain_label f)) 0 from → count + more ≡ total (edges same_label (gaps_in_range r plain_label f)) 0 to
+      count ≡ total (edges same_label (gaps_in_range r plain_label f)) 0 from
+      → count + more ≡ total (edges same_label (gaps_in_range r plain_label f)) 0 to
   more_pieces from to next count more here there low less high far stays is_here is_there ends so_far =
       let g = gaps_in_range r plain_label f in
       let steady : Stays g from to (bare_label (is_none (f from))) = λ x above under.
@@ -74,7 +75,8 @@ module _ (r : RangeView) (f : Labels) where
       omega (arith, parts, stretch, at_to, so_far)
 
   -- past the range no further piece ends
-  pub all_pieces : (count : ℕ) → r.base + r.size ≤ 2 ^ 64 → count ≡ total (edges same_label (gaps_in_range r plain_label f)) 0 (r.base + r.size) →
+  pub all_pieces : (count : ℕ) → r.base + r.size ≤ 2 ^ 64
+      → count ≡ total (edges same_label (gaps_in_range r plain_label f)) 0 (r.base + r.size) →
       count ≡ uncovered_run_count r f
   all_pieces count ends so_far =
       let g = gaps_in_range r plain_label f in

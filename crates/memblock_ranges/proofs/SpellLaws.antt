@@ -43,7 +43,8 @@ unfolding records_at
 length-records_at f a zero = refl
 length-records_at f a (suc n) = let rest = length-records_at f (a + 24) n in omega (arith, rest)
 
-pub get-records_at : (f : ℕ → ℕ) (a n i : ℕ) (d : RunOf LabelView) → i < n → get_or (records_at f a n) i d ≡ decode_record (bytes_at f (a + 24 * i) 24)
+pub get-records_at : (f : ℕ → ℕ) (a n i : ℕ) (d : RunOf LabelView) → i < n
+    → get_or (records_at f a n) i d ≡ decode_record (bytes_at f (a + 24 * i) 24)
 unfolding records_at
 get-records_at f a zero i d below = absurd (omega arith)
 get-records_at f a (suc n) zero d below = ap (λ x. decode_record (bytes_at f x 24)) (omega arith)

@@ -120,7 +120,8 @@ module _ (f : Labels) (at : ℕ) (r : RunOf LabelView) (rs : List (RunOf LabelVi
                 | inr at_end ↦ let is : until ≡ run_end r = omega (arith, is_down, down_is) in
                     trimmed_other f (run_end r) r.value end_other (subst (λ n. trim_frames f n ≡ Some r.value) is same)
               ])) in
-              swept_over (trim_frames f) until (run_end r) (xs ++ stretch start until (Some r.value)) middle (omega (arith, is_down, down_is))
+              swept_over (trim_frames f) until (run_end r) (xs ++ stretch start until (Some r.value)) middle
+              (omega (arith, is_down, down_is))
               (λ x low high. cut_high x (omega (arith, begin, up_is, some, low)) high (omega (arith, is_down, low)))
           | inr empty ↦
               let test : nat_lt start until ≡ false = grind (arith, nat_tests) in
@@ -133,5 +134,6 @@ module _ (f : Labels) (at : ℕ) (r : RunOf LabelView) (rs : List (RunOf LabelVi
         ]
 
 -- without a remaining record everything above is cut
-pub trim_all : (f : Labels) (at : ℕ) (xs : List (RunOf LabelView)) → IsSweptTo (trim_frames f) at xs → Turns f at [] → IsRunsOf (trim_frames f) xs
+pub trim_all : (f : Labels) (at : ℕ) (xs : List (RunOf LabelView)) → IsSweptTo (trim_frames f) at xs → Turns f at []
+    → IsRunsOf (trim_frames f) xs
 trim_all f at xs swept turns = swept_all (trim_frames f) at xs swept (λ x le. trimmed_none f x (sym (turns.each x le)))

@@ -32,7 +32,8 @@ pub record UneditedPart : Type 0 where
   pub ready : ℕ → Bool
 
 abbrev pub unedited_part : List ExtentView → Head → UneditedPart
-unedited_part s h = record { place = h.place; room = h.room; others = bytes_outside_table (byte_of s) h.place h.room; ready = is_prepared_at s }
+unedited_part s h =
+    record { place = h.place; room = h.room; others = bytes_outside_table (byte_of s) h.place h.room; ready = is_prepared_at s }
 
 -- the table of a head in a store
 abbrev pub records_of_head : List ExtentView → Head → List (RunOf LabelView)

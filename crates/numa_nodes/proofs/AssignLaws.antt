@@ -60,7 +60,8 @@ pub by-ranges : (e : StageStop) (old new : List Item) (found : SratNodesView)
     → EndsAsStage {A = Unit {0}} (fold_steps set_block_node tt (node_ranges (limit_of old) found)) stage_stop (Err e) old new
     → EndsAsStage {A = NodesView} (assign_nodes_by found) stage_stop (Err e) old new
 by-ranges e old new found was =
-    by-listed (Err e) old new found (ends-first e stage_stop old new (fold_steps set_block_node tt (ranges_in found old)) (behind found) was)
+    by-listed (Err e) old new found
+    (ends-first e stage_stop old new (fold_steps set_block_node tt (ranges_in found old)) (behind found) was)
 
 -- after the ranges
 module _ (old mid : List Item) (found : SratNodesView)
@@ -75,25 +76,29 @@ module _ (old mid : List Item) (found : SratNodesView)
   pub data-wanting : EndsAsStage {A = NodesView} (assign_nodes_by found) stage_stop (Err stop.Memory) old mid
   data-wanting =
       by-behind (Err stop.Memory) mid
-      (ends-first stop.Memory stage_stop mid mid (read_into_list nodes_in) (place_data_of_nodes found) (ends-wanting nodes_in stage_stop mid))
+      (ends-first stop.Memory stage_stop mid mid (read_into_list nodes_in) (place_data_of_nodes found)
+      (ends-wanting nodes_in stage_stop mid))
 
   -- the data of those nodes is placed
   by-data : (r : Result NodesView StageStop) (new : List Item) → EndsAsStage (place_data_of_nodes found (nodes_in mid)) stage_stop r mid new
       → EndsAsStage (assign_nodes_by found) stage_stop r old new
   by-data r new rest =
       by-behind r new
-      (ends-second (nodes_in mid) r stage_stop mid mid new (read_into_list nodes_in) (place_data_of_nodes found) (ends-listed nodes_in stage_stop mid) rest)
+      (ends-second (nodes_in mid) r stage_stop mid mid new (read_into_list nodes_in) (place_data_of_nodes found)
+      (ends-listed nodes_in stage_stop mid) rest)
 
   pub data-told : (r : Result (Unit {0}) StageStop) (new : List Item)
       → EndsAsStage (fold_steps place_node_data tt (nodes_with_memory (memory_of mid))) stage_stop r mid new
-      → EndsAsStage (assign_nodes_by found) stage_stop (view_of_result (λ done. nodes_by_judgement found (nodes_with_memory (memory_of mid))) r) old new
+      → EndsAsStage (assign_nodes_by found) stage_stop
+      (view_of_result (λ done. nodes_by_judgement found (nodes_with_memory (memory_of mid))) r) old new
   data-told (Ok done) new placed =
       by-data (Ok (nodes_by_judgement found (nodes_in mid))) new
       (ends-second tt (Ok (nodes_by_judgement found (nodes_in mid))) stage_stop mid new new (fold_steps place_node_data tt (nodes_in mid))
       (λ done. return_value (nodes_by_judgement found (nodes_in mid))) placed (refl, refl))
   data-told (Err e) new placed =
       by-data (Err e) new
-      (ends-first e stage_stop mid new (fold_steps place_node_data tt (nodes_in mid)) (λ done. return_value (nodes_by_judgement found (nodes_in mid))) placed)
+      (ends-first e stage_stop mid new (fold_steps place_node_data tt (nodes_in mid)) (λ done.
+      return_value (nodes_by_judgement found (nodes_in mid))) placed)
 
 -- the stage by its judgement
 pub assign_nodes-is : (table : Option SratView) (off : Bool) (items : List Item)
@@ -109,11 +114,13 @@ records-tell kernel items records t is table within =
     ap value_at (is ∙ ap (λ (s : TableView). s.records) table) ∙ value_at-records (memory_of items) within
 
 pub ranges-tell : (items : List Item) (ranges : List RangeView) (records : List (RunOf LabelView))
-    → ((x : ℕ) → is_in_any_range ranges x ≡ is_some (value_at records x)) → value_at records ≡ memory_of items → is_in_any_range ranges ≡ is_memory_byte items
+    → ((x : ℕ) → is_in_any_range ranges x ≡ is_some (value_at records x)) → value_at records ≡ memory_of items
+    → is_in_any_range ranges ≡ is_memory_byte items
 ranges-tell items ranges records each same = λ i x. (each x ∙ ap (λ (f : Labels). is_some (f x)) same) i
 
 -- if the table isn't used, all addresses below the limit are one range
-pub ranges-cases : (P : List NumaBlock → Type 0) (reason : Why) (limit : ℕ) (j : SratNodesView) → (reason ≡ why.Used → P (j.joined ++ j.rest))
+pub ranges-cases : (P : List NumaBlock → Type 0) (reason : Why) (limit : ℕ) (j : SratNodesView)
+    → (reason ≡ why.Used → P (j.joined ++ j.rest))
     → P (record { base = 0; size = limit; value = 0 } ∷ []) → P (node_ranges_by reason limit j)
 ranges-cases P why.Used limit j used other = used refl
 ranges-cases P why.Off limit j used other = other

@@ -47,10 +47,12 @@ set_block_node-cases P first (Some r) items others node whole refused = refused 
 
 set_block_node-by : (P : List Item → Type 0) (b : NumaBlock) (items : List Item)
     → P (append_groups items (growth items).steps ++ item.Node (extent_of b) b.value ∷ [])
-    → ((growth items).refused ≢ None → P (append_groups items (growth items).steps)) → P (items_after_step items (set_block_node tt b items))
+    → ((growth items).refused ≢ None → P (append_groups items (growth items).steps))
+    → P (items_after_step items (set_block_node tt b items))
 unfolding set_range_node
 set_block_node-by P b items =
-    set_block_node-cases P (growth items) (growth items).refused items (items_after_change items (growth items)) (item.Node (extent_of b) b.value)
+    set_block_node-cases P (growth items) (growth items).refused items (items_after_change items (growth items))
+    (item.Node (extent_of b) b.value)
 
 none-refused : (first second : ChangeEffect) (r : Option RefusedGrowth) → first.refused ≡ r
     → stop_if_refused (followed_by first r second).refused ≡ Ok tt → r ≡ None
@@ -70,7 +72,8 @@ node-item b items =
     ∙ ap (relabel_range (extent_of b) (with_node (Some b.value))) (quiet-appended_memory items (growth items).steps (growth-quiet items))
 
 set_block_node-memory : (b : NumaBlock) (items : List Item) → (set_block_node tt b items).answer ≡ Ok tt
-    → memory_of (items_after_step items (set_block_node tt b items)) ≡ relabel_range (extent_of b) (with_node (Some b.value)) (memory_of items)
+    → memory_of (items_after_step items (set_block_node tt b items))
+    ≡ relabel_range (extent_of b) (with_node (Some b.value)) (memory_of items)
 unfolding set_range_node
 set_block_node-memory b items answered =
     set_block_node-by (λ (is : List Item). memory_of is ≡ relabel_range (extent_of b) (with_node (Some b.value)) (memory_of items)) b items
@@ -82,11 +85,13 @@ map-some : (change : LabelView → LabelView) (o : Option LabelView) → is_some
 map-some change None = refl
 map-some change (Some label) = refl
 
-pub relabel_range-some : (range : RangeView) (change : LabelView → LabelView) (f : Labels) (x : ℕ) → is_some (relabel_range range change f x) ≡ is_some (f x)
-relabel_range-some range change f x = elim (cases_Bool (covers range x)) as (λ _. is_some (relabel_range range change f x) ≡ is_some (f x)) [
-  | inl here ↦ rw here (map-some change (f x))
-  | inr not_here ↦ rw not_here refl
-]
+pub relabel_range-some : (range : RangeView) (change : LabelView → LabelView) (f : Labels) (x : ℕ)
+    → is_some (relabel_range range change f x) ≡ is_some (f x)
+relabel_range-some range change f x =
+    elim (cases_Bool (covers range x)) as (λ _. is_some (relabel_range range change f x) ≡ is_some (f x)) [
+      | inl here ↦ rw here (map-some change (f x))
+      | inr not_here ↦ rw not_here refl
+    ]
 
 set_block_node-some : (x : ℕ) (b : NumaBlock) (items : List Item)
     → is_some (memory_of (items_after_step items (set_block_node tt b items)) x) ≡ is_some (memory_of items x)
@@ -119,18 +124,22 @@ module _ {V : Type 0} (seen_of : List Item → V)
     (quiet : (items : List Item) (steps : List (List Item)) → StepsKeepMemory steps → seen_of (append_groups items steps) ≡ seen_of items)
     (one : (b : NumaBlock) (items : List Item) → seen_of (items_after_step items (set_block_node tt b items)) ≡ seen_of items) where
   keeps-going : {E A B : Type 0} (items : List Item) (d : StepEffect E A) (answer : Result A E) (next : A → StepEffect E B)
-      → seen_of (items_after_step items d) ≡ seen_of items → ((a : A) → seen_of (items_after_step (items_after_step items d) (next a)) ≡ seen_of (items_after_step items d))
+      → seen_of (items_after_step items d) ≡ seen_of items
+      → ((a : A) → seen_of (items_after_step (items_after_step items d) (next a)) ≡ seen_of (items_after_step items d))
       → seen_of (append_groups items (continue_if_ok d.steps answer next).steps) ≡ seen_of items
   keeps-going items d (Ok a) next first then = ap seen_of (append_groups-append items d.steps (next a).steps) ∙ then a ∙ first
   keeps-going items d (Err e) next first then = first
 
-  keeps-turn : (rs : List NumaBlock) (items : List Item) → seen_of (items_after_step items (fold_steps set_block_node tt rs items)) ≡ seen_of items
+  keeps-turn : (rs : List NumaBlock) (items : List Item)
+      → seen_of (items_after_step items (fold_steps set_block_node tt rs items)) ≡ seen_of items
   keeps-turn [] items = refl
   keeps-turn (r ∷ rs) items =
-      keeps-going items (set_block_node tt r items) (set_block_node tt r items).answer (λ a. fold_steps set_block_node a rs (items_after_step items (set_block_node tt r items)))
+      keeps-going items (set_block_node tt r items) (set_block_node tt r items).answer (λ a.
+      fold_steps set_block_node a rs (items_after_step items (set_block_node tt r items)))
       (one r items) (λ a. keeps-turn rs (items_after_step items (set_block_node tt r items)))
 
-  pub keeps-all : (table : Option SratView) (off : Bool) (items : List Item) → seen_of (items_after_step items (assign_nodes table off items))
+  pub keeps-all : (table : Option SratView) (off : Bool) (items : List Item)
+      → seen_of (items_after_step items (assign_nodes table off items))
       ≡ seen_of items
   unfolding assign_nodes assign_nodes_by nodes_with_memory
   keeps-all table off items =
@@ -139,7 +148,8 @@ module _ {V : Type 0} (seen_of : List Item → V)
       let start : List Item = items ++ [] in
       let d : StepEffect StageCause (Unit {0}) = fold_steps set_block_node tt ranges start in
       keeps-going start d d.answer (λ a. behind found a (items_after_step start d)) (keeps-turn ranges start)
-      (λ a. quiet (items_after_step start d) (behind found a (items_after_step start d)).steps ((quiet-behind found a).each (items_after_step start d)))
+      (λ a. quiet (items_after_step start d) (behind found a (items_after_step start d)).steps
+      ((quiet-behind found a).each (items_after_step start d)))
       ∙ ap seen_of (append-nil items)
 
 pub keeps-memory : (table : Option SratView) (off : Bool) (items : List Item) (x : ℕ)
@@ -167,7 +177,8 @@ turn-memory (r ∷ rs) items answered =
     let d : StepEffect StageCause (Unit {0}) = set_block_node tt r items in
     let next : Unit {0} → StepEffect StageCause (Unit {0}) = λ a. fold_steps set_block_node a rs (items_after_step items d) in
     let first = went-on d.steps d.answer next tt answered in
-    rw first.1 (ap memory_of (append_groups-append items d.steps (next tt).steps) ∙ turn-memory rs (items_after_step items d) (rw first.1 at answered)
+    rw first.1 (ap memory_of (append_groups-append items d.steps (next tt).steps)
+    ∙ turn-memory rs (items_after_step items d) (rw first.1 at answered)
     ∙ ap (noded_all rs) (set_block_node-memory r items first.1))
 
 -- after success: memory has the nodes of the ranges, and the nodes that are returned are those
@@ -176,18 +187,21 @@ pub record IsBehind (items : List Item) (found : SratNodesView) (new : List Item
   pub memory : memory_of new ≡ noded_all (node_ranges (limit_of items) found) (memory_of items)
   pub nodes : set_range_node.with_memory ≡ nodes_with_memory (memory_of new)
 
-data-nodes : (found : SratNodesView) (nodes : List ℕ) (items : List Item) (set_range_node : NodesView) → (place_data_of_nodes found nodes items).answer ≡ Ok set_range_node
+data-nodes : (found : SratNodesView) (nodes : List ℕ) (items : List Item) (set_range_node : NodesView)
+    → (place_data_of_nodes found nodes items).answer ≡ Ok set_range_node
     → set_range_node.with_memory ≡ nodes
 data-nodes found nodes items set_range_node answered =
     let d : StepEffect StageCause (Unit {0}) = fold_steps place_node_data tt nodes items in
-    let first = went-on d.steps d.answer (λ a. return_value (nodes_by_judgement found nodes) (items_after_step items d)) set_range_node answered in
+    let first = went-on d.steps d.answer (λ a.
+    return_value (nodes_by_judgement found nodes) (items_after_step items d)) set_range_node answered in
     let same : nodes_by_judgement found nodes ≡ set_range_node = cc (rw first.1 at answered) in
     ap (λ (n : NodesView). n.with_memory) (sym same)
 
 ended-by : (items : List Item) (found : SratNodesView) (set_range_node : NodesView) (d : StepEffect StageCause (Unit {0}))
     → (d.answer ≡ Ok tt → memory_of (items_after_step items d) ≡ noded_all (node_ranges (limit_of items) found) (memory_of items))
     → (continue_if_ok d.steps d.answer (λ a. behind found a (items_after_step items d))).answer ≡ Ok set_range_node
-    → IsBehind items found (append_groups items (continue_if_ok d.steps d.answer (λ a. behind found a (items_after_step items d))).steps) set_range_node
+    → IsBehind items found
+    (append_groups items (continue_if_ok d.steps d.answer (λ a. behind found a (items_after_step items d))).steps) set_range_node
 ended-by items found set_range_node d all answered =
     let mid : List Item = items_after_step items d in
     let last : StepEffect StageCause NodesView = behind found tt mid in
@@ -208,7 +222,8 @@ behind-answer table off items set_range_node answered =
     let found : SratNodesView = judge_srat (is_memory_byte items) off table in
     let ranges : List NumaBlock = node_ranges (limit_of items) found in
     let from : List Item → StepEffect StageCause NodesView = λ start. (fold_steps set_block_node tt ranges >>= behind found) start in
-    subst (λ (start : List Item). (from start).answer ≡ Ok set_range_node → IsBehind items found (items_after_step start (from start)) set_range_node)
+    subst (λ (start : List Item). (from start).answer ≡ Ok set_range_node
+    → IsBehind items found (items_after_step start (from start)) set_range_node)
     (sym (append-nil items))
     (ended-by items found set_range_node (fold_steps set_block_node tt ranges items) (turn-memory ranges items))
     answered

@@ -174,7 +174,8 @@ below-given reach limit f within = record {
 
 -- from any judgement
 given-noded : (reach limit : ℕ) (f : Labels) (off : Bool) (table : Option SratView) → reach ≤ 2 ^ 64 → IsSameInFrames f
-    → NothingFrom reach f → NothingFrom limit f → HasNodes reach (noded_all (node_ranges limit (judge_srat (λ x. is_some (f x)) off table)) f)
+    → NothingFrom reach f → NothingFrom limit f
+    → HasNodes reach (noded_all (node_ranges limit (judge_srat (λ x. is_some (f x)) off table)) f)
 given-noded reach limit f off table near frames within low =
     let j : SratNodesView = judge_srat (λ x. is_some (f x)) off table in
     let below : List NumaBlock = record { base = 0; size = limit; value = 0 } ∷ [] in

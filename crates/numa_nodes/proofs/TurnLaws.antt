@@ -13,7 +13,8 @@ use Rattle.stage_steps.proofs.DoingLaws.{ends-first, ends-second}
 use Rattle.numa_nodes.specs.Assignment.{place_node_data, node_data_request}
 
 -- all steps end as those from index i on
-pub record Turns {X : Type 0} (step : Unit {0} → X → StageStep StageCause (Unit {0})) (xs : List X) (i : ℕ) (old here : List Item) : Type 0 where
+pub record Turns {X : Type 0} (step : Unit {0} → X → StageStep StageCause (Unit {0})) (xs : List X) (i : ℕ)
+    (old here : List Item) : Type 0 where
   pub ends : (r : Result (Unit {0}) StageStop) (new : List Item)
       → EndsAsStage (fold_steps step tt (drop i xs)) stage_stop r here new → EndsAsStage (fold_steps step tt xs) stage_stop r old new
 

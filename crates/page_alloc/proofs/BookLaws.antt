@@ -78,7 +78,8 @@ tests_alike id q = grind (arith, nat_tests)
 
 -- the state after a request that is served
 pub took : (b new : PagesView) (id order node : ℕ) (zone : Zone) (first : ℕ) → held_in b.ids id ≡ None
-    → picked_first_frame (buddy_frames b.buddy) node zone order ≡ Some first → IsRunsOf (without_set order first (buddy_frames b.buddy)) new.buddy.runs
+    → picked_first_frame (buddy_frames b.buddy) node zone order ≡ Some first
+    → IsRunsOf (without_set order first (buddy_frames b.buddy)) new.buddy.runs
     → new.ids ≡ insert_entry nat_cmp b.ids id (record { first = first; order = order; node = node })
     → (let p : PageOutcome × PageState = (outcomes.At (FRAME_SIZE * first), page_state_of new) in p)
     ≡ page_step (page_state_of b) (acts.Pages id order node zone)
@@ -94,22 +95,26 @@ took b new id order node zone first none picked runs ids =
     (ap (λ (es : List (ℕ × Held)). held_in es q) ids ∙ put_in id q what b.ids
     ∙ ap (λ t. cond t (Some what) (held_in b.ids q)) (tests_alike id q))) in
     ap (λ (s : PageState). let p : PageOutcome × PageState = (outcomes.At (FRAME_SIZE * first), s) in p) same
-    ∙ sym (ap (allocate_unless_taken (page_state_of b) id order node zone) none ∙ ap (allocate_frames (page_state_of b) id order node) picked)
+    ∙ sym (ap (allocate_unless_taken (page_state_of b) id order node zone) none
+    ∙ ap (allocate_frames (page_state_of b) id order node) picked)
 
 -- the state after a request that isn't served
 pub took_none : (b new : PagesView) (id order node : ℕ) (zone : Zone) → held_in b.ids id ≡ None
     → picked_first_frame (buddy_frames b.buddy) node zone order ≡ None → new ≡ b
-    → (let p : PageOutcome × PageState = (outcomes.NoBlock, page_state_of new) in p) ≡ page_step (page_state_of b) (acts.Pages id order node zone)
+    → (let p : PageOutcome × PageState = (outcomes.NoBlock, page_state_of new) in p)
+    ≡ page_step (page_state_of b) (acts.Pages id order node zone)
 took_none b new id order node zone none picked is =
     ap (λ (d : PagesView). let p : PageOutcome × PageState = (outcomes.NoBlock, page_state_of d) in p) is
-    ∙ sym (ap (allocate_unless_taken (page_state_of b) id order node zone) none ∙ ap (allocate_frames (page_state_of b) id order node) picked)
+    ∙ sym (ap (allocate_unless_taken (page_state_of b) id order node zone) none
+    ∙ ap (allocate_frames (page_state_of b) id order node) picked)
 
 -- a request that is served needs memory
 takes_by : (s : PageState) (id order node : ℕ) (o : Option ℕ) → IsSome o → NeedsMemory (allocate_frames s id order node o).0
 takes_by s id order node None some = cc some
 takes_by s id order node (Some first) some = tt
 
-pub served_takes : (s : PageState) (id order node : ℕ) (zone : Zone) → s.held id ≡ None → IsSome (picked_first_frame s.frames node zone order)
+pub served_takes : (s : PageState) (id order node : ℕ) (zone : Zone) → s.held id ≡ None
+    → IsSome (picked_first_frame s.frames node zone order)
     → NeedsMemory (page_step s (acts.Pages id order node zone)).0
 served_takes s id order node zone none some =
     subst (λ (o : Option Held). NeedsMemory (allocate_unless_taken s id order node zone o).0) (sym none)
@@ -123,4 +128,5 @@ nothing_is (Some first) is = cc is
 pub kept_by : (b new : PagesView) (o : PageOutcome) (act : PageAct) → HasValidOrder act → AreHeldApart (page_state_of b)
     → (let p : PageOutcome × PageState = (o, page_state_of new) in p) ≡ page_step (page_state_of b) act → AreHeldApart (page_state_of new)
 kept_by b new o act small keeps is =
-    subst (λ (s : PageState). AreHeldApart s) (sym (ap (λ (p : PageOutcome × PageState). p.1) is)) (step_kept (page_state_of b) act small keeps)
+    subst (λ (s : PageState). AreHeldApart s) (sym (ap (λ (p : PageOutcome × PageState). p.1) is))
+    (step_kept (page_state_of b) act small keeps)

@@ -121,7 +121,8 @@ step_examples : (page_step (first_page_state lone) (acts.Pages 1 0 7 zones.Dma) 
     × (page_step taken (acts.Pages 1 0 7 zones.Dma) ≡ (let p : PageOutcome × PageState = (outcomes.Taken, taken) in p))
 step_examples = (ap (allocate_frames (first_page_state lone) 1 0 7) picked_first, ap (allocate_frames taken 2 0 7) picked_none_left, refl)
 
-order_examples : HasValidOrder (acts.Pages 1 10 7 zones.Dma) × (HasValidOrder (acts.Pages 1 11 7 zones.Dma) → ⊥) × HaveValidOrders (line 1 ∷ give 2 ∷ [])
+order_examples : HasValidOrder (acts.Pages 1 10 7 zones.Dma) × (HasValidOrder (acts.Pages 1 11 7 zones.Dma) → ⊥)
+    × HaveValidOrders (line 1 ∷ give 2 ∷ [])
 order_examples = (omega arith, λ small. absurd (omega (arith, small)), (omega arith, (tt, tt)))
 
 -- frame 5 is in a block at first, and then held by ID 1; frame 4 is neither

@@ -110,7 +110,8 @@ pub record IsFreeSet (f : Frames) (order first node : ℕ) : Type 0 where
   pub low : first + 2 ^ order ≤ MAX_FRAMES
   pub free : (x : ℕ) → IsInSet order first x → f x ≡ Some node
 
-pub picked_set : (f : Frames) (order first node : ℕ) (zone : Zone) → NothingFrom MAX_FRAMES f → picked_first_frame f node zone order ≡ Some first
+pub picked_set : (f : Frames) (order first node : ℕ) (zone : Zone) → NothingFrom MAX_FRAMES f
+    → picked_first_frame f node zone order ≡ Some first
     → IsFreeSet f order first node
 picked_set f order first node zone low is = elim (found_or_none (picked_block f node zone order)) as (λ _. IsFreeSet f order first node) [
   | inl none ↦
@@ -168,7 +169,12 @@ module _ (s : PageState) (id order first node : ℕ) where
             (λ (mine : (id ≡ i) × (Some made ≡ Some h)).
             let same : made ≡ h = let both = mine.1 in cc in
             subst (λ (g : Held). IsAlignedAndTaken taken g) same
-            (let it : IsAlignedAndTaken taken made = record { small = small; aligned = set.aligned; low = set.low; taken = without.gone } in it))
+            (let it : IsAlignedAndTaken taken made = record {
+              small = small;
+              aligned = set.aligned;
+              low = set.low;
+              taken = without.gone;
+            } in it))
             (λ (other : ((id == i) ≡ false) × (s.held i ≡ Some h)).
             let was = keeps.well i h other.1 in
             let it : IsAlignedAndTaken taken h = record {
@@ -342,7 +348,8 @@ served_kept s id order node zone (Some first) small keeps is =
 asked_kept : (s : PageState) (id order node : ℕ) (zone : Zone) (o : Option Held) → order ≤ 10 → AreHeldApart s
     → AreHeldApart (allocate_unless_taken s id order node zone o).1
 asked_kept s id order node zone (Some what) small keeps = keeps
-asked_kept s id order node zone None small keeps = served_kept s id order node zone (picked_first_frame s.frames node zone order) small keeps refl
+asked_kept s id order node zone None small keeps =
+    served_kept s id order node zone (picked_first_frame s.frames node zone order) small keeps refl
 
 back_kept : (s : PageState) (id : ℕ) (o : Option Held) → AreHeldApart s → s.held id ≡ o → AreHeldApart (free_held_frames s id o).1
 back_kept s id None keeps is = keeps

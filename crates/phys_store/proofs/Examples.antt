@@ -20,7 +20,8 @@ store = low ∷ high ∷ []
 byte_examples : (byte_of store 4 ≡ 1) × (byte_of store 6 ≡ 3) × (byte_of store 7 ≡ 0) × (byte_of store 8 ≡ 9) × (byte_of [] 8 ≡ 0)
 byte_examples = (refl, refl, refl, refl, refl)
 
-ready_examples : (is_prepared_at store 6 ≡ true) × (is_prepared_at store 7 ≡ false) × (is_prepared_at store 8 ≡ true) × (is_prepared_at [] 8 ≡ false)
+ready_examples : (is_prepared_at store 6 ≡ true) × (is_prepared_at store 7 ≡ false) × (is_prepared_at store 8 ≡ true)
+    × (is_prepared_at [] 8 ≡ false)
 ready_examples = (refl, refl, refl, refl)
 
 -- a range in one extent is prepared, and so is an empty range; a range with a gap isn't

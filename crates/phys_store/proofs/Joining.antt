@@ -12,11 +12,13 @@ use Rattle.phys_store.proofs.ByteLists.{length-bytes_at, get-bytes_at}
 use Rattle.phys_store.proofs.Lookup.{is_in_extent-low, is_in_extent-high, ready-below, byte-unready, placed, read-at}
 
 -- the extent with index `i`, as it is read
-pub nth_piece : (es : List Extent) (i : ℕ) (e : Extent) → i < length es → e ≡ get_or es i e → nth_extent (map extent_view es) i ≡ extent_view e
+pub nth_piece : (es : List Extent) (i : ℕ) (e : Extent) → i < length es → e ≡ get_or es i e
+    → nth_extent (map extent_view es) i ≡ extent_view e
 nth_piece es i e count is = get_or-map extent_view es i e (record { base = 0; bytes = [] }) count ∙ ap extent_view (sym is)
 
 -- an earlier extent ends below the start of a later one
-pub before : (e : ℕ) (ps : List ExtentView) (i j : ℕ) → AreApart e ps → i < j → j < length ps → end_of_extent (nth_extent ps i) < (nth_extent ps j).base
+pub before : (e : ℕ) (ps : List ExtentView) (i j : ℕ) → AreApart e ps → i < j → j < length ps
+    → end_of_extent (nth_extent ps i) < (nth_extent ps j).base
 before e [] i j apart less count = absurd (omega arith)
 before e (q ∷ ps) i zero apart less count = absurd (omega arith)
 before e (q ∷ ps) zero (suc j) apart less count =
@@ -68,7 +70,8 @@ pub record Joined (e : ℕ) (ps : List ExtentView) (p : ExtentView) (new : List 
   pub bytes : (x : ℕ) → byte_of new x ≡ byte_of ps x
   pub ready : (x : ℕ) → is_prepared_at new x ≡ (is_in_extent p x || is_prepared_at ps x)
 
-joined_first : (e n : ℕ) (ps : List ExtentView) (p : ExtentView) → AreApart e ps → e ≤ p.base → 0 < length p.bytes → end_of_extent p < 2 ^ 64 →
+joined_first : (e n : ℕ) (ps : List ExtentView) (p : ExtentView) → AreApart e ps → e ≤ p.base → 0 < length p.bytes
+    → end_of_extent p < 2 ^ 64 →
     TouchRange ps 0 n p.base (end_of_extent p) →
     ((x : ℕ) → p.base ≤ x → x < end_of_extent p → get_or p.bytes (x - p.base) 0 ≡ byte_of (take n ps) x) →
     Joined e ps p (p ∷ drop n ps)
@@ -94,7 +97,8 @@ swapped true false c = refl
 swapped false true c = refl
 swapped false false c = refl
 
-pub joined : (f e b n : ℕ) (ps : List ExtentView) (p : ExtentView) → AreApart e ps → e ≤ p.base → 0 < length p.bytes → end_of_extent p < 2 ^ 64 → b ≡ f + n →
+pub joined : (f e b n : ℕ) (ps : List ExtentView) (p : ExtentView) → AreApart e ps → e ≤ p.base → 0 < length p.bytes
+    → end_of_extent p < 2 ^ 64 → b ≡ f + n →
     TouchRange ps f b p.base (end_of_extent p) →
     ((x : ℕ) → p.base ≤ x → x < end_of_extent p → get_or p.bytes (x - p.base) 0 ≡ byte_of (take n (drop f ps)) x) →
     Joined e ps p (take f ps ++ p ∷ drop b ps)
@@ -141,7 +145,8 @@ pub record Hull (ps : List ExtentView) (r : RangeView) (first behind from to : �
   pub ready : (x : ℕ) → from ≤ x → x < to → IsTrue (covers r x || is_prepared_at ps x)
 
 -- an earlier extent ends at or below the end of a later one
-pub ends_rise : (ps : List ExtentView) (i j : ℕ) → AreApart 0 ps → i ≤ j → j < length ps → end_of_extent (nth_extent ps i) ≤ end_of_extent (nth_extent ps j)
+pub ends_rise : (ps : List ExtentView) (i j : ℕ) → AreApart 0 ps → i ≤ j → j < length ps
+    → end_of_extent (nth_extent ps i) ≤ end_of_extent (nth_extent ps j)
 ends_rise ps i j apart order count =
     elim (cases_lt i j) [
       | inl less ↦ let far = before 0 ps i j apart less count in omega (arith, far)
@@ -204,7 +209,8 @@ nth_part es f n i count =
     let none : ExtentView = record { base = 0; bytes = [] } in
     let short = length-take n (drop f es) in
     let inner : i < n = omega (arith, short) in
-    ap (λ (ps : List ExtentView). get_or ps i none) (sym (take-map extent_view n (drop f es)) ∙ ap (take n) (sym (drop-map extent_view f es)))
+    ap (λ (ps : List ExtentView). get_or ps i none) (sym (take-map extent_view n (drop f es))
+    ∙ ap (take n) (sym (drop-map extent_view f es)))
     ∙ get_or-take n (drop f (map extent_view es)) i none inner ∙ get_or-drop f (map extent_view es) i none
 
 -- the element right after another is removed

@@ -58,10 +58,12 @@ pub unready-past : (e : ℕ) (ps : List ExtentView) (i : ℕ) (p : ExtentView) �
 unready-past e [] i p apart count there = absurd (omega arith)
 unready-past e (q ∷ ps) zero p apart count there =
     subst (λ (r : ExtentView). is_prepared_at (q ∷ ps) (end_of_extent r) ≡ false) there
-    (rw (is_in_extent-above q (end_of_extent q) (omega arith)) (ready-below (end_of_extent q + 1) ps (end_of_extent q) apart.3 (omega arith)))
+    (rw (is_in_extent-above q (end_of_extent q) (omega arith))
+    (ready-below (end_of_extent q + 1) ps (end_of_extent q) apart.3 (omega arith)))
 unready-past e (q ∷ ps) (suc i) p apart count there =
     let rest = placed (end_of_extent q + 1) ps i p apart.3 (omega arith) there in
-    rw (is_in_extent-above q (end_of_extent p) (omega (arith, rest.0))) (unready-past (end_of_extent q + 1) ps i p apart.3 (omega arith) there)
+    rw (is_in_extent-above q (end_of_extent p) (omega (arith, rest.0)))
+    (unready-past (end_of_extent q + 1) ps i p apart.3 (omega arith) there)
 
 -- a prepared range that begins in an extent is entirely in it
 pub whole : (e : ℕ) (ps : List ExtentView) (i : ℕ) (p : ExtentView) (a n : ℕ) → AreApart e ps → i < length ps → get_or ps i p ≡ p →
@@ -103,7 +105,8 @@ pub holds : (es : List Extent) (a n i : ℕ) (e : Extent) → AreApart 0 (map ex
 holds es a n i e apart ready found is =
     let at = position-Some (λ d. is_in_extent (extent_view d) a) es i e found in
     let count : i < length (map extent_view es) = rw length-map at.0 in
-    let there : get_or (map extent_view es) i (extent_view e) ≡ extent_view e = get_or-map extent_view es i e (extent_view e) at.0 ∙ ap extent_view (sym is) in
+    let there : get_or (map extent_view es) i (extent_view e) ≡ extent_view e =
+    get_or-map extent_view es i e (extent_view e) at.0 ∙ ap extent_view (sym is) in
     let lies : is_in_extent (extent_view e) a ≡ true = rw (← is) at at.1 in
     let low = is_in_extent-low (extent_view e) a lies in
     let high = is_in_extent-high (extent_view e) a lies in
@@ -128,7 +131,8 @@ pub holds_one : (es : List Extent) (a i : ℕ) (e : Extent) → AreApart 0 (map 
 holds_one es a i e apart found is = holds es a 0 i e apart (λ x low high. absurd (omega arith)) found is
 
 -- if no extent has the address, it isn't prepared
-none_passes : (es : List Extent) (x : ℕ) → position_or_len (λ d. is_in_extent (extent_view d) x) es ≡ length es → is_prepared_at (map extent_view es) x ≡ false
+none_passes : (es : List Extent) (x : ℕ) → position_or_len (λ d. is_in_extent (extent_view d) x) es ≡ length es
+    → is_prepared_at (map extent_view es) x ≡ false
 none_passes [] x all = refl
 none_passes (e ∷ es) x all = elim (cases_Bool (is_in_extent (extent_view e) x)) [
   | inl lies ↦ let some : 0 ≡ suc (length es) = sym (rw lies refl) ∙ all in absurd (omega arith)
@@ -145,12 +149,14 @@ none_cond m n most none =
     ]
 
 -- if the search finds nothing, the address isn't prepared
-pub none-found : (es : List Extent) (x : ℕ) → position (λ d. is_in_extent (extent_view d) x) es ≡ None → is_prepared_at (map extent_view es) x ≡ false
+pub none-found : (es : List Extent) (x : ℕ) → position (λ d. is_in_extent (extent_view d) x) es ≡ None
+    → is_prepared_at (map extent_view es) x ≡ false
 none-found es x none =
     none_passes es x (none_cond _ _ (prefix_len-le-length (λ d. not (is_in_extent (extent_view d) x)) es) none)
 
 -- if the search finds nothing, a prepared range that begins at the address is empty
-pub none_ready : (es : List Extent) (a n : ℕ) → position (λ d. is_in_extent (extent_view d) a) es ≡ None → ArePrepared (map extent_view es) a n → n ≡ 0
+pub none_ready : (es : List Extent) (a n : ℕ) → position (λ d. is_in_extent (extent_view d) a) es ≡ None
+    → ArePrepared (map extent_view es) a n → n ≡ 0
 none_ready es a zero none ready = refl
 none_ready es a (suc n) none ready =
     absurd (false≢true (sym (none-found es a none) ∙ ready a (omega arith) (omega arith)))

@@ -13,7 +13,8 @@ use Rattle.phys_store.proofs.Joining.{before}
 
 -- only the first extent that ends at or above an address can have it
 others_out : (ps : List ExtentView) (a i k : ℕ) → AreApart 0 ps → ((j : ℕ) → j < i → end_of_extent (nth_extent ps j) < a) →
-    (i < length ps → a ≤ end_of_extent (nth_extent ps i)) → (i < length ps → is_in_extent (nth_extent ps i) a ≡ false) → k < length ps → is_in_extent (nth_extent ps k) a ≡ false
+    (i < length ps → a ≤ end_of_extent (nth_extent ps i)) → (i < length ps → is_in_extent (nth_extent ps i) a ≡ false) → k < length ps
+    → is_in_extent (nth_extent ps k) a ≡ false
 others_out ps a i k apart below reaches out count =
     elim (cases_lt k i) [
       | inl less ↦ let ends = below k less in is_in_extent-above (nth_extent ps k) a (omega (arith, ends))
@@ -35,24 +36,31 @@ no_position p (x ∷ xs) each =
     rw (all, none) refl
 
 -- the extent with index `k`, as it is read
-same_test : (es : List Extent) (a k : ℕ) (d : Extent) → k < length es → is_in_extent (extent_view (get_or es k d)) a ≡ is_in_extent (nth_extent (map extent_view es) k) a
-same_test es a k d count = ap (λ (q : ExtentView). is_in_extent q a) (sym (get_or-map extent_view es k d (record { base = 0; bytes = [] }) count))
+same_test : (es : List Extent) (a k : ℕ) (d : Extent) → k < length es
+    → is_in_extent (extent_view (get_or es k d)) a ≡ is_in_extent (nth_extent (map extent_view es) k) a
+same_test es a k d count =
+    ap (λ (q : ExtentView). is_in_extent q a) (sym (get_or-map extent_view es k d (record { base = 0; bytes = [] }) count))
 
-pub first_has : (es : List Extent) (a i : ℕ) (e : Extent) → ((j : ℕ) → j < i → end_of_extent (nth_extent (map extent_view es) j) < a) → i < length es →
+pub first_has : (es : List Extent) (a i : ℕ) (e : Extent) → ((j : ℕ) → j < i → end_of_extent (nth_extent (map extent_view es) j) < a)
+    → i < length es →
     e ≡ get_or es i e → is_in_extent (extent_view e) a ≡ true → Some i ≡ position (λ d. is_in_extent (extent_view d) a) es
 first_has es a i e below count is lies =
-    let at : position_or_len (λ d. is_in_extent (extent_view d) a) es ≡ i = position_or_len_is (λ d. is_in_extent (extent_view d) a) es i e (omega arith)
+    let at : position_or_len (λ d. is_in_extent (extent_view d) a) es ≡ i =
+    position_or_len_is (λ d. is_in_extent (extent_view d) a) es i e (omega arith)
     (λ k less. let ends = below k less in
     same_test es a k e (omega (arith, less, count)) ∙ is_in_extent-above (nth_extent (map extent_view es) k) a (omega (arith, ends)))
     (λ same. ap (λ (d : Extent). is_in_extent (extent_view d) a) (sym is) ∙ lies) in
     let some : nat_lt i (length es) ≡ true = grind (arith, nat_tests) in
     sym (rw (at, some) refl)
 
-pub first_has_not : (es : List Extent) (a i : ℕ) → AreApart 0 (map extent_view es) → ((j : ℕ) → j < i → end_of_extent (nth_extent (map extent_view es) j) < a) →
-    (i < length es → a ≤ end_of_extent (nth_extent (map extent_view es) i)) → (i < length es → is_in_extent (nth_extent (map extent_view es) i) a ≡ false) →
+pub first_has_not : (es : List Extent) (a i : ℕ) → AreApart 0 (map extent_view es)
+    → ((j : ℕ) → j < i → end_of_extent (nth_extent (map extent_view es) j) < a) →
+    (i < length es → a ≤ end_of_extent (nth_extent (map extent_view es) i))
+    → (i < length es → is_in_extent (nth_extent (map extent_view es) i) a ≡ false) →
     None ≡ position (λ d. is_in_extent (extent_view d) a) es
 first_has_not es a i apart below reaches out =
     let long = length-map es extent_view in
     sym (no_position (λ d. is_in_extent (extent_view d) a) es (λ k d count. same_test es a k d count
-    ∙ others_out (map extent_view es) a i k apart below (λ less. reaches (omega (arith, less, long))) (λ less. out (omega (arith, less, long)))
+    ∙ others_out (map extent_view es) a i k apart below (λ less. reaches (omega (arith, less, long))) (λ less.
+    out (omega (arith, less, long)))
     (omega (arith, count, long))))

@@ -23,7 +23,8 @@ same_piece b c xs ys base bytes = rw (base, bytes) refl
 
 -- the list after one extent has replaced several, as contracts see it
 pub stands : (es new : List Extent) (e : Extent) (f b from to : ℕ) → new ≡ take f es ++ e ∷ drop b es →
-    extent_view e ≡ merged_extent (take (b - f) (drop f (map extent_view es))) from to → map extent_view new ≡ merge_extents (map extent_view es) f b from to
+    extent_view e ≡ merged_extent (take (b - f) (drop f (map extent_view es))) from to
+    → map extent_view new ≡ merge_extents (map extent_view es) f b from to
 stands es new e f b from to is whole =
     let c : ExtentView = merged_extent (take (b - f) (drop f (map extent_view es))) from to in
     ap (map extent_view) is ∙ map-append extent_view (take f es) (e ∷ drop b es)
@@ -75,7 +76,8 @@ moved_up old more_of new from more end at fits is len copied behind =
 
 -- an extent with room before it, and zeros after it, is extended in both directions
 pub widened : (p : ExtentView) (low high f1 f2 up : ℕ) (xs zs ys : List ℕ) → 0 < length p.bytes → drop f1 xs ≡ p.bytes →
-    low ≤ p.base → end_of_extent p ≤ high → p.base - low ≤ f1 → f2 ≡ f1 - (p.base - low) → up ≡ high - end_of_extent p → zs ≡ xs ++ replicate up 0 →
+    low ≤ p.base → end_of_extent p ≤ high → p.base - low ≤ f1 → f2 ≡ f1 - (p.base - low) → up ≡ high - end_of_extent p
+    → zs ≡ xs ++ replicate up 0 →
     length ys ≡ f1 - f2 → ((j : ℕ) → j < f1 - f2 → get_or ys j 0 ≡ 0) →
     drop f2 (put_mid f2 (f1 - f2) zs ys) ≡ bytes_at (byte_of (p ∷ [])) low (high - low)
 widened p low high f1 f2 up xs zs ys some bytes from to room at over all len told =
@@ -103,7 +105,8 @@ widened p low high f1 f2 up xs zs ys some bytes from to room at over all len tol
 
 -- copying the bytes of one more extent, from the last to the first
 pub absorbed : (ps tail : List ExtentView) (i from to f k m : ℕ) (bs ys : List ℕ) → i < length ps → length bs ≡ f + (to - from) →
-    from ≤ (nth_extent ps i).base → end_of_extent (nth_extent ps i) ≤ to → k ≡ f + ((nth_extent ps i).base - from) → m ≡ length (nth_extent ps i).bytes →
+    from ≤ (nth_extent ps i).base → end_of_extent (nth_extent ps i) ≤ to → k ≡ f + ((nth_extent ps i).base - from)
+    → m ≡ length (nth_extent ps i).bytes →
     ys ≡ (nth_extent ps i).bytes →
     ((x : ℕ) → from ≤ x → x < to → get_or (drop f bs) (x - from) 0 ≡ byte_of (drop (i + 1) ps ++ tail) x) →
     (x : ℕ) → from ≤ x → x < to → get_or (drop f (put_mid k m bs ys)) (x - from) 0 ≡ byte_of (drop i ps ++ tail) x
@@ -213,7 +216,8 @@ united es now ds new p w none e f b k from to apart joins order least below valu
     λ x low high. ap (λ (l : List ExtentView). byte_of (l ++ extent_view w ∷ []) x) part
     ∙ taken_out 0 (take n (drop f ps)) i (extent_view p) (extent_view w) (extent_view none) (apart_part f n ps apart) inner there empty x
     (ap (λ (q : ExtentView). byte_of (q ∷ []) x) wide ∙ covers_in (extent_view p ∷ []) from to x low high) in
-    stands es new e f b from to (is ∙ ap (λ (l : List Extent). l ++ e ∷ drop b now) front ∙ ap (λ (l : List Extent). take f es ++ e ∷ l) behind)
+    stands es new e f b from to (is ∙ ap (λ (l : List Extent). l ++ e ∷ drop b now) front
+    ∙ ap (λ (l : List Extent). take f es ++ e ∷ l) behind)
     (made ∙ same_piece from from _ _ refl
     (same_bytes (byte_of (map extent_view (take n (drop f ds)) ++ extent_view w ∷ [])) (byte_of (take n (drop f ps))) from (to - from)
     (λ x low high. each x low (omega (arith, high, order)))))
@@ -223,17 +227,20 @@ past_covering ps from to order = let long = length-bytes_at (byte_of ps) from (t
 
 -- the others lie in the extended extent, and so does the empty one that is in the list in its
 -- place
-pub others_in : (es ds : List Extent) (none : Extent) (f b k from to : ℕ) → TouchRange (map extent_view es) f b from to → from ≤ to → k < b →
+pub others_in : (es ds : List Extent) (none : Extent) (f b k from to : ℕ) → TouchRange (map extent_view es) f b from to → from ≤ to → k < b
+    →
     ds ≡ set es k none → none.base ≡ from → length (extent_view none).bytes ≡ 0 →
     (i : ℕ) → i < length (take (b - f) (drop f ds)) →
-    (from ≤ (nth_extent (map extent_view (take (b - f) (drop f ds))) i).base) × (end_of_extent (nth_extent (map extent_view (take (b - f) (drop f ds))) i) ≤ to)
+    (from ≤ (nth_extent (map extent_view (take (b - f) (drop f ds))) i).base)
+    × (end_of_extent (nth_extent (map extent_view (take (b - f) (drop f ds))) i) ≤ to)
 others_in es ds none f b k from to joins order below same base empty i count =
     let ps : List ExtentView = map extent_view es in
     let j : ℕ = f + i in
     let less : j < b = omega (arith, length-take (b - f) (drop f ds), count, joins.order) in
     let inner : k < length ps = omega (arith, joins.most, below) in
     let is : nth_extent (map extent_view (take (b - f) (drop f ds))) i ≡ nth_extent (set ps k (extent_view none)) j =
-    nth_part ds f (b - f) i count ∙ ap (λ (l : List ExtentView). nth_extent l j) (ap (map extent_view) same ∙ map-set extent_view es k none) in
+    nth_part ds f (b - f) i count
+    ∙ ap (λ (l : List ExtentView). nth_extent l j) (ap (map extent_view) same ∙ map-set extent_view es k none) in
     let here : j ≡ k → nth_extent (set ps k (extent_view none)) j ≡ extent_view none =
     λ eq. ap (λ m. nth_extent (set ps k (extent_view none)) m) eq
     ∙ get_or-set_same ps k (extent_view none) (record { base = 0; bytes = [] }) inner in
@@ -254,7 +261,8 @@ pub record IsKept (es : List Extent) (p : Extent) (k from to : ℕ) : Type 0 whe
   pub low : from ≤ p.base
   pub high : end_of_extent (extent_view p) ≤ to
 
-pub kept_piece : (es : List Extent) (p : Extent) (f b k from to : ℕ) → AreApart 0 (map extent_view es) → TouchRange (map extent_view es) f b from to
+pub kept_piece : (es : List Extent) (p : Extent) (f b k from to : ℕ) → AreApart 0 (map extent_view es)
+    → TouchRange (map extent_view es) f b from to
     → f ≤ k → k < b → p ≡ get_or es k p → IsKept es p k from to
 kept_piece es p f b k from to apart joins least below value =
     let ps : List ExtentView = map extent_view es in

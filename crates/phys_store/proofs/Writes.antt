@@ -34,10 +34,12 @@ module _ (p q : ExtentView) (base : q.base ≡ p.base) (len : length q.bytes ≡
 
   pub ready-set : (ps : List ExtentView) (i : ℕ) (x : ℕ) → get_or ps i p ≡ p → is_prepared_at (set ps i q) x ≡ is_prepared_at ps x
   ready-set [] i x there = refl
-  ready-set (r ∷ ps) zero x there = ap (λ b. b || is_prepared_at ps x) (same_inside x ∙ ap (λ (s : ExtentView). is_in_extent s x) (sym there))
+  ready-set (r ∷ ps) zero x there =
+      ap (λ b. b || is_prepared_at ps x) (same_inside x ∙ ap (λ (s : ExtentView). is_in_extent s x) (sym there))
   ready-set (r ∷ ps) (suc i) x there = ap (λ b. is_in_extent r x || b) (ready-set ps i x there)
 
-  pub byte-set_other : (ps : List ExtentView) (i : ℕ) (x : ℕ) → get_or ps i p ≡ p → is_in_extent p x ≡ false → byte_of (set ps i q) x ≡ byte_of ps x
+  pub byte-set_other : (ps : List ExtentView) (i : ℕ) (x : ℕ) → get_or ps i p ≡ p → is_in_extent p x ≡ false
+      → byte_of (set ps i q) x ≡ byte_of ps x
   byte-set_other [] i x there out = refl
   byte-set_other (r ∷ ps) zero x there out =
       let old : is_in_extent r x ≡ false = ap (λ (s : ExtentView). is_in_extent s x) there ∙ out in
@@ -45,7 +47,8 @@ module _ (p q : ExtentView) (base : q.base ≡ p.base) (len : length q.bytes ≡
   byte-set_other (r ∷ ps) (suc i) x there out = rw (byte-set_other ps i x there out) refl
 
 -- the extent with index `i` gets bytes that are those of `g` in one part, and unchanged elsewhere
-pub wrote-set : (ps : List ExtentView) (i : ℕ) (p q : ExtentView) (a n : ℕ) (g : ℕ → ℕ) → AreApart 0 ps → i < length ps → get_or ps i p ≡ p →
+pub wrote-set : (ps : List ExtentView) (i : ℕ) (p q : ExtentView) (a n : ℕ) (g : ℕ → ℕ) → AreApart 0 ps → i < length ps → get_or ps i p ≡ p
+    →
     q.base ≡ p.base → length q.bytes ≡ length p.bytes → p.base ≤ a → a + n ≤ end_of_extent p →
     ((k : ℕ) → k < n → get_or q.bytes (a - p.base + k) 0 ≡ g k) →
     ((j : ℕ) → IsTrue (nat_lt j (a - p.base) || nat_le (a - p.base + n) j) → get_or q.bytes j 0 ≡ get_or p.bytes j 0) →
@@ -129,7 +132,8 @@ pub wrote-copied : (es : List Extent) (a n i : ℕ) (e d : Extent) (from to coun
     CopiedTo e.bytes.items d.bytes.items source target m →
     SameBelow e.bytes.items d.bytes.items target → SameFrom e.bytes.items d.bytes.items (target + m) →
     let new = set es i d in
-    AreApart 0 (map extent_view new) × WritesBytes (map extent_view es) (map extent_view new) to count (λ k. byte_of (map extent_view es) (from + k))
+    AreApart 0 (map extent_view new)
+    × WritesBytes (map extent_view es) (map extent_view new) to count (λ k. byte_of (map extent_view es) (from + k))
 wrote-copied es a n i e d from to count source target m apart h from_low to_low from_high to_high base front len at_source at_target
     at copied below behind =
     let f : ℕ = e.front in
@@ -138,7 +142,8 @@ wrote-copied es a n i e d from to count source target m apart h from_low to_low 
     let old : (j : ℕ) → get_or e.bytes.items (f + j) 0 ≡ get_or (drop f e.bytes.items) j 0 =
     λ j. sym (get_or-drop f e.bytes.items j 0) in
     rw (map-set extent_view es i d)
-    (wrote-set (map extent_view es) i (extent_view e) (extent_view d) to count (λ k. byte_of (map extent_view es) (from + k)) apart h.count h.there base
+    (wrote-set (map extent_view es) i (extent_view e) (extent_view d) to count (λ k.
+    byte_of (map extent_view es) (from + k)) apart h.count h.there base
     (length-drop d.front d.bytes.items ∙ ap (λ l. length d.bytes.items - l) front ∙ ap (λ l. l - f) len
     ∙ sym (length-drop f e.bytes.items))
     (omega (arith, h.low)) (omega (arith, h.high))
@@ -146,7 +151,8 @@ wrote-copied es a n i e d from to count source target m apart h from_low to_low 
     ∙ copied (f + (to - e.base + k)) 0 (omega (arith, at_target)) (omega (arith, at, at_target))
     ∙ ap (λ j. get_or e.bytes.items j 0) (omega (arith, h.low, at_source, at_target))
     ∙ old (from + k - e.base)
-    ∙ sym (read-at 0 (map extent_view es) i (extent_view e) (from + k) apart h.count h.there (omega (arith, h.low)) (omega (arith, h.high))).0)
+    ∙ sym (read-at 0 (map extent_view es) i (extent_view e) (from + k) apart h.count h.there (omega (arith, h.low))
+    (omega (arith, h.high))).0)
     (λ j off. new j ∙ elim (cases_lt j (to - e.base)) [
       | inl less ↦ below (f + j) 0 (omega (arith, at_target)) ∙ old j
       | inr more ↦ behind (f + j) 0 (grind (arith, nat_tests, at_target, at)) ∙ old j
@@ -165,7 +171,8 @@ wrote-more s t u a n m g first second = record {
 }
 
 -- a write by another function that gives the same bytes
-pub wrote-like : (s t : List ExtentView) (a n m : ℕ) (f g : ℕ → ℕ) → WritesBytes s t a n f → n ≡ m → ((k : ℕ) → k < m → f k ≡ g k) → WritesBytes s t a m g
+pub wrote-like : (s t : List ExtentView) (a n m : ℕ) (f g : ℕ → ℕ) → WritesBytes s t a n f → n ≡ m → ((k : ℕ) → k < m → f k ≡ g k)
+    → WritesBytes s t a m g
 wrote-like s t a n m f g w same alike = record {
   within = λ k below. w.within k (omega (arith, same)) ∙ alike k below;
   outside = λ x off. w.outside x (rw same off);

@@ -41,7 +41,8 @@ default_by (rule ∷ some) argument = option_or (own_default rule argument) (def
 
 -- an added row gives the value of an argument that the rows before don't have
 found_more : (rows : List Row) (row : Row) (argument value : List ℕ) → are_full rows ≡ true → slice_get row.values 0 ≡ Some value
-    → arg_value_in (rows ++ row ∷ []) argument ≡ option_or (arg_value_in rows argument) (if bytes_eq row.id argument then Some value else None)
+    → arg_value_in (rows ++ row ∷ []) argument
+    ≡ option_or (arg_value_in rows argument) (if bytes_eq row.id argument then Some value else None)
 found_more [] row argument value full is = grind arith
 found_more (first ∷ rows) row argument value full is =
     let parts = both (has_some first.values) _ full in

@@ -17,7 +17,8 @@ refused false text beyond = refl
 refused true text beyond = rw beyond refl
 
 -- decimal digits that `parse` refuses are an empty text, or a number of more than 32 bits
-pub not_parsed : (text : List ℕ) → ParsesUnsigned {E = Unit {0}} 32 10 text (Err (tt {0})) → are_digits text ≡ true → None ≡ entry_count_in text
+pub not_parsed : (text : List ℕ) → ParsesUnsigned {E = Unit {0}} 32 10 text (Err (tt {0})) → are_digits text ≡ true
+    → None ≡ entry_count_in text
 not_parsed [] parses digits = refl
 not_parsed (b ∷ bs) parses digits =
     let beyond = parse_digits own 32 (b ∷ bs) (Err (tt {0})) parses digits in

@@ -142,7 +142,8 @@ no_row_changed id change missing [] none = refl
 no_row_changed id change missing (first ∷ rows) none = grind (arith, no_row_changed id change missing rows)
 
 rows_more : (earlier : List Spelling) (s : Spelling) → IsNew (spelling_argument s) earlier
-    → with_values (spelling_argument s) (reading_by name_rule) CommandLine (spelling_value s ∷ []) (without (spelling_argument s) (map row_of earlier))
+    → with_values (spelling_argument s) (reading_by name_rule) CommandLine (spelling_value s ∷ [])
+    (without (spelling_argument s) (map row_of earlier))
     ≡ map row_of (earlier ++ s ∷ [])
 rows_more earlier s new =
     let rows = map row_of earlier in

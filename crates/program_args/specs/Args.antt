@@ -86,7 +86,8 @@ report_list_in value = if are_reports (requested_list value) then Some (requeste
 -- the inputs that the command line itself gives: the width of addresses, the kernel's range, the
 -- mirrored frames, and whether searches go from the lowest address up
 abbrev pub command_line_inputs : Width → RangeView → List RangeView → Bool → InputsView
-command_line_inputs width kernel mirrors upward = record (inputs_without_files width kernel) { mirrors = map frame_range_of mirrors; upward = upward }
+command_line_inputs width kernel mirrors upward =
+    record (inputs_without_files width kernel) { mirrors = map frame_range_of mirrors; upward = upward }
 
 -- `Some` if the test holds, else `None`, by which a command line is refused
 abbrev pub some_if : Bool → Option (Unit {0})

@@ -19,7 +19,8 @@ mirror_pieces_in list = parts_in (Byte 58) list
 
 -- the list has 1 to 64 pieces, and each is a range
 abbrev pub are_mirror_pieces : List ℕ → Bool
-are_mirror_pieces list = nat_le (length (mirror_pieces_in list)) 64 && list_all (λ piece. is_some (base_size_range piece)) (mirror_pieces_in list)
+are_mirror_pieces list =
+    nat_le (length (mirror_pieces_in list)) 64 && list_all (λ piece. is_some (base_size_range piece)) (mirror_pieces_in list)
 
 -- the whole frames of the piece's range, `None` if the piece isn't a range or its range has no
 -- whole frame

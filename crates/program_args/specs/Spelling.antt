@@ -46,7 +46,8 @@ spelling_value (named name) = name
 -- the value that the first spelling of the argument has, if there is one
 abbrev pub first_spelled_value : List Spelling → ArgValues
 first_spelled_value [] argument = None
-first_spelled_value (s ∷ ss) argument = if bytes_eq (spelling_argument s) argument then Some (spelling_value s) else first_spelled_value ss argument
+first_spelled_value (s ∷ ss) argument =
+    if bytes_eq (spelling_argument s) argument then Some (spelling_value s) else first_spelled_value ss argument
 
 -- the name is that of an option with a value
 abbrev pub is_option : List ℕ → Bool

@@ -71,9 +71,11 @@ module _ {W I A F C S : Type 0} (program : Program W I A) (sink : SinkOf S) (bef
 -- a status other than 0 and 8 is that of a failure: its line was put, it has its cause, and it
 -- fits the outcome
 pub ends_told : {W I A F C E : Type 0} (program : Program W I A) (errors : SinkOf E) (line : Failure (Reason I F C) → List ℕ)
-    (before now : List ℕ → ℕ) (accepted : Option W) (old new : Option (List ℕ)) (err_old err_new : E) (end : End (Reason I F C)) (status : ℕ)
+    (before now : List ℕ → ℕ) (accepted : Option W) (old new : Option (List ℕ)) (err_old err_new : E) (end : End (Reason I F C))
+    (status : ℕ)
     → status ≡ exit_status end → EndHasCause program before now accepted end → PutsEndLine errors line err_old err_new end
-    → (holds : Option FileContents) (outcome : FileContents → Result A (Reason I F C)) → IfSome holds (λ held. WritesOutcome program old new end (outcome held))
+    → (holds : Option FileContents) (outcome : FileContents → Result A (Reason I F C))
+    → IfSome holds (λ held. WritesOutcome program old new end (outcome held))
     → status ≢ 0 → status ≢ 8
     → (failure : Failure (Reason I F C)) × (status ≡ failure_status failure) × PutsLine errors err_old err_new (line failure)
     × FailureHasCause program before now accepted failure × IfSome holds (λ held. FitsFailure program failure (outcome held))

@@ -61,9 +61,11 @@ cause_examples = (refl, (λ some. cc some), tt, (λ some. cc some), λ some. cc 
 abbrev why : Why → Failure Why
 why reason = failures.NoResult (errors.Reason reason)
 
-status_examples : (failure_status (why reasons.Usage) ≡ 2) × (failure_status (why (reasons.Unread 1)) ≡ 3) × (failure_status (why (reasons.Faulty 0 7)) ≡ 5)
+status_examples : (failure_status (why reasons.Usage) ≡ 2) × (failure_status (why (reasons.Unread 1)) ≡ 3)
+    × (failure_status (why (reasons.Faulty 0 7)) ≡ 5)
     × (failure_status (why (reasons.Stopped 4)) ≡ 6) × (failure_status {I = ℕ} {F = ℕ} {C = ℕ} (failures.Output put.Failed) ≡ 4)
-    × (failure_status {I = ℕ} {F = ℕ} {C = ℕ} (failures.Output put.Memory) ≡ 7) × (failure_status {I = ℕ} {F = ℕ} {C = ℕ} (failures.NoResult errors.Memory) ≡ 7)
+    × (failure_status {I = ℕ} {F = ℕ} {C = ℕ} (failures.Output put.Memory) ≡ 7)
+    × (failure_status {I = ℕ} {F = ℕ} {C = ℕ} (failures.NoResult errors.Memory) ≡ 7)
     × (exit_status {I = ℕ} {F = ℕ} {C = ℕ} (Ok 8) ≡ 8)
 status_examples = (refl, refl, refl, refl, refl, refl, refl, refl)
 

@@ -18,7 +18,8 @@ use Rattle.program_end.specs.declared.failure.Reason.TheVariants as reasons
 -- how the end fits the outcome. With a status, the outcome is a result that has this status, and
 -- its text was appended. With no result, the error fits the outcome. If the output refused, the
 -- outcome is a result, and the first bytes of its text were appended (none, some or all).
-abbrev pub WritesOutcome : {W I A F C : Type 0} → Program W I A → (old new : Option (List ℕ)) → End (Reason I F C) → Result A (Reason I F C) → Type 0
+abbrev pub WritesOutcome : {W I A F C : Type 0} → Program W I A → (old new : Option (List ℕ)) → End (Reason I F C) → Result A (Reason I F C)
+    → Type 0
 WritesOutcome program old new (Ok status) said =
     IsOkAnd said (λ result. (status ≡ program.status result) × Appends old new (program.text result))
 WritesOutcome program old new (Err (failures.NoResult error)) said = FitsError program.place error said

@@ -22,7 +22,8 @@ use Rattle.program_run.specs.Stops.{no_report}
 
 -- a stop of the boot, other than for lack of memory, is the cause in the outcome
 pub boot_stopped : (stop : Stop) (given : InputsView) (reports : List Report)
-    → (stop ≢ stops.Memory → with_error stop_of (whole_boot given) ≡ Err stop) → FitsError input_place (no_report stop) (reports_on_boot reports given)
+    → (stop ≢ stops.Memory → with_error stop_of (whole_boot given) ≡ Err stop)
+    → FitsError input_place (no_report stop) (reports_on_boot reports given)
 boot_stopped stop given reports stops_so = grind arith
 
 pub told_is : (answer : Result BootedView Cause) (told : BootedView) → with_error stop_of answer ≡ Ok told → answer ≡ Ok told

@@ -147,7 +147,12 @@ are_spellings : AreSpellings spellings
 are_spellings = ((refl, refl), refl, (refl, refl, tt))
 
 abbrev asked : BootmemArgsView
-asked = record { named = file_name_in (spelled_values spellings); begun = inputs_without_files Bits46 default_kernel; reports = reports.Map ∷ []; made = None }
+asked = record {
+  named = file_name_in (spelled_values spellings);
+  begun = inputs_without_files Bits46 default_kernel;
+  reports = reports.Map ∷ [];
+  made = None;
+}
 
 words_ask : read_args (codes "--report" ∷ codes "map" ∷ codes "zp" ∷ []) ≡ Some asked
 words_ask = accepted_as_given spellings are_spellings

@@ -17,7 +17,8 @@ fits_after : {X : Type 0} (view : X → InputsView) (r : Result X NoInputs) (err
     → Fetches input_place view r (said >>= λ given. Ok (next given))
 fits_after view r error said next is fits = grind arith
 
-pub given_none : {X : Type 0} (view : X → InputsView) (r : Result X NoInputs) (error : NoInputs) (told : Option FileContents) (wanted : BootmemArgsView)
+pub given_none : {X : Type 0} (view : X → InputsView) (r : Result X NoInputs) (error : NoInputs) (told : Option FileContents)
+    (wanted : BootmemArgsView)
     → IsErrAnd r (λ other. other ≡ error) → IfSome told (λ held. FitsError input_place error (inputs_of held wanted.named wanted.begun))
     → IfSome told (λ held. Fetches input_place view r (read_boot_inputs held wanted))
 given_none view r error None wanted is fits = tt
@@ -25,5 +26,6 @@ given_none view r error (Some held) wanted is fits =
     fits_after view r error (inputs_of held wanted.named wanted.begun) (with_made_table wanted.made) is fits
 
 pub given_some : (told : Option FileContents) (wanted : BootmemArgsView) (given out : InputsView) → out ≡ with_made_table wanted.made given
-    → IfSome told (λ held. inputs_of held wanted.named wanted.begun ≡ Ok given) → IfSome told (λ held. read_boot_inputs held wanted ≡ Ok out)
+    → IfSome told (λ held. inputs_of held wanted.named wanted.begun ≡ Ok given)
+    → IfSome told (λ held. read_boot_inputs held wanted ≡ Ok out)
 given_some told wanted given out made is = grind arith

@@ -49,34 +49,41 @@ is_reported (Some wanted) held old new is =
       maximal = blocks_maximal first.0 last.0 last.1;
     }
 
-text_written : (old new : Option (List ℕ)) (end : End InputsReason) (status : ℕ) (said : Result (List ℕ) InputsReason) → status ≡ exit_status end
+text_written : (old new : Option (List ℕ)) (end : End InputsReason) (status : ℕ) (said : Result (List ℕ) InputsReason)
+    → status ≡ exit_status end
     → WritesOutcome bootmem old new end said → status ≡ 0 → IsOkAnd said (λ text. Appends old new text)
 text_written old new end status said is writes zero = grind arith
 
 -- with status 0 the reports were appended whole
-pub ran_headline : (old new : Option (List ℕ)) (accepted : Option BootmemArgsView) (end : End InputsReason) (status : ℕ) → status ≡ exit_status end
+pub ran_headline : (old new : Option (List ℕ)) (accepted : Option BootmemArgsView) (end : End InputsReason) (status : ℕ)
+    → status ≡ exit_status end
     → (holds : Option FileContents) → IfSome holds (λ held. WritesOutcome bootmem old new end (bootmem_outcome accepted held)) → status ≡ 0
     → IfSome holds (λ held. AppendsReports accepted held old new)
 ran_headline old new accepted end status is None writes zero = tt
 ran_headline old new accepted end status is (Some held) writes zero =
     is_reported accepted held old new (text_written old new end status (bootmem_outcome accepted held) is writes zero)
 
-pub ran_written : (old new : Option (List ℕ)) (accepted : Option BootmemArgsView) (end : End InputsReason) (status : ℕ) → status ≡ exit_status end
+pub ran_written : (old new : Option (List ℕ)) (accepted : Option BootmemArgsView) (end : End InputsReason) (status : ℕ)
+    → status ≡ exit_status end
     → (holds : Option FileContents) → IfSome holds (λ held. WritesOutcome bootmem old new end (bootmem_outcome accepted held)) → status ≡ 0
     → IfSome holds (λ held. IsOkAnd (bootmem_outcome accepted held) (λ text. Appends old new text))
 ran_written old new accepted end status is None writes zero = tt
-ran_written old new accepted end status is (Some held) writes zero = text_written old new end status (bootmem_outcome accepted held) is writes zero
+ran_written old new accepted end status is (Some held) writes zero =
+    text_written old new end status (bootmem_outcome accepted held) is writes zero
 
-pub ran_answers : (old new : Option (List ℕ)) (accepted : Option BootmemArgsView) (end : End InputsReason) (status : ℕ) → status ≡ exit_status end
+pub ran_answers : (old new : Option (List ℕ)) (accepted : Option BootmemArgsView) (end : End InputsReason) (status : ℕ)
+    → status ≡ exit_status end
     → (holds : Option FileContents) → IfSome holds (λ held. WritesOutcome bootmem old new end (bootmem_outcome accepted held))
     → IfSome holds (λ held. MayEndWith bootmem (bootmem_outcome accepted held) status)
 ran_answers old new accepted end status is holds writes = grind arith
 
-pub ran_refused : (before now : List ℕ → ℕ) (accepted : Option BootmemArgsView) (end : End InputsReason) (status : ℕ) → status ≡ exit_status end
+pub ran_refused : (before now : List ℕ → ℕ) (accepted : Option BootmemArgsView) (end : End InputsReason) (status : ℕ)
+    → status ≡ exit_status end
     → EndHasCause bootmem before now accepted end → IsNone accepted → (status ≡ 2) ⊎ (status ≡ 7)
 ran_refused before now accepted end status is cause none = grind arith
 
 -- status 8 is one of the audit, and none of `bootmem`
-pub never_eight : (before now : List ℕ → ℕ) (accepted : Option BootmemArgsView) (end : End InputsReason) (status : ℕ) → status ≡ exit_status end
+pub never_eight : (before now : List ℕ → ℕ) (accepted : Option BootmemArgsView) (end : End InputsReason) (status : ℕ)
+    → status ≡ exit_status end
     → EndHasCause bootmem before now accepted end → status ≢ 8
 never_eight before now accepted end status is cause = λ eight. grind arith

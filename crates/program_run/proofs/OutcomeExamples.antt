@@ -65,5 +65,6 @@ made_examples : (h : FileContents)
 unfolding made_entries_from
 made_examples h = (refl, refl, refl)
 
-stop_is_reported : (given : InputsView) → boot given ≡ Err causes.NoRam → reports_on_boot (reports.Map ∷ []) given ≡ Err (reasons.Stopped causes.NoRam)
+stop_is_reported : (given : InputsView) → boot given ≡ Err causes.NoRam
+    → reports_on_boot (reports.Map ∷ []) given ≡ Err (reasons.Stopped causes.NoRam)
 stop_is_reported given stops = rw stops refl

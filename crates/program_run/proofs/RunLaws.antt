@@ -22,11 +22,13 @@ refused_after : (error : NoInputs) (said : Result InputsView InputsReason) (repo
     → FitsError input_place error (said >>= reports_on_boot reports)
 refused_after error said reports fits = grind arith
 
-pub inputs_fit : (held : FileContents) (wanted : BootmemArgsView) (error : NoInputs) → FitsError input_place error (read_boot_inputs held wanted)
+pub inputs_fit : (held : FileContents) (wanted : BootmemArgsView) (error : NoInputs)
+    → FitsError input_place error (read_boot_inputs held wanted)
     → FitsError input_place error (bootmem_outcome (Some wanted) held)
 inputs_fit held wanted error fits = refused_after error (read_boot_inputs held wanted) wanted.reports fits
 
-pub fetches_none : {X : Type 0} (view : X → List ℕ) (r : Result X NoInputs) (told : Option FileContents) (wanted : BootmemArgsView) (error : NoInputs)
+pub fetches_none : {X : Type 0} (view : X → List ℕ) (r : Result X NoInputs) (told : Option FileContents) (wanted : BootmemArgsView)
+    (error : NoInputs)
     → IsErrAnd r (λ other. other ≡ error) → IfSome told (λ held. FitsError input_place error (read_boot_inputs held wanted))
     → IfSome told (λ held. Fetches input_place view r (bootmem_outcome (Some wanted) held))
 fetches_none view r None wanted error is fits = tt

@@ -52,7 +52,8 @@ crash_size_line word (Some size) = word ++ hex_text size ++ codes "\n"
 
 -- the requested crash area, form by form
 abbrev pub crash_lines : CrashOptionView → List ℕ
-crash_lines crash = plain_lines crash.plain ++ crash_size_line (codes "crash high ") crash.high ++ crash_size_line (codes "crash low ") crash.low
+crash_lines crash =
+    plain_lines crash.plain ++ crash_size_line (codes "crash high ") crash.high ++ crash_size_line (codes "crash low ") crash.low
 
 -- a line for `numa=off`, if the command line has it
 abbrev pub numa_line : Bool → List ℕ

@@ -174,7 +174,8 @@ batch_size_of row text fill is =
     batch_size (front_of row.node row.zone) _ text (last_length (row.first / 2 ^ 20) (omega arith)) (is ∙ sym (batch_of row fill))
 
 -- these blocks are aligned and below the limit
-pub batch_placed : (row : BlockRow) → FillBatches row → 0 < row.count → AreAlignedBlocks (row_from row.order row.first row.node row.zone 1024)
+pub batch_placed : (row : BlockRow) → FillBatches row → 0 < row.count
+    → AreAlignedBlocks (row_from row.order row.first row.node row.zone 1024)
 batch_placed row fill some =
     rw fill.order (row_low 1024 row.first row.node row.zone (omega arith) (omega arith))
 

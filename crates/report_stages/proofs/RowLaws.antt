@@ -74,7 +74,8 @@ placed_before (b ∷ bs) cs all = (all.0, all.1, all.2, placed_before bs cs all.
 pub first_placed : (o x n k : ℕ) (z : Zone) → AreAlignedBlocks (row_from o x n z k) → 0 < k → (o ≤ 10) × (x < 2 ^ 40) × (x % 2 ^ o ≡ 0)
 first_placed o x n k z all some = let parts = rw (some_first o x n k z some) at all in (parts.0, parts.1, parts.2)
 
-pub rest_placed : (o x n k : ℕ) (z : Zone) → AreAlignedBlocks (row_from o x n z k) → 0 < k → AreAlignedBlocks (row_from o (x + 2 ^ o) n z (k - 1))
+pub rest_placed : (o x n k : ℕ) (z : Zone) → AreAlignedBlocks (row_from o x n z k) → 0 < k
+    → AreAlignedBlocks (row_from o (x + 2 ^ o) n z (k - 1))
 rest_placed o x n k z all some = (rw (some_first o x n k z some) at all).3
 
 -- the line of the first of them, and those of the others; and no block is left

@@ -80,6 +80,7 @@ next_frames f node z m frames count so_far is =
 -- the numbers of blocks, order by order
 pub next_number : (f : Frames) (node : ℕ) (z : Zone) (order count : ℕ) → order < 11 → count ≡ count_blocks f node z order
     → flat_map (block_count_text (blocks_of f) node z) (range_with_len order (11 - order))
-    ≡ (padded_decimal 6 count ++ codes " ") ++ flat_map (block_count_text (blocks_of f) node z) (range_with_len (order + 1) (11 - (order + 1)))
+    ≡ (padded_decimal 6 count ++ codes " ")
+    ++ flat_map (block_count_text (blocks_of f) node z) (range_with_len (order + 1) (11 - (order + 1)))
 unfolding count_blocks
 next_number f node z order count less is = let left : 11 - order ≡ suc (11 - (order + 1)) = omega arith in rw (left, is) refl

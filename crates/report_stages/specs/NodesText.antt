@@ -41,4 +41,5 @@ node_line n other = []
 -- are no domains.
 abbrev pub nodes_text : NodesView → List Item → List ℕ
 nodes_text nodes items =
-    srat_use_line nodes.why ++ indexed_lines domain_line 0 nodes.domains ++ uncovered_line nodes.uncovered ++ indexed_lines node_line 0 items
+    srat_use_line nodes.why ++ indexed_lines domain_line 0 nodes.domains ++ uncovered_line nodes.uncovered
+    ++ indexed_lines node_line 0 items

@@ -18,14 +18,16 @@ in_range : (r : RangeView) (x : ℕ) → r.base ≤ x → x < r.base + r.size �
 in_range r x above under = grind (arith, nat_tests)
 
 module _ {X : Type 0} where
-  pub amended_below : (change : Option X → Option X) (r : RangeView) (f : ℕ → Option X) (x : ℕ) → x < r.base → change_range change r f x ≡ f x
+  pub amended_below : (change : Option X → Option X) (r : RangeView) (f : ℕ → Option X) (x : ℕ) → x < r.base
+      → change_range change r f x ≡ f x
   amended_below change r f x under = rw (below_range r x under) refl
 
   pub amended_inside : (change : Option X → Option X) (r : RangeView) (f : ℕ → Option X) (x : ℕ) → r.base ≤ x → x < r.base + r.size
       → change_range change r f x ≡ change (f x)
   amended_inside change r f x above under = rw (in_range r x above under) refl
 
-  pub amended_behind : (change : Option X → Option X) (r : RangeView) (f : ℕ → Option X) (x : ℕ) → r.base + r.size ≤ x → change_range change r f x
+  pub amended_behind : (change : Option X → Option X) (r : RangeView) (f : ℕ → Option X) (x : ℕ) → r.base + r.size ≤ x
+      → change_range change r f x
       ≡ f x
   amended_behind change r f x past = rw (not_covered r x past) refl
 
@@ -48,7 +50,8 @@ module _ {X : Type 0} where
   amended_ends change r f at ends none x le = amended_behind change r f x (omega arith) ∙ none x le
 
   -- if the open run must be written and there is no free slot, there is room for one more record
-  pub room_here : (same : X → X → Bool) → DecidesEquality same → (f g : ℕ → Option X) (start from to : ℕ) (v : Option X) (rs : List (RunOf X))
+  pub room_here : (same : X → X → Bool) → DecidesEquality same
+      → (f g : ℕ → Option X) (start from to : ℕ) (v : Option X) (rs : List (RunOf X))
       (write read room : ℕ) → HasRoomToEdit same f g room
       → NothingFrom (2 ^ 64) f → from ≤ to → to ≤ 2 ^ 64 → IsBuiltTo g from (take write rs) start v → (g from ≡ v → v ≡ None)
       → IsRestFrom f to (drop read rs)

@@ -146,7 +146,8 @@ module _ {X : Type 0} where
       let sums = total-more same f g s few 0 (2 ^ 64) each some in
       omega (arith, first, second, sums)
 
-  pub covered_length : (same : X → X → Bool) → DecidesEquality same → (r : RangeView) (v w : X) (f : ℕ → Option X) → r.base + r.size ≤ 2 ^ 64
+  pub covered_length : (same : X → X → Bool) → DecidesEquality same → (r : RangeView) (v w : X) (f : ℕ → Option X)
+      → r.base + r.size ≤ 2 ^ 64
       → NothingFrom (2 ^ 64) f
       → length (runs_of same (cover_range r v f)) ≤ length (runs_of same f) + length (runs_of same (gaps_in_range r w f))
   covered_length same tells r v w f ends none =
@@ -168,7 +169,8 @@ module _ {X : Type 0} where
       runs_more same tells f (change_range change r f) (λ x. spike r.base x + spike (r.base + r.size) x) 2 none none_too
       (amended_edges same tells change plain r f) (spikes_two r (2 ^ 64))
 
-  pub relabelled_length : (same : X → X → Bool) → DecidesEquality same → (r : RangeView) (change : X → X) (f : ℕ → Option X) → NothingFrom (2 ^ 64) f
+  pub relabelled_length : (same : X → X → Bool) → DecidesEquality same → (r : RangeView) (change : X → X) (f : ℕ → Option X)
+      → NothingFrom (2 ^ 64) f
       → length (runs_of same (relabel_range r change f)) ≤ length (runs_of same f) + 2
   relabelled_length same tells r change f none = amended_length same tells (option_map change) (inl refl) r f none
       (nothing-relabelled (2 ^ 64) r change f none)

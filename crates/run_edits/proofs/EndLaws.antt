@@ -105,7 +105,8 @@ quiet_inside same tells r rs y runs under =
     ]
 
 -- the number of runs of a list is the number of their ends
-pub length_ends : {X : Type 0} (same : X → X → Bool) → DecidesEquality same → (rs : List (RunOf X)) (x n : ℕ) → AreRuns rs → FirstEndsPast x rs
+pub length_ends : {X : Type 0} (same : X → X → Bool) → DecidesEquality same → (rs : List (RunOf X)) (x n : ℕ) → AreRuns rs
+    → FirstEndsPast x rs
     → ((y : ℕ) → x + n ≤ y → value_at rs y ≡ None) → length rs ≡ total (edges same (value_at rs)) x n
 length_ends same tells [] x n runs ends none = sym (total-quiet (edges same (value_at [])) x n (λ y above under. refl))
 length_ends {X} same tells (r ∷ rs) x n runs ends none =
@@ -148,13 +149,15 @@ last_other at y v w (r ∷ rs) ends next is =
       | inr not_here ↦ last_other at y v w rs ends.2 next (rw not_here at is)
     ]
 
-edge_at_end : {X : Type 0} (same : X → X → Bool) → DecidesEquality same → (a b : Option X) → ((w : X) → a ≡ Some w → b ≢ Some w) → edge same a None
+edge_at_end : {X : Type 0} (same : X → X → Bool) → DecidesEquality same → (a b : Option X) → ((w : X) → a ≡ Some w → b ≢ Some w)
+    → edge same a None
     ≡ edge same a b
 edge_at_end same tells None b other = refl
 edge_at_end same tells (Some a) b other = sym (edge-other same tells a b (other a refl))
 
 -- the number of runs of a list that was built up to an address is that of the ends below it
-pub swept_ends : {X : Type 0} (same : X → X → Bool) → DecidesEquality same → (g : ℕ → Option X) (at : ℕ) (xs : List (RunOf X)) → IsSweptTo g at xs
+pub swept_ends : {X : Type 0} (same : X → X → Bool) → DecidesEquality same → (g : ℕ → Option X) (at : ℕ) (xs : List (RunOf X))
+    → IsSweptTo g at xs
     → length xs ≡ total (edges same g) 0 at
 swept_ends same tells g at xs swept =
     length_ends same tells xs 0 at swept.runs (behind_none xs swept.runs) (λ y far. none_behind at y (g at) xs swept.ends (omega arith))
@@ -170,7 +173,8 @@ swept_ends same tells g at xs swept =
     ])
 
 -- the number of runs of the rest of a list is that of the ends at or above the address
-pub rest_ends : {X : Type 0} (same : X → X → Bool) → DecidesEquality same → (f : ℕ → Option X) (at : ℕ) (rs : List (RunOf X)) → IsRestFrom f at rs
+pub rest_ends : {X : Type 0} (same : X → X → Bool) → DecidesEquality same → (f : ℕ → Option X) (at : ℕ) (rs : List (RunOf X))
+    → IsRestFrom f at rs
     → NothingFrom (2 ^ 64) f → at ≤ 2 ^ 64
     → length rs ≡ total (edges same f) at (2 ^ 64 - at)
 rest_ends same tells f at rs rest none le =
@@ -181,6 +185,7 @@ rest_ends same tells f at rs rest none le =
     rw (here, next) refl)
 
 -- the number of runs of a whole list is that of all ends
-pub all_ends : {X : Type 0} (same : X → X → Bool) → DecidesEquality same → (rs : List (RunOf X)) → AreRuns rs → NothingFrom (2 ^ 64) (value_at rs)
+pub all_ends : {X : Type 0} (same : X → X → Bool) → DecidesEquality same → (rs : List (RunOf X)) → AreRuns rs
+    → NothingFrom (2 ^ 64) (value_at rs)
     → length rs ≡ total (edges same (value_at rs)) 0 (2 ^ 64)
 all_ends same tells rs runs none = rest_ends same tells (value_at rs) 0 rs (rest_whole rs runs) none (omega arith)

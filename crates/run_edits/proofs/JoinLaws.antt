@@ -196,7 +196,8 @@ module _ {X : Type 0} where
   length_stretch start until (Some v) lt some = let test : nat_lt start until ≡ true = grind (arith, nat_tests) in rw test refl
 
   -- if an edit writes a run and has no free slot, there is room for one more record
-  pub room_for : (same : X → X → Bool) → DecidesEquality same → (f g : ℕ → Option X) (start from to : ℕ) (v : Option X) (xs ys : List (RunOf X))
+  pub room_for : (same : X → X → Bool) → DecidesEquality same
+      → (f g : ℕ → Option X) (start from to : ℕ) (v : Option X) (xs ys : List (RunOf X))
       (room : ℕ) → HasRoomToEdit same f g room
       → NothingFrom (2 ^ 64) f → from ≤ to → to ≤ 2 ^ 64 → IsSweptTo g from (xs ++ stretch start from v) → start < from → is_some v ≡ true
       → IsRestFrom f to ys

@@ -20,18 +20,21 @@ abbrev in_words : List ℕ → Words
 in_words text = words_in separators.Script text
 
 -- a size must take its whole word
-whole_words : (number_in_word (codes "64K") ≡ Ok 65536) × (number_in_word (codes "64KB") ≡ Err wrong.Number) × (number_in_word (codes "x") ≡ Err wrong.Number)
+whole_words : (number_in_word (codes "64K") ≡ Ok 65536) × (number_in_word (codes "64KB") ≡ Err wrong.Number)
+    × (number_in_word (codes "x") ≡ Err wrong.Number)
     × (number_if_whole (codes "12") (Ok (12, 2)) ≡ Ok 12) × (number_if_whole (codes "12x") (Ok (12, 2)) ≡ Err wrong.Number)
 whole_words = (refl, refl, refl, refl, refl)
 
-bounded_numbers : (number_if_within 9 9 ≡ Ok 9) × (number_if_within 9 10 ≡ Err wrong.Number) × (number_within greatest_byte (codes "0xff") ≡ Ok 255)
+bounded_numbers : (number_if_within 9 9 ≡ Ok 9) × (number_if_within 9 10 ≡ Err wrong.Number)
+    × (number_within greatest_byte (codes "0xff") ≡ Ok 255)
     × (number_within greatest_byte (codes "256") ≡ Err wrong.Number) × (optional_number greatest_node None ≡ Ok None)
     × (optional_number greatest_node (Some (codes "1023")) ≡ Ok (Some 1023))
     × (optional_number greatest_node (Some (codes "1024")) ≡ Err wrong.Number) × (greatest_u64 ≡ 2 ^ 64 - 1) × (greatest_id ≡ 2 ^ 32 - 1)
     × (greatest_len ≡ 64)
 bounded_numbers = (refl, refl, refl, refl, refl, refl, refl, refl, refl, refl)
 
-powers_sizes_and_ranges : (check_power_of_two 4096 ≡ Ok 4096) × (check_power_of_two 3 ≡ Err wrong.Align) × (check_power_of_two 0 ≡ Err wrong.Align) × (check_not_zero 1 ≡ Ok 1)
+powers_sizes_and_ranges : (check_power_of_two 4096 ≡ Ok 4096) × (check_power_of_two 3 ≡ Err wrong.Align)
+    × (check_power_of_two 0 ≡ Err wrong.Align) × (check_not_zero 1 ≡ Ok 1)
     × (check_not_zero 0 ≡ Err wrong.ZeroSize) × (range_or_fault 1 (2 ^ 64 - 2) ≡ Ok (record { base = 1; size = 2 ^ 64 - 2 }))
     × (range_or_fault 1 (2 ^ 64 - 1) ≡ Err wrong.TooFar)
 unfolding lib.Count.ones
@@ -57,7 +60,8 @@ forms_of_lines : (reserve_line (in_words (codes "1 0x1000 1")) ≡ Ok (acts.Rese
 forms_of_lines = (refl, refl, refl, refl, refl, refl, refl, refl, refl, refl, refl, refl)
 
 asked_examples : (act_by_forms (act_by_name false) [] ≡ Ok None) × (act_by_forms (act_by_name false) (in_words (codes "# free")) ≡ Ok None)
-    × (read_line script_lines false (codes "\t\r") ≡ Ok None) × (act_by_forms (act_by_name false) (in_words (codes "free 1")) ≡ Ok (Some (acts.Free 1)))
+    × (read_line script_lines false (codes "\t\r") ≡ Ok None)
+    × (act_by_forms (act_by_name false) (in_words (codes "free 1")) ≡ Ok (Some (acts.Free 1)))
     × (read_line script_lines false (codes " free\t1\r") ≡ Ok (Some (acts.Free 1)))
 asked_examples = (refl, refl, refl, refl, refl)
 
@@ -93,7 +97,8 @@ passed_over = (no_words, comment (codes "free") (codes "1" ∷ []))
 
 -- any word may stand for a number: here `max` is a lower limit, and then the key after it
 any_word_for_a_number :
-    HasLineForm script_grammar (codes "alloc" ∷ codes "1" ∷ codes "1" ∷ codes "1" ∷ codes "min" ∷ codes "max" ∷ codes "max" ∷ codes "1" ∷ [])
+    HasLineForm script_grammar
+    (codes "alloc" ∷ codes "1" ∷ codes "1" ∷ codes "1" ∷ codes "min" ∷ codes "max" ∷ codes "max" ∷ codes "1" ∷ [])
     × HasLineForm script_grammar (codes "alloc" ∷ codes "1" ∷ codes "1" ∷ codes "1" ∷ codes "node" ∷ codes "exact" ∷ [])
 any_word_for_a_number = (
   (alloc (codes "1") (codes "1") (codes "1") (Some (codes "max")) (Some (codes "1")) no_node, refl),
@@ -154,7 +159,8 @@ faults_of_words = (
 none_earlier : HasSectionsLine [] → ⊥
 none_earlier has = omega (arith, has.1.1)
 
-lines_asked : LineHasAct [] (codes "#") None × LinesHaveActs [] (codes "sections" ∷ codes "#" ∷ []) (record { number = 1; act = acts.Sections } ∷ [])
+lines_asked : LineHasAct [] (codes "#") None
+    × LinesHaveActs [] (codes "sections" ∷ codes "#" ∷ []) (record { number = 1; act = acts.Sections } ∷ [])
 lines_asked =
     let hash : IsWord separators.Script (codes "#") = record { some = lit< tt; closed = (refl, refl) } in
     let words : HasWords separators.Script (codes "#") (codes "#" ∷ []) = word_alone (codes "#") hash in (

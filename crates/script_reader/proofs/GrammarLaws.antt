@@ -117,7 +117,8 @@ act_read reads words act = (
 )
 
 -- a line without words, and a comment, have no command
-passed_read : {A : Type 0} (forms : List ℕ → Words → Result A Wrong) (words : Words) → HasNoCommand words → act_by_forms forms words ≡ Ok None
+passed_read : {A : Type 0} (forms : List ℕ → Words → Result A Wrong) (words : Words) → HasNoCommand words
+    → act_by_forms forms words ≡ Ok None
 passed_read forms words no_words = refl
 passed_read forms words (comment word others) = refl
 

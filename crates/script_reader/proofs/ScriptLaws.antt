@@ -28,7 +28,8 @@ with_others front line (Err fault) = refl
 pub line_read : {A L : Type 0} (kind : ScriptKind A L) (seen : Bool) (number : ℕ) (front : List L) (text : List ℕ) (texts : List (List ℕ))
     (act : Option A) → read_line kind seen text ≡ Ok act
     → behind front (script_lines_from kind seen number (text ∷ texts))
-    ≡ behind (front ++ option_to_list (script_line_at kind number act)) (script_lines_from kind (has_once_command kind seen act) (number + 1) texts)
+    ≡ behind (front ++ option_to_list (script_line_at kind number act))
+    (script_lines_from kind (has_once_command kind seen act) (number + 1) texts)
 line_read kind seen number front text texts act is =
     rw is (with_others front (script_line_at kind number act) (script_lines_from kind (has_once_command kind seen act) (number + 1) texts))
 

@@ -79,7 +79,8 @@ sections_spelled seen text is =
     spelled.0.numbers.spelled ∙ sections_words spelled.0.numbers.form (sym spelled.0.numbers.asks) in
     (rw words at (words_spelled text))
 
-others_spelled : (text : List ℕ) (act : Option Act) → read_line script_lines false text ≡ Ok act → has_once_command script_lines false act ≡ false
+others_spelled : (text : List ℕ) (act : Option Act) → read_line script_lines false text ≡ Ok act
+    → has_once_command script_lines false act ≡ false
     → ¬ (HasWords Script text (codes "sections" ∷ []))
 others_spelled text act is isnt has =
     let was : read_line script_lines false text ≡ Ok (Some acts.Sections) = rw (has_words Script text (codes "sections" ∷ []) has) refl in
@@ -178,7 +179,8 @@ lines_ask earlier seen (text ∷ texts) lines of = (
 
 -- if reading them fails, one of them has the first fault
 one_at_fault : (earlier : List (List ℕ)) (seen : Bool) (texts : List (List ℕ)) (told : ℕ × Wrong) → SeenIn earlier seen
-    → script_lines_from script_lines seen (length earlier + 1) texts ≡ Err told → IsFirstLineFault earlier texts (script_fault_at told.0 told.1)
+    → script_lines_from script_lines seen (length earlier + 1) texts ≡ Err told
+    → IsFirstLineFault earlier texts (script_fault_at told.0 told.1)
 one_at_fault earlier seen [] told of is = cc (is)
 one_at_fault earlier seen (text ∷ texts) told of is =
     elim (first_fault (length earlier + 1) (read_line script_lines seen text)
@@ -212,7 +214,8 @@ one_at_fault earlier seen (text ∷ texts) told of is =
     ]
 
 fault_of_one : (earlier : List (List ℕ)) (seen : Bool) (before : List (List ℕ)) (text : List ℕ) (after : List (List ℕ))
-    (asks : List Line) (fault : Wrong) → SeenIn earlier seen → LinesHaveActs earlier before asks → LineHasFault (earlier ++ before) text fault
+    (asks : List Line) (fault : Wrong) → SeenIn earlier seen → LinesHaveActs earlier before asks
+    → LineHasFault (earlier ++ before) text fault
     → script_lines_from script_lines seen (length earlier + 1) (before ++ (text ∷ after)) ≡ Err (length (earlier ++ before) + 1, fault)
 fault_of_one earlier seen [] text after asks fault of good at =
     let same = append-nil earlier in
@@ -255,7 +258,8 @@ script_fault bytes fault = (
       rw (found.lines, read, found.named) refl,
 )
   where
-    by_lines : (r : Result (List Line) (ℕ × Wrong)) → lines_of script_lines bytes ≡ r → with_error (λ at. script_fault_at at.0 at.1) r ≡ Err fault
+    by_lines : (r : Result (List Line) (ℕ × Wrong)) → lines_of script_lines bytes ≡ r
+        → with_error (λ at. script_fault_at at.0 at.1) r ≡ Err fault
         → IsFirstLineFault [] (parts_in (Byte 10) bytes) fault
     by_lines (Ok lines) was is = cc (is)
     by_lines (Err told) was is =

@@ -58,11 +58,13 @@ alloc_form (i ∷ s ∷ a ∷ words) =
       | inr more ↦ inr (rw more refl)
     ]
 
-sections_form : (seen : Bool) (words : Words) → HasLineForm script_grammar (codes "sections" ∷ words) ⊎ (sections_line seen words ≡ Err wrong.Form)
+sections_form : (seen : Bool) (words : Words) → HasLineForm script_grammar (codes "sections" ∷ words)
+    ⊎ (sections_line seen words ≡ Err wrong.Form)
 sections_form seen [] = inl (sections, refl)
 sections_form seen (w ∷ ws) = inr refl
 
-pub named : (seen : Bool) (name : List ℕ) (words : Words) → HasLineForm script_grammar (name ∷ words) ⊎ (act_by_name seen name words ≡ Err wrong.Form)
+pub named : (seen : Bool) (name : List ℕ) (words : Words)
+    → HasLineForm script_grammar (name ∷ words) ⊎ (act_by_name seen name words ≡ Err wrong.Form)
 named seen name words =
     elim (is_key name (codes "alloc")) [
       | inl is ↦ rw is (alloc_form words)
@@ -137,7 +139,8 @@ alloc_said i s a min max node = refl
 
 -- the numbers of a form are right, or one isn't and the line has that fault
 pub numbers_or : (seen : Bool) (form : LineForm)
-    → (HasLineNumbers form × (act_by_forms (act_by_name seen) (words_of_form form) ≡ (checked seen (act_of_form form) >>= λ act. Ok (Some act))))
+    → (HasLineNumbers form
+    × (act_by_forms (act_by_name seen) (words_of_form form) ≡ (checked seen (act_of_form form) >>= λ act. Ok (Some act))))
     ⊎ ((¬ (HasLineNumbers form)) × (act_by_forms (act_by_name seen) (words_of_form form) ≡ Err wrong.Number))
 numbers_or seen (alloc i s a min max node) =
     elim (within_or greatest_id i) [
@@ -146,8 +149,16 @@ numbers_or seen (alloc i s a min max node) =
           | inl align ↦ elim (optional_or greatest_u64 min) [
             | inl lower ↦ elim (optional_or greatest_u64 max) [
               | inl upper ↦ elim (optional_or greatest_node (node_number node)) [
-                | inl on ↦ inl ((id.0, size.0, align.0, lower.0, upper.0, on.0), rw (alloc_said i s a min max node, id.1, size.1, align.1, lower.1, upper.1, on.1) refl)
-                | inr bad ↦ inr (λ good. bad.0 good.5, rw (alloc_said i s a min max node, id.1, size.1, align.1, lower.1, upper.1, bad.1) refl)
+                | inl on ↦ inl (
+                  (id.0, size.0, align.0, lower.0, upper.0, on.0),
+                  rw
+                      (alloc_said i s a min max node, id.1, size.1, align.1, lower.1, upper.1, on.1) refl,
+                )
+                | inr bad ↦ inr (
+                  λ good.
+                      bad.0 good.5,
+                  rw (alloc_said i s a min max node, id.1, size.1, align.1, lower.1, upper.1, bad.1) refl,
+                )
               ]
               | inr bad ↦ inr (λ good. bad.0 good.4, rw (alloc_said i s a min max node, id.1, size.1, align.1, lower.1, bad.1) refl)
             ]
@@ -213,7 +224,16 @@ pub act_or : (seen : Bool) (act : Act)
 act_or seen (acts.Alloc id request) =
     elim (power_or request.align) [
       | inl check_power_of_two ↦ elim (some_or request.size) [
-        | inl large ↦ inl (record { aligned = check_power_of_two.0; size = large.0; in_space = tt; once = λ is. cc is }, rw (check_power_of_two.1, large.1) refl)
+        | inl large ↦
+            inl (
+              record {
+                aligned = check_power_of_two.0;
+                size = large.0;
+                in_space = tt;
+                once = λ is. cc is;
+              },
+              rw (check_power_of_two.1, large.1) refl,
+            )
         | inr bad ↦ inr (wrong.ZeroSize, (check_power_of_two.0, bad.0), rw (check_power_of_two.1, bad.1) refl)
       ]
       | inr bad ↦ inr (wrong.Align, bad.0, rw bad.1 refl)

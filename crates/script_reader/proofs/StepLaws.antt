@@ -69,7 +69,8 @@ front_value-whole : (word : List ℕ) (r : Result (ℕ × ℕ) NumFault) (n : �
 front_value-whole word r n is = rw is refl
 
 bounded_or : (most : ℕ) (word : List ℕ) (r : Result (ℕ × ℕ) NumFault)
-    → Judges ((n : ℕ) × (r ≡ Ok (n, length word)) × (n ≤ most)) (front_value r) wrong.Number (number_if_whole word r >>= number_if_within most)
+    → Judges ((n : ℕ) × (r ≡ Ok (n, length word)) × (n ≤ most)) (front_value r) wrong.Number (number_if_whole word r
+    >>= number_if_within most)
 bounded_or most word r =
     elim (whole_or word r) [
       | inl is ↦ elim (within_bound most (front_value r)) [
@@ -154,7 +155,8 @@ pub three_or : (words : Words) → ((a b d : List ℕ) × (words ≡ a ∷ b ∷
 three_or [] = inr refl
 three_or (a ∷ words) = elim (two_or words) [ inl is ↦ inl (a, is.0, is.1, rw (is.2) refl) | inr isnt ↦ inr (rw isnt refl) ]
 
-pub optional_spelled : (key : List ℕ) (words : Words) → words ≡ key_with_word key (word_after_key key words).0 ++ (word_after_key key words).1
+pub optional_spelled : (key : List ℕ) (words : Words)
+    → words ≡ key_with_word key (word_after_key key words).0 ++ (word_after_key key words).1
 optional_spelled key [] = refl
 optional_spelled key (w ∷ []) = refl
 optional_spelled key (w ∷ v ∷ ws) = by_test (bytes_eq w key) refl

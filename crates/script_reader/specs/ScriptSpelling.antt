@@ -38,7 +38,8 @@ pub record LineHasFault (earlier : List (List ℕ)) (text : List ℕ) (wrong : W
 abbrev pub LinesHaveActs : List (List ℕ) → List (List ℕ) → List Line → Type 0
 LinesHaveActs earlier [] lines = lines ≡ []
 LinesHaveActs earlier (text ∷ texts) lines = (act : Option Act) × (others : List Line) × LineHasAct earlier text act
-    × (lines ≡ cons_option (script_line_at script_lines (length earlier + 1) act) others) × LinesHaveActs (earlier ++ (text ∷ [])) texts others
+    × (lines ≡ cons_option (script_line_at script_lines (length earlier + 1) act) others)
+    × LinesHaveActs (earlier ++ (text ∷ [])) texts others
 
 -- after the earlier lines, this is the fault of the first line that has one: no line before it has
 -- a fault

@@ -53,7 +53,8 @@ groups-next s (t ∷ ts) =
 -- all groups end as those of the remaining sections
 pub record Goes (entry : List Item) (sections : List Section) (now : List Item) (placed : List Placed) (rest : List Section) : Type 0 where
   pub ends : (r : Result (List Placed) StageStop) (new : List Item)
-      → EndsAsStage (fold_steps place_section_group placed (groups_of rest)) stage_stop r now new → EndsAsStage (place_maps sections) stage_stop r entry new
+      → EndsAsStage (fold_steps place_section_group placed (groups_of rest)) stage_stop r now new
+      → EndsAsStage (place_maps sections) stage_stop r entry new
 
 pub goes-first : (entry : List Item) (sections : List Section) (placed : List Placed) → placed ≡ []
     → Goes entry sections entry placed sections
@@ -73,7 +74,8 @@ pub place_maps-wanting : (entry : List Item) (sections : List Section)
 unfolding place_maps
 place_maps-wanting entry sections =
     let no_placed : List Item → List Placed = λ items. [] in
-    ends-first stop.Memory stage_stop entry entry (read_into_list no_placed) (λ before. fold_steps place_section_group before (groups_of sections))
+    ends-first stop.Memory stage_stop entry entry (read_into_list no_placed) (λ before.
+    fold_steps place_section_group before (groups_of sections))
     (ends-wanting no_placed stage_stop entry)
 
 -- no section remains, or a group comes next
@@ -85,7 +87,8 @@ module _ {entry : List Item} {sections : List Section} {now : List Item} {placed
 
   front : (s : Section) (ss : List Section) → Goes entry sections now placed (s ∷ ss) → (r : Result (List Placed) StageStop)
       (new : List Item)
-      → EndsAsStage (fold_steps place_section_group placed (group_at s ss ∷ groups_of (drop (prefix_len (is_of s.node) ss) ss))) stage_stop r now new
+      → EndsAsStage
+      (fold_steps place_section_group placed (group_at s ss ∷ groups_of (drop (prefix_len (is_of s.node) ss) ss))) stage_stop r now new
       → EndsAsStage (place_maps sections) stage_stop r entry new
   front s ss goes r new h = goes.ends r new (rw (groups-next s ss) h)
 

@@ -26,7 +26,8 @@ placed_at usage map s = record { section = s.number; node = s.node; map = map; u
 
 -- one more section of a group
 consecutive_places-push : (usage map : ℕ) (ss : List Section) (s : Section)
-    → consecutive_places usage map (ss ++ s ∷ []) ≡ consecutive_places usage map ss ++ placed_at (usage + 40 * length ss) (map + 0x200000 * length ss) s ∷ []
+    → consecutive_places usage map (ss ++ s ∷ []) ≡ consecutive_places usage map ss
+    ++ placed_at (usage + 40 * length ss) (map + 0x200000 * length ss) s ∷ []
 consecutive_places-push usage map [] s =
     let u : usage + 40 * 0 ≡ usage = omega arith in
     let m : map + 0x200000 * 0 ≡ map = omega arith in
@@ -47,7 +48,8 @@ consecutive_places-next usage map i ss d before now few so_far =
 -- the maps of sections, one by one
 pub record Goes (entry : List Item) (usage : ℕ) (first : List Placed) (sections : List Section) (now : List Item) (at : ℕ)
     (place_or_stop : List Placed) (rest : List Section) : Type 0 where
-  pub ends : (r : Result (List Placed) StageStop) (new : List Item) → EndsAsStage (place_each_map at place_or_stop rest) stage_stop r now new
+  pub ends : (r : Result (List Placed) StageStop) (new : List Item)
+      → EndsAsStage (place_each_map at place_or_stop rest) stage_stop r now new
       → EndsAsStage (place_each_map usage first sections) stage_stop r entry new
 
 -- the map of one section
@@ -105,14 +107,16 @@ module _ (usage : ℕ) (before : List Placed) (first : Section) (sections : List
       → EndsAsStage (maps_in usage before first sections) stage_stop (Ok now) old new
   buffer-placed map now new is h =
       else-first (place_map_buffer usage before first sections) (place_each_map usage before sections) old now new
-      (ends-second map (Ok now) stage_stop old new new one_buffer (λ map. return_value (before ++ consecutive_places usage map sections)) (rw asked at h)
+      (ends-second map (Ok now) stage_stop old new new one_buffer (λ map.
+      return_value (before ++ consecutive_places usage map sections)) (rw asked at h)
       (rw is refl, refl))
 
   pub buffer-stops : (e : StageStop) (new : List Item) → ((thing : What) → e ≢ stop.NoPlace thing)
       → EndsAsStage {A = ℕ} (place_or_stop (what.Map first.number) q (owner.Map first.number)) stage_stop (Err e) old new
       → EndsAsStage {A = List Placed} (maps_in usage before first sections) stage_stop (Err e) old new
   buffer-stops e new other h =
-      else-stops (place_map_buffer usage before first sections) (place_each_map usage before sections) old e new other (buffer-fails e new h)
+      else-stops (place_map_buffer usage before first sections) (place_each_map usage before sections) old e new other
+      (buffer-fails e new h)
 
   pub buffer-each : (r : Result (List Placed) StageStop) (thing : What) (mid new : List Item)
       → EndsAsStage {A = ℕ} (place_or_stop (what.Map first.number) q (owner.Map first.number)) stage_stop (Err (stop.NoPlace thing)) old mid

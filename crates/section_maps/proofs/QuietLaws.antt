@@ -34,8 +34,10 @@ unfolding place_maps
 quiet-maps sections =
     quiet-bind _ _ (quiet-listed (λ items. [])) (λ none. quiet-turn place_section_group quiet-group none (groups_of sections))
 
-pub place_maps-memory : (sections : List Section) (items : List Item) → memory_of (items_after_step items (place_maps sections items)) ≡ memory_of items
+pub place_maps-memory : (sections : List Section) (items : List Item)
+    → memory_of (items_after_step items (place_maps sections items)) ≡ memory_of items
 place_maps-memory sections items = quiet-appended_memory items (place_maps sections items).steps ((quiet-maps sections).each items)
 
-pub place_maps-limit : (sections : List Section) (items : List Item) → limit_of (items_after_step items (place_maps sections items)) ≡ limit_of items
+pub place_maps-limit : (sections : List Section) (items : List Item)
+    → limit_of (items_after_step items (place_maps sections items)) ≡ limit_of items
 place_maps-limit sections items = quiet-appended_limit items (place_maps sections items).steps ((quiet-maps sections).each items)

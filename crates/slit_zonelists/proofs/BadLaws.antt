@@ -136,7 +136,8 @@ bad_least m row column is =
       ];
     }
 
-pub none_bad : (m : SlitView) (row column : ℕ) → first_bad_cell m ≡ None → row < m.count → column < m.count → is_bad_cell m row column ≡ false
+pub none_bad : (m : SlitView) (row column : ℕ) → first_bad_cell m ≡ None → row < m.count → column < m.count
+    → is_bad_cell m row column ≡ false
 none_bad m row column is low left =
     not_found (is_bad_cell m row) 0 m.count column (no_row m 0 m.count row is (omega arith) (omega (arith, low))) (omega arith)
     (omega (arith, left))

@@ -42,7 +42,8 @@ table_examples = (refl, refl, refl, refl, refl, refl, refl)
 abbrev bad : SlitView
 bad = record { count = 2; cells = 10 ∷ 20 ∷ 10 ∷ 11 ∷ [] }
 
-bad_examples : (is_bad_cell bad 0 1 ≡ false) × (is_bad_cell bad 1 0 ≡ true) × (is_bad_cell bad 1 1 ≡ true) × (first_bad_cell bad ≡ Some (1, 0))
+bad_examples : (is_bad_cell bad 0 1 ≡ false) × (is_bad_cell bad 1 0 ≡ true) × (is_bad_cell bad 1 1 ≡ true)
+    × (first_bad_cell bad ≡ Some (1, 0))
     × (first_bad_cell three ≡ None)
 bad_examples = (refl, refl, refl, refl, refl)
 
@@ -89,7 +90,8 @@ abbrev five : Held
 five = record { first = 5; order = 0; node = 7 }
 
 -- without a free frame no zone serves, and an ID that holds something gets nothing more
-near_examples : (first_zone empty 0 [] ≡ None) × (take_from_zone empty 1 0 None ≡ (let p : PageOutcome × PageState = (outcomes.NoBlock, empty) in p))
+near_examples : (first_zone empty 0 [] ≡ None)
+    × (take_from_zone empty 1 0 None ≡ (let p : PageOutcome × PageState = (outcomes.NoBlock, empty) in p))
     × (take_from_nearest empty 1 0 (zone 0 ∷ []) (Some five) ≡ (let p : PageOutcome × PageState = (outcomes.Taken, empty) in p))
     × (take_from_nearest empty 1 0 [] None ≡ (let p : PageOutcome × PageState = (outcomes.NoBlock, empty) in p))
     × (page_step_by_distance nodes empty (acts.Give 1) ≡ (let p : PageOutcome × PageState = (outcomes.Unknown, empty) in p))
@@ -115,7 +117,8 @@ amid_example : StopsAtLine nodes holding (near 5 ∷ give 6 ∷ []) holding
 amid_example = record { before = near 5 ∷ []; line = give 6; behind = []; is = refl; takes = tt; state = refl }
 
 refused_out : (s : PageState) (before : List PageLine) (line : PageLine) (behind : List PageLine) → near 5 ∷ [] ≡ before ++ line ∷ behind
-    → (NeedsMemory (page_step_by_distance nodes s (acts.Near 1 0 0)).0 → ⊥) → NeedsMemory (page_step_by_distance nodes (page_state_after nodes s before) line.act).0 → ⊥
+    → (NeedsMemory (page_step_by_distance nodes s (acts.Near 1 0 0)).0 → ⊥)
+    → NeedsMemory (page_step_by_distance nodes (page_state_after nodes s before) line.act).0 → ⊥
 refused_out s [] line behind is refused takes =
     let same : line ≡ near 5 = sym (ap (λ (ls : List PageLine). get_or ls 0 line) is) in
     refused (subst (λ (l : PageLine). NeedsMemory (page_step_by_distance nodes s l.act).0) same takes)

@@ -32,7 +32,8 @@ first_none s order (y ∷ ys) none =
     rw (none 0 y (omega arith)) (first_none s order ys (All-tail (λ y. has_block s order y ≡ false) y ys none))
 
 -- a request that a zone serves needs memory
-zone_takes : (s : PageState) (id order : ℕ) (zs : List ListZone) (o : Option ListZone) → first_zone s order zs ≡ o → s.held id ≡ None → IsSome o
+zone_takes : (s : PageState) (id order : ℕ) (zs : List ListZone) (o : Option ListZone) → first_zone s order zs ≡ o → s.held id ≡ None
+    → IsSome o
     → NeedsMemory (take_from_zone s id order o).0
 zone_takes s id order zs None is none some = cc some
 zone_takes s id order zs (Some z) is none some =
@@ -51,7 +52,8 @@ err_then (Ok x) P Q then holds = tt
 err_then (Err e) P Q then holds = then holds
 
 -- free frames stay apart from those that are held, after a request near a node
-near_goes : (f : Frames) (s : PageState) (id order : ℕ) (o : Option ListZone) → order ≤ 10 → Goes f s → Goes f (take_from_zone s id order o).1
+near_goes : (f : Frames) (s : PageState) (id order : ℕ) (o : Option ListZone) → order ≤ 10 → Goes f s
+    → Goes f (take_from_zone s id order o).1
 near_goes f s id order None small goes = goes
 near_goes f s id order (Some z) small goes = step_goes f s (acts.Pages id order z.node z.zone) small goes
 
@@ -60,15 +62,18 @@ asked_goes : (f : Frames) (s : PageState) (id order : ℕ) (zs : List ListZone) 
 asked_goes f s id order zs (Some what) small goes = goes
 asked_goes f s id order zs None small goes = near_goes f s id order (first_zone s order zs) small goes
 
-step_with_goes : (k : ListsView) (f : Frames) (s : PageState) (act : PageAct) → HasValidOrder act → Goes f s → Goes f (page_step_by_distance k s act).1
+step_with_goes : (k : ListsView) (f : Frames) (s : PageState) (act : PageAct) → HasValidOrder act → Goes f s
+    → Goes f (page_step_by_distance k s act).1
 step_with_goes k f s (acts.Pages id order node zone) small goes = step_goes f s (acts.Pages id order node zone) small goes
 step_with_goes k f s (acts.Near id order node) small goes = asked_goes f s id order (zones_of k node) (s.held id) small goes
 step_with_goes k f s (acts.Give id) small goes = step_goes f s (acts.Give id) small goes
 
 -- they stay apart after any lines
-pub after_goes : (k : ListsView) (f : Frames) (s : PageState) (ls : List PageLine) → HaveValidOrders ls → Goes f s → Goes f (page_state_after k s ls)
+pub after_goes : (k : ListsView) (f : Frames) (s : PageState) (ls : List PageLine) → HaveValidOrders ls → Goes f s
+    → Goes f (page_state_after k s ls)
 after_goes k f s [] orders goes = goes
-after_goes k f s (l ∷ ls) orders goes = after_goes k f (page_step_by_distance k s l.act).1 ls orders.1 (step_with_goes k f s l.act orders.0 goes)
+after_goes k f s (l ∷ ls) orders goes =
+    after_goes k f (page_step_by_distance k s l.act).1 ls orders.1 (step_with_goes k f s l.act orders.0 goes)
 
 -- one more line, and the lines after it
 pub answers_on : (k : ListsView) (s t : PageState) (l : PageLine) (ls : List PageLine) (told : List PageAnswer) (o : PageOutcome)
@@ -82,6 +87,7 @@ answers_on k s t l ls told o is =
 
 -- one more line, and the lines before it
 pub after_more : (k : ListsView) (s t : PageState) (ls : List PageLine) (l : PageLine) (o : PageOutcome)
-    → (let p : PageOutcome × PageState = (o, t) in p) ≡ page_step_by_distance k (page_state_after k s ls) l.act → t ≡ page_state_after k s (ls ++ l ∷ [])
+    → (let p : PageOutcome × PageState = (o, t) in p) ≡ page_step_by_distance k (page_state_after k s ls) l.act
+    → t ≡ page_state_after k s (ls ++ l ∷ [])
 after_more k s t [] l o is = ap (λ (p : PageOutcome × PageState). p.1) is
 after_more k s t (x ∷ xs) l o is = after_more k (page_step_by_distance k s x.act).1 t xs l o is

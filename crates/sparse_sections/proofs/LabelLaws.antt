@@ -28,7 +28,8 @@ section-none f s none =
     label-none f (32768 * s) 32768 (λ y above below. none (4096 * y) (omega arith) (omega arith))
 
 -- a section whose first memory is in a record
-pub section-found : (f : Labels) (s : ℕ) (r : RunOf LabelView) → r.base % 4096 ≡ 0 → r.base < 0x8000000 * (s + 1) → 0x8000000 * s < run_end r
+pub section-found : (f : Labels) (s : ℕ) (r : RunOf LabelView) → r.base % 4096 ≡ 0 → r.base < 0x8000000 * (s + 1)
+    → 0x8000000 * s < run_end r
     → 0 < r.size → ((x : ℕ) → 0x8000000 * s ≤ x → x < r.base → f x ≡ None)
     → ((x : ℕ) → 0x8000000 * s ≤ x → r.base ≤ x → x < run_end r → f x ≡ Some r.value) → section_label f s ≡ Some r.value
 section-found f s r whole below above some none here =

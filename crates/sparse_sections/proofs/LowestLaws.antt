@@ -80,9 +80,11 @@ of-lowest : (f : Labels) (n : ℕ) (label : LabelView) (o : Option ℕ) → IsSa
     → All (HasNodeOfLowestByte f) (section_on_node n o)
 of-lowest f n label None frames first has = All-nil (HasNodeOfLowestByte f)
 of-lowest f n label (Some node) frames first has =
-    All-cons (HasNodeOfLowestByte f) (record { number = n; node = node }) [] (first-lowest f n node label frames first has) (All-nil (HasNodeOfLowestByte f))
+    All-cons (HasNodeOfLowestByte f) (record { number = n; node = node }) [] (first-lowest f n node label frames first has)
+    (All-nil (HasNodeOfLowestByte f))
 
-for-lowest : (f : Labels) (n : ℕ) (o : Option LabelView) → IsSameInFrames f → section_label f n ≡ o → All (HasNodeOfLowestByte f) (section_with_label n o)
+for-lowest : (f : Labels) (n : ℕ) (o : Option LabelView) → IsSameInFrames f → section_label f n ≡ o
+    → All (HasNodeOfLowestByte f) (section_with_label n o)
 for-lowest f n None frames is = All-nil (HasNodeOfLowestByte f)
 for-lowest f n (Some label) frames is =
     of-lowest f n label label.node frames (label-first f (32768 * n) 32768 label is) refl

@@ -58,7 +58,8 @@ pub left-all : (rs : List (RunOf LabelView)) → AreRuns rs → IsLeft (value_at
 left-all [] runs = record { runs = runs; starts = tt; each = λ x above. refl }
 left-all (r ∷ rs) runs = record { runs = runs; starts = omega arith; each = λ x above. refl }
 
-starts-next : (r : RunOf LabelView) (rs : List (RunOf LabelView)) (at : ℕ) → at ≤ run_end r → StartAtOrPast (run_end r) rs → StartAtOrPast at rs
+starts-next : (r : RunOf LabelView) (rs : List (RunOf LabelView)) (at : ℕ) → at ≤ run_end r → StartAtOrPast (run_end r) rs
+    → StartAtOrPast at rs
 starts-next r [] at less starts = tt
 starts-next r (s ∷ ss) at less starts = omega arith
 
@@ -75,7 +76,8 @@ left-next f next r rs left =
     }
 
 -- the sections of a record
-pub sections-record : (f : Labels) (next : ℕ) (r : RunOf LabelView) (rs : List (RunOf LabelView)) (first until node : ℕ) → IsLeft f next (r ∷ rs)
+pub sections-record : (f : Labels) (next : ℕ) (r : RunOf LabelView) (rs : List (RunOf LabelView)) (first until node : ℕ)
+    → IsLeft f next (r ∷ rs)
     → r.base % 4096 ≡ 0 → r.value.node ≡ Some node → first ≡ max next (r.base / 0x8000000) → until ≡ (run_end r - 1) / 0x8000000 + 1
     → sections_below f until ≡ sections_below f next ++ sections_from first (until - first) node
 sections-record f next r rs first until node left whole has first_is until_is =

@@ -112,7 +112,8 @@ place_roots-stop e table width q sections old mid new request was h =
     (ends-first e stage_stop mid new (place_each_root sections)
     (λ places. return_value (record { table = table; roots = places })) h)
 
-pub place_roots-all : (table : ℕ) (places : List RootPlace) (width : Width) (q : Request) (sections : List Section) (old mid new : List Item)
+pub place_roots-all : (table : ℕ) (places : List RootPlace) (width : Width) (q : Request) (sections : List Section)
+    (old mid new : List Item)
     → q ≡ small_request (root_table_of width) None → EndsAsStage (place_or_stop what.Roots q owner.Roots) stage_stop (Ok table) old mid
     → EndsAsStage (place_each_root sections) stage_stop (Ok places) mid new
     → EndsAsStage (place_roots width sections) stage_stop (Ok (record { table = table; roots = places })) old new

@@ -25,7 +25,8 @@ is_last_root (Some last) root = last == root
 -- left out, since that root has been placed
 abbrev pub first_of_each_root : Option ℕ → List Section → List Section
 first_of_each_root last [] = []
-first_of_each_root last (s ∷ ss) = if is_last_root last (root_of s) then first_of_each_root last ss else (s ∷ first_of_each_root (Some (root_of s)) ss)
+first_of_each_root last (s ∷ ss) =
+    if is_last_root last (root_of s) then first_of_each_root last ss else (s ∷ first_of_each_root (Some (root_of s)) ss)
 
 -- a request for `size` bytes at a cache line, on the node if there is room
 abbrev pub small_request : ℕ → Option ℕ → Request

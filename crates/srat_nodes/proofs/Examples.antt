@@ -100,7 +100,8 @@ pair_examples = (refl, refl)
 abbrev below_4 : ℕ → Bool
 below_4 x = nat_lt x 4
 
-lowest_examples : (lower_node 3 (block 1 0 1) ≡ 1) × (lower_node 0 (block 1 0 1) ≡ 0) × (lowest_node (block 3 0 1 ∷ block 1 2 1 ∷ block 2 4 1 ∷ []) ≡ 1)
+lowest_examples : (lower_node 3 (block 1 0 1) ≡ 1) × (lower_node 0 (block 1 0 1) ≡ 0)
+    × (lowest_node (block 3 0 1 ∷ block 1 2 1 ∷ block 2 4 1 ∷ []) ≡ 1)
     × (lowest_node [] ≡ 0)
 lowest_examples = (refl, refl, refl, refl)
 
@@ -140,7 +141,8 @@ one_frame_less = frames_step (block 0 0 0xFF000) [] (lit< tt, tt, tt) (lit< tt) 
 covering_examples : (nodes_if_covering (5 ∷ []) (value_at []) (value_at (block 0 0 0x100000 ∷ [])) ≡ unused_srat (why.NotCovered 256))
     × (nodes_if_covering (5 ∷ []) (value_at []) (value_at (block 0 0 0xFF000 ∷ []))
     ≡ used_srat (5 ∷ []) (value_at []) (value_at (block 0 0 0xFF000 ∷ [])))
-    × (nodes_if_covering (5 ∷ []) (value_at (block 0 0 1 ∷ [])) (value_at []) ≡ used_srat (5 ∷ []) (value_at (block 0 0 1 ∷ [])) (value_at []))
+    × (nodes_if_covering (5 ∷ []) (value_at (block 0 0 1 ∷ [])) (value_at [])
+    ≡ used_srat (5 ∷ []) (value_at (block 0 0 1 ∷ [])) (value_at []))
 covering_examples = (rw one_mebibyte refl, rw one_frame_less refl, rw frames_none refl)
 
 -- the result if the table is used, and if it isn't

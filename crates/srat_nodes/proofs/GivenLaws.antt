@@ -24,12 +24,15 @@ use Rattle.srat_nodes.proofs.MeaningLaws.{is_kept, left_frame, node_of_kept, nod
 -- what is true of the result in both cases, of a table that isn't used and of one that is, is true
 -- of each judgement
 module _ (P : SratNodesView → Type 0) where
-  covering : (domains : List ℕ) (nodes left : ℕ → Option ℕ) → ((r : Why) → r ≢ why.Used → P (unused_srat r)) → P (used_srat domains nodes left)
+  covering : (domains : List ℕ) (nodes left : ℕ → Option ℕ) → ((r : Why) → r ≢ why.Used → P (unused_srat r))
+      → P (used_srat domains nodes left)
       → P (nodes_if_covering domains nodes left)
   covering domains nodes left none some =
-      cond_both (nat_le 256 (count_frames_with_node left)) _ _ P (λ many. none (why.NotCovered (count_frames_with_node left)) (λ same. cc)) (λ few. some)
+      cond_both (nat_le 256 (count_frames_with_node left)) _ _ P (λ many.
+      none (why.NotCovered (count_frames_with_node left)) (λ same. cc)) (λ few. some)
 
-  apart : (numbers : Option (ℕ × ℕ)) (j : SratNodesView) → ((r : Why) → r ≢ why.Used → P (unused_srat r)) → P j → P (nodes_if_apart numbers j)
+  apart : (numbers : Option (ℕ × ℕ)) (j : SratNodesView) → ((r : Why) → r ≢ why.Used → P (unused_srat r)) → P j
+      → P (nodes_if_apart numbers j)
   apart (Some pair) j none some = none (why.Overlap pair.0 pair.1) (λ same. cc)
   apart None j none some = some
 
@@ -70,7 +73,8 @@ module _ {X : Type 0} (Q : X → Type 0) where
   led-values same x None rs one all = all
   led-values same x (Some v) [] one all = All-cons (λ (r : RunOf X). Q r.value) (one_address x v) [] (one v refl) all
   led-values same x (Some v) (r ∷ rs) one all =
-      elim (cases_Bool ((r.base == x + 1) && same v r.value)) as (λ _. All (λ (s : RunOf X). Q s.value) (prepend_address same x (Some v) (r ∷ rs))) [
+      elim (cases_Bool ((r.base == x + 1) && same v r.value)) as (λ _.
+      All (λ (s : RunOf X). Q s.value) (prepend_address same x (Some v) (r ∷ rs))) [
         | inl longer ↦ rw longer (All-cons (λ (s : RunOf X). Q s.value) (record { base = x; size = r.size + 1; value = v }) rs (one v refl)
             (λ k d less. all (suc k) d (omega (arith, less))))
         | inr another ↦ rw another (All-cons (λ (s : RunOf X). Q s.value) (one_address x v) (r ∷ rs) (one v refl) all)
@@ -120,7 +124,8 @@ some-kept : (memory : ℕ → Bool) (domains : List ℕ) (i : ℕ) (bs : List Sr
     → keep_blocks_from memory domains i bs ≢ []
 some-kept memory domains i [] any = absurd (true≢false (sym any))
 some-kept memory domains i (b ∷ bs) any =
-    elim (cases_Bool (meets_memory memory (extent_of (block_in_frames domains b)))) as (λ _. keep_blocks_from memory domains i (b ∷ bs) ≢ []) [
+    elim (cases_Bool (meets_memory memory (extent_of (block_in_frames domains b)))) as (λ _.
+    keep_blocks_from memory domains i (b ∷ bs) ≢ []) [
       | inl here ↦ rw here (λ same. cc)
       | inr not_here ↦ rw not_here (some-kept memory domains (i + 1) bs (rw not_here at any))
     ]
@@ -144,7 +149,8 @@ given-small memory off table =
     let blocks : List KeptBlock = keep_blocks memory domains lists.blocks in
     let some : blocks ≢ [] = some-kept memory domains 0 lists.blocks kept in
     All-append Small (runs_of same_node (nodes_by_blocks blocks)) (runs_of same_node (node_outside_blocks memory blocks))
-    (small-runs (nodes_by_blocks blocks) (λ x n at. node-few memory domains lists.blocks n few (node_of_kept memory blocks some x n (inl at))))
+    (small-runs (nodes_by_blocks blocks) (λ x n at.
+    node-few memory domains lists.blocks n few (node_of_kept memory blocks some x n (inl at))))
     (small-runs (node_outside_blocks memory blocks)
     (λ x n at. node-few memory domains lists.blocks n few (node_of_kept memory blocks some x n (inr at)))))
 
@@ -165,7 +171,8 @@ pub given-covers : (memory : ℕ → Bool) (off : Bool) (table : Option SratView
     → memory x ≡ true → x < 2 ^ 64
     → (is_some (value_at (judge_srat memory off table).joined x) || is_some (value_at (judge_srat memory off table).rest x)) ≡ true
 given-covers memory off table x used_it is near =
-    by_judgement (λ (j : SratNodesView). j.why ≡ why.Used → (is_some (value_at j.joined x) || is_some (value_at j.rest x)) ≡ true) memory off
+    by_judgement (λ (j : SratNodesView). j.why ≡ why.Used
+    → (is_some (value_at j.joined x) || is_some (value_at j.rest x)) ≡ true) memory off
     table (λ r other same. absurd (other same))
     (λ lists kept few same.
     let blocks : List KeptBlock = keep_blocks memory (srat_domains lists) lists.blocks in

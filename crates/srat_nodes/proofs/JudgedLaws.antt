@@ -52,7 +52,8 @@ module _ (memory : ℕ → Bool) (kept : List KeptBlock) (joined rest : List Num
       subst (λ (f : ℕ → Option ℕ). IsRunsOf (node_if_uncovered memory f (lowest_node (numa_blocks_of kept))) rest) at_nodes found.left in
       let at_left : value_at rest ≡ node_outside_blocks memory kept = λ i x. left.each x i in
       record {
-        hulls = the_list same_node tells_nodes (nodes_by_blocks kept) joined (λ x far. node_none (numa_blocks_of kept) x found.kept_space far)
+        hulls = the_list same_node tells_nodes (nodes_by_blocks kept) joined (λ x far.
+            node_none (numa_blocks_of kept) x found.kept_space far)
             found.hulls;
         left = the_list same_node tells_nodes (node_outside_blocks memory kept) rest
             (λ x far. sym (left.each x) ∙ space_none rest x found.left_space far) left;
@@ -64,7 +65,13 @@ module _ (memory : ℕ → Bool) (kept : List KeptBlock) (joined rest : List Num
   found_uncovered domains many = rw (found.apart, spoken.counted, le-leb 256 frames many) refl
 
   pub found_used : (domains : List ℕ) → frames < 256
-      → judge_kept_blocks memory domains kept ≡ record { why = why.Used; domains = domains; joined = joined; rest = rest; uncovered = frames }
+      → judge_kept_blocks memory domains kept ≡ record {
+        why = why.Used;
+        domains = domains;
+        joined = joined;
+        rest = rest;
+        uncovered = frames;
+      }
   unfolding judge_kept_blocks
   found_used domains few = rw (found.apart, spoken.counted, lt-leb 256 frames few, spoken.hulls, spoken.left) refl
 
@@ -84,13 +91,15 @@ module _ (memory : ℕ → Bool) (lists : SratView) where
   unfolding judge_srat_table
   too_many_domains some many = rw (some, lt-ltb 1024 (length (srat_domains lists)) many) refl
 
-  pub too_many_blocks : is_any_kept memory lists.blocks ≡ true → length (srat_domains lists) ≤ 1024 → 2048 < count_with_addresses lists.blocks
+  pub too_many_blocks : is_any_kept memory lists.blocks ≡ true → length (srat_domains lists) ≤ 1024
+      → 2048 < count_with_addresses lists.blocks
       → judge_srat_table memory lists ≡ unused_srat why.TooManyBlocks
   unfolding judge_srat_table
   too_many_blocks some few many =
       rw (some, le-ltb 1024 (length (srat_domains lists)) few, lt-ltb 2048 (count_with_addresses lists.blocks) many) refl
 
-  pub by_kept : is_any_kept memory lists.blocks ≡ true → (domains : List ℕ) → domains ≡ take 1025 (srat_domains lists) → length domains ≤ 1024
+  pub by_kept : is_any_kept memory lists.blocks ≡ true → (domains : List ℕ) → domains ≡ take 1025 (srat_domains lists)
+      → length domains ≤ 1024
       → count_with_addresses lists.blocks ≤ 2048 → (kept : List KeptBlock) → kept ≡ keep_blocks memory domains lists.blocks
       → judge_kept_blocks memory domains kept ≡ judge_srat_table memory lists
   unfolding judge_srat_table

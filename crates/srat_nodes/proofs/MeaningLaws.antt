@@ -37,7 +37,8 @@ one_filled f x m n (inr around) (inl second) = sym (around.only x n (omega (arit
 one_filled f x m n (inr first) (inr second) = one_around f x m n first second
 
 -- the node of an address is the one that it has
-node_had : (blocks : List NumaBlock) (x n : ℕ) → Apart blocks → HaveAddresses blocks → belongs_to_node blocks n x ≡ true → node_at blocks x ≡ Some n
+node_had : (blocks : List NumaBlock) (x n : ℕ) → Apart blocks → HaveAddresses blocks → belongs_to_node blocks n x ≡ true
+    → node_at blocks x ≡ Some n
 unfolding node_at
 node_had blocks x n apart some had = by (first_node_among blocks x blocks) refl where
   by : (o : Option ℕ) → first_node_among blocks x blocks ≡ o → first_node_among blocks x blocks ≡ Some n
@@ -96,7 +97,8 @@ Framed blocks = (b : NumaBlock) → IsIn b blocks → (b.base % 4096 ≡ 0) × (
 in_frame : (b : NumaBlock) (x : ℕ) → b.base % 4096 ≡ 0 → run_end b % 4096 ≡ 0 → lies_in b x ≡ lies_in b (frame_base x)
 in_frame b x first last = grind (arith, nat_tests)
 
-between_frame : (a b : NumaBlock) (x : ℕ) → run_end a % 4096 ≡ 0 → b.base % 4096 ≡ 0 → lies_between_blocks a b x ≡ lies_between_blocks a b (frame_base x)
+between_frame : (a b : NumaBlock) (x : ℕ) → run_end a % 4096 ≡ 0 → b.base % 4096 ≡ 0
+    → lies_between_blocks a b x ≡ lies_between_blocks a b (frame_base x)
 between_frame a b x first last = grind (arith, nat_tests)
 
 any_same : {X : Type 0} (p q : X → Bool) (xs : List X) → ((x : X) → IsIn x xs → p x ≡ q x) → list_any p xs ≡ list_any q xs
@@ -127,7 +129,8 @@ pub record IsKept (memory : ℕ → Bool) (domains : List ℕ) (k : KeptBlock) :
   pub block : k.block ≡ block_in_frames domains told
   pub some : meets_memory memory (extent_of k.block) ≡ true
 
-pub is_kept : (memory : ℕ → Bool) (domains : List ℕ) (i : ℕ) (bs : List SratBlock) (k : KeptBlock) → IsIn k (keep_blocks_from memory domains i bs)
+pub is_kept : (memory : ℕ → Bool) (domains : List ℕ) (i : ℕ) (bs : List SratBlock) (k : KeptBlock)
+    → IsIn k (keep_blocks_from memory domains i bs)
     → IsKept memory domains k
 is_kept memory domains i [] k member = absurd member
 is_kept memory domains i (b ∷ bs) k member =
@@ -154,7 +157,8 @@ pub nodes_frame : (memory : ℕ → Bool) (domains : List ℕ) (blocks : List Sr
 nodes_frame memory domains blocks x = node_frame (numa_blocks_of (keep_blocks memory domains blocks)) x (framed_kept memory domains blocks)
 
 pub left_frame : (memory : ℕ → Bool) → ((x : ℕ) → memory x ≡ memory (frame_base x)) → (domains : List ℕ) (blocks : List SratBlock) (x : ℕ)
-    → node_outside_blocks memory (keep_blocks memory domains blocks) x ≡ node_outside_blocks memory (keep_blocks memory domains blocks) (frame_base x)
+    → node_outside_blocks memory (keep_blocks memory domains blocks) x
+    ≡ node_outside_blocks memory (keep_blocks memory domains blocks) (frame_base x)
 left_frame memory whole domains blocks x = rw (whole x, nodes_frame memory domains blocks x) refl
 
 -- a byte of memory in a range that has memory

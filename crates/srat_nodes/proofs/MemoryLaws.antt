@@ -17,12 +17,14 @@ use Rattle.srat_nodes.specs.Steps.{run_without_node, is_in_runs}
 use Rattle.srat_nodes.proofs.RestLaws.{bare_given}
 
 -- an address is in the runs of memory exactly if it is memory
-pub told_memory : (memory : List RangeView) (rs : List (RunOf Bool)) → IsRunsOf (overlay_runs option_or (map run_without_node memory)) rs → (x : ℕ)
+pub told_memory : (memory : List RangeView) (rs : List (RunOf Bool)) → IsRunsOf (overlay_runs option_or (map run_without_node memory)) rs
+    → (x : ℕ)
     → is_in_runs rs x ≡ is_in_any_range memory x
-told_memory memory rs known x = ap (λ (o : Option Bool). is_some o) (known.each x ∙ bare_given memory x) ∙ by (is_in_any_range memory x) where
-  by : (m : Bool) → is_some (if m then Some false else None) ≡ m
-  by true = refl
-  by false = refl
+told_memory memory rs known x =
+    ap (λ (o : Option Bool). is_some o) (known.each x ∙ bare_given memory x) ∙ by (is_in_any_range memory x) where
+      by : (m : Bool) → is_some (if m then Some false else None) ≡ m
+      by true = refl
+      by false = refl
 
 -- a range with a byte of memory, and one without
 some_in : (rs : List (RunOf Bool)) (range : RangeView) (x : ℕ) (v : Bool) → range.base ≤ x → x < range.base + range.size

@@ -35,7 +35,8 @@ named_with domains d e = elim (cases_Bool (is_named_domain domains d)) as
       | inr new ↦ rw (new, list_any-append (λ (c : ℕ). c == e) domains (d ∷ [])) (grind arith)
     ]
 
-named_all : (domains names : List ℕ) (e : ℕ) → is_named_domain (fold with_domain domains names) e ≡ (is_named_domain domains e || is_named_domain names e)
+named_all : (domains names : List ℕ) (e : ℕ)
+    → is_named_domain (fold with_domain domains names) e ≡ (is_named_domain domains e || is_named_domain names e)
 named_all domains [] e = grind arith
 named_all domains (d ∷ ds) e = rw (named_all (with_domain domains d) ds e, named_with domains d e) (grind arith)
 
@@ -53,7 +54,8 @@ first_place domains i d within is none =
     let at = position_or_len_is (λ e. e == d) domains i 0 (omega arith) none (λ less. eq-eqb _ d is) in
     rw (at, lt-ltb i (length domains) within) refl
 
-node_stays : (domains more : List ℕ) (d : ℕ) → is_named_domain domains d ≡ true → node_of_domain (domains ++ more) d ≡ node_of_domain domains d
+node_stays : (domains more : List ℕ) (d : ℕ) → is_named_domain domains d ≡ true
+    → node_of_domain (domains ++ more) d ≡ node_of_domain domains d
 node_stays domains more d named =
     let place : HasPlace domains d = place_of domains d named in
     let below : node_of_domain domains d < length domains = place.below in
@@ -99,7 +101,8 @@ unfolding domains_once
 node_at_place names = places_all [] names (λ n within. absurd (omega arith))
 
 -- a domain that is named before another has the lower node
-order_behind : (domains names : List ℕ) (d e : ℕ) → is_named_domain domains d ≡ true → is_named_domain domains e ≡ false → is_named_domain names e ≡ true
+order_behind : (domains names : List ℕ) (d e : ℕ) → is_named_domain domains d ≡ true → is_named_domain domains e ≡ false
+    → is_named_domain names e ≡ true
     → node_of_domain (fold with_domain domains names) d < node_of_domain (fold with_domain domains names) e
 order_behind domains names d e named new later =
     let behind = extended domains names in

@@ -155,7 +155,8 @@ own_passes : (v n : ℕ) (meeting : Bool) → (meeting ≡ true → v ≡ n) →
 own_passes v n true same = let is : v ≡ n = same refl in grind (arith, nat_tests)
 own_passes v n false same = grind arith
 
-lies_outside : (blocks : List NumaBlock) (n x at : ℕ) (b : Covers blocks at n) → is_in_block_of_node blocks n x ≡ false → lies_in b.block x ≡ false
+lies_outside : (blocks : List NumaBlock) (n x at : ℕ) (b : Covers blocks at n) → is_in_block_of_node blocks n x ≡ false
+    → lies_in b.block x ≡ false
 lies_outside blocks n x at b not_held = false_from_ne_true (lies_in b.block x) (λ lies.
     true≢false (sym (held_by blocks b.block n x b.member b.node lies) ∙ not_held))
 
@@ -172,7 +173,8 @@ around_joins blocks n x apart around not_held =
     grind (arith, nat_tests, low.0, around.under, a_outside, high.1, around.over, b_outside) in
     let own : meets_no_other_node blocks n a.block b.block ≡ true = member_all _ blocks (λ c in_c.
     own_passes c.value n (block_meets a.block.base (run_end b.block) c) (hull_own blocks n x apart around a b c in_c)) in
-    let inner = member_any (λ (d : NumaBlock). (d.value == n) && (lies_between_blocks a.block d x && meets_no_other_node blocks n a.block d)) blocks b.block
+    let inner = member_any (λ (d : NumaBlock). (d.value == n)
+    && (lies_between_blocks a.block d x && meets_no_other_node blocks n a.block d)) blocks b.block
     b.member (rw (eq-eqb b.block.value n b.node, between, own) refl) in
     member_any _ blocks a.block a.member (rw (eq-eqb a.block.value n a.node, inner) refl)
 
@@ -186,14 +188,16 @@ filled_has blocks n x apart (inr around) = elim (cases_Bool (is_in_block_of_node
 ]
 
 -- the node of an address is one that it has; an address that has the node of a block has a node
-pub first_has : (blocks : List NumaBlock) (x m : ℕ) (bs : List NumaBlock) → first_node_among blocks x bs ≡ Some m → belongs_to_node blocks m x ≡ true
+pub first_has : (blocks : List NumaBlock) (x m : ℕ) (bs : List NumaBlock) → first_node_among blocks x bs ≡ Some m
+    → belongs_to_node blocks m x ≡ true
 first_has blocks x m [] some = absurd (none-some m some)
 first_has blocks x m (b ∷ bs) some = elim (cases_Bool (belongs_to_node blocks b.value x)) as (λ _. belongs_to_node blocks m x ≡ true) [
   | inl had ↦ subst (λ (k : ℕ). belongs_to_node blocks k x ≡ true) (same_Some b.value m (rw had at some)) had
   | inr not_had ↦ first_has blocks x m bs (rw not_had at some)
 ]
 
-pub first_some : (blocks : List NumaBlock) (x : ℕ) (bs : List NumaBlock) (b : NumaBlock) → IsIn b bs → belongs_to_node blocks b.value x ≡ true
+pub first_some : (blocks : List NumaBlock) (x : ℕ) (bs : List NumaBlock) (b : NumaBlock) → IsIn b bs
+    → belongs_to_node blocks b.value x ≡ true
     → first_node_among blocks x bs ≢ None
 first_some blocks x [] b member had none = member
 first_some blocks x (c ∷ cs) b member had none = elim (cases_Bool (belongs_to_node blocks c.value x)) as (λ _. ⊥) [

@@ -64,7 +64,8 @@ bare_of n (Some false) = Some n
 
 -- overlaying both gives memory without a node
 told_over : (memory : List RangeView) (joined : List NumaBlock) (n x : ℕ)
-    → bare_of n (overlay_runs option_or (map run_with_node joined ++ map run_without_node memory) x) ≡ node_if_uncovered (is_in_any_range memory) (value_at joined) n x
+    → bare_of n (overlay_runs option_or (map run_with_node joined ++ map run_without_node memory) x)
+    ≡ node_if_uncovered (is_in_any_range memory) (value_at joined) n x
 told_over memory joined n x =
     rw (
       sym (all_append option_or first_none first_grouped (map run_with_node joined) (map run_without_node memory) x),
@@ -94,7 +95,8 @@ bare_value n (c ∷ cs) x runs = by c.value (lies_in c x) refl refl (bare_value 
   by false false value lies rest = rw (value, lies, rest) refl
 
 -- the value inside the first of these runs
-bare_first : (n : ℕ) (cs : List (RunOf Bool)) (d : NumaBlock) (ds : List NumaBlock) (x : ℕ) → AreRuns cs → uncovered_runs_with_node n cs ≡ d ∷ ds
+bare_first : (n : ℕ) (cs : List (RunOf Bool)) (d : NumaBlock) (ds : List NumaBlock) (x : ℕ) → AreRuns cs
+    → uncovered_runs_with_node n cs ≡ d ∷ ds
     → d.base ≤ x → x < run_end d → bare_of n (value_at cs x) ≡ Some d.value
 bare_first n cs d ds x runs is above under =
     sym (bare_value n cs x runs) ∙ ap (λ (es : List NumaBlock). value_at es x) is ∙ rw (inside d x above under) refl
@@ -180,7 +182,8 @@ unfolding count_frames_with_node
 frames_none = count_none (λ frame. is_some (value_at {X = ℕ} [] (4096 * frame))) (2 ^ 52) (λ i lt. refl)
 
 pub frames_step : (r : NumaBlock) (rs : List NumaBlock) → AreRuns (r ∷ rs) → run_end r < 2 ^ 64
-    → count_frames_with_node (value_at (r ∷ rs)) ≡ (count_frames_below (run_end r) - count_frames_below r.base) + count_frames_with_node (value_at rs)
+    → count_frames_with_node (value_at (r ∷ rs)) ≡ (count_frames_below (run_end r) - count_frames_below r.base)
+    + count_frames_with_node (value_at rs)
 unfolding count_frames_with_node
 frames_step r rs runs space =
     let here : ℕ → Bool = λ frame. nat_le (count_frames_below r.base) frame && nat_lt frame (count_frames_below (run_end r)) in
@@ -194,7 +197,8 @@ frames_step r rs runs space =
     let apart : (frame : ℕ) → frame < 2 ^ 52 → here frame ≡ true → later frame ≡ false = λ frame lt in_run.
     rw (none_below (run_end r) (4096 * frame) rs runs.2 (rest_from r rs runs) (grind (arith, nat_tests, begun_in r frame))) refl in
     count_same _ _ (2 ^ 52) both ∙ count_either here later (2 ^ 52) apart
-    ∙ ap (λ n. n + count_below later (2 ^ 52)) (count_interval (count_frames_below r.base) (count_frames_below (run_end r)) (2 ^ 52) ∙ omega arith)
+    ∙ ap (λ n. n + count_below later (2 ^ 52)) (count_interval (count_frames_below r.base) (count_frames_below (run_end r)) (2 ^ 52)
+    ∙ omega arith)
 
 pub frames_few : (f : ℕ → Option ℕ) → count_frames_with_node f ≤ 2 ^ 52
 unfolding count_frames_with_node
@@ -204,7 +208,8 @@ frames_few f = count_at_most (λ frame. is_some (f (4096 * frame))) (2 ^ 52)
 pub frames_first : (r : NumaBlock) (rs : List NumaBlock) (n : ℕ) → 1 ≤ length rs → n ≡ length rs → r ≡ get_or rs 0 r → AreRuns rs
     → run_end r < 2 ^ 64
     → AreRuns (take (n - 1) (drop 1 rs))
-    × (count_frames_with_node (value_at rs) ≡ (count_frames_below (run_end r) - count_frames_below r.base) + count_frames_with_node (value_at (take (n - 1) (drop 1 rs))))
+    × (count_frames_with_node (value_at rs) ≡ (count_frames_below (run_end r) - count_frames_below r.base)
+    + count_frames_with_node (value_at (take (n - 1) (drop 1 rs))))
 frames_first r [] n some count is runs space = absurd (omega arith)
 frames_first r (s ∷ ss) n some count is runs space =
     let all : take (n - 1) ss ≡ ss = take_all (n - 1) ss (omega arith) in

@@ -35,7 +35,8 @@ meets_memory memory r = not (each_in r (λ y. not (memory y)))
 
 -- a block of the table in whole frames, with the node of its domain
 abbrev pub block_in_frames : List ℕ → SratBlock → NumaBlock
-block_in_frames domains b = record { base = (round_ends_down b.range).base; size = (round_ends_down b.range).size; value = node_of_domain domains b.domain }
+block_in_frames domains b =
+    record { base = (round_ends_down b.range).base; size = (round_ends_down b.range).size; value = node_of_domain domains b.domain }
 
 -- the block with the number `i`, if it is kept: if it has a byte of memory
 abbrev pub keep_block : (ℕ → Bool) → ℕ → NumaBlock → List KeptBlock

@@ -30,7 +30,8 @@ is_in_block_of_node blocks n x = list_any (λ b. (b.value == n) && lies_in b x) 
 -- no block of another node
 abbrev pub is_in_gap_of_node : List NumaBlock → ℕ → ℕ → Bool
 is_in_gap_of_node blocks n x =
-    list_any (λ a. (a.value == n) && list_any (λ b. (b.value == n) && (lies_between_blocks a b x && meets_no_other_node blocks n a b)) blocks) blocks
+    list_any (λ a.
+    (a.value == n) && list_any (λ b. (b.value == n) && (lies_between_blocks a b x && meets_no_other_node blocks n a b)) blocks) blocks
 
 -- the address has node n
 abbrev pub belongs_to_node : List NumaBlock → ℕ → ℕ → Bool

@@ -62,7 +62,8 @@ used_srat domains nodes left = record {
 -- the last reason not to use the table: too many frames of memory have no node
 abbrev pub nodes_if_covering : List ℕ → (ℕ → Option ℕ) → (ℕ → Option ℕ) → SratNodesView
 nodes_if_covering domains nodes left =
-    if nat_le UNCOVERED_FRAMES (count_frames_with_node left) then unused_srat (why.NotCovered (count_frames_with_node left)) else used_srat domains nodes left
+    if nat_le UNCOVERED_FRAMES (count_frames_with_node left) then unused_srat (why.NotCovered (count_frames_with_node left))
+    else used_srat domains nodes left
 
 -- the table isn't used if kept blocks of different nodes overlap: the first argument has the
 -- numbers of the first such pair. Else the result is the second argument.
@@ -81,7 +82,8 @@ node_outside_blocks memory kept = node_if_uncovered memory (nodes_by_blocks kept
 -- the result that depends on the kept blocks: whether they overlap, and whether they cover enough
 -- memory
 unfoldable pub judge_kept_blocks : (ℕ → Bool) → List ℕ → List KeptBlock → SratNodesView
-judge_kept_blocks memory domains kept = nodes_if_apart (first_clash kept) (nodes_if_covering domains (nodes_by_blocks kept) (node_outside_blocks memory kept))
+judge_kept_blocks memory domains kept =
+    nodes_if_apart (first_clash kept) (nodes_if_covering domains (nodes_by_blocks kept) (node_outside_blocks memory kept))
 
 -- the domains that a table names, in the order of their nodes
 abbrev pub srat_domains : SratView → List ℕ

@@ -45,7 +45,8 @@ run_of_node node r = record { base = r.base; size = r.size; value = node }
 -- the runs that have no node (their value is `false`), each with `node`
 abbrev pub uncovered_runs_with_node : ℕ → List (RunOf Bool) → List NumaBlock
 uncovered_runs_with_node node [] = []
-uncovered_runs_with_node node (r ∷ rs) = if r.value then uncovered_runs_with_node node rs else run_of_node node r ∷ uncovered_runs_with_node node rs
+uncovered_runs_with_node node (r ∷ rs) =
+    if r.value then uncovered_runs_with_node node rs else run_of_node node r ∷ uncovered_runs_with_node node rs
 
 -- the end of each run is below 2^64
 abbrev pub EndInSpace : List NumaBlock → Type 0

@@ -36,7 +36,8 @@ from_broken n at bytes before broken = grind (arith, nat_tests)
 -- if two bounds give the same entries after this one, a bound of one more gives the same entries
 -- from this one on
 one_step : (n m at : ℕ) (bytes : List ℕ)
-    → (2 ≤ entry_length_at at bytes → entry_offsets_from n (at + entry_length_at at bytes) bytes ≡ entry_offsets_from m (at + entry_length_at at bytes) bytes)
+    → (2 ≤ entry_length_at at bytes
+    → entry_offsets_from n (at + entry_length_at at bytes) bytes ≡ entry_offsets_from m (at + entry_length_at at bytes) bytes)
     → (ended whole : Bool) → nat_le (length bytes) at ≡ ended → is_whole_entry at bytes ≡ whole
     → entry_offsets_from (suc n) at bytes ≡ entry_offsets_from (suc m) at bytes
 one_step n m at bytes behind true whole ended is =
@@ -85,11 +86,13 @@ pub broken_fault : (at : ℕ) (bytes : List ℕ) → at < length bytes → is_wh
     → first_srat_fault bytes (rest_from at bytes) ≡ Some (faults.EntryLength at)
 broken_fault at bytes before broken = rw (rest_broken at bytes before broken) (rw broken refl)
 
-pub far_fault : (at : ℕ) (bytes : List ℕ) → at < length bytes → is_whole_entry at bytes ≡ true → is_memory_overflowing (srat_entry_at at bytes) ≡ true
+pub far_fault : (at : ℕ) (bytes : List ℕ) → at < length bytes → is_whole_entry at bytes ≡ true
+    → is_memory_overflowing (srat_entry_at at bytes) ≡ true
     → first_srat_fault bytes (rest_from at bytes) ≡ Some (faults.BlockTooFar at)
 far_fault at bytes before whole far = rw (rest_whole at bytes before whole) (rw whole (rw far refl))
 
-pub later_fault : (at : ℕ) (bytes : List ℕ) → at < length bytes → is_whole_entry at bytes ≡ true → is_memory_overflowing (srat_entry_at at bytes) ≡ false
+pub later_fault : (at : ℕ) (bytes : List ℕ) → at < length bytes → is_whole_entry at bytes ≡ true
+    → is_memory_overflowing (srat_entry_at at bytes) ≡ false
     → first_srat_fault bytes (rest_from at bytes) ≡ first_srat_fault bytes (rest_from (at + entry_length_at at bytes) bytes)
 later_fault at bytes before whole near = rw (rest_whole at bytes before whole) (rw whole (rw near refl))
 
@@ -142,12 +145,13 @@ some_told {X} f at bytes before here whole some = rw (rest_whole at bytes here w
 -- "out of memory" is never a fault of the bytes
 pub not_memory : (bytes offsets : List ℕ) → first_srat_fault bytes offsets ≢ Some faults.Memory
 not_memory bytes [] is = cc
-not_memory bytes (at ∷ rest) is = by (not_memory bytes rest) (is_whole_entry at bytes) (is_memory_overflowing (srat_entry_at at bytes)) refl refl is where
-  by : first_srat_fault bytes rest ≢ Some faults.Memory → (whole far : Bool) → is_whole_entry at bytes ≡ whole
-      → is_memory_overflowing (srat_entry_at at bytes) ≡ far → first_srat_fault bytes (at ∷ rest) ≢ Some faults.Memory
-  by behind false far broken is said = let named = rw (broken) at said in cc
-  by behind true true whole far said = let named = rw (whole, far) at said in cc
-  by behind true false whole near said = behind (rw (whole, near) at said)
+not_memory bytes (at ∷ rest) is =
+    by (not_memory bytes rest) (is_whole_entry at bytes) (is_memory_overflowing (srat_entry_at at bytes)) refl refl is where
+      by : first_srat_fault bytes rest ≢ Some faults.Memory → (whole far : Bool) → is_whole_entry at bytes ≡ whole
+          → is_memory_overflowing (srat_entry_at at bytes) ≡ far → first_srat_fault bytes (at ∷ rest) ≢ Some faults.Memory
+      by behind false far broken is said = let named = rw (broken) at said in cc
+      by behind true true whole far said = let named = rw (whole, far) at said in cc
+      by behind true false whole near said = behind (rw (whole, near) at said)
 
 -- there are no more entries than bytes
 few_offsets : (n at : ℕ) (bytes : List ℕ) → length (entry_offsets_from n at bytes) ≤ n

@@ -55,7 +55,8 @@ domains_of_revision_1 : (local_apic_domain 48 (header 64 1 0 ++ apic 1) ≡ 1) �
 unfolding local_apic_domain memory_domain
 domains_of_revision_1 = (refl, refl)
 
-domains_of_revision_2 : (local_apic_domain 48 (header 64 2 0 ++ apic 1) ≡ 0x04030201) × (memory_domain 48 (header 88 2 0 ++ memory 1) ≡ 0x105)
+domains_of_revision_2 : (local_apic_domain 48 (header 64 2 0 ++ apic 1) ≡ 0x04030201)
+    × (memory_domain 48 (header 88 2 0 ++ memory 1) ≡ 0x105)
 unfolding local_apic_domain memory_domain
 domains_of_revision_2 = (refl, refl)
 
@@ -67,7 +68,8 @@ says_memory : (memory_entry_at 48 (header 88 3 0 ++ memory 0) ≡ said.Block 0x1
 unfolding srat_entry_at memory_domain
 says_memory = (refl, refl)
 
-says_nothing : (srat_entry_at 48 (header 88 3 0 ++ memory 2) ≡ said.Nothing) × (srat_entry_at 48 (header 50 3 0 ++ 9 ∷ 2 ∷ []) ≡ said.Nothing)
+says_nothing : (srat_entry_at 48 (header 88 3 0 ++ memory 2) ≡ said.Nothing)
+    × (srat_entry_at 48 (header 50 3 0 ++ 9 ∷ 2 ∷ []) ≡ said.Nothing)
 unfolding srat_entry_at
 says_nothing = (refl, refl)
 

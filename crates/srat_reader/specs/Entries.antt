@@ -68,7 +68,8 @@ memory_entry_at at bytes = said.Block (memory_domain at bytes) (number_at 8 (at 
 -- the content of the entry at offset `at`: nothing if it is of another type or isn't enabled
 unfoldable pub srat_entry_at : ℕ → List ℕ → SratEntry
 srat_entry_at at bytes =
-    if entry_type_at at bytes == 0 then entry_if_enabled (has_enabled_flag (at + 4) bytes) (said.Processor (local_apic_domain at bytes)) else
+    if entry_type_at at bytes == 0 then entry_if_enabled (has_enabled_flag (at + 4) bytes) (said.Processor (local_apic_domain at bytes))
+    else
     (if entry_type_at at bytes == 1 then entry_if_enabled (has_enabled_flag (at + 28) bytes) (memory_entry_at at bytes) else
     (if entry_type_at at bytes == 2 then entry_if_enabled (has_enabled_flag (at + 12) bytes) (said.Processor (x2apic_domain at bytes)) else
     said.Nothing))

@@ -9,7 +9,8 @@ use Rattle.growth_model.proofs.EndLaws.{cut-first, cut-second}
 use Rattle.growth_model.proofs.SoundLaws.{more-begun}
 use Rattle.stage_steps.specs.Steps.{StepEffect, StageStep, append_groups, items_after_step, return_value, read_into_list, continue_if_ok, ◌>>=◌, EndsAsStage}
 
-pub append_groups-append : (items : List Item) (a b : List (List Item)) → append_groups items (a ++ b) ≡ append_groups (append_groups items a) b
+pub append_groups-append : (items : List Item) (a b : List (List Item))
+    → append_groups items (a ++ b) ≡ append_groups (append_groups items a) b
 append_groups-append items [] b = refl
 append_groups-append items (s ∷ ss) b = append_groups-append (items ++ s) ss b
 
@@ -48,7 +49,8 @@ module _ {E F A B : Type 0} where
 
 module _ {E F A : Type 0} where
   -- memory of the program for a list was allocated, or it was out of memory
-  pub ends-listed : (f : List Item → A) (error : Option E → F) (items : List Item) → EndsAsStage (read_into_list f) error (Ok (f items)) items items
+  pub ends-listed : (f : List Item → A) (error : Option E → F) (items : List Item)
+      → EndsAsStage (read_into_list f) error (Ok (f items)) items items
   ends-listed f error items = (refl, sym (append-nil items))
 
   pub ends-wanting : (f : List Item → A) (error : Option E → F) (items : List Item)

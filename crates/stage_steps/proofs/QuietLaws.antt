@@ -35,7 +35,8 @@ module _ {E A B : Type 0} where
   quiet_going steps (Ok a) next quiet then = quiet-append steps (next a).steps quiet (then a)
   quiet_going steps (Err e) next quiet then = quiet
 
-  pub quiet-bind : (f : StageStep E A) (next : A → StageStep E B) → KeepsMemory f → ((a : A) → KeepsMemory (next a)) → KeepsMemory (f >>= next)
+  pub quiet-bind : (f : StageStep E A) (next : A → StageStep E B) → KeepsMemory f → ((a : A) → KeepsMemory (next a))
+      → KeepsMemory (f >>= next)
   quiet-bind f next quiet then = record {
     each = λ items. quiet_going (f items).steps (f items).answer (λ a. next a (items_after_step items (f items))) (quiet.each items)
         (λ a. (then a).each (items_after_step items (f items)));

@@ -41,11 +41,13 @@ module _ (thing : What) where
 
   -- an allocation
   placed_by : (place : Option ℕ) (r : Result ℕ Refusal) (old new : List Item) (size : ℕ) (who : Owner)
-      → Allocates r old new place size who → EndsAsStage (claim_found_place thing place size who) stage_stop (with_error (stop_for thing) r) old new
+      → Allocates r old new place size who
+      → EndsAsStage (claim_found_place thing place size who) stage_stop (with_error (stop_for thing) r) old new
   placed_by None r old new size who h = rw h.0 (inl (NoPlace thing, refl, refl, h.1))
   placed_by (Some place) (Ok base) old new size who h =
       let claim : Change = claim_range (record { base = place; size = size }) who in
-      ends-second tt (Ok base) stage_stop old new new (change_or_stop claim) (λ done. return_value place) (ends-carried (Ok tt) old new claim h.1)
+      ends-second tt (Ok base) stage_stop old new new (change_or_stop claim) (λ done.
+      return_value place) (ends-carried (Ok tt) old new claim h.1)
       (rw h.0 refl, refl)
   placed_by (Some place) (Err e) old new size who h =
       let claim : Change = claim_range (record { base = place; size = size }) who in

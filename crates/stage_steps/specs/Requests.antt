@@ -30,7 +30,8 @@ change_or_stop change items = record { steps = (change items).steps; answer = st
 -- address (`memblock_alloc_range_nid`)
 abbrev pub claim_found_place : What → Option ℕ → ℕ → Owner → StageStep StageCause ℕ
 claim_found_place thing None size who = fail_with (NoPlace thing)
-claim_found_place thing (Some place) size who = change_or_stop (claim_range (record { base = place; size = size }) who) >>= λ done. return_value place
+claim_found_place thing (Some place) size who =
+    change_or_stop (claim_range (record { base = place; size = size }) who) >>= λ done. return_value place
 
 unfoldable pub place_or_stop : What → Request → Owner → StageStep StageCause ℕ
 place_or_stop thing r who items = claim_found_place thing (place_for r items) r.size who items

@@ -59,7 +59,8 @@ fold_steps f s (x ∷ xs) = f s x >>= λ next. fold_steps f next xs
 abbrev pub EndsAsStepEffect : {E F A : Type 0} → StepEffect E A → (Option E → F) → Result A F → List Item → List Item → Type 0
 EndsAsStepEffect d error (Ok a) old new = (d.answer ≡ Ok a) × (new ≡ items_after_step old d)
 EndsAsStepEffect {E} d error (Err e) old new =
-    ((why : E) × (d.answer ≡ Err why) × (e ≡ error (Some why)) × (new ≡ items_after_step old d)) ⊎ ((e ≡ error None) × StopsBeforeStep old new d.steps)
+    ((why : E) × (d.answer ≡ Err why) × (e ≡ error (Some why)) × (new ≡ items_after_step old d))
+    ⊎ ((e ≡ error None) × StopsBeforeStep old new d.steps)
 
 abbrev pub EndsAsStage : {E F A : Type 0} → StageStep E A → (Option E → F) → Result A F → List Item → List Item → Type 0
 EndsAsStage stage error result old new = EndsAsStepEffect (stage old) error result old new

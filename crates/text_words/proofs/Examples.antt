@@ -34,7 +34,8 @@ open_quotation : parts_in CommandLine (codes "a \"b c") ≡ codes "a" ∷ codes 
 open_quotation = refl
 
 -- a line ends at the first zero byte, if it has one
-before_zero : (text_before 0 (97 ∷ 98 ∷ 0 ∷ 99 ∷ 0 ∷ []) ≡ codes "ab") × (text_before 0 (codes "ab") ≡ codes "ab") × (text_before 0 (0 ∷ 97 ∷ []) ≡ [])
+before_zero : (text_before 0 (97 ∷ 98 ∷ 0 ∷ 99 ∷ 0 ∷ []) ≡ codes "ab") × (text_before 0 (codes "ab") ≡ codes "ab")
+    × (text_before 0 (0 ∷ 97 ∷ []) ≡ [])
 before_zero = (refl, refl, refl)
 
 -- name and value, split at the first mark, which may be the first byte

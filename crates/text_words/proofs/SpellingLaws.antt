@@ -53,7 +53,8 @@ word_more s (a ∷ bs) b rest closed is lie =
     let word : IsWord s (a ∷ bs) = record { some = omega arith; closed = closed } in
     rw (words-spelled s (a ∷ bs) b rest word is) (word_first (a ∷ bs) b rest (words_in s rest) word is lie)
 
-words_within : (s : Separators) (most : ℕ) (text : List ℕ) → length text ≤ most → QuotesClose s false text → HasWords s text (words_in s text)
+words_within : (s : Separators) (most : ℕ) (text : List ℕ) → length text ≤ most → QuotesClose s false text
+    → HasWords s text (words_in s text)
 words_within s zero [] short close = no_byte
 words_within s zero (a ∷ bs) short close = absurd (omega arith)
 words_within s (suc most) text short close = by_part (first_part s false text close) (λ rest. words_within s most rest)

@@ -14,7 +14,8 @@ abbrev both : Span
 both = record { node = 7; zone = zone.Dma; start = 1; end = 4; present = 2 }
 
 -- the hole is inside the span, but isn't counted
-span_examples : (is_in_node_zone holed 7 zone.Dma 3 ≡ true) × (is_in_node_zone holed 7 zone.Dma 2 ≡ false) × (is_in_node_zone holed 7 zone.Dma32 3 ≡ false)
+span_examples : (is_in_node_zone holed 7 zone.Dma 3 ≡ true) × (is_in_node_zone holed 7 zone.Dma 2 ≡ false)
+    × (is_in_node_zone holed 7 zone.Dma32 3 ≡ false)
     × (is_in_node_zone holed 6 zone.Dma 3 ≡ false)
     × (with_frames 7 zone.Dma 1 1 None ≡ record { node = 7; zone = zone.Dma; start = 1; end = 2; present = 1 })
     × (with_frames 7 zone.Dma 3 1 (Some (record { node = 7; zone = zone.Dma; start = 1; end = 2; present = 1 })) ≡ both)
@@ -25,7 +26,8 @@ unfolding span_below count_below_in_zone
 span_examples = (refl, refl, refl, refl, refl, refl, refl, refl, refl, refl, refl)
 
 place_examples : (zone_index zone.Dma ≡ 0) × (zone_index zone.Dma32 ≡ 1) × (zone_index zone.Normal ≡ 2)
-    × (frames_with_node_run 4 6 7 holed 5 ≡ Some 7) × (frames_with_node_run 4 6 7 holed 6 ≡ None) × (frames_with_node_run 4 6 8 holed 3 ≡ Some 7)
+    × (frames_with_node_run 4 6 7 holed 5 ≡ Some 7) × (frames_with_node_run 4 6 7 holed 6 ≡ None)
+    × (frames_with_node_run 4 6 8 holed 3 ≡ Some 7)
     × (slot_after 7 zone.Dma 1 2 None 21 ≡ Some (record { node = 7; zone = zone.Dma; start = 1; end = 2; present = 1 }))
     × (slot_after 7 zone.Dma 1 2 None 22 ≡ None)
 place_examples = (refl, refl, refl, refl, refl, refl, refl, refl)

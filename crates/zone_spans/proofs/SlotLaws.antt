@@ -40,7 +40,8 @@ span_grown f n at until m w nothing some low zones =
 span_other : (f : Frames) (n k at until m : ℕ) (z w : Zone) → NothingFrom at f → ((x : ℕ) → at ≤ x → x < until → zone_of x ≡ w)
     → ((k ≡ n) → (w ≡ z) → ⊥) → span_below (frames_with_node_run at until k f) n z m ≡ span_below f n z m
 span_other f n k at until m z w nothing zones other =
-    same_below (frames_with_node_run at until k f) f n z m (λ x low. grind (arith, nat_tests, nothing x, zones x, other, zone_is (zone_of x) z))
+    same_below (frames_with_node_run at until k f) f n z m (λ x low.
+    grind (arith, nat_tests, nothing x, zones x, other, zone_is (zone_of x) z))
 
 -- the slots have the spans after one of them is changed
 pub told_more : (f : Frames) (k at until : ℕ) (w : Zone) (old new : List (Option Span)) → NothingFrom at f → at < until → until ≤ 2 ^ 52
@@ -56,7 +57,8 @@ told_more f k at until w old new nothing some low zones told put n z =
 pub run_parts : (first at until n : ℕ) (f : Frames) → first ≤ at → at ≤ until
     → frames_with_node_run at until n (frames_with_node_run first at n f) ≡ frames_with_node_run first until n f
 run_parts first at until n f order order_too =
-    let same : (x : ℕ) → frames_with_node_run at until n (frames_with_node_run first at n f) x ≡ frames_with_node_run first until n f x = λ x. grind (arith, nat_tests) in
+    let same : (x : ℕ) → frames_with_node_run at until n (frames_with_node_run first at n f) x ≡ frames_with_node_run first until n f x =
+    λ x. grind (arith, nat_tests) in
     λ j x. same x j
 
 pub nothing_behind : (first at n : ℕ) (f : Frames) → first ≤ at → NothingFrom first f → NothingFrom at (frames_with_node_run first at n f)
@@ -78,7 +80,8 @@ told_none f bare n z =
     sym (ap (span_below f n z) all ∙ skip f n z 0 (2 ^ 52) (λ x above below. rw (bare x) refl))
 
 -- the list of the content of the slots
-pub somes_drop : (xs : List (Option Span)) (i : ℕ) → spans_in_slots (drop i xs) ≡ option_to_list (get_or xs i None) ++ spans_in_slots (drop (suc i) xs)
+pub somes_drop : (xs : List (Option Span)) (i : ℕ)
+    → spans_in_slots (drop i xs) ≡ option_to_list (get_or xs i None) ++ spans_in_slots (drop (suc i) xs)
 somes_drop [] zero = refl
 somes_drop [] (suc i) = refl
 somes_drop (x ∷ xs) zero = refl

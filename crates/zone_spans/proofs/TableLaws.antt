@@ -17,7 +17,8 @@ pub low_node : (o : Option ℕ) (n : ℕ) → valid_node o ≡ Some n → n < 10
 low_node o n is = grind (arith, nat_tests)
 
 -- the records before one have no frame at or above its first
-pub nothing_taken : (b : ℕ) (ms : List (RunOf LabelView)) (i : ℕ) (d : RunOf LabelView) → AscendBelow b ms → AreWholeFrames ms → i < length ms
+pub nothing_taken : (b : ℕ) (ms : List (RunOf LabelView)) (i : ℕ) (d : RunOf LabelView) → AscendBelow b ms → AreWholeFrames ms
+    → i < length ms
     → NothingFrom (frames_of_record (get_or ms i d)).first (node_of_frame (value_at (take i ms)))
 nothing_taken b ms i d ascend whole few x above =
     let base = (whole_at ms i d whole few).0 in
@@ -26,7 +27,8 @@ nothing_taken b ms i d ascend whole few x above =
 -- a record with a node adds a run; one without changes nothing
 pub taken_run : (b : ℕ) (ms : List (RunOf LabelView)) (i n : ℕ) (d : RunOf LabelView) → AscendBelow b ms → AreWholeFrames ms → i < length ms
     → (frames_of_record (get_or ms i d)).node ≡ Some n
-    → frames_with_node_run (frames_of_record (get_or ms i d)).first (frames_of_record (get_or ms i d)).end n (node_of_frame (value_at (take i ms)))
+    → frames_with_node_run (frames_of_record (get_or ms i d)).first (frames_of_record (get_or ms i d)).end n
+    (node_of_frame (value_at (take i ms)))
     ≡ node_of_frame (value_at (take (i + 1) ms))
 taken_run b ms i n d ascend whole few is =
     let fs = frames_of_record (get_or ms i d) in

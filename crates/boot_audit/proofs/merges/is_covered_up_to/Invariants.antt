@@ -6,4 +6,5 @@ use Rattle.boot_audit.proofs.merges.is_covered_up_to.Given as goal
 
 abbrev pub invariant-loop-other : goal.invariant-loop-other
 invariant-loop-other l =
-    is_covered_up_to l.block l.at l.until (drop l.other-index l.others) ≡ is_covered_up_to l.block (end_of (frames_of_block l.block)) l.until l.others
+    is_covered_up_to l.block l.at l.until (drop l.other-index l.others)
+    ≡ is_covered_up_to l.block (end_of (frames_of_block l.block)) l.until l.others

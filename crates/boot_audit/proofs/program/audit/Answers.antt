@@ -26,5 +26,6 @@ returns-clause-line g c =
     let end = c.write_verdict-end in
     let wanted = option_map audit_args_view c.read_audit_args-names.result in
     rw (← c.read_audit_args-names.ensures)
-    (ends_told bootaudit g.E.Sink (audit_failure_line wanted) (g.F.Files.faults c.args.files.now) (g.F.Files.faults end.new.files) wanted _ _ _ _
+    (ends_told bootaudit g.E.Sink (audit_failure_line wanted) (g.F.Files.faults c.args.files.now)
+    (g.F.Files.faults end.new.files) wanted _ _ _ _
     end.result _ c.exit_status.ensures end.ensures.cause c.put_end_line.ensures _ (audit_outcome wanted) end.ensures.writes)

@@ -8,4 +8,5 @@ returns-then-not-frame_agrees c =
     sym (kept-parts c.args.whole.now c.args.items.now c.args.x some.0 some.1)
 
 pub returns : goal.returns
-returns c = c.label_after_items.ensures ∙ sym (kept-whole c.args.whole.now c.args.items.now c.args.x (c.if-not-frame_agrees.ensures.agrees refl))
+returns c = c.label_after_items.ensures
+    ∙ sym (kept-whole c.args.whole.now c.args.items.now c.args.x (c.if-not-frame_agrees.ensures.agrees refl))

@@ -19,7 +19,8 @@ returns-in_err-reading-clause-memory c =
 
 pub returns-in_err-reading-clause-words : goal.returns-in_err-reading-clause-words
 returns-in_err-reading-clause-words c =
-    let answers : Answers memory options_view c.from_residual-in_err-reading.result (options_of c.args.bytes.now) = grind (arith, common_steps) in
+    let answers : Answers memory options_view c.from_residual-in_err-reading.result (options_of c.args.bytes.now) =
+    grind (arith, common_steps) in
     numbered_map_options-given c.args.bytes.now c.from_residual-in_err-reading.result answers
 
 -- the end of the line

@@ -28,7 +28,8 @@ returns-in-Err c =
     c.in-Some.ensures.some c.unquote-word.ensures c.as_slice.ensures c.if-eq.ensures in
     let so_far = c.loop-word.invariant.reading in
     sym so_far.2
-    ∙ rw words (after_meanings-fault c.loop-word.number so_far.0 c.in-Err.fault word (option_words behind) (c.in-Err.ensures so_far.0 so_far.1))
+    ∙ rw words (after_meanings-fault c.loop-word.number so_far.0 c.in-Err.fault word (option_words behind)
+    (c.in-Err.ensures so_far.0 so_far.1))
 
 pub loop-word-preserved : goal.loop-word-preserved
 loop-word-preserved c =
@@ -37,7 +38,8 @@ loop-word-preserved c =
     let words = option_words-read c.loop-word.rest.now c.in-Some.word.now behind word c.as_slice.result.now
     c.in-Some.ensures.some c.unquote-word.ensures c.as_slice.ensures c.if-eq.ensures in
     let so_far = c.loop-word.invariant.reading in
-    let next = state_at c.read_word.new.reading (after_meaning c.loop-word.number so_far.0 (word_meaning c.loop-word.number (name_value_of word)))
+    let next = state_at c.read_word.new.reading
+    (after_meaning c.loop-word.number so_far.0 (word_meaning c.loop-word.number (name_value_of word)))
     (c.in_default-read_word.ensures so_far.0 so_far.1) in
     record {
       reading = (

@@ -47,8 +47,10 @@ row1 : (c : In_ok-make_memory) → Behind (inputs_view c.args.inputs.now) c.args
     (with_map (inputs_view c.args.inputs.now) c.args.map.now) c.make_memory.new.memblock [] []
 row1 c =
     let given : InputsView = inputs_view c.args.inputs.now in
-    row-next (row-first given c.args.map.now c.args.memblock.now c.requires.first c.requires.kernel c.requires.bytes) (memory_stage given) _ _
-    (λ fills. steps-on cause_of_growth (λ done next. next) refusal_for (items_with_growths (first_items (early_inputs given) c.args.map.now)) _ _ tt
+    row-next (row-first given c.args.map.now c.args.memblock.now c.requires.first c.requires.kernel c.requires.bytes)
+    (memory_stage given) _ _
+    (λ fills. steps-on cause_of_growth (λ done next.
+    next) refusal_for (items_with_growths (first_items (early_inputs given) c.args.map.now)) _ _ tt
     c.in_ok-make_memory.ensures.ends) c.in_ok-make_memory.ensures.goes_on
 
 row2 : (c : In_ok-nodes) → Behind (inputs_view c.args.inputs.now) c.args.map.now 1
@@ -95,14 +97,17 @@ row5 c row =
     let given : InputsView = inputs_view c.args.inputs.now in
     row-next row (sections_stage given) _ _
     (λ fills. steps-on cause_of_stage made_with_sections stage_stop (place_present_sections given.width)
-    (made_after_lines (with_crash given c.args.map.now c.in_ok-nodes.nodes c.in_ok-crash.crash) c.run_script_lines.new.mb c.run_script_lines.new.live fills
-    c.run_script_lines.new.answers.items) _ (sections_view c.in_ok-roots.roots c.in_ok-roots.placed) c.in_ok-roots.ensures.ends) c.in_ok-roots.ensures.goes_on
+    (made_after_lines
+    (with_crash given c.args.map.now c.in_ok-nodes.nodes c.in_ok-crash.crash) c.run_script_lines.new.mb c.run_script_lines.new.live fills
+    c.run_script_lines.new.answers.items) _ (sections_view c.in_ok-roots.roots c.in_ok-roots.placed) c.in_ok-roots.ensures.ends)
+    c.in_ok-roots.ensures.goes_on
 
 pub returns-clause-run : goal.returns-clause-run
 returns-clause-run c =
     let given : InputsView = inputs_view c.args.inputs.now in
     let at = goal.at.returns-clause-run c in
-    let row = row5 at.In_ok-roots (row4 at.In_ok-run_script_lines (row3 at.In_ok-crash (row2 at.In_ok-nodes (row1 at.In_ok-make_memory)))) in
+    let row = row5 at.In_ok-roots
+    (row4 at.In_ok-run_script_lines (row3 at.In_ok-crash (row2 at.In_ok-nodes (row1 at.In_ok-make_memory)))) in
     let lines = c.split_at_sections.ensures.behind ∙ ap lines_after_sections c.deref.ensures.value in
     let last = row-lines row (lines_after_sections given.lines) _ _ _ c.in_ok-run_script_lines-2.ensures.kernel
     ((rw lines at c.in_ok-run_script_lines-2.ensures.ok) row.fills row.holds) in
@@ -122,7 +127,8 @@ pub returns-in_err-nodes-clause-stopped : goal.returns-in_err-nodes-clause-stopp
 returns-in_err-nodes-clause-stopped c =
     let given : InputsView = inputs_view c.args.inputs.now in
     stops-so _ _ (StagesStopWith given c.args.map.now) c.from_residual-in_err-nodes.ensures.1 (λ stop told other.
-    row-stops (row1 (goal.at.returns-in_err-nodes-clause-stopped c).In_ok-make_memory) (nodes_stage given) (drop 2 (later_stages given)) stop
+    row-stops (row1 (goal.at.returns-in_err-nodes-clause-stopped c).In_ok-make_memory) (nodes_stage given)
+    (drop 2 (later_stages given)) stop
     (steps-stop cause_of_stage result_with_nodes stage_stop (assign_nodes given.domains given.options.numa_off)
     (made_after_lines (with_map given c.args.map.now) c.make_memory.new.memblock [] _ []) _ _ stop
     (rw c.as_ref.ensures.value at c.in_err-nodes.ensures.ends) told other))
@@ -142,10 +148,12 @@ returns-in_err-roots-clause-stopped c =
     let given : InputsView = inputs_view c.args.inputs.now in
     let at = goal.at.returns-in_err-roots-clause-stopped c in
     stops-so _ _ (StagesStopWith given c.args.map.now) c.from_residual-in_err-roots.ensures.1 (λ stop told other.
-    row-stops (row4 at.In_ok-run_script_lines (row3 at.In_ok-crash (row2 at.In_ok-nodes (row1 at.In_ok-make_memory)))) (sections_stage given)
+    row-stops (row4 at.In_ok-run_script_lines (row3 at.In_ok-crash (row2 at.In_ok-nodes (row1 at.In_ok-make_memory))))
+    (sections_stage given)
     (drop 5 (later_stages given)) stop
     (steps-stop cause_of_stage made_with_sections stage_stop (place_present_sections given.width)
-    (made_after_lines (with_crash given c.args.map.now c.in_ok-nodes.nodes c.in_ok-crash.crash) c.run_script_lines.new.mb c.run_script_lines.new.live _
+    (made_after_lines
+    (with_crash given c.args.map.now c.in_ok-nodes.nodes c.in_ok-crash.crash) c.run_script_lines.new.mb c.run_script_lines.new.live _
     c.run_script_lines.new.answers.items) _ _ stop c.in_err-roots.ensures.ends told other))
 
 -- what the calls require
@@ -172,5 +180,6 @@ place_sections-requires-clause-noded c =
     let at = goal.at.place_sections-requires-clause-noded c in
     let row = row4 at.In_ok-run_script_lines (row3 at.In_ok-crash (row2 at.In_ok-nodes (row1 at.In_ok-make_memory))) in
     noded-within (reach given) (2 ^ 52) _
-    (noded_behind given (with_map given c.args.map.now) _ (crash_area_stage given ∷ script_stage given.kernel (before_sections given.lines) ∷ [])
+    (noded_behind given (with_map given c.args.map.now) _
+    (crash_area_stage given ∷ script_stage given.kernel (before_sections given.lines) ∷ [])
     c.requires.judged (crash_labels given, (lines_labels given.kernel (before_sections given.lines), tt)) row.come) (reach-small given)

@@ -23,7 +23,8 @@ pub returns-then-not-is_memory-clause-ends : goal.returns-then-not-is_memory-cla
 returns-then-not-is_memory-clause-ends c =
     let old = c.args.memblock.now.journal.items in
     let run : RunOf ℕ = record { base = c.run.inside.range.base; size = c.run.inside.range.size; value = c.run.inside.kind } in
-    let Ends : RunOf ℕ → Type 0 = λ x. EndsAsStage {A = Unit {0}} (items_with_growths (items_of_run c.args.reach x)) refusal_for (Ok tt) old old in
+    let Ends : RunOf ℕ → Type 0 =
+    λ x. EndsAsStage {A = Unit {0}} (items_with_growths (items_of_run c.args.reach x)) refusal_for (Ok tt) old old in
     subst Ends c.run.view_is (elim c.then-not-is_memory.either as (λ _. Ends run) [
       | inl other ↦ rw (other_run c.args.reach run c.if-run.false (sym c.is_memory.ensures ∙ other)) (carries-nothing old)
       | inr high ↦

@@ -37,7 +37,8 @@ returns-clause-ends c =
     let map = c.args.map.now in
     let first : carry_out_items (items_before_memory e ++ map_memory_items e map) [] ≡ Ok mid =
     ap (carry_out_items (items_before_memory e ++ map_memory_items e map)) (sym c.requires.first)
-    ∙ carried-by (items_before_memory e ++ map_memory_items e map) _ mid (carries-second (Ok tt) (items_before_memory e) (map_memory_items e map) _ _ mid
+    ∙ carried-by (items_before_memory e ++ map_memory_items e map) _ mid
+    (carries-second (Ok tt) (items_before_memory e) (map_memory_items e map) _ _ mid
     c.in_ok-begin_memory.ensures.ends c.in_ok-map_memory.ensures.ends) in
     let end : c.end_of_memory-end.result ≡ memory_end e.limit (value_at map) =
     c.end_of_memory-end.ensures ∙ ap (λ (t : TableView). end_of_runs t.records) c.tables.ensures.memory

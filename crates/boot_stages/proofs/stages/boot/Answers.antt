@@ -47,7 +47,8 @@ run_stages-requires-clause-bytes c =
     let m : Memblock = c.in_ok-memblock.memblock in
     record {
       made = tt;
-      each = λ x. c.in_ok-memblock.ensures.bytes x ∙ ap (λ (k : RangeView). byte_from_history k [] [] x) (sym c.in_ok-memblock.ensures.kernel)
+      each = λ x. c.in_ok-memblock.ensures.bytes x
+          ∙ ap (λ (k : RangeView). byte_from_history k [] [] x) (sym c.in_ok-memblock.ensures.kernel)
           ∙ ap (λ (j : JournalView). byte_from_history m.kernel j.items [] x) (sym c.in_ok-memblock.ensures.journal);
     }
 

@@ -11,7 +11,8 @@ use Rattle.bootmem_c.proofs.boots.boot_with_args.Goals as goal
 pub returns-in_err-inputs-clause-fails : goal.returns-in_err-inputs-clause-fails
 returns-in_err-inputs-clause-fails c =
     let p = err_from_is_err_and c.from_residual.result c.from_residual.ensures.1 in
-    inputs_failed c.from_residual.result c.in_err-inputs.field-0.0 c.new.result c.read_boot_inputs.new.files _ (bootmem_args_view c.args.wanted.now)
+    inputs_failed c.from_residual.result c.in_err-inputs.field-0.0 c.new.result c.read_boot_inputs.new.files _
+    (bootmem_args_view c.args.wanted.now)
     (p.1 ∙ ap (λ (e : NoInputs). Err e) p.2) c.new.ensures.files c.in_err-inputs.ensures.fetches c.in_err-inputs.ensures.cause
 
 pub returns-in-Err-clause-fails : goal.returns-in-Err-clause-fails

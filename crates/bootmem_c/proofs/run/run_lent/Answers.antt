@@ -19,7 +19,8 @@ asks c =
     c.in-Ok.ensures.utf8
 
 is_outcome : (c : goal.After-drop-texts)
-    → bootmem_outcome (read_args (bytes_of_words c.deref.result.now)) (file_bytes c.new.result.files) ≡ outcome_of c.args.words.now c.args.files.now
+    → bootmem_outcome (read_args (bytes_of_words c.deref.result.now)) (file_bytes c.new.result.files)
+    ≡ outcome_of c.args.words.now c.args.files.now
 is_outcome c = same_outcome _ _ _ _ (asks c) c.new.ensures.files
 
 pub returns-in-Ok-clause-status : goal.returns-in-Ok-clause-status
@@ -34,7 +35,8 @@ returns-in-Ok-clause-headline c = λ zero.
     let reported = ran_reported (read_args (bytes_of_words c.deref.result.now)) (file_bytes c.new.result.files) c.args.report.now.text text
     c.requires.empty (c.run.ensures.headline zero) in
     subst (λ (a : Option BootmemArgsView). AppendsReports a (file_bytes (lent_files c.args.files.now)) (Some []) (Some text)) (asks c)
-    (subst (λ (f : List MemFileView). AppendsReports (read_args (bytes_of_words c.deref.result.now)) (file_bytes f) (Some []) (Some text)) c.new.ensures.files
+    (subst (λ (f : List MemFileView). AppendsReports (read_args (bytes_of_words c.deref.result.now)) (file_bytes f) (Some []) (Some text))
+    c.new.ensures.files
     reported)
 
 pub returns-in-Ok-clause-written : goal.returns-in-Ok-clause-written
@@ -49,7 +51,8 @@ returns-in-Ok-clause-line c = λ some other short.
     let told = ran_line c.new.result c.run.new.files was c.args.line.now c.run.new.err c.run.result c.run.ensures.unwritten
     c.requires.no_line c.requires.not_short c.run.ensures.line some other short in
     let same : outcome_line was said ≡ call_line c.args.words.now c.args.files.now =
-    ap (λ (a : Option BootmemArgsView). outcome_line a said) (asks c) ∙ ap (outcome_line (read_lent_args (lent_words c.args.words.now))) (is_outcome c)
+    ap (λ (a : Option BootmemArgsView). outcome_line a said) (asks c)
+    ∙ ap (outcome_line (read_lent_args (lent_words c.args.words.now))) (is_outcome c)
     ∙ sym (line_asked (lent_words c.args.words.now) _ c.in-Ok.ensures.utf8) in
     told ∙ same
 

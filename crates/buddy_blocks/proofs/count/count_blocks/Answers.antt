@@ -44,7 +44,8 @@ overflow_add-total c =
     let is = c.run.view_is ∙ c.run-item.is in
     let run = run_at rs i c.run-item.result r is c.requires.runs c.loop-run-test.true in
     let here = c.count_in_run-total.ensures.count f r.value run in
-    let at_node = ap (λ n. count_by (is_block_of n c.args.zone c.args.order) (blocks_from f r.base (run_end r - r.base))) c.if-run-node.true in
+    let at_node =
+    ap (λ n. count_by (is_block_of n c.args.zone c.args.order) (blocks_from f r.base (run_end r - r.base))) c.if-run-node.true in
     let parts = count_more_at f rs i c.run-item.result r (is_block_of c.args.node c.args.zone c.args.order) is c.loop-run-test.true in
     let all = count_all rs c.args.node c.args.order c.args.zone c.requires.runs c.requires.low in
     let sum = c.loop-run.invariant in

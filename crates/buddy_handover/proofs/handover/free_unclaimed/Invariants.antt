@@ -12,7 +12,9 @@ invariant-loop-at l = record {
   below : l.at ≤ l.end;
   few : l.next ≤ l.reserved.count;
   passed : IsPassed (records_of_head l.store l.reserved) l.next l.at;
-  freed : (x : ℕ) → buddy_frames l.buddy x ≡ free_unclaimed_frames l.first l.at l.node (value_at (records_of_head l.store l.reserved)) (buddy_frames l.fn.buddy) x;
+  freed : (x : ℕ)
+      → buddy_frames l.buddy x
+      ≡ free_unclaimed_frames l.first l.at l.node (value_at (records_of_head l.store l.reserved)) (buddy_frames l.fn.buddy) x;
 }
 
 abbrev pub decreases-loop-at : goal.decreases-loop-at

@@ -15,7 +15,8 @@ nobody : RunOf LabelView
 nobody = record { base = 0; size = 0; value = plain_label }
 
 pub frames_of_record-frames-requires-clause-table : goal.frames_of_record-frames-requires-clause-table
-frames_of_record-frames-requires-clause-table c = records_higher c.args.store.now c.args.heads.now.memory _ _ (omega arith) c.requires.memory
+frames_of_record-frames-requires-clause-table c =
+    records_higher c.args.store.now c.args.heads.now.memory _ _ (omega arith) c.requires.memory
 
 pub free_unclaimed-requires-clause-passed : goal.free_unclaimed-requires-clause-passed
 free_unclaimed-requires-clause-passed c =
@@ -49,7 +50,8 @@ loop-i-preserved c =
             let order = frames_in_order _ ms i k d _ ascend whole (omega (arith, later)) below (c.frames_of_record-frames.ensures d) in
             rw w.next-is (passed_later rs w.in_ok-next.next _ _ order w.in_ok-next.ensures.passed);
         handed =
-            rw w.buddy-is (record_freed _ ms (value_at rs) i w.in-Some.node nobody was (buddy_frames w.free_unclaimed.new.buddy) ascend whole few
+            rw w.buddy-is
+            (record_freed _ ms (value_at rs) i w.in-Some.node nobody was (buddy_frames w.free_unclaimed.new.buddy) ascend whole few
             (rw is at w.in-Some.is) c.loop-i.invariant.handed (rw is at w.in_ok-next.ensures.free));
       }
       | in_default w ↦ record {
@@ -65,5 +67,6 @@ pub returns : goal.returns
 returns c =
     let ms = records_of_head c.args.store.now c.args.heads.now.memory in
     let all : c.loop-i.i ≡ length ms = omega (arith, count_is c.args.store.now c.args.heads.now.memory) in
-    all_handed ms (value_at (records_of_head c.args.store.now c.args.heads.now.reserved)) c.loop-i.i (buddy_frames c.loop-i.buddy) c.requires.whole all
+    all_handed ms (value_at (records_of_head c.args.store.now c.args.heads.now.reserved)) c.loop-i.i
+    (buddy_frames c.loop-i.buddy) c.requires.whole all
     c.loop-i.invariant.handed

@@ -11,7 +11,9 @@ abbrev pub invariant-loop-i : goal.invariant-loop-i
 invariant-loop-i l = record {
   few : l.next ≤ l.heads.reserved.count;
   passed : (k : ℕ) (d : RunOf LabelView) → l.i ≤ k → k < l.heads.memory.count →
-      IsPassed (records_of_head l.store l.heads.reserved) l.next (frames_of_record (get_or (records_of_head l.store l.heads.memory) k d)).first;
+      IsPassed (records_of_head l.store l.heads.reserved) l.next
+      (frames_of_record (get_or (records_of_head l.store l.heads.memory) k d)).first;
   handed : (x : ℕ) → buddy_frames l.buddy x ≡
-      unclaimed_frames (value_at (take l.i (records_of_head l.store l.heads.memory))) (value_at (records_of_head l.store l.heads.reserved)) x;
+      unclaimed_frames (value_at (take l.i (records_of_head l.store l.heads.memory)))
+      (value_at (records_of_head l.store l.heads.reserved)) x;
 }

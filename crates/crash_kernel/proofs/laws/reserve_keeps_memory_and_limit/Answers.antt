@@ -4,7 +4,9 @@ use Rattle.crash_kernel.proofs.QuietLaws.{quiet-reserved}
 use Rattle.crash_kernel.proofs.laws.reserve_keeps_memory_and_limit.Goals as goal
 
 pub returns-clause-memory : goal.returns-clause-memory
-returns-clause-memory c = λ asked items. quiet-appended_memory items (reserve_crash_area asked items).steps ((quiet-reserved asked).each items)
+returns-clause-memory c =
+    λ asked items. quiet-appended_memory items (reserve_crash_area asked items).steps ((quiet-reserved asked).each items)
 
 pub returns-clause-limit : goal.returns-clause-limit
-returns-clause-limit c = λ asked items. quiet-appended_limit items (reserve_crash_area asked items).steps ((quiet-reserved asked).each items)
+returns-clause-limit c =
+    λ asked items. quiet-appended_limit items (reserve_crash_area asked items).steps ((quiet-reserved asked).each items)

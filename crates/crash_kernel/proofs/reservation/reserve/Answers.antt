@@ -26,7 +26,8 @@ total_is c =
 -- the rest of the stage, by the range of the area
 by_main : (c : In-Some-main_range) → c.total_memory-total.result ≡ memory_bytes (memory_of c.args.memblock.now.journal.items)
     → reserve_crash_area (crash_option_view c.args.option.now) c.args.memblock.now.journal.items
-    ≡ claim_area c.in-Some.area (low_size (crash_option_view c.args.option.now)) (Some c.in-Some-main_range.main) c.args.memblock.now.journal.items
+    ≡ claim_area c.in-Some.area (low_size (crash_option_view c.args.option.now))
+    (Some c.in-Some-main_range.main) c.args.memblock.now.journal.items
 by_main c total =
     main-at c.args.memblock.now.journal.items (crash_option_view c.args.option.now) c.total_memory-total.result c.in-Some.area
     (Some c.in-Some-main_range.main) total c.in-Some.ensures.area c.in-Some-main_range.ensures.range
@@ -34,12 +35,14 @@ by_main c total =
 -- so it has a step
 is_no_answer : (c : In-Some-main_range) → c.total_memory-total.result ≡ memory_bytes (memory_of c.args.memblock.now.journal.items)
     → (told : Crash)
-    → reserve_crash_area (crash_option_view c.args.option.now) c.args.memblock.now.journal.items ≢ return_value told c.args.memblock.now.journal.items
+    → reserve_crash_area (crash_option_view c.args.option.now) c.args.memblock.now.journal.items
+    ≢ return_value told c.args.memblock.now.journal.items
 is_no_answer c total told = λ idle.
     let main = c.in-Some-main_range.main in
     let low = low_size (crash_option_view c.args.option.now) in
     claim-writes told c.args.memblock.now.journal.items main owner.Crash
-    (λ done. if needs_low_part main low then reserve_low_part main low else return_value (crash.At main None)) (sym (by_main c total) ∙ idle)
+    (λ done. if needs_low_part main low then reserve_low_part main low else return_value (crash.At main None)) (sym (by_main c total)
+    ∙ idle)
 
 pub returns-in_default-clause-ends : goal.returns-in_default-clause-ends
 returns-in_default-clause-ends c =
@@ -50,7 +53,8 @@ returns-in_default-clause-ends c =
 pub returns-in_default-clause-idle : goal.returns-in_default-clause-idle
 returns-in_default-clause-idle c = λ told idle.
     let items = c.args.memblock.now.journal.items in
-    idle-ok crash.Nothing told items items (reserve_crash_area (crash_option_view c.args.option.now)) (returns-in_default-clause-ends c) idle
+    idle-ok crash.Nothing told items items (reserve_crash_area (crash_option_view c.args.option.now))
+    (returns-in_default-clause-ends c) idle
 
 pub returns-in_default-main_range-clause-ends : goal.returns-in_default-main_range-clause-ends
 returns-in_default-main_range-clause-ends c =

@@ -20,7 +20,8 @@ returns-in_err-free-in-None-clause-ends c =
     let old = c.args.memblock.now.journal.items in
     let p = err_from_is_err_and c.from_residual-in_err-free-in-None.result c.from_residual-in_err-free-in-None.ensures.1 in
     rw (p.1, p.2, low-at old c.args.main c.args.size None c.in-None.ensures.range)
-    (change-fails c.in_err-free-in-None.field-0.0 old c.free.new.self.journal.items (free_range c.args.main) (λ done. return_value crash.LowFailed)
+    (change-fails c.in_err-free-in-None.field-0.0 old c.free.new.self.journal.items (free_range c.args.main) (λ done.
+    return_value crash.LowFailed)
     c.in_err-free-in-None.ensures.ends)
 
 pub returns-in_ok-claim-in-Some-clause-ends : goal.returns-in_ok-claim-in-Some-clause-ends

@@ -33,7 +33,8 @@ returns-in-RemoveAll-clause-same c =
 
 pub returns-in-RemoveAll-clause-claims : goal.returns-in-RemoveAll-clause-claims
 returns-in-RemoveAll-clause-claims c =
-    are_either c.replace_with_cut-in-RemoveAll.result _ _ _ c.replace_with_cut-in-RemoveAll.ensures.ok c.replace_with_cut-in-RemoveAll.ensures.err
+    are_either c.replace_with_cut-in-RemoveAll.result _ _ _ c.replace_with_cut-in-RemoveAll.ensures.ok
+    c.replace_with_cut-in-RemoveAll.ensures.err
     (are_cut c.in-RemoveAll.range None None c.args.claims.now.items tt c.requires.claims) c.requires.claims
 
 pub returns-in-Change-clause-same : goal.returns-in-Change-clause-same

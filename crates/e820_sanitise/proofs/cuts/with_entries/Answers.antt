@@ -8,5 +8,6 @@ use Rattle.e820_sanitise.proofs.cuts.with_entries.Goals as goal
 
 pub returns-clause-same : goal.returns-clause-same
 returns-clause-same c =
-    let whole : c.loop-entry.all.items ≡ c.args.claims.now ++ flat_map type_claim_of_entry c.args.entries.now = grind (arith, common_steps) in
+    let whole : c.loop-entry.all.items ≡ c.args.claims.now ++ flat_map type_claim_of_entry c.args.entries.now =
+    grind (arith, common_steps) in
     ap claims_of whole ∙ entries_same c.args.claims.now c.args.entries.now

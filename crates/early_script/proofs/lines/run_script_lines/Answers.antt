@@ -25,7 +25,8 @@ loop-line-preserved c =
           let start = script_so_far c.args.live.now c.args.mb.now fills c.args.answers.now.items in
           let so_far = take i c.args.lines.now in
           let more = take_next c.args.lines.now i line (omega arith) c.line-item.is in
-          rw (c.push_within_capacity.ensures.items, more, script_after_lines-append start so_far line) (reaches-line (script_after_lines start so_far)
+          rw (c.push_within_capacity.ensures.items, more, script_after_lines-append start so_far line)
+          (reaches-line (script_after_lines start so_far)
           c.loop-line.live c.run_line.new.self m c.run_line.new.mb c.loop-line.answers.items line c.in_ok-outcome.outcome
           (c.loop-line.invariant.reached fills holds) acts c.in_ok-outcome.ensures.holds);
       room = omega (arith, c.loop-line.invariant.room, c.push_within_capacity.ensures.len, c.push_within_capacity.ensures.capacity);

@@ -24,8 +24,10 @@ loop-index-preserved c =
     let near = near_now stride i n bytes (omega arith) c.loop-index.invariant.0 in
     let others = mirrors_of_descriptors (descriptors_from stride (i + 1) (n - (i + 1)) bytes) in
     let all = mirrors_of_descriptors (descriptors_from stride 0 n bytes) in
-    let same : c.mirror_of_descriptor.result ≡ mirror_of_descriptor (nth_descriptor stride i bytes) = rw (← c.nth_descriptor-descriptor.ensures) c.mirror_of_descriptor.ensures in
-    let on = mirrors_on c.loop-index.mirrors.items c.mirror_of_descriptor.result stride i n bytes (omega arith) same ∙ c.loop-index.invariant.2 in (
+    let same : c.mirror_of_descriptor.result ≡ mirror_of_descriptor (nth_descriptor stride i bytes) =
+    rw (← c.nth_descriptor-descriptor.ensures) c.mirror_of_descriptor.ensures in
+    let on = mirrors_on c.loop-index.mirrors.items c.mirror_of_descriptor.result stride i n bytes (omega arith) same
+    ∙ c.loop-index.invariant.2 in (
       sym (far_miss stride i n bytes (omega arith) near) ∙ c.loop-index.invariant.0,
       rw (c.in_ok-push.ensures.items, c.entry.ensures, c.nth_descriptor-descriptor.ensures)
           (entries_on c.loop-index.entries.items stride i n bytes (omega arith) ∙ c.loop-index.invariant.1),

@@ -10,7 +10,8 @@ returns-clause-added c = λ kernel result old new range placed ends.
 
 pub returns-clause-noded : goal.returns-clause-noded
 returns-clause-noded c = λ kernel result old new range node placed ends.
-    cuts-ends (TablesAreClaimed kernel) result old new (set_range_node range node old) (set_range_node-cuts kernel old range node placed) ends
+    cuts-ends (TablesAreClaimed kernel) result old new (set_range_node range node old)
+    (set_range_node-cuts kernel old range node placed) ends
 
 pub returns-clause-mirrored : goal.returns-clause-mirrored
 returns-clause-mirrored c = λ kernel result old new range placed ends.

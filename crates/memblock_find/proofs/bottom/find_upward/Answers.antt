@@ -13,8 +13,10 @@ returns-then-is_some c =
     (lowest_answer c.args.mirror (value_at t.memory) (value_at t.reserved) c.args.query.now c.loop-cursor.cursor.at c.top.result
     c.place_from-place.result c.requires.some i.past
     (c.place_from-place.ensures (value_at t.memory) (value_at t.reserved)
-    (stretch_rises t.memory t.reserved c.loop-cursor.cursor c.top.result c.unclaimed_label.result i.walk c.top.ensures c.unclaimed_label.ensures)
-    (stretch_up t.memory t.reserved c.loop-cursor.cursor c.top.result c.unclaimed_label.result i.walk c.top.ensures c.unclaimed_label.ensures))
+    (stretch_rises t.memory t.reserved c.loop-cursor.cursor c.top.result c.unclaimed_label.result i.walk c.top.ensures
+    c.unclaimed_label.ensures)
+    (stretch_up t.memory t.reserved c.loop-cursor.cursor c.top.result c.unclaimed_label.result i.walk c.top.ensures
+    c.unclaimed_label.ensures))
     (grind (arith, common_steps)) (omega arith))
 
 pub loop-cursor-preserved : goal.loop-cursor-preserved
@@ -31,8 +33,10 @@ loop-cursor-preserved c =
       past = rw (← top) (none_yet c.args.mirror (value_at t.memory) (value_at t.reserved) c.args.query.now (max c.args.query.now.lo 4096)
           c.loop-cursor.cursor.at c.top.result c.place_from-place.result i.past
           (c.place_from-place.ensures (value_at t.memory) (value_at t.reserved)
-          (stretch_rises t.memory t.reserved c.loop-cursor.cursor c.top.result c.unclaimed_label.result i.walk c.top.ensures c.unclaimed_label.ensures)
-          (stretch_up t.memory t.reserved c.loop-cursor.cursor c.top.result c.unclaimed_label.result i.walk c.top.ensures c.unclaimed_label.ensures))
+          (stretch_rises t.memory t.reserved c.loop-cursor.cursor c.top.result c.unclaimed_label.result i.walk c.top.ensures
+          c.unclaimed_label.ensures)
+          (stretch_up t.memory t.reserved c.loop-cursor.cursor c.top.result c.unclaimed_label.result i.walk c.top.ensures
+          c.unclaimed_label.ensures))
           (grind (arith, common_steps)));
     }
 

@@ -24,7 +24,8 @@ pub loop-low-preserved-then-get-at-2 : goal.loop-low-preserved-then-get-at-2
 loop-low-preserved-then-get-at-2 c =
     let rs : List (RunOf LabelView) = c.args.records.now in
     let middle : ℕ = c.loop-low.low + (c.loop-low.high - c.loop-low.low) / 2 in
-    let base : c.get-in-loop-low.result.base ≡ (nth_record rs middle).base = ap (λ (g : Region). g.base) (c.get-in-loop-low.ensures.region _) in
+    let base : c.get-in-loop-low.result.base ≡ (nth_record rs middle).base =
+    ap (λ (g : Region). g.base) (c.get-in-loop-low.ensures.region _) in
     let within = c.loop-low.invariant.within in
     let test = c.loop-low-test.true in
     let under = c.if-get-at-2.true in
@@ -39,7 +40,8 @@ pub loop-low-preserved : goal.loop-low-preserved
 loop-low-preserved c =
     let rs : List (RunOf LabelView) = c.args.records.now in
     let middle : ℕ = c.loop-low.low + (c.loop-low.high - c.loop-low.low) / 2 in
-    let base : c.get-in-loop-low.result.base ≡ (nth_record rs middle).base = ap (λ (g : Region). g.base) (c.get-in-loop-low.ensures.region _) in
+    let base : c.get-in-loop-low.result.base ≡ (nth_record rs middle).base =
+    ap (λ (g : Region). g.base) (c.get-in-loop-low.ensures.region _) in
     let within = c.loop-low.invariant.within in
     let test = c.loop-low-test.true in
     let behind = c.if-get-at-2.false in

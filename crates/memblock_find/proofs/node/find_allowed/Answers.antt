@@ -14,8 +14,10 @@ returns-then-is_some c =
     (best_answer c.args.mirror (value_at t.memory) (value_at t.reserved) c.args.query.now c.bottom.result c.loop-cursor.cursor.at
     c.place_in_run-place.result i.past
     (c.place_in_run-place.ensures (value_at t.memory) (value_at t.reserved)
-    (stretch_stays t.memory t.reserved c.loop-cursor.cursor c.bottom.result c.unclaimed_label.result i.walk c.bottom.ensures c.unclaimed_label.ensures)
-    (stretch_down t.memory t.reserved c.loop-cursor.cursor c.bottom.result c.unclaimed_label.result i.walk c.bottom.ensures c.unclaimed_label.ensures))
+    (stretch_stays t.memory t.reserved c.loop-cursor.cursor c.bottom.result c.unclaimed_label.result i.walk c.bottom.ensures
+    c.unclaimed_label.ensures)
+    (stretch_down t.memory t.reserved c.loop-cursor.cursor c.bottom.result c.unclaimed_label.result i.walk c.bottom.ensures
+    c.unclaimed_label.ensures))
     (grind (arith, common_steps)) (omega arith))
 
 pub loop-cursor-preserved : goal.loop-cursor-preserved
@@ -34,8 +36,10 @@ loop-cursor-preserved c =
           (no_answer c.args.mirror (value_at t.memory) (value_at t.reserved) c.args.query.now c.bottom.result
           c.loop-cursor.cursor.at c.place_in_run-place.result i.past
           (c.place_in_run-place.ensures (value_at t.memory) (value_at t.reserved)
-          (stretch_stays t.memory t.reserved c.loop-cursor.cursor c.bottom.result c.unclaimed_label.result i.walk c.bottom.ensures c.unclaimed_label.ensures)
-          (stretch_down t.memory t.reserved c.loop-cursor.cursor c.bottom.result c.unclaimed_label.result i.walk c.bottom.ensures c.unclaimed_label.ensures))
+          (stretch_stays t.memory t.reserved c.loop-cursor.cursor c.bottom.result c.unclaimed_label.result i.walk c.bottom.ensures
+          c.unclaimed_label.ensures)
+          (stretch_down t.memory t.reserved c.loop-cursor.cursor c.bottom.result c.unclaimed_label.result i.walk c.bottom.ensures
+          c.unclaimed_label.ensures))
           (grind (arith, common_steps)));
     }
 

@@ -5,4 +5,5 @@ use Rattle.memblock_frames.proofs.CheckLaws.{Ascends}
 use Rattle.memblock_frames.proofs.check.has_records.Given as goal
 
 abbrev pub invariant-loop-i : goal.invariant-loop-i
-invariant-loop-i l = Ascends l.from l.bound (drop l.i (records_of_head l.store l.head)) ↔ AscendBelow l.bound (records_of_head l.store l.head)
+invariant-loop-i l =
+    Ascends l.from l.bound (drop l.i (records_of_head l.store l.head)) ↔ AscendBelow l.bound (records_of_head l.store l.head)

@@ -11,13 +11,15 @@ use Rattle.memblock_grow.proofs.memory.add_memory.Goals as goal
 pub returns-in_err-make_memory_room-clause-ends : goal.returns-in_err-make_memory_room-clause-ends
 unfolding add_range
 returns-in_err-make_memory_room-clause-ends c =
-    change-fails (make_table_room which.Memory (count_uncovered_pieces which.Memory c.args.range) memory_growth) (item.Mem c.args.range) _ _ _ _
+    change-fails (make_table_room which.Memory (count_uncovered_pieces which.Memory c.args.range) memory_growth)
+    (item.Mem c.args.range) _ _ _ _
     c.from_residual.ensures.1 c.in_err-make_memory_room.ensures.ends
 
 pub returns-in_err-push-clause-ends : goal.returns-in_err-push-clause-ends
 unfolding add_range
 returns-in_err-push-clause-ends c =
-    change-wants (make_table_room which.Memory (count_uncovered_pieces which.Memory c.args.range) memory_growth) (item.Mem c.args.range) _ _ _ _
+    change-wants (make_table_room which.Memory (count_uncovered_pieces which.Memory c.args.range) memory_growth)
+    (item.Mem c.args.range) _ _ _ _
     c.from_residual-in_err-push.ensures.1 c.in_ok-make_memory_room.ensures.ends (λ k. (c.in_err-push.ensures.err k).items)
 
 pub returns-in_err-push-clause-prepared : goal.returns-in_err-push-clause-prepared
@@ -28,7 +30,8 @@ returns-in_err-push-clause-prepared c =
 pub returns-clause-ends : goal.returns-clause-ends
 unfolding add_range
 returns-clause-ends c =
-    change-done (make_table_room which.Memory (count_uncovered_pieces which.Memory c.args.range) memory_growth) (item.Mem c.args.range) _ _ _
+    change-done (make_table_room which.Memory (count_uncovered_pieces which.Memory c.args.range) memory_growth)
+    (item.Mem c.args.range) _ _ _
     c.in_ok-make_memory_room.ensures.ends c.in_ok-push.ensures.ok
 
 pub returns-clause-kept : goal.returns-clause-kept
@@ -39,7 +42,8 @@ returns-clause-kept c = λ kernel kept.
 pub returns-clause-bytes : goal.returns-clause-bytes
 returns-clause-bytes c =
     change-bytes (item.Mem c.args.range) c.make_memory_room.new.tables c.in_ok-push.ensures.ok (λ kernel x. refl)
-    (returns-clause-kept c) (edit-told which.Memory c.make_memory_room.new.tables c.insert.new.self _ c.insert.ensures.table c.insert.ensures.elsewhere
+    (returns-clause-kept c)
+    (edit-told which.Memory c.make_memory_room.new.tables c.insert.new.self _ c.insert.ensures.table c.insert.ensures.elsewhere
     c.tables_are_in_store.ensures.memory c.tables_are_in_store.ensures.reserved) c.make_memory_room.ensures.bytes
 
 pub returns-clause-prepared : goal.returns-clause-prepared

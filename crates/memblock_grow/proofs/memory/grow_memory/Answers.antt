@@ -114,18 +114,21 @@ free_old_place-requires-clause-away c =
     let at = goal.at.free_old_place-requires-clause-away c in
     let m = moved at.After-tables_are_in_store (found at.In-Some) in
     memory-free c.place.inside.base (2 * c.head-head.result.room) m.tables c.claim_new_place.ensures.kept c.in_ok-push.ensures.ok
-    c.claim_new_place.ensures.bytes m.twice c.requires.kept.1 (taken at.In_ok-claim_new_place (found at.In-Some)) c.old_place_frames-old.result m.left
+    c.claim_new_place.ensures.bytes m.twice c.requires.kept.1
+    (taken at.In_ok-claim_new_place (found at.In-Some)) c.old_place_frames-old.result m.left
 
 pub returns-clause-ends : goal.returns-clause-ends
 returns-clause-ends c =
     let at = goal.at.returns-clause-ends c in
     let m = moved at.After-tables_are_in_store (found at.In-Some) in
-    memory-done (found at.In-Some) _ _ _ c.place.inside.base (2 * c.head-head.result.room) c.old_place_frames-old.result _ m.tables.here m.twice
+    memory-done (found at.In-Some) _ _ _ c.place.inside.base
+    (2 * c.head-head.result.room) c.old_place_frames-old.result _ m.tables.here m.twice
     m.left c.in_ok-claim_new_place.ensures.ends c.in_ok-push.ensures.ok c.free_old_place.ensures.ends
 
 pub returns-clause-kept : goal.returns-clause-kept
 returns-clause-kept c =
-    let at = goal.at.returns-clause-kept c in keeps-then (moved at.After-tables_are_in_store (found at.In-Some)).kept c.free_old_place.ensures.kept
+    let at = goal.at.returns-clause-kept c in keeps-then
+    (moved at.After-tables_are_in_store (found at.In-Some)).kept c.free_old_place.ensures.kept
 
 pub returns-clause-bytes : goal.returns-clause-bytes
 returns-clause-bytes c =
@@ -136,4 +139,5 @@ returns-clause-bytes c =
 pub returns-clause-prepared : goal.returns-clause-prepared
 returns-clause-prepared c =
     let at = goal.at.returns-clause-prepared c in
-    by-exact c.free_old_place.result (prepares-then (moved at.After-tables_are_in_store (found at.In-Some)).prepared c.free_old_place.ensures.prepared)
+    by-exact c.free_old_place.result
+    (prepares-then (moved at.After-tables_are_in_store (found at.In-Some)).prepared c.free_old_place.ensures.prepared)

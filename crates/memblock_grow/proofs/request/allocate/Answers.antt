@@ -52,7 +52,8 @@ returns-in_default-clause-ready c = λ place is spare idle.
 
 -- a claim of that place needs no growth if the table has room
 idle_at : (c : In-Some) (place : ℕ) → place_for c.args.request.now c.args.journal.now.items ≡ Some place
-    → is_full which.Reserved (count_uncovered_pieces which.Reserved (record { base = place; size = c.args.request.now.size })) c.args.journal.now.items
+    → is_full which.Reserved
+    (count_uncovered_pieces which.Reserved (record { base = place; size = c.args.request.now.size })) c.args.journal.now.items
     ≡ false
     → is_full which.Reserved (count_uncovered_pieces which.Reserved (record { base = c.in-Some.base; size = c.args.request.now.size }))
     c.args.journal.now.items ≡ false

@@ -35,7 +35,8 @@ returns-clause-kept c = λ kernel kept.
 pub returns-clause-bytes : goal.returns-clause-bytes
 returns-clause-bytes c =
     change-bytes (item.Claim c.args.range c.args.owner) c.make_reserved_room.new.tables c.in_ok-push.ensures.ok (λ kernel x. refl)
-    (returns-clause-kept c) (edit-told which.Reserved c.make_reserved_room.new.tables c.insert.new.self _ c.insert.ensures.table c.insert.ensures.elsewhere
+    (returns-clause-kept c)
+    (edit-told which.Reserved c.make_reserved_room.new.tables c.insert.new.self _ c.insert.ensures.table c.insert.ensures.elsewhere
     c.tables_are_in_store.ensures.memory c.tables_are_in_store.ensures.reserved) c.make_reserved_room.ensures.bytes
 
 pub returns-clause-prepared : goal.returns-clause-prepared

@@ -11,7 +11,8 @@ use Rattle.memblock_grow.proofs.reserved.free.Goals as goal
 pub returns-in_err-make_reserved_room-clause-ends : goal.returns-in_err-make_reserved_room-clause-ends
 unfolding free_range
 returns-in_err-make_reserved_room-clause-ends c =
-    change-fails (make_table_room which.Reserved split_record_count (reserved_growth c.args.range)) (item.Free c.args.range) _ _ _ _ c.from_residual.ensures.1
+    change-fails (make_table_room which.Reserved split_record_count (reserved_growth c.args.range))
+    (item.Free c.args.range) _ _ _ _ c.from_residual.ensures.1
     c.in_err-make_reserved_room.ensures.ends
 
 pub returns-in_err-push-clause-ends : goal.returns-in_err-push-clause-ends
@@ -34,7 +35,8 @@ returns-clause-kept c = λ kernel kept.
 pub returns-clause-bytes : goal.returns-clause-bytes
 returns-clause-bytes c =
     change-bytes (item.Free c.args.range) c.make_reserved_room.new.tables c.in_ok-push.ensures.ok (λ kernel x. refl)
-    (returns-clause-kept c) (edit-told which.Reserved c.make_reserved_room.new.tables c.remove.new.self _ c.remove.ensures.table c.remove.ensures.elsewhere
+    (returns-clause-kept c)
+    (edit-told which.Reserved c.make_reserved_room.new.tables c.remove.new.self _ c.remove.ensures.table c.remove.ensures.elsewhere
     c.tables_are_in_store.ensures.memory c.tables_are_in_store.ensures.reserved) c.make_reserved_room.ensures.bytes
 
 pub returns-clause-prepared : goal.returns-clause-prepared

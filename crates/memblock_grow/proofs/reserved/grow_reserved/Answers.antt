@@ -117,8 +117,10 @@ insert-requires-clause-room c =
 
 pub push_ready-requires-in-Some-left-clause-item : goal.push_ready-requires-in-Some-left-clause-item
 push_ready-requires-in-Some-left-clause-item c =
-    let left = items_freeing_old_place-found c.requires.kept.1.kept which.Reserved c.head-head.ensures.head c.old_place_frames-left.ensures in
-    items_freeing_old_place-size which.Reserved c.args.journal.now.items (moved_to which.Reserved c.args.journal.now.items) _ (sym left ∙ c.in-Some-left.is)
+    let left = items_freeing_old_place-found c.requires.kept.1.kept which.Reserved c.head-head.ensures.head
+    c.old_place_frames-left.ensures in
+    items_freeing_old_place-size which.Reserved c.args.journal.now.items (moved_to which.Reserved c.args.journal.now.items) _ (sym left
+    ∙ c.in-Some-left.is)
 
 pub remove-requires : goal.remove-requires
 remove-requires c =
@@ -129,7 +131,8 @@ pub returns-in-Some-left-clause-ends : goal.returns-in-Some-left-clause-ends
 returns-in-Some-left-clause-ends c =
     let at = goal.at.returns-in-Some-left-clause-ends c in
     let s = stands at.After-tables_are_in_store-2 (known at.In-Some) in
-    let old = items_freeing_old_place-found c.requires.kept.1.kept which.Reserved c.head-head.ensures.head c.old_place_frames-left.ensures in
+    let old = items_freeing_old_place-found c.requires.kept.1.kept which.Reserved c.head-head.ensures.head
+    c.old_place_frames-left.ensures in
     written (known at.In-Some) c.push_ready-in-Some-left.new.self.items c.place.inside.base (2 * c.head-head.result.room)
     (Some c.in-Some-left.range) s.here s.twice (sym c.in-Some-left.is ∙ old) (rw (c.push_ready-in-Some-left.ensures, s.two) refl)
 
@@ -144,7 +147,8 @@ returns-in-Some-left-clause-bytes c =
     let at = goal.at.returns-in-Some-left-clause-bytes c in
     freed-tells _ _ (λ k. (c.push_ready-in-Some-left.ensures k).items) (stands at.After-tables_are_in_store-2 (known at.In-Some)).claimed
     c.remove.ensures.table c.remove.ensures.other c.range_end_fits.ensures (edit-told which.Reserved c.insert.new.self c.remove.new.self _
-    c.remove.ensures.table c.remove.ensures.elsewhere c.tables_are_in_store-in-Some-left.ensures.memory c.tables_are_in_store-in-Some-left.ensures.reserved)
+    c.remove.ensures.table c.remove.ensures.elsewhere c.tables_are_in_store-in-Some-left.ensures.memory
+    c.tables_are_in_store-in-Some-left.ensures.reserved)
 
 pub returns-in-Some-left-clause-prepared : goal.returns-in-Some-left-clause-prepared
 returns-in-Some-left-clause-prepared c =
@@ -156,7 +160,8 @@ pub returns-in-None-clause-ends : goal.returns-in-None-clause-ends
 returns-in-None-clause-ends c =
     let at = goal.at.returns-in-None-clause-ends c in
     let s = stands at.After-tables_are_in_store-2 (known at.In-Some) in
-    let old = items_freeing_old_place-found c.requires.kept.1.kept which.Reserved c.head-head.ensures.head c.old_place_frames-left.ensures in
+    let old = items_freeing_old_place-found c.requires.kept.1.kept which.Reserved c.head-head.ensures.head
+    c.old_place_frames-left.ensures in
     written (known at.In-Some) c.push_ready-2.new.self.items c.place.inside.base (2 * c.head-head.result.room) None s.here s.twice
     (sym c.in-None.is ∙ old) (s.two ∙ sym (append-nil _))
 

@@ -20,7 +20,8 @@ returns-then-lacks_room-clause-ends c =
 
 pub returns-else-lacks_room-clause-ends : goal.returns-else-lacks_room-clause-ends
 returns-else-lacks_room-clause-ends c =
-    EndsAsChange-idle {T = Unit {0}} tt _ (is_full which.Reserved (new_records_by_items which.Reserved c.args.more.now)) (reserved_growth c.args.avoid)
+    EndsAsChange-idle {T = Unit {0}} tt _ (is_full which.Reserved (new_records_by_items which.Reserved c.args.more.now))
+    (reserved_growth c.args.avoid)
     (sym (full-is c.requires.1.kept which.Reserved c.args.more.now) ∙ sym c.lacks_room.ensures.full ∙ c.if-lacks_room.false)
 
 pub returns-else-lacks_room-clause-bytes : goal.returns-else-lacks_room-clause-bytes

@@ -15,14 +15,16 @@ grow_reserved_if_full-requires-2 c =
     let first = c.grow_reserved_if_full in (
       c.requires.0,
       whole-on c.requires.1 first.ensures.kept first.ensures.bytes
-          (once-stands _ c.args.avoid _ _ _ (new_records_by_items which.Reserved c.args.more.now) (full-begun c.args.more.now c.args.journal.now.items
+          (once-stands _ c.args.avoid _ _ _ (new_records_by_items which.Reserved c.args.more.now)
+          (full-begun c.args.more.now c.args.journal.now.items
           first.ensures.within) c.requires.1.placed first.ensures.ends),
     )
 
 pub returns-clause-ends : goal.returns-clause-ends
 returns-clause-ends c =
     let once = if_due (is_full which.Reserved (new_records_by_items which.Reserved c.args.more.now)) (reserved_growth c.args.avoid) in
-    EndsAsChange-second {T = Unit {0}} tt _ _ _ _ once once c.in_ok-grow_reserved_if_full.ensures.ends c.grow_reserved_if_full-2.ensures.ends
+    EndsAsChange-second {T = Unit {0}} tt _ _ _ _ once once c.in_ok-grow_reserved_if_full.ensures.ends
+    c.grow_reserved_if_full-2.ensures.ends
 
 pub returns-clause-kept : goal.returns-clause-kept
 returns-clause-kept c = keeps-then c.grow_reserved_if_full.ensures.kept c.grow_reserved_if_full-2.ensures.kept

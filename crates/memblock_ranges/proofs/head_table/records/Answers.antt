@@ -7,7 +7,8 @@ use Rattle.memblock_ranges.proofs.head_table.records.Goals as goal
 pub of-requires : goal.of-requires
 of-requires c =
     let h = c.args.head.now in
-    subst (λ (bs : List ℕ). AreRecordBytes bs h.count) (sym c.slice.ensures) (are_lent c.args.store.now h c.requires.table c.requires.records)
+    subst (λ (bs : List ℕ). AreRecordBytes bs h.count) (sym c.slice.ensures)
+    (are_lent c.args.store.now h c.requires.table c.requires.records)
 
 pub returns : goal.returns
 returns c =

@@ -21,7 +21,8 @@ loop-from-init g c =
       first = omega (arith, base);
       last = omega (arith, base);
       rest = rest;
-      here = none_told c.is_none-bare.result c.value_and_end-first.result.0 c.is_none-bare.ensures ∙ ap is_none (c.value_and_end-first.ensures.value f rest);
+      here = none_told c.is_none-bare.result c.value_and_end-first.result.0 c.is_none-bare.ensures
+          ∙ ap is_none (c.value_and_end-first.ensures.value f rest);
       stays = c.value_and_end-first.ensures.stays f rest;
       ends = c.value_and_end-first.ensures.ends rest.ends;
       behind = c.value_and_end-first.ensures.behind rest.ends;
@@ -56,7 +57,8 @@ loop-from-preserved g c =
       first = omega (arith, i.first, order);
       last = by_end;
       rest = rest;
-      here = none_told c.is_none-bare-in-loop-from.result c.value_and_end-there.result.0 c.is_none-bare-in-loop-from.ensures ∙ ap is_none value;
+      here = none_told c.is_none-bare-in-loop-from.result c.value_and_end-there.result.0 c.is_none-bare-in-loop-from.ensures
+          ∙ ap is_none value;
       stays = c.value_and_end-there.ensures.stays f rest;
       ends = c.value_and_end-there.ensures.ends rest.ends;
       behind = c.value_and_end-there.ensures.behind rest.ends;

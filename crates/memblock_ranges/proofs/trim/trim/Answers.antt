@@ -35,7 +35,8 @@ loop-read-preserved g c =
     let step = trim_step f at r rest turns up down (ap (λ n. n + (4096 - n % 4096) % 4096) base) (ap (λ n. n - n % 4096) ends)
     c.whole_frame_bounds-start.result.0 c.whole_frame_bounds-start.result.1 (take c.loop-read.write t) i.swept.1
     c.whole_frame_bounds-start.ensures.start c.whole_frame_bounds-start.ensures.until c.whole_frame_bounds-start.ensures.none in
-    let with_value : LabelView → List (RunOf LabelView) = λ v. take c.loop-read.write t ++ stretch c.whole_frame_bounds-start.result.0 c.whole_frame_bounds-start.result.1
+    let with_value : LabelView → List (RunOf LabelView) =
+    λ v. take c.loop-read.write t ++ stretch c.whole_frame_bounds-start.result.0 c.whole_frame_bounds-start.result.1
     (Some v) in
     let written : take c.emit.result.0 (g.T.Rows.list c.emit.new.table) ≡ with_value r.value =
     c.emit.ensures.written ∙ ap with_value c.value.ensures in

@@ -13,7 +13,8 @@ invariant-loop-read g l =
       order : l.write ≤ l.read;
       within : l.read ≤ length (g.T.Rows.list l.table);
       keeps : g.T.Slots.keeps l.fn.table l.table;
-      swept : (at : ℕ) × IsSweptTo (trim_frames f) at (take l.write (g.T.Rows.list l.table)) × Turns f at (drop l.read (g.T.Rows.list l.table));
+      swept : (at : ℕ) × IsSweptTo (trim_frames f) at (take l.write (g.T.Rows.list l.table))
+          × Turns f at (drop l.read (g.T.Rows.list l.table));
     }
 
 abbrev pub decreases-loop-read : goal.decreases-loop-read

@@ -25,7 +25,8 @@ returns-in_err-found-clause-ends c =
 
 pub assign_nodes_by-requires-clause-ranges : goal.assign_nodes_by-requires-clause-ranges
 assign_nodes_by-requires-clause-ranges c =
-    can-get (limit_of c.args.memblock.now.journal.items) (srat_nodes_view c.in_ok-found.found) (is_in_any_range c.deref.result.now) c.args.off
+    can-get (limit_of c.args.memblock.now.journal.items) (srat_nodes_view c.in_ok-found.found)
+    (is_in_any_range c.deref.result.now) c.args.off
     (option_map srat_view (option_copied c.args.srat)) c.requires.limit c.in_ok-found.ensures.value
 
 pub returns-clause-ends : goal.returns-clause-ends

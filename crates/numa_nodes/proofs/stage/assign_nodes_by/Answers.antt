@@ -62,7 +62,8 @@ returns-in_err-place_each_node_data-clause-ends c =
     let are = ranges at.After-deref in
     let placed = rw (nodes at.After-deref-2) at c.in_err-place_each_node_data.ensures.ends in
     rw (p.1, p.2) (data-told c.args.memblock.now.journal.items c.give_nodes.new.memblock.journal.items (srat_nodes_view c.args.found)
-    (rw are at c.in_ok-give_nodes.ensures.ends) (Err c.in_err-place_each_node_data.field-0.0) c.place_each_node_data.new.memblock.journal.items placed)
+    (rw are at c.in_ok-give_nodes.ensures.ends)
+    (Err c.in_err-place_each_node_data.field-0.0) c.place_each_node_data.new.memblock.journal.items placed)
 
 pub returns-in_err-place_each_node_data-clause-goes_on : goal.returns-in_err-place_each_node_data-clause-goes_on
 returns-in_err-place_each_node_data-clause-goes_on c = λ start goes.

@@ -23,7 +23,8 @@ returns-in_err-set_node_or_stop-clause-ends c =
 
 pub returns-in_err-set_node_or_stop-clause-goes_on : goal.returns-in_err-set_node_or_stop-clause-goes_on
 returns-in_err-set_node_or_stop-clause-goes_on c = λ start goes.
-    goes-then start c.loop-run.memblock c.set_node_or_stop.new.memblock (c.loop-run.invariant.goes_on start goes) c.in_err-set_node_or_stop.ensures.goes_on
+    goes-then start c.loop-run.memblock c.set_node_or_stop.new.memblock
+    (c.loop-run.invariant.goes_on start goes) c.in_err-set_node_or_stop.ensures.goes_on
 
 pub loop-run-preserved : goal.loop-run-preserved
 loop-run-preserved c =
@@ -36,7 +37,8 @@ loop-run-preserved c =
       begun = ends-begun (Ok tt) stage_stop here mid (set_block_node tt run) c.loop-run.invariant.begun was;
       ends = turn-next c.loop-run.invariant.ends run run mid c.loop-run-test.true c.run-item.is was;
       goes_on = λ start goes.
-          goes-then start c.loop-run.memblock c.set_node_or_stop.new.memblock (c.loop-run.invariant.goes_on start goes) c.in_ok-set_node_or_stop.ensures.goes_on;
+          goes-then start c.loop-run.memblock c.set_node_or_stop.new.memblock
+          (c.loop-run.invariant.goes_on start goes) c.in_ok-set_node_or_stop.ensures.goes_on;
     }
 
 pub returns-clause-ends : goal.returns-clause-ends

@@ -20,24 +20,28 @@ returns-in_err-place_or_stop-clause-ends c =
     let e = c.in_err-place_or_stop.field-0.0 in
     let p = err_from_is_err_and c.from_residual.result c.from_residual.ensures.1 in
     rw (p.1, p.2) (turn-stops c.loop-node.invariant.ends node 0 new e c.loop-node-test.true refl
-    (data-placed (Err e) node here new c.node_data_request-request.result c.node_data_request-request.ensures c.in_err-place_or_stop.ensures.ends))
+    (data-placed
+    (Err e) node here new c.node_data_request-request.result c.node_data_request-request.ensures c.in_err-place_or_stop.ensures.ends))
 
 pub returns-in_err-place_or_stop-clause-goes_on : goal.returns-in_err-place_or_stop-clause-goes_on
 returns-in_err-place_or_stop-clause-goes_on c = λ start goes.
-    goes-then start c.loop-node.memblock c.place_or_stop.new.memblock (c.loop-node.invariant.goes_on start goes) c.in_err-place_or_stop.ensures.goes_on
+    goes-then start c.loop-node.memblock c.place_or_stop.new.memblock
+    (c.loop-node.invariant.goes_on start goes) c.in_err-place_or_stop.ensures.goes_on
 
 pub loop-node-preserved : goal.loop-node-preserved
 loop-node-preserved c =
     let node = get_or c.args.nodes.now c.loop-node.node-index 0 in
     let here = c.loop-node.memblock.journal.items in
     let mid = c.place_or_stop.new.memblock.journal.items in
-    let was = data-placed (Ok c.in_ok-place_or_stop.field-0) node here mid c.node_data_request-request.result c.node_data_request-request.ensures
+    let was = data-placed
+    (Ok c.in_ok-place_or_stop.field-0) node here mid c.node_data_request-request.result c.node_data_request-request.ensures
     c.in_ok-place_or_stop.ensures.ends in
     record {
       begun = ends-begun (Ok tt) stage_stop here mid (place_node_data tt node) c.loop-node.invariant.begun was;
       ends = turn-next c.loop-node.invariant.ends node 0 mid c.loop-node-test.true refl was;
       goes_on = λ start goes.
-          goes-then start c.loop-node.memblock c.place_or_stop.new.memblock (c.loop-node.invariant.goes_on start goes) c.in_ok-place_or_stop.ensures.goes_on;
+          goes-then start c.loop-node.memblock c.place_or_stop.new.memblock
+          (c.loop-node.invariant.goes_on start goes) c.in_ok-place_or_stop.ensures.goes_on;
     }
 
 pub returns-clause-ends : goal.returns-clause-ends

@@ -8,7 +8,8 @@ abbrev pub invariant-loop-done : goal.invariant-loop-done
 invariant-loop-done l = record {
   most : l.done ≤ l.count;
   apart : AreApart 0 (map extent_view l.extents);
-  wrote : WritesBytes (map extent_view l.fn.extents) (map extent_view l.extents) l.to l.done (λ k. byte_of (map extent_view l.fn.extents) (l.from + k));
+  wrote : WritesBytes (map extent_view l.fn.extents) (map extent_view l.extents) l.to l.done (λ k.
+      byte_of (map extent_view l.fn.extents) (l.from + k));
 }
 
 abbrev pub decreases-loop-done : goal.decreases-loop-done

@@ -48,7 +48,8 @@ filled_in c =
 all_filled : (c : After-fill) → Holds c.args.extents.now c.range.inside.base c.range.inside.size c.in-Some.i
     (get_or c.args.extents.now c.in-Some.i c.index-extents-i.result) →
     AreApart 0 (map extent_view (set c.args.extents.now c.in-Some.i (filled_in c)))
-    × WritesBytes (map extent_view c.args.extents.now) (map extent_view (set c.args.extents.now c.in-Some.i (filled_in c))) c.range.inside.base
+    × WritesBytes (map extent_view c.args.extents.now)
+    (map extent_view (set c.args.extents.now c.in-Some.i (filled_in c))) c.range.inside.base
     c.range.inside.size (λ _. c.args.byte)
 all_filled c h =
     let e = get_or c.args.extents.now c.in-Some.i c.index-extents-i.result in
@@ -72,6 +73,7 @@ returns-in-Some-clause-wrote c =
 
 pub returns-in_default-clause-wrote : goal.returns-in_default-clause-wrote
 returns-in_default-clause-wrote c =
-    let ready = subst (λ (r : RangeView). ArePrepared (map extent_view c.args.extents.now) r.base r.size) (sym c.range.view_is) c.requires.prepared in
+    let ready = subst (λ (r : RangeView). ArePrepared (map extent_view c.args.extents.now) r.base r.size)
+    (sym c.range.view_is) c.requires.prepared in
     rw (← c.range.view_is) (wrote-none (map extent_view c.args.extents.now) c.range.inside.base c.range.inside.size (λ _. c.args.byte)
     (none_ready c.args.extents.now c.range.inside.base c.range.inside.size (sym c.index_of_extent.ensures ∙ c.in_default.is) ready))

@@ -11,7 +11,8 @@ end_of_extent-requires c =
     let i = c.loop-low.low + (c.loop-low.high - c.loop-low.low) / 2 in
     let count : i < length es = omega (arith, c.loop-low-test.true, c.loop-low.invariant.most) in
     let is = nth_piece es i c.index-extents-middle.result count c.index-extents-middle.is in
-    subst (λ (q : ExtentView). end_of_extent q < 2 ^ 64) is (nth_extent-fits (map extent_view es) i c.requires (omega (arith, length-map es extent_view, count)))
+    subst (λ (q : ExtentView). end_of_extent q < 2 ^ 64) is
+    (nth_extent-fits (map extent_view es) i c.requires (omega (arith, length-map es extent_view, count)))
 
 pub loop-low-preserved-then-end_of_extent-address : goal.loop-low-preserved-then-end_of_extent-address
 loop-low-preserved-then-end_of_extent-address c =

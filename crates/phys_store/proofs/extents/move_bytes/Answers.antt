@@ -54,7 +54,8 @@ copied : (c : After-copy_within) → Holds c.args.extents.now (min c.args.from c
     (max c.args.from c.args.to - min c.args.from c.args.to + c.args.count) c.in-Some.i
     (get_or c.args.extents.now c.in-Some.i c.index-extents-i.result) →
     AreApart 0 (map extent_view (set c.args.extents.now c.in-Some.i (copied_in c)))
-    × WritesBytes (map extent_view c.args.extents.now) (map extent_view (set c.args.extents.now c.in-Some.i (copied_in c))) c.args.to c.args.count
+    × WritesBytes (map extent_view c.args.extents.now)
+    (map extent_view (set c.args.extents.now c.in-Some.i (copied_in c))) c.args.to c.args.count
     (λ k. byte_of (map extent_view c.args.extents.now) (c.args.from + k))
 copied c h =
     let e = get_or c.args.extents.now c.in-Some.i c.index-extents-i.result in
@@ -79,6 +80,7 @@ returns-in_default-clause-wrote c =
     let from = c.args.from in
     let to = c.args.to in
     let es = c.args.extents.now in
-    let none = subst (λ m. position (λ d. is_in_extent (extent_view d) m) es ≡ None) c.min.ensures (sym c.index_of_extent.ensures ∙ c.in_default.is) in
+    let none = subst (λ m. position (λ d. is_in_extent (extent_view d) m) es ≡ None) c.min.ensures (sym c.index_of_extent.ensures
+    ∙ c.in_default.is) in
     let n = none_ready es (min from to) (max from to - min from to + c.args.count) none c.requires.prepared in
     wrote-none (map extent_view es) to c.args.count (λ k. byte_of (map extent_view es) (from + k)) (omega (arith, n))

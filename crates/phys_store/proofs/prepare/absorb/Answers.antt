@@ -18,7 +18,8 @@ record LiesIn (c : After-index-others-i) : Type 0 where
   high : end_of_extent (extent_view c.index-others-i.result) ≤ end_of_extent (extent_view c.args.extent.now)
   long : length (drop c.args.extent.now.front c.args.extent.now.bytes.items)
       ≡ length c.args.extent.now.bytes.items - c.args.extent.now.front
-  room : c.args.extent.now.front + (c.index-others-i.result.base - c.args.extent.now.base) + length (extent_view c.index-others-i.result).bytes
+  room : c.args.extent.now.front + (c.index-others-i.result.base - c.args.extent.now.base)
+      + length (extent_view c.index-others-i.result).bytes
       ≤ length c.args.extent.now.bytes.items
 
 lies_in : (c : After-index-others-i) → LiesIn c
@@ -97,7 +98,8 @@ loop-i-preserved c =
       told = λ x least below.
           ap (λ (zs : List ℕ). get_or (drop f zs) (x - w.base) 0) (with_items_is e.bytes (put_mid k m xs ys)
           (put ∙ ap length value ∙ sym e.bytes.ok.0))
-          ∙ absorbed ps (extent_view w ∷ []) i w.base (end_of_extent (extent_view w)) f k m xs ys (omega (arith, count, length-map es extent_view)) all
+          ∙ absorbed ps (extent_view w ∷ []) i w.base (end_of_extent (extent_view w)) f k m xs ys
+          (omega (arith, count, length-map es extent_view)) all
           (c.requires.low i count) (c.requires.high i count) at (size ∙ ap (λ (q : ExtentView). length q.bytes) (sym is))
           (ys_is ∙ ap (λ (q : ExtentView). q.bytes) (sym is))
           (λ y from to. ap (λ (zs : List ℕ). get_or (drop f zs) (y - w.base) 0) value ∙ v.told y from to

@@ -11,7 +11,8 @@ invariant-loop-i l = record {
   front : l.extent.front ≡ l.fn.extent.front;
   count : vec_len l.extent.bytes ≡ vec_len l.fn.extent.bytes;
   told : (x : ℕ) → l.fn.extent.base ≤ x → x < end_of_extent (extent_view l.fn.extent) →
-      get_or (extent_view l.extent).bytes (x - l.fn.extent.base) 0 ≡ byte_of (drop l.i (map extent_view l.others) ++ extent_view l.fn.extent ∷ []) x;
+      get_or (extent_view l.extent).bytes (x - l.fn.extent.base) 0
+      ≡ byte_of (drop l.i (map extent_view l.others) ++ extent_view l.fn.extent ∷ []) x;
 }
 
 abbrev pub decreases-loop-i : goal.decreases-loop-i

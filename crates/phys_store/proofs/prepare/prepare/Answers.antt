@@ -9,19 +9,24 @@ use Rattle.phys_store.proofs.prepare.prepare.Goals as goal
 use Rattle.phys_store.proofs.prepare.prepare.Goals.{In_ok-merge_or_insert}
 
 -- the range is prepared once its extents are joined
-done : (c : In_ok-merge_or_insert) → Prepared (map extent_view c.args.extents.now.items) (map extent_view c.merge_or_insert.new.extents.items) c.args.range
+done : (c : In_ok-merge_or_insert)
+    → Prepared (map extent_view c.args.extents.now.items) (map extent_view c.merge_or_insert.new.extents.items) c.args.range
 done c =
     let ps = map extent_view c.args.extents.now.items in
     let h = c.touched_extents-reach.result in
-    let not_ready = subst (λ (ds : List Extent). ArePrepared (map extent_view ds) c.args.range.base c.args.range.size → ⊥) c.deref.ensures.value
+    let not_ready =
+    subst (λ (ds : List Extent). ArePrepared (map extent_view ds) c.args.range.base c.args.range.size → ⊥) c.deref.ensures.value
     (λ (ready : ArePrepared (map extent_view c.deref.result.now) c.args.range.base c.args.range.size). false≢true
     (c.if-are_prepared.ensures.1 ready)) in
     let joins : TouchRange ps h.first h.behind h.low h.high = subst
-    (λ (ds : List Extent). TouchRange (map extent_view ds) h.first h.behind h.low h.high) c.deref-2.ensures.value c.touched_extents-reach.ensures.joins in
+    (λ (ds : List Extent). TouchRange (map extent_view ds) h.first h.behind h.low h.high) c.deref-2.ensures.value
+    c.touched_extents-reach.ensures.joins in
     let ready = subst (λ (ds : List Extent). (x : ℕ) → h.low ≤ x → x < h.high →
-    IsTrue (covers c.args.range x || is_prepared_at (map extent_view ds) x)) c.deref-2.ensures.value c.touched_extents-reach.ensures.ready in
+    IsTrue (covers c.args.range x || is_prepared_at (map extent_view ds) x)) c.deref-2.ensures.value
+    c.touched_extents-reach.ensures.ready in
     prepared ps (map extent_view c.merge_or_insert.new.extents.items) c.args.range h.first h.behind h.low h.high c.requires joins
-    c.touched_extents-reach.ensures.low c.touched_extents-reach.ensures.high c.touched_extents-reach.ensures.small not_ready ready c.in_ok-merge_or_insert.ensures.ok
+    c.touched_extents-reach.ensures.low c.touched_extents-reach.ensures.high c.touched_extents-reach.ensures.small not_ready ready
+    c.in_ok-merge_or_insert.ensures.ok
 
 pub returns-clause-apart : goal.returns-clause-apart
 returns-clause-apart c = (done (goal.at.returns-clause-apart c).In_ok-merge_or_insert).apart

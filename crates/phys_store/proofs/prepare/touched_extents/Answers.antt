@@ -31,7 +31,8 @@ end_of_extent-requires c =
     let i = c.loop-behind.invariant in
     let long = length-map es extent_view in
     let is = nth_piece es b c.index-extents-behind-in-loop-behind.result c.loop-behind-test.true c.index-extents-behind-in-loop-behind.is in
-    subst (λ (q : ExtentView). end_of_extent q < 2 ^ 64) is (nth_extent-fits (map extent_view es) b c.requires (omega (arith, long, c.loop-behind-test.true)))
+    subst (λ (q : ExtentView). end_of_extent q < 2 ^ 64) is
+    (nth_extent-fits (map extent_view es) b c.requires (omega (arith, long, c.loop-behind-test.true)))
 
 pub loop-behind-preserved : goal.loop-behind-preserved
 loop-behind-preserved c =

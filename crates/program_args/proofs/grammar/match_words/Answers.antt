@@ -15,7 +15,8 @@ returns-in-Ok-clause-matches c =
 pub returns-in-Ok-clause-faultless : goal.returns-in-Ok-clause-faultless
 returns-in-Ok-clause-faultless c =
     let made = c.in_ok-command.ensures in
-    ap (λ app. fault_of app (bytes_of_words c.args.words.now)) (sym made) ∙ c.in-Ok.ensures.kinds (ap is_simple_and_free made ∙ simple_and_free)
+    ap (λ app. fault_of app (bytes_of_words c.args.words.now)) (sym made)
+    ∙ c.in-Ok.ensures.kinds (ap is_simple_and_free made ∙ simple_and_free)
 
 abbrev error_in : {T : Type 0} → Result T ArgsError → ArgsError
 error_in (Ok x) = Memory

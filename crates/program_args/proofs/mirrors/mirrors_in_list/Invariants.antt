@@ -12,7 +12,8 @@ use Rattle.program_args.proofs.mirrors.mirrors_in_list.Given as goal
 abbrev pub invariant-loop-rest : goal.invariant-loop-rest
 invariant-loop-rest l = record {
   facts : All IsMirror l.mirrors.items;
-  same : l.mirrors.items ++ filter_map piece_frames (parts_of_rest (Byte 58) (option_map (λ text. text.now) l.rest)) ≡ mirrors_in_list l.list;
+  same : l.mirrors.items ++ filter_map piece_frames (parts_of_rest (Byte 58) (option_map (λ text. text.now) l.rest))
+      ≡ mirrors_in_list l.list;
 }
 
 abbrev pub decreases-loop-rest : goal.decreases-loop-rest

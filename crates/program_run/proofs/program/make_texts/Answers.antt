@@ -11,4 +11,5 @@ returns-in_err-inputs-clause-fetches g c =
 
 pub returns-clause-cause : goal.returns-clause-cause
 returns-clause-cause g c =
-    c.reports_on_boot.ensures.cause (g.F.Files.faults c.args.files.now) (g.F.Files.faults c.read_boot_inputs.new.files) (bootmem_args_view c.args.wanted.now)
+    c.reports_on_boot.ensures.cause (g.F.Files.faults c.args.files.now) (g.F.Files.faults c.read_boot_inputs.new.files)
+    (bootmem_args_view c.args.wanted.now)

@@ -11,10 +11,12 @@ use Rattle.report_memory.proofs.RecordLaws.{next_line}
 use Rattle.report_memory.proofs.records.put_records.Goals as goal
 
 pub put_record_line-requires-clause-some : goal.put_record_line-requires-clause-some
-put_record_line-requires-clause-some c = (region_fits c.args.store.now c.args.head.now c.loop-index.index _ c.requires (omega arith) c.region_at.ensures).0
+put_record_line-requires-clause-some c =
+    (region_fits c.args.store.now c.args.head.now c.loop-index.index _ c.requires (omega arith) c.region_at.ensures).0
 
 pub put_record_line-requires-clause-within : goal.put_record_line-requires-clause-within
-put_record_line-requires-clause-within c = (region_fits c.args.store.now c.args.head.now c.loop-index.index _ c.requires (omega arith) c.region_at.ensures).1
+put_record_line-requires-clause-within c =
+    (region_fits c.args.store.now c.args.head.now c.loop-index.index _ c.requires (omega arith) c.region_at.ensures).1
 
 pub returns-in_err-put_record_line : goal.returns-in_err-put_record_line
 returns-in_err-put_record_line c =

@@ -31,7 +31,8 @@ loop-left-preserved c =
     let row : BlockRow = record c.args.row.now { first = l.first; count = l.left } in
     record {
       fill = rest_fill row l.invariant.fill (omega arith);
-      lines = rest_batch row l.lines.items c.overwrite_batch_addresses.new.batch.items l.invariant.fill (omega arith) l.invariant.lines c.overwrite_batch_addresses.ensures;
+      lines = rest_batch row l.lines.items c.overwrite_batch_addresses.new.batch.items l.invariant.fill
+          (omega arith) l.invariant.lines c.overwrite_batch_addresses.ensures;
       text = text_more _ _ _ _ _ _ (batch_then row l.invariant.fill (omega arith)) l.invariant.text
           (c.in_ok-put_text.ensures.puts.0 ∙ ap (λ t. l.text.items ++ t) (c.deref.ensures.value ∙ l.invariant.lines));
     }

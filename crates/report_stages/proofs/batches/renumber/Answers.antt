@@ -7,7 +7,8 @@ loop-i-init c = λ front old eight is. rw (batch_none 0 front c.args.digits.now)
 
 pub loop-i-preserved : goal.loop-i-preserved
 loop-i-preserved c = λ front old eight is.
-    renumber_one_line front c.args.digits.now old c.copy_from_slice.new.self c.loop-i.i (length c.args.batch.now) c.loop-i.batch (omega arith)
+    renumber_one_line front c.args.digits.now old c.copy_from_slice.new.self c.loop-i.i (length c.args.batch.now) c.loop-i.batch
+    (omega arith)
     (ap (λ (t : List ℕ). length t) is) (omega arith) eight c.copy_from_slice.ensures.after (c.loop-i.invariant front old eight is)
 
 pub returns : goal.returns

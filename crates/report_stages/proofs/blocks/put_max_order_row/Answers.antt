@@ -37,4 +37,5 @@ returns c =
     parts_put row _ _ c.put_each_block-2.result _ _ _ _ parts (rw c.part_of_row.ensures at c.in_ok-put_each_block.ensures.0)
     (rw c.part_of_row-2.ensures at c.in_ok-put_batches.ensures)
     (rw c.part_of_row-3.ensures at
-    (puts_ok c.put_batches.new.text c.put_each_block-2.new.text c.put_each_block-2.result (row_text c.part_of_row-3.result) c.put_each_block-2.ensures))
+    (puts_ok c.put_batches.new.text c.put_each_block-2.new.text c.put_each_block-2.result
+    (row_text c.part_of_row-3.result) c.put_each_block-2.ensures))

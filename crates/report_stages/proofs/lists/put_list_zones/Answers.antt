@@ -13,7 +13,8 @@ no_room : (zones : List ListZone) (i : ℕ) (d : ListZone) (old mid : List ℕ) 
 no_room zones i d old mid before room within so_far less wants =
     let left : flat_map list_zone_text (drop i zones) ≡ list_zone_text (get_or zones i d) ++ flat_map list_zone_text (drop (i + 1) zones) =
     rw (drop-cons zones i d within, add-one) refl in
-    too_small old mid (list_zone_text (get_or zones i d)) _ (flat_map list_zone_text (drop (i + 1) zones)) _ before room left so_far less wants
+    too_small old mid (list_zone_text (get_or zones i d)) _
+    (flat_map list_zone_text (drop (i + 1) zones)) _ before room left so_far less wants
 
 pub returns-in_err-put_list_zone : goal.returns-in_err-put_list_zone
 returns-in_err-put_list_zone c =

@@ -69,9 +69,11 @@ loop-from-preserved g c =
     let value : c.apply.result ≡ change (f from) = c.apply.ensures ∙ ap change (c.value_and_end-here.ensures.value f i.rest) in
     let here : h from ≡ c.apply.result = amended_inside change r f from first (omega arith) ∙ sym value in
     let rest : IsRestFrom f to (drop c.skip_ended.result (g.T.Rows.list c.loop-from.table)) =
-    c.skip_ended.ensures.rest f from i.rest order (ends_sooner to c.value_and_end-here.result.1 _ (omega arith) (c.value_and_end-here.ensures.ends i.rest.ends))
+    c.skip_ended.ensures.rest f from i.rest order
+    (ends_sooner to c.value_and_end-here.result.1 _ (omega arith) (c.value_and_end-here.ensures.ends i.rest.ends))
     in
-    let stays : Stays h from to c.apply.result = amended_stays change r f from to c.value_and_end-here.result.1 c.apply.result first (omega arith)
+    let stays : Stays h from to c.apply.result =
+    amended_stays change r f from to c.value_and_end-here.result.1 c.apply.result first (omega arith)
     (omega arith) (c.value_and_end-here.ensures.stays f i.rest) value in
     record {
       first = omega arith;
@@ -134,7 +136,8 @@ emit-write-requires-clause-room g c = λ free lt some.
     let order : until ≤ next = c.value_and_end-here-2.ensures.forward left.ends (omega arith) in
     let value : c.value_and_end-here-2.result.0 ≡ f until = c.value_and_end-here-2.ensures.value f left in
     let here : h until ≡ c.value_and_end-here-2.result.0 = amended_behind change r f until (omega arith) ∙ sym value in
-    let stays : Stays h until next c.value_and_end-here-2.result.0 = amended_stays_behind change r f until next c.value_and_end-here-2.result.0
+    let stays : Stays h until next c.value_and_end-here-2.result.0 =
+    amended_stays_behind change r f until next c.value_and_end-here-2.result.0
     (omega arith) (c.value_and_end-here-2.ensures.stays f left) value in
     let built : IsBuiltTo h next (take a.result.write (g.T.Rows.list a.new.table)) a.result.start a.result.value = a.ensures.built h next
     before here order stays in
@@ -145,7 +148,8 @@ emit-write-requires-clause-room g c = λ free lt some.
     room_here c.requires.room.0 c.requires.room.1 f h a.result.start next next a.result.value (g.T.Rows.list a.new.table) a.result.write
     a.result.read
     (g.T.Slots.room c.args.table.now) c.requires.room.2 c.requires.within (omega arith) (grind (arith, common_steps)) built
-    (λ same. last ∙ c.value_and_end-here-2.ensures.another f left (sym (amended_behind change r f next (omega arith)) ∙ same ∙ last)) rest free
+    (λ same. last
+    ∙ c.value_and_end-here-2.ensures.another f left (sym (amended_behind change r f next (omega arith)) ∙ same ∙ last)) rest free
     a.ensures.within lt some in
     let keeps = g.met.T.Slots.keeps_on c.args.table.now c.loop-from.table a.new.table i.keeps a.ensures.keeps in
     g.met.T.Slots.keeps_room c.args.table.now a.new.table keeps (suc (length (g.T.Rows.list a.new.table))) room
@@ -172,15 +176,19 @@ returns-clause-list g c =
     let order : until ≤ next = c.value_and_end-here-2.ensures.forward left.ends (omega arith) in
     let value : c.value_and_end-here-2.result.0 ≡ f until = c.value_and_end-here-2.ensures.value f left in
     let here : h until ≡ c.value_and_end-here-2.result.0 = amended_behind change r f until (omega arith) ∙ sym value in
-    let stays : Stays h until next c.value_and_end-here-2.result.0 = amended_stays_behind change r f until next c.value_and_end-here-2.result.0
+    let stays : Stays h until next c.value_and_end-here-2.result.0 =
+    amended_stays_behind change r f until next c.value_and_end-here-2.result.0
     (omega arith) (c.value_and_end-here-2.ensures.stays f left) value in
     let built : IsBuiltTo h next (take a.result.write (g.T.Rows.list a.new.table)) a.result.start a.result.value = a.ensures.built h next
     before here order stays in
     let last : a.result.value ≡ f until = a.ensures.value ∙ value in
-    let ends : FirstEndsAtOrPast next (drop c.loop-from.sweep.read (g.T.Rows.list c.loop-from.table)) = c.value_and_end-here-2.ensures.ends left.ends in
-    let passed : IsRestFrom f next (drop c.skip_ended-2.result (g.T.Rows.list c.loop-from.table)) = c.skip_ended-2.ensures.rest f until left order
+    let ends : FirstEndsAtOrPast next (drop c.loop-from.sweep.read (g.T.Rows.list c.loop-from.table)) =
+    c.value_and_end-here-2.ensures.ends left.ends in
+    let passed : IsRestFrom f next (drop c.skip_ended-2.result (g.T.Rows.list c.loop-from.table)) =
+    c.skip_ended-2.ensures.rest f until left order
     ends in
-    let starts : StartAtOrPast next (drop c.skip_ended-2.result (g.T.Rows.list c.loop-from.table)) = c.skip_ended-2.ensures.starts f until left ends
+    let starts : StartAtOrPast next (drop c.skip_ended-2.result (g.T.Rows.list c.loop-from.table)) =
+    c.skip_ended-2.ensures.starts f until left ends
     c.value_and_end-here-2.ensures.uncut in
     let swept : IsSweptTo h next (take a.result.write (g.T.Rows.list a.new.table) ++ stretch a.result.start next a.result.value) =
     swept_stretch h a.result.start next a.result.value (take a.result.write (g.T.Rows.list a.new.table)) built.swept built.begun built.stays

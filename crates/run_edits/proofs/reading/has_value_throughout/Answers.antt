@@ -18,7 +18,8 @@ returns-then-agree g c =
     ∙ c.agree.ensures.0 c.if-agree.true in (
       λ far x above under.
           let until : end_of c.args.range.now ≤ next = grind (arith, nat_tests) in
-          holds_so_far f from (end_of c.args.range.now) next c.args.value first (c.value_and_end-here.ensures.stays f c.seek-read.ensures.rest)
+          holds_so_far f from (end_of c.args.range.now) next c.args.value first
+          (c.value_and_end-here.ensures.stays f c.seek-read.ensures.rest)
           until x (omega arith) under,
       λ each.
           let until : end_of c.args.range.now ≤ next = holds_no_further f from (end_of c.args.range.now) next c.args.value first

@@ -15,7 +15,8 @@ returns-in_err-map-clause-ends c =
 
 pub returns-in_err-map-clause-goes_on : goal.returns-in_err-map-clause-goes_on
 returns-in_err-map-clause-goes_on c =
-    goes-then c.args.memblock.now c.loop-section.memblock c.place_map.new.memblock c.loop-section.invariant.goes_on c.in_err-map.ensures.goes_on
+    goes-then c.args.memblock.now c.loop-section.memblock c.place_map.new.memblock c.loop-section.invariant.goes_on
+    c.in_err-map.ensures.goes_on
 
 pub loop-section-preserved : goal.loop-section-preserved
 loop-section-preserved c =

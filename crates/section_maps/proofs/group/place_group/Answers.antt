@@ -20,10 +20,12 @@ returns-in_err-usage-clause-ends c =
 pub returns-clause-ends : goal.returns-clause-ends
 returns-clause-ends c =
     group-second c.args.placed.now.items c.args.first.now c.args.sections.now c.usage_request-request.result
-    c.args.memblock.now.journal.items c.usage_request-request.ensures (view_of_result (λ done. c.place_group_maps.new.placed.items) c.place_group_maps.result)
+    c.args.memblock.now.journal.items c.usage_request-request.ensures
+    (view_of_result (λ done. c.place_group_maps.new.placed.items) c.place_group_maps.result)
     c.in_ok-usage.usage c.place_or_stop.new.memblock.journal.items c.place_group_maps.new.memblock.journal.items c.in_ok-usage.ensures.ends
     c.place_group_maps.ensures.ends
 
 pub returns-clause-goes_on : goal.returns-clause-goes_on
 returns-clause-goes_on c =
-    goes-then c.args.memblock.now c.place_or_stop.new.memblock c.place_group_maps.new.memblock c.in_ok-usage.ensures.goes_on c.place_group_maps.ensures.goes_on
+    goes-then c.args.memblock.now c.place_or_stop.new.memblock c.place_group_maps.new.memblock c.in_ok-usage.ensures.goes_on
+    c.place_group_maps.ensures.goes_on

@@ -18,7 +18,8 @@ returns-in-Ok-clause-ends c =
 pub returns-in-Err-NoPlace-clause-ends : goal.returns-in-Err-NoPlace-clause-ends
 returns-in-Err-NoPlace-clause-ends c =
     buffer-each c.args.usage c.args.placed.now.items c.args.first.now c.args.sections.now c.map_request-request.result
-    c.args.memblock.now.journal.items c.map_request-request.ensures (view_of_result (λ done. c.place_each_map.new.placed.items) c.place_each_map.result)
+    c.args.memblock.now.journal.items c.map_request-request.ensures
+    (view_of_result (λ done. c.place_each_map.new.placed.items) c.place_each_map.result)
     c.in-Err-NoPlace.field-0-0 c.place_or_stop.new.memblock.journal.items c.place_each_map.new.memblock.journal.items
     (rw c.in-Err-NoPlace.field-0-is at c.in-Err-NoPlace.ensures.ends) c.place_each_map.ensures.ends
 

@@ -16,4 +16,5 @@ returns-clause-each c = λ slit domains spans node bytes.
 pub returns-clause-order : goal.returns-clause-order
 unfolding zones_of
 returns-clause-order c = λ slit domains spans node.
-    laid_ascends (zonelists_from_slit slit domains spans) node (zones_by_node (map zone_of_span spans)) 0 256 (by_node_ascends (map zone_of_span spans))
+    laid_ascends (zonelists_from_slit slit domains spans) node (zones_by_node (map zone_of_span spans)) 0 256
+    (by_node_ascends (map zone_of_span spans))

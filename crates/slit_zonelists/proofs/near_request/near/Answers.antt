@@ -10,12 +10,14 @@ pub returns-in_default-clause-memory : goal.returns-in_default-clause-memory
 returns-in_default-clause-memory c =
     let none : held_in c.args.pages.now.ids c.args.id ≡ None = search rules in
     err_then c.outcome_without_list.result _ _
-    (near_takes c.args.lists.now (page_state_of c.args.pages.now) c.args.id c.args.order c.args.node none) c.outcome_without_list.ensures.memory
+    (near_takes c.args.lists.now (page_state_of c.args.pages.now) c.args.id c.args.order c.args.node none)
+    c.outcome_without_list.ensures.memory
 
 pub returns-clause-memory : goal.returns-clause-memory
 returns-clause-memory c =
     let none : held_in c.args.pages.now.ids c.args.id ≡ None = search rules in
     err_then c.take_from_first_zone.result _ _
     (near_takes c.args.lists.now (page_state_of c.args.pages.now) c.args.id c.args.order c.args.node none)
-    (subst (λ (zs : List ListZone). OnErr c.take_from_first_zone.result (IsSome (first_zone (page_state_of c.args.pages.now) c.args.order zs)))
+    (subst (λ (zs : List ListZone). OnErr c.take_from_first_zone.result
+    (IsSome (first_zone (page_state_of c.args.pages.now) c.args.order zs)))
     (c.deref.ensures.value ∙ c.in-Ok.ensures.list) c.take_from_first_zone.ensures.memory)

@@ -7,5 +7,6 @@ use Rattle.slit_zonelists.proofs.near_request.take_from_first_zone.Given as goal
 abbrev pub invariant-loop-entry : goal.invariant-loop-entry
 invariant-loop-entry l = record {
   same : l.pages ≡ l.fn.pages;
-  passed : first_zone (page_state_of l.fn.pages) l.order (drop l.entry-index l.zones) ≡ first_zone (page_state_of l.fn.pages) l.order l.zones;
+  passed : first_zone (page_state_of l.fn.pages) l.order (drop l.entry-index l.zones)
+      ≡ first_zone (page_state_of l.fn.pages) l.order l.zones;
 }

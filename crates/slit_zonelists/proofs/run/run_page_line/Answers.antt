@@ -15,7 +15,8 @@ returns-then-is_err-clause-memory c =
     let s = page_state_of c.args.pages.now in
     let none : held_in c.args.pages.now.ids c.in-Near.id ≡ None = search rules in
     subst (λ (act : PageAct). OnErr c.outcome_without_list.result (NeedsMemory (page_step_by_distance k s act).0)) (sym c.in-Near.is)
-    (err_then c.outcome_without_list.result _ _ (near_takes k s c.in-Near.id c.in-Near.order c.in-Near.node none) c.outcome_without_list.ensures.memory)
+    (err_then c.outcome_without_list.result _ _
+    (near_takes k s c.in-Near.id c.in-Near.order c.in-Near.node none) c.outcome_without_list.ensures.memory)
 
 pub returns-clause-memory : goal.returns-clause-memory
 returns-clause-memory c =
@@ -25,4 +26,5 @@ returns-clause-memory c =
     let list : c.deref.result.now ≡ zones_of k c.in-Near.node = search rules in
     subst (λ (act : PageAct). OnErr c.take_from_first_zone.result (NeedsMemory (page_step_by_distance k s act).0)) (sym c.in-Near.is)
     (err_then c.take_from_first_zone.result _ _ (near_takes k s c.in-Near.id c.in-Near.order c.in-Near.node none)
-    (subst (λ (zs : List ListZone). OnErr c.take_from_first_zone.result (IsSome (first_zone s c.in-Near.order zs))) list c.take_from_first_zone.ensures.memory))
+    (subst (λ (zs : List ListZone). OnErr c.take_from_first_zone.result (IsSome (first_zone s c.in-Near.order zs))) list
+    c.take_from_first_zone.ensures.memory))

@@ -37,7 +37,8 @@ loop-line-preserved c =
           ∙ answers_on k s t line rest told o is
           ∙ ap (λ (ls : List PageLine). told ++ page_answers_of k s ls) (sym more) ∙ c.loop-line.invariant.told;
       so_far = after_more k old t (take i lines) line o
-          (subst (λ (u : PageState). (let p : PageOutcome × PageState = (o, t) in p) ≡ page_step_by_distance k u line.act) c.loop-line.invariant.so_far is)
+          (subst (λ (u : PageState). (let p : PageOutcome × PageState = (o, t) in p)
+          ≡ page_step_by_distance k u line.act) c.loop-line.invariant.so_far is)
           ∙ ap (λ (ls : List PageLine). page_state_after k old ls) (sym (take_more lines i nothing c.loop-line-test.true));
       room =
           let room = c.loop-line.invariant.room in
@@ -63,6 +64,7 @@ returns-in_err-outcome-clause-memory c =
       line = line;
       behind = drop (i + 1) lines;
       is = sym (take-append-drop i lines) ∙ ap (λ (ls : List PageLine). take i lines ++ ls) more;
-      takes = subst (λ (u : PageState). NeedsMemory (page_step_by_distance c.args.lists.now u line.act).0) so_far c.in_err-outcome.ensures.memory;
+      takes = subst
+          (λ (u : PageState). NeedsMemory (page_step_by_distance c.args.lists.now u line.act).0) so_far c.in_err-outcome.ensures.memory;
       state = ap page_state_of c.in_err-outcome.ensures.err ∙ so_far;
     }))

@@ -7,4 +7,5 @@ use Rattle.slit_zonelists.proofs.uses.first_bad_cell.Given as goal
 
 abbrev pub invariant-loop-row : goal.invariant-loop-row
 invariant-loop-row l =
-    first_member (filter_map (first_bad_in_row (slit_view l.slit)) (range_with_len l.row (l.slit.count - l.row))) ≡ first_bad_cell (slit_view l.slit)
+    first_member (filter_map (first_bad_in_row (slit_view l.slit)) (range_with_len l.row (l.slit.count - l.row)))
+    ≡ first_bad_cell (slit_view l.slit)

@@ -7,4 +7,5 @@ use Rattle.slit_zonelists.proofs.uses.first_bad_column.Given as goal
 
 abbrev pub invariant-loop-column : goal.invariant-loop-column
 invariant-loop-column l =
-    find (is_bad_cell (slit_view l.slit) l.row) (range_with_len l.column (l.slit.count - l.column)) ≡ first_bad_column (slit_view l.slit) l.row
+    find (is_bad_cell (slit_view l.slit) l.row) (range_with_len l.column (l.slit.count - l.column))
+    ≡ first_bad_column (slit_view l.slit) l.row

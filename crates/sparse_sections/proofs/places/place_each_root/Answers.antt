@@ -21,7 +21,8 @@ loop-section-init c = record {
 pub returns-in_err-place_root : goal.returns-in_err-place_root
 returns-in_err-place_root c =
     let p = err_from_is_err_and c.from_residual-in_err-place_root.result c.from_residual-in_err-place_root.ensures.1 in
-    let other = ap (is_last_root c.loop-section.last) (sym c.root_of-root.ensures) ∙ sym c.is_last_root.ensures ∙ c.if-not-is_last_root.true in
+    let other = ap (is_last_root c.loop-section.last) (sym c.root_of-root.ensures) ∙ sym c.is_last_root.ensures
+    ∙ c.if-not-is_last_root.true in
     record {
       ends = rw (p.1, p.2) (goes-fails c.in_err-place_root.field-0.0 c.args.memblock.now.journal.items c.args.sections.now
           c.loop-section.memblock.journal.items c.place_root.new.memblock.journal.items c.loop-section.roots.items c.loop-section.last
@@ -40,7 +41,8 @@ loop-section-preserved c =
     let now = c.loop-section.memblock.journal.items in
     let before = c.loop-section.roots.items in
     let s : Section = get_or sections i no_section in
-    let told : is_last_root last (root_of s) ≡ c.is_last_root.result = ap (is_last_root last) (sym c.root_of-root.ensures) ∙ sym c.is_last_root.ensures in
+    let told : is_last_root last (root_of s) ≡ c.is_last_root.result =
+    ap (is_last_root last) (sym c.root_of-root.ensures) ∙ sym c.is_last_root.ensures in
     elim c.if-not-is_last_root.branch [
       | then-not-is_last_root+in_ok-place_root w ↦
           let mid = w.place_root.new.memblock.journal.items in

@@ -13,7 +13,8 @@ pub returns-in_err-table-clause-ends : goal.returns-in_err-table-clause-ends
 returns-in_err-table-clause-ends c =
     let p = err_from_is_err_and c.from_residual.result c.from_residual.ensures.1 in
     rw (p.1, p.2) (place_roots-fail c.in_err-table.field-0.0 c.args.width c.table_request-request.result c.args.sections.now
-    c.args.memblock.now.journal.items c.place_or_stop.new.memblock.journal.items c.table_request-request.ensures c.in_err-table.ensures.ends)
+    c.args.memblock.now.journal.items c.place_or_stop.new.memblock.journal.items c.table_request-request.ensures
+    c.in_err-table.ensures.ends)
 
 pub returns-in_err-roots : goal.returns-in_err-roots
 returns-in_err-roots c =

@@ -38,10 +38,12 @@ loop-i-preserved c =
     let rs = c.args.tables.now.memory.records in
     let n = next (goal.at.loop-i-preserved c).After-get-region in
     let r : RunOf LabelView = get_or rs c.loop-i.i nobody in
-    let until : c.section_numbers-first.result.1 ≡ (run_end r - 1) / 0x8000000 + 1 = rw (n.base, n.size) at c.section_numbers-first.ensures.until in
+    let until : c.section_numbers-first.result.1 ≡ (run_end r - 1) / 0x8000000 + 1 =
+    rw (n.base, n.size) at c.section_numbers-first.ensures.until in
     record {
       put = rw (c.in_ok-push_sections.ensures, c.loop-i.invariant.put) (sym (sections-record (value_at rs) c.loop-i.next r
-          (drop (c.loop-i.i + 1) rs) c.section_numbers-first.result.0 c.section_numbers-first.result.1 c.get-region.result.node n.left n.whole.base
+          (drop (c.loop-i.i + 1) rs) c.section_numbers-first.result.0 c.section_numbers-first.result.1 c.get-region.result.node n.left
+          n.whole.base
           n.node (rw n.base at c.section_numbers-first.ensures.first) until));
       left = rw until (left-next (value_at rs) c.loop-i.next r (drop (c.loop-i.i + 1) rs) n.left);
       reach = omega (arith, until, n.base, n.size, n.reach);

@@ -19,6 +19,7 @@ returns-clause-bytes c =
     IfOk-weaker c.overlay_all.result _ _ (λ runs laid.
     told_memory c.args.memory.now runs.items
     (subst (λ (ss : List (RunOf Bool)). IsRunsOf (overlay_runs option_or ss) runs.items)
-    (c.deref.ensures.value ∙ c.in_ok-push_uncovered_memory.ensures ∙ ap (λ (rs : List (RunOf Bool)). rs ++ map run_without_node c.args.memory.now)
+    (c.deref.ensures.value ∙ c.in_ok-push_uncovered_memory.ensures
+    ∙ ap (λ (rs : List (RunOf Bool)). rs ++ map run_without_node c.args.memory.now)
     c.new-told.ensures.items) (plain_runs option_or c.deref.result.now runs.items laid)))
     c.overlay_all.ensures

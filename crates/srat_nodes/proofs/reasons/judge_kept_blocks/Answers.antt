@@ -26,7 +26,8 @@ returns-then-uncovered-ge-UNCOVERED_FRAMES c =
           c.requires.some c.in_ok-laid.ensures c.deref.ensures.value c.in_ok-joined.ensures;
       left = rw (c.lowest_node.ensures, c.deref-2.ensures.value) at c.in_ok-rest.ensures.runs;
       left_space = c.in_ok-rest.ensures.space;
-      counted = c.count_frames-uncovered.ensures ∙ ap (λ (rs : List NumaBlock). count_frames_with_node (value_at rs)) c.deref-3.ensures.value;
+      counted = c.count_frames-uncovered.ensures
+          ∙ ap (λ (rs : List NumaBlock). count_frames_with_node (value_at rs)) c.deref-3.ensures.value;
     } in
     c.unused_srat-then-uncovered-ge-UNCOVERED_FRAMES.ensures
     ∙ sym (found_uncovered memory kept joined rest c.count_frames-uncovered.result found c.args.domains.items
@@ -45,7 +46,8 @@ returns c =
           c.requires.some c.in_ok-laid.ensures c.deref.ensures.value c.in_ok-joined.ensures;
       left = rw (c.lowest_node.ensures, c.deref-2.ensures.value) at c.in_ok-rest.ensures.runs;
       left_space = c.in_ok-rest.ensures.space;
-      counted = c.count_frames-uncovered.ensures ∙ ap (λ (rs : List NumaBlock). count_frames_with_node (value_at rs)) c.deref-3.ensures.value;
+      counted = c.count_frames-uncovered.ensures
+          ∙ ap (λ (rs : List NumaBlock). count_frames_with_node (value_at rs)) c.deref-3.ensures.value;
     } in
     sym (found_used memory kept joined rest c.count_frames-uncovered.result found c.args.domains.items
     c.if-uncovered-ge-UNCOVERED_FRAMES.false)

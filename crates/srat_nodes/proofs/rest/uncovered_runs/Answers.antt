@@ -16,7 +16,8 @@ overlay_all-requires c =
 pub returns-clause-runs : goal.returns-clause-runs
 returns-clause-runs c =
     let laid = plain_runs option_or c.deref.result.now c.in_ok-covered.covered.items c.in_ok-covered.ensures in
-    let told : IsRunsOf (overlay_runs option_or (map run_with_node c.args.joined.now ++ map run_without_node c.args.memory.now)) c.deref-2.result.now =
+    let told : IsRunsOf
+    (overlay_runs option_or (map run_with_node c.args.joined.now ++ map run_without_node c.args.memory.now)) c.deref-2.result.now =
     rw c.deref-2.ensures.value (subst (λ (ss : List (RunOf _)). IsRunsOf (overlay_runs option_or ss) c.in_ok-covered.covered.items)
     (c.deref.ensures.value ∙ c.in_ok-told.ensures) laid) in
     let runs = left_runs c.args.memory.now c.args.joined.now c.args.node c.deref-2.result.now told in

@@ -10,7 +10,8 @@ invariant-loop-at l = record {
   below : l.at ≤ l.end;
   few : vec_len l.slots ≤ 3072;
   bounded : AreSpansBounded l.at l.slots.items;
-  told : (f : Frames) → NothingFrom l.first f → AreSpans f l.fn.slots.items → AreSpans (frames_with_node_run l.first l.at l.node f) l.slots.items;
+  told : (f : Frames) → NothingFrom l.first f → AreSpans f l.fn.slots.items
+      → AreSpans (frames_with_node_run l.first l.at l.node f) l.slots.items;
 }
 
 abbrev pub decreases-loop-at : goal.decreases-loop-at

@@ -13,7 +13,8 @@ invariant_of-self c =
     let spare : c.self.inside.spare ≡ c.args.self.now.spare = ap (λ (v : JournalView). v.spare) c.self.view_is in
     let pushed = c.push_within_capacity.ensures.items in
     let runs : IsRunsOf (owner_of c.push_within_capacity.new.items.items) c.update_owners.new.owners.items =
-    rw pushed (owners_pushed c.self.inside.items.items c.args.item c.self.inside.owners.items c.update_owners.new.owners.items c.self.invariant.3
+    rw pushed (owners_pushed c.self.inside.items.items c.args.item c.self.inside.owners.items c.update_owners.new.owners.items
+    c.self.invariant.3
     c.update_owners.ensures.runs) in (
       omega (arith, c.self.invariant.0, c.push_within_capacity.ensures.len, c.push_within_capacity.ensures.capacity, c.requires.spare),
       rw pushed (ItemsHaveBytes-push c.self.inside.items.items c.args.item c.self.invariant.1 c.requires.item),

@@ -9,5 +9,13 @@ returns-else-i-behind-clause-list c =
     let len = ap (λ (v : RunListView). length v.items) c.self.view_is in
     ap (drop c.self.inside.front) c.close_high.ensures.items
     ∙ drop-closed c.self.inside.front c.args.i c.args.n c.self.inside.records.items
-    (omega (arith, len, c.requires, c.self.invariant, length-drop c.self.inside.front c.self.inside.records.items, c.self.inside.records.ok.0))
+    (omega (
+      arith,
+      len,
+      c.requires,
+      c.self.invariant,
+      length-drop c.self.inside.front
+          c.self.inside.records.items,
+      c.self.inside.records.ok.0,
+    ))
     ∙ ap (λ (v : RunListView). take c.args.i v.items ++ drop (c.args.i + c.args.n) v.items) c.self.view_is

@@ -10,7 +10,8 @@ pub returns-then-count-gt0 : goal.returns-then-count-gt0
 returns-then-count-gt0 c =
     let at = c.loop-at.at in
     let left : 11 - at ≡ suc (11 - (at + 1)) = omega arith in
-    let some = serves_at (buddy_frames c.args.self.now) c.args.node c.args.zone at (11 - (at + 1)) (rw c.count.ensures at c.if-count-gt0.true) in
+    let some = serves_at (buddy_frames c.args.self.now) c.args.node c.args.zone at (11 - (at + 1))
+    (rw c.count.ensures at c.if-count-gt0.true) in
     rw (serves_is, ← c.loop-at.invariant.passed, left) (sym some)
 
 pub loop-at-preserved : goal.loop-at-preserved

@@ -7,5 +7,6 @@ use Rattle.buddy_handover.proofs.buddy.Buddy.has_block.Given as goal
 abbrev pub invariant-loop-at : goal.invariant-loop-at
 invariant-loop-at l = record {
   until : l.at ≤ 11;
-  passed : picked_block_from (buddy_frames l.self) l.node l.zone l.at (11 - l.at) ≡ picked_block_from (buddy_frames l.self) l.node l.zone l.order (11 - l.order);
+  passed : picked_block_from (buddy_frames l.self) l.node l.zone l.at (11 - l.at)
+      ≡ picked_block_from (buddy_frames l.self) l.node l.zone l.order (11 - l.order);
 }

@@ -8,7 +8,8 @@ use Rattle.buddy_handover.proofs.TakeLaws.{block_small, runs_with, joined_block}
 use Rattle.buddy_handover.proofs.buddy.Buddy.put_back.Goals as goal
 
 pub index_after_free-requires-clause-small : goal.index_after_free-requires-clause-small
-index_after_free-requires-clause-small c = block_small (value_at c.insert_frames.new.runs.items) c.args.first c.block_of-block.result c.block_of-block.ensures
+index_after_free-requires-clause-small c =
+    block_small (value_at c.insert_frames.new.runs.items) c.args.first c.block_of-block.result c.block_of-block.ensures
 
 pub invariant_of-self : goal.invariant_of-self
 invariant_of-self c =

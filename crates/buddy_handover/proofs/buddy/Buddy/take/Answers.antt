@@ -12,7 +12,8 @@ use Rattle.buddy_handover.proofs.buddy.Buddy.take.Goals as goal
 
 pub returns-in_default-find_picked_block-clause-none : goal.returns-in_default-find_picked_block-clause-none
 returns-in_default-find_picked_block-clause-none c =
-    let low = subst (λ (b : BuddyView). NothingFrom MAX_FRAMES (buddy_frames b)) (c.self.view_is ∙ c.in-Ok.ensures.stays) c.self.invariant.2 in
+    let low = subst (λ (b : BuddyView). NothingFrom MAX_FRAMES (buddy_frames b)) (c.self.view_is
+    ∙ c.in-Ok.ensures.stays) c.self.invariant.2 in
     λ same. first_none (buddy_frames c.args.self.now) c.args.node c.args.zone c.args.order low
     (c.in_default-find_picked_block.ensures (buddy_frames c.args.self.now) c.in-Ok.ensures.areas)
 
@@ -44,7 +45,8 @@ invariant_of-self-2 c =
 
 pub returns-clause-first : goal.returns-clause-first
 returns-clause-first c =
-    let low = subst (λ (b : BuddyView). NothingFrom MAX_FRAMES (buddy_frames b)) (c.self.view_is ∙ c.in-Ok.ensures.stays) c.self.invariant.2 in
+    let low = subst (λ (b : BuddyView). NothingFrom MAX_FRAMES (buddy_frames b)) (c.self.view_is
+    ∙ c.in-Ok.ensures.stays) c.self.invariant.2 in
     first_is (buddy_frames c.args.self.now) c.args.node c.args.zone c.args.order c.in-Some.block low
     (c.in-Some.ensures (buddy_frames c.args.self.now) c.in-Ok.ensures.areas)
 
@@ -55,7 +57,8 @@ any_err (Err e) P holds = holds e
 
 pub returns-in_err-ready-clause-memory : goal.returns-in_err-ready-clause-memory
 returns-in_err-ready-clause-memory c =
-    let low = subst (λ (b : BuddyView). NothingFrom MAX_FRAMES (buddy_frames b)) (c.self.view_is ∙ c.in-Ok.ensures.stays) c.self.invariant.2 in
+    let low = subst (λ (b : BuddyView). NothingFrom MAX_FRAMES (buddy_frames b)) (c.self.view_is
+    ∙ c.in-Ok.ensures.stays) c.self.invariant.2 in
     let first = first_is (buddy_frames c.args.self.now) c.args.node c.args.zone c.args.order c.in-Some.block low
     (c.in-Some.ensures (buddy_frames c.args.self.now) c.in-Ok.ensures.areas) in
     any_err c.from_residual.result _ (λ refusal wanted. ap is_some first)

@@ -20,7 +20,9 @@ returns-clause-holds c = λ fills holds.
     let size = subst (λ (r : RangeView). r.size ≤ 65536) c.range.view_is c.if-range-gt-MOST_FILLED.false in
     let few : nat_lt 65536 c.in-Ok.range.size ≡ false = grind (arith, nat_tests) in
     let same = rw few at (c.in-Ok.ensures.range (fill_whole old c.args.byte)) in
-    holds-by (Ok outcomes.Done) (state_of_memblock c.args.self.now next) (fill_effect old c.args.id c.args.byte) _ (memblock_bytes next) fills same
+    holds-by (Ok outcomes.Done) (state_of_memblock c.args.self.now next) (fill_effect old c.args.id c.args.byte) _
+    (memblock_bytes next) fills same
     (holds-as m.kernel next.kernel m.journal.items next.journal.items (fills ++ f ∷ []) (memblock_bytes next) (memblock_bytes next)
     c.in_ok-fill.ensures.kernel (ap (λ (j : JournalView). j.items) c.in_ok-fill.ensures.journal) (λ x. refl)
-    (holds-fill m.kernel m.journal.items fills f (memblock_bytes m) (memblock_bytes next) holds refl c.in-Ok.ensures.away c.in_ok-fill.ensures.ok))
+    (holds-fill m.kernel m.journal.items fills f (memblock_bytes m)
+    (memblock_bytes next) holds refl c.in-Ok.ensures.away c.in_ok-fill.ensures.ok))

@@ -16,7 +16,8 @@ unfolding act_effect
 returns-in-Alloc c =
     let ran = ran-quiet c.alloc.result c.args.self.now c.args.mb.now c.alloc.new.self c.alloc.new.mb c.args.line.now.act
     (acts.Alloc c.in-Alloc.id c.in-Alloc.request) c.in-Alloc.is
-    (alloc-quiet (state_of_memblock c.args.self.now c.args.mb.now) c.in-Alloc.id c.in-Alloc.request) c.alloc.ensures.acts c.alloc.ensures.goes_on.bytes in
+    (alloc-quiet (state_of_memblock c.args.self.now c.args.mb.now) c.in-Alloc.id c.in-Alloc.request) c.alloc.ensures.acts
+    c.alloc.ensures.goes_on.bytes in
     record { acts = ran.acts; answered = ran.answered; bytes = ran.bytes; holds = ran.holds; still_ready = c.alloc.ensures.goes_on.ready }
 
 pub returns-in-Reserve : goal.returns-in-Reserve
@@ -41,7 +42,8 @@ unfolding act_effect
 returns-in-Trim c =
     let ran = ran-quiet c.trim.result c.args.self.now c.args.mb.now c.trim.new.self c.trim.new.mb c.args.line.now.act
     (acts.Trim c.in-Trim.id c.in-Trim.keep) c.in-Trim.is
-    (trim-quiet (state_of_memblock c.args.self.now c.args.mb.now) c.in-Trim.id c.in-Trim.keep) c.trim.ensures.acts c.trim.ensures.goes_on.bytes in
+    (trim-quiet (state_of_memblock c.args.self.now c.args.mb.now) c.in-Trim.id c.in-Trim.keep) c.trim.ensures.acts
+    c.trim.ensures.goes_on.bytes in
     record { acts = ran.acts; answered = ran.answered; bytes = ran.bytes; holds = ran.holds; still_ready = c.trim.ensures.goes_on.ready }
 
 pub returns-in-Fill : goal.returns-in-Fill

@@ -20,4 +20,5 @@ returns-clause-ok c = λ x.
     let m = c.self.inside in
     let fill : Fill = record { range = c.args.range; byte = c.args.byte; at = length c.args.self.now.journal.items } in
     wrote-put c.prepare.new.self.store c.fill.new.self.store fill c.fill.ensures.bytes x
-    ∙ ap (λ (b : ℕ). byte_after_fill fill x b) (c.in_ok-prepare.ensures.bytes x ∙ ap (λ (v : MemblockView). byte_of v.tables.store x) c.self.view_is)
+    ∙ ap (λ (b : ℕ). byte_after_fill fill x b) (c.in_ok-prepare.ensures.bytes x
+    ∙ ap (λ (v : MemblockView). byte_of v.tables.store x) c.self.view_is)

@@ -22,7 +22,8 @@ pub returns-clause-goes_on : goal.returns-clause-goes_on
 returns-clause-goes_on c =
     rw (sym c.self.view_is) (record {
       kernel = refl;
-      bytes = follows-one (item.Upward c.args.on) c.self.invariant c.in_ok-push.ensures.ok (kept-upward c.self.invariant.kept c.args.on) (λ x. refl)
+      bytes = follows-one (item.Upward c.args.on) c.self.invariant c.in_ok-push.ensures.ok (kept-upward c.self.invariant.kept c.args.on)
+          (λ x. refl)
           c.self.invariant.spelled;
       ready = λ x h. h;
     })

@@ -17,7 +17,8 @@ returns-in_err-push-clause-goes_on c =
 pub invariant_of-self-2 : goal.invariant_of-self-2
 invariant_of-self-2 c =
     whole-one item.Trim c.self.invariant c.in_ok-push.ensures.ok
-    (kept-trim c.self.invariant.kept c.trim.new.self c.trim.ensures.memory c.trim.ensures.reserved) (λ x. refl) (edit-told which.Memory c.self.inside.tables c.trim.new.self _ c.trim.ensures.memory c.trim.ensures.elsewhere
+    (kept-trim c.self.invariant.kept c.trim.new.self c.trim.ensures.memory c.trim.ensures.reserved) (λ x.
+    refl) (edit-told which.Memory c.self.inside.tables c.trim.new.self _ c.trim.ensures.memory c.trim.ensures.elsewhere
     c.tables_are_in_store.ensures.memory c.tables_are_in_store.ensures.reserved)
     (trim-stands _ _ _ c.self.invariant.placed (rw (sym c.self.view_is) at c.requires) c.in_ok-push.ensures.ok)
 
@@ -25,7 +26,8 @@ pub returns-clause-goes_on : goal.returns-clause-goes_on
 returns-clause-goes_on c =
     rw (sym c.self.view_is) (record {
       kernel = refl;
-      bytes = follows-one item.Trim c.self.invariant c.in_ok-push.ensures.ok (kept-trim c.self.invariant.kept c.trim.new.self c.trim.ensures.memory c.trim.ensures.reserved) (λ x. refl)
+      bytes = follows-one item.Trim c.self.invariant c.in_ok-push.ensures.ok
+          (kept-trim c.self.invariant.kept c.trim.new.self c.trim.ensures.memory c.trim.ensures.reserved) (λ x. refl)
           (edit-told which.Memory c.self.inside.tables c.trim.new.self _ c.trim.ensures.memory c.trim.ensures.elsewhere
           c.tables_are_in_store.ensures.memory c.tables_are_in_store.ensures.reserved);
       ready = λ x h. rw (c.trim.ensures.ready x) h;

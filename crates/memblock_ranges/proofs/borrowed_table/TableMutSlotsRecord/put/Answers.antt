@@ -29,8 +29,10 @@ written c =
     let l = c.args.self.now in
     let h = l.head.now in
     let low = count_is l.store.now h in
-    put_table l.store.now c.write.new.self h.place h.room h.count c.args.i (h.place + 24 * c.args.i) (length c.encode_record.result) c.args.item
-    c.encode_record.result l.table (omega (arith, c.requires, low)) c.encode_record.ensures.fits c.encode_record.ensures.bytes c.write.ensures refl refl
+    put_table l.store.now c.write.new.self h.place h.room h.count c.args.i (h.place + 24 * c.args.i)
+    (length c.encode_record.result) c.args.item
+    c.encode_record.result l.table
+    (omega (arith, c.requires, low)) c.encode_record.ensures.fits c.encode_record.ensures.bytes c.write.ensures refl refl
 
 pub invariant_of-self : goal.invariant_of-self
 invariant_of-self c = record { table = (written (goal.at.invariant_of-self c).After-write).table }

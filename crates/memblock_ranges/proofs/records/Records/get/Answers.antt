@@ -8,7 +8,8 @@ returns-clause-region c = λ r.
     let s = c.self.inside in
     let less : c.args.i < s.count = omega (arith, c.requires, c.self.invariant.counted, ap length c.self.view_is) in
     let piece = slice_is s.bytes.now (24 * c.args.i) (24 * c.args.i + 24) 24 (omega arith) (omega (arith, c.self.invariant.long)) in
-    rw (← c.self.view_is) (c.decode_region.ensures ∙ ap decode_region piece ∙ record_is s.bytes.now s.count c.args.i r c.self.invariant less)
+    rw (← c.self.view_is) (c.decode_region.ensures ∙ ap decode_region piece
+    ∙ record_is s.bytes.now s.count c.args.i r c.self.invariant less)
 
 pub returns-clause-fits : goal.returns-clause-fits
 returns-clause-fits c = λ r.

@@ -42,10 +42,12 @@ rewrite-requires-in-Reserved-clause-room c = (
 -- the memory table after the edit
 edit : (c : After-rewrite) → AreTables c.rewrite.new.table.store.now c.rewrite.new.table.head.now c.self.inside.heads.reserved
     × EditsTable c.self.inside.store c.rewrite.new.table.store.now c.self.inside.heads.memory c.rewrite.new.table.head.now
-    c.self.inside.heads.reserved (records_for (cover_range c.args.range c.label_of.result (value_at (records_of_head c.self.inside.store c.self.inside.heads.memory))))
+    c.self.inside.heads.reserved
+    (records_for (cover_range c.args.range c.label_of.result (value_at (records_of_head c.self.inside.store c.self.inside.heads.memory))))
 edit c =
     memory_edited _ _ _ _ _ _ c.self.invariant c.rewrite.new.table.table c.rewrite.ensures.keeps.2
-    (edited (λ (carried : Option LabelView). Some (unwrap_or carried c.label_of.result)) c.args.range _ _ c.self.invariant.memory_records (omega (arith, c.range_end_fits.ensures)) c.rewrite.ensures.list)
+    (edited (λ (carried : Option LabelView). Some (unwrap_or carried c.label_of.result)) c.args.range _ _ c.self.invariant.memory_records
+    (omega (arith, c.range_end_fits.ensures)) c.rewrite.ensures.list)
 
 pub invariant_of-self : goal.invariant_of-self
 invariant_of-self c = (edit c).0
@@ -68,12 +70,15 @@ returns-in-Memory-clause-ready c = rw (← c.self.view_is) (edit c).1.ready
 pub invariant_of-self-in-Reserved : goal.invariant_of-self-in-Reserved
 invariant_of-self-in-Reserved c =
     (reserved_edited _ _ _ _ _ _ c.self.invariant c.rewrite-in-Reserved.new.table.table c.rewrite-in-Reserved.ensures.keeps.2
-    (edited (λ (carried : Option LabelView). Some (unwrap_or carried c.label_of.result)) c.args.range _ _ c.self.invariant.reserved_records (omega (arith, c.range_end_fits.ensures)) c.rewrite-in-Reserved.ensures.list)
+    (edited (λ (carried : Option LabelView). Some (unwrap_or carried c.label_of.result)) c.args.range _ _ c.self.invariant.reserved_records
+    (omega (arith, c.range_end_fits.ensures)) c.rewrite-in-Reserved.ensures.list)
     (plain (goal.at.invariant_of-self-in-Reserved c).In-Reserved)).0
 
 pub returns-in-Reserved : goal.returns-in-Reserved
 returns-in-Reserved c =
     let e = (reserved_edited _ _ _ _ _ _ c.self.invariant c.rewrite-in-Reserved.new.table.table c.rewrite-in-Reserved.ensures.keeps.2
-    (edited (λ (carried : Option LabelView). Some (unwrap_or carried c.label_of.result)) c.args.range _ _ c.self.invariant.reserved_records (omega (arith, c.range_end_fits.ensures)) c.rewrite-in-Reserved.ensures.list)
+    (edited (λ (carried : Option LabelView). Some (unwrap_or carried c.label_of.result)) c.args.range _ _ c.self.invariant.reserved_records
+    (omega (arith, c.range_end_fits.ensures)) c.rewrite-in-Reserved.ensures.list)
     (plain (goal.at.returns-in-Reserved c).In-Reserved)).1 in
-    rw (← c.self.view_is, c.in-Reserved.is, sym c.label_of.ensures) (record { table = e.table; other = e.other; elsewhere = e.elsewhere; ready = e.ready })
+    rw (← c.self.view_is, c.in-Reserved.is, sym c.label_of.ensures)
+    (record { table = e.table; other = e.other; elsewhere = e.elsewhere; ready = e.ready })

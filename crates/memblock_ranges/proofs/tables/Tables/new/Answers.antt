@@ -22,7 +22,8 @@ invariant_of-result c =
     let one : (x : ℕ) → is_prepared_at t x ≡ covers (bytes_of_head (first_head (end - 8192))) x = λ x.
     c.in_ok-prepare.ensures.ready x ∙ ap (λ (l : List ExtentView). covers c.bytes.result x || is_prepared_at l x) none
     ∙ or-false (covers c.bytes.result x) ∙ ap (λ (e : RangeView). covers e x) first in
-    let two : (x : ℕ) → is_prepared_at s x ≡ (covers (bytes_of_head (first_head (end - 4096))) x || covers (bytes_of_head (first_head (end - 8192))) x) =
+    let two : (x : ℕ)
+    → is_prepared_at s x ≡ (covers (bytes_of_head (first_head (end - 4096))) x || covers (bytes_of_head (first_head (end - 8192))) x) =
     λ x.
     c.in_ok-prepare-2.ensures.ready x ∙ ap (λ (b : Bool). covers c.bytes-2.result x || b) (one x)
     ∙ ap (λ (e : RangeView). covers e x || covers (bytes_of_head (first_head (end - 8192))) x) second in

@@ -23,10 +23,12 @@ returns-then-range-eq0-2-clause-table c =
 -- the memory table after the edit
 edit : (c : After-amend) → AreTables c.amend.new.table.store.now c.amend.new.table.head.now c.self.inside.heads.reserved
     × EditsTable c.self.inside.store c.amend.new.table.store.now c.self.inside.heads.memory c.amend.new.table.head.now
-    c.self.inside.heads.reserved (records_for (uncover_range c.args.range (value_at (records_of_head c.self.inside.store c.self.inside.heads.memory))))
+    c.self.inside.heads.reserved
+    (records_for (uncover_range c.args.range (value_at (records_of_head c.self.inside.store c.self.inside.heads.memory))))
 edit c =
     memory_edited _ _ _ _ _ _ c.self.invariant c.amend.new.table.table c.amend.ensures.keeps.2
-    (edited (λ (carried : Option LabelView). None) c.args.range _ _ c.self.invariant.memory_records (grind (arith, common_steps)) c.amend.ensures.list)
+    (edited (λ (carried : Option LabelView). None) c.args.range _ _ c.self.invariant.memory_records
+    (grind (arith, common_steps)) c.amend.ensures.list)
 
 pub invariant_of-self-in-Memory : goal.invariant_of-self-in-Memory
 invariant_of-self-in-Memory c = (edit c).0
@@ -37,7 +39,8 @@ returns-else-range-eq0-clause-table c = rw (← c.self.view_is, c.in-Memory.is) 
 pub returns-else-range-eq0-clause-other : goal.returns-else-range-eq0-clause-other
 returns-else-range-eq0-clause-other c =
     rw (← c.self.view_is, c.in-Memory.is) (memory_edited _ _ _ _ _ _ c.self.invariant c.amend.new.table.table c.amend.ensures.keeps.2
-    (edited (λ (carried : Option LabelView). None) c.args.range _ _ c.self.invariant.memory_records (grind (arith, common_steps)) c.amend.ensures.list)).1.other
+    (edited (λ (carried : Option LabelView). None) c.args.range _ _ c.self.invariant.memory_records
+    (grind (arith, common_steps)) c.amend.ensures.list)).1.other
 
 pub returns-else-range-eq0-clause-elsewhere : goal.returns-else-range-eq0-clause-elsewhere
 returns-else-range-eq0-clause-elsewhere c = rw (← c.self.view_is, c.in-Memory.is) (edit c).1.elsewhere
@@ -48,12 +51,14 @@ returns-else-range-eq0-clause-ready c = rw (← c.self.view_is) (edit c).1.ready
 pub invariant_of-self-in-Reserved : goal.invariant_of-self-in-Reserved
 invariant_of-self-in-Reserved c =
     (reserved_edited _ _ _ _ _ _ c.self.invariant c.amend-in-Reserved.new.table.table c.amend-in-Reserved.ensures.keeps.2
-    (edited (λ (carried : Option LabelView). None) c.args.range _ _ c.self.invariant.reserved_records (grind (arith, common_steps)) c.amend-in-Reserved.ensures.list)
+    (edited (λ (carried : Option LabelView). None) c.args.range _ _ c.self.invariant.reserved_records
+    (grind (arith, common_steps)) c.amend-in-Reserved.ensures.list)
     (plain_uncovered c.args.range _ c.self.invariant.reserved_records c.self.invariant.plain (grind (arith, common_steps)))).0
 
 pub returns-else-range-eq0-2 : goal.returns-else-range-eq0-2
 returns-else-range-eq0-2 c =
     let e = (reserved_edited _ _ _ _ _ _ c.self.invariant c.amend-in-Reserved.new.table.table c.amend-in-Reserved.ensures.keeps.2
-    (edited (λ (carried : Option LabelView). None) c.args.range _ _ c.self.invariant.reserved_records (grind (arith, common_steps)) c.amend-in-Reserved.ensures.list)
+    (edited (λ (carried : Option LabelView). None) c.args.range _ _ c.self.invariant.reserved_records
+    (grind (arith, common_steps)) c.amend-in-Reserved.ensures.list)
     (plain_uncovered c.args.range _ c.self.invariant.reserved_records c.self.invariant.plain (grind (arith, common_steps)))).1 in
     rw (← c.self.view_is, c.in-Reserved.is) (record { table = e.table; other = e.other; elsewhere = e.elsewhere; ready = e.ready })

@@ -13,12 +13,14 @@ use Rattle.page_alloc.proofs.pages.Pages.free_held_frames.Goals as goal
 
 pub put_back-requires-clause-small : goal.put_back-requires-clause-small
 put_back-requires-clause-small c =
-    let is = subst (λ (b : PagesView). held_in b.ids c.args.id ≡ Some c.in-Some.held) (sym c.self.view_is) (sym c.held.ensures ∙ c.in-Some.is) in
+    let is = subst (λ (b : PagesView). held_in b.ids c.args.id ≡ Some c.in-Some.held) (sym c.self.view_is) (sym c.held.ensures
+    ∙ c.in-Some.is) in
     (c.self.invariant.well c.args.id c.in-Some.held is).small
 
 pub put_back-requires-clause-low : goal.put_back-requires-clause-low
 put_back-requires-clause-low c =
-    let is = subst (λ (b : PagesView). held_in b.ids c.args.id ≡ Some c.in-Some.held) (sym c.self.view_is) (sym c.held.ensures ∙ c.in-Some.is) in
+    let is = subst (λ (b : PagesView). held_in b.ids c.args.id ≡ Some c.in-Some.held) (sym c.self.view_is) (sym c.held.ensures
+    ∙ c.in-Some.is) in
     (c.self.invariant.well c.args.id c.in-Some.held is).low
 
 pub returns-clause-ok : goal.returns-clause-ok
@@ -36,7 +38,8 @@ returns-clause-ok c =
     (with_held id None (held_in b.ids))
     c.in_ok-put_back.ensures.runs.each (λ q. changed id q None (held_in b.ids) (held_in new.ids q) (c.remove.ensures.updates.0 q)) in
     subst (λ (d : PagesView). (outcomes.Done, page_state_of new) ≡ free_held_frames (page_state_of d) id (held_in d.ids id)) c.self.view_is
-    (ap (λ (s : PageState). let p : PageOutcome × PageState = (outcomes.Done, s) in p) same ∙ sym (ap (free_held_frames (page_state_of b) id) is))
+    (ap (λ (s : PageState). let p : PageOutcome × PageState = (outcomes.Done, s) in p) same
+    ∙ sym (ap (free_held_frames (page_state_of b) id) is))
 
 pub invariant_of-self-2 : goal.invariant_of-self-2
 invariant_of-self-2 c =

@@ -23,7 +23,8 @@ use Rattle.page_alloc.proofs.pages.Pages.take.Goals as goal
 
 pub overflow_mul-result : goal.overflow_mul-result
 overflow_mul-result c =
-    let low = (picked_set (buddy_frames c.self.inside.buddy) _ c.in-Ok-take.first _ _ c.self.invariant.low c.in-Ok-take.ensures.first).low in
+    let low = (picked_set
+    (buddy_frames c.self.inside.buddy) _ c.in-Ok-take.first _ _ c.self.invariant.low c.in-Ok-take.ensures.first).low in
     omega (arith, low)
 
 abbrev before : goal.Joined-take → PagesView
@@ -48,7 +49,8 @@ came c =
           let what : Held = record { first = first; order = c.args.order; node = c.args.node } in
           let entries : c.match-take.self-inside.ids.entries ≡ insert_entry nat_cmp es id what = search rules in
           let buddy : c.match-take.self-inside.buddy ≡ c.take.new.self = search rules in
-          let runs = subst (λ (d : BuddyView). IsRunsOf (without_set c.args.order first (buddy_frames c.self.inside.buddy)) d.runs) (sym buddy)
+          let runs = subst (λ (d : BuddyView). IsRunsOf (without_set c.args.order first (buddy_frames c.self.inside.buddy)) d.runs)
+          (sym buddy)
           w.in-Ok-take.ensures.runs in
           let picked = w.in-Ok-take.ensures.first in
           let is = took (before c) (behind c) id c.args.order c.args.node c.args.zone first none picked runs entries in (
@@ -85,7 +87,8 @@ invariant_of-self-in-Vacant c = (came c).1
 
 pub returns-after-take-clause-ok : goal.returns-after-take-clause-ok
 returns-after-take-clause-ok c =
-    subst (λ (d : PagesView). IfOk c.match-take.result (λ outcome. (let p : PageOutcome × PageState = (outcome, page_state_of (behind c)) in p)
+    subst (λ (d : PagesView). IfOk c.match-take.result (λ outcome.
+    (let p : PageOutcome × PageState = (outcome, page_state_of (behind c)) in p)
     ≡ page_step (page_state_of d) (acts.Pages c.args.id c.args.order c.args.node c.args.zone)))
     c.self.view_is (came c).0.0
 
@@ -100,17 +103,21 @@ returns-in_default-clause-ok c =
     let same : after ≡ b = λ i. record { buddy = c.self.inside.buddy; ids = entries i } in
     let none : held_in es id ≡ None = c.in_default.ensures.absent in
     let act = acts.Pages id c.args.order c.args.node c.args.zone in
-    elim c.if-has_block.branch as (λ _. IfOk c.if-has_block.result (λ outcome. (let p : PageOutcome × PageState = (outcome, page_state_of after) in p)
+    elim c.if-has_block.branch as (λ _.
+    IfOk c.if-has_block.result (λ outcome. (let p : PageOutcome × PageState = (outcome, page_state_of after) in p)
     ≡ page_step (page_state_of c.args.self.now) act)) [
       | then-has_block w ↦
-          subst (λ (r : Result PageOutcome Memory). IfOk r (λ outcome. (let p : PageOutcome × PageState = (outcome, page_state_of after) in p)
+          subst (λ (r : Result PageOutcome Memory). IfOk r (λ outcome.
+          (let p : PageOutcome × PageState = (outcome, page_state_of after) in p)
           ≡ page_step (page_state_of c.args.self.now) act)) (sym w.result-is) tt
       | else-has_block w ↦
           let picked = nothing_is (picked_first_frame (buddy_frames b.buddy) c.args.node c.args.zone c.args.order)
           (sym c.has_block.ensures ∙ w.if-has_block.false) in
-          subst (λ (r : Result PageOutcome Memory). IfOk r (λ outcome. (let p : PageOutcome × PageState = (outcome, page_state_of after) in p)
+          subst (λ (r : Result PageOutcome Memory). IfOk r (λ outcome.
+          (let p : PageOutcome × PageState = (outcome, page_state_of after) in p)
           ≡ page_step (page_state_of c.args.self.now) act)) (sym w.result-is)
-          (subst (λ (d : PagesView). (let p : PageOutcome × PageState = (outcomes.NoBlock, page_state_of after) in p) ≡ page_step (page_state_of d) act)
+          (subst (λ (d : PagesView). (let p : PageOutcome × PageState = (outcomes.NoBlock, page_state_of after) in p)
+          ≡ page_step (page_state_of d) act)
           c.self.view_is
           (took_none b after id c.args.order c.args.node c.args.zone none picked same))
     ]
