@@ -61,7 +61,7 @@ class Words(Case):
                    [name for name, value in words.OPTIONS.items() if not value])
         self.check("reports of Report.antt", codes_in("debugfs_reports", "Report", r"^(report_name reports.*?)$"), list(words.REPORTS))
         self.check("inputs of Input.antt", codes_in("boot_inputs", "Input", r"^(input_word inputs.*?)$"), list(words.INPUTS))
-        self.check("options of bootaudit's Args.antt", codes_in("boot_audit", "Args", r"^(read_audit_args .*?)$"), AUDIT)
+        self.check("options of bootaudit's Args.antt", codes_in("boot_audit", "Args", r"^(read_audit_args .*?)(?:\n\n|\Z)"), AUDIT)
 
     @unittest.skipUnless(os.access(PROGRAM, os.X_OK), "there is no program: it isn't asked for its words")
     def test_program(self):
