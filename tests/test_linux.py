@@ -593,16 +593,71 @@ class Linux(Case):
             "0x0000000003000000..0x0000000003010fff 2 reserved" in out,
             True,
         )
-        for bad in (["--nonsense"], [], ["zp", "zp"], ["--kernel", "1", "zp"]):
+        for bad, why in (
+            (["--nonsense"], "--nonsense: no such option"),
+            ([], "no zero page is named"),
+            (["zp", "zp"], "zp: a second zero page"),
+            (["--kernel", "1", "zp"], "--kernel 1: 1 has no size after it"),
+            (["--srat", "none", "zp"], "none: it doesn't exist"),
+            (["."], ".: it is a folder"),
+        ):
             theirs = ran([PROGRAM, *bad], folder=self.work)
             ours = tool("bootmem-linux", *bad, folder=self.work)
             self.check(
                 f"linux {bad}",
-                (ours[0], ours[2].splitlines()[-1:]),
+                (ours[0], ours[2].splitlines()[-2:-1]),
                 (theirs[0], theirs[2].decode().splitlines()[-1:]),
             )
+            self.has(f"linux {bad}: why", ours[2], f"\nbootmem-linux: {why}")
+            if bad and bad[-1] == "zp":
+                ours = tool("bootmem-json", "--", *bad, folder=self.work)
+                self.has(f"json {bad}: why", ours[2], f"; {why}")
         for bad in (["--brk", "much", "zp"], ["--pages", "3M", "zp"]):
             self.check(f"linux {bad}", tool("bootmem-linux", *bad, folder=self.work)[:2], (2, ""))
+
+
+    def test_tables(self):
+        """An SRAT that isn't used is explained; a SLIT with a wrong checksum is read."""
+        self.make([LOW, (MIB, GIB - MIB, RAM)])
+        for what, blocks, wanted in (
+            (
+                "overlap",
+                [(0, 512 * MIB, 3), (256 * MIB, 768 * MIB, 5)],
+                (
+                    "bootmem-linux: the SRAT isn't used: its blocks 0 and 1 overlap: "
+                    "0x0000000000000000-0x000000001fffffff of domain 3 and "
+                    "0x0000000010000000-0x000000003fffffff of domain 5"
+                ),
+            ),
+            (
+                "gap",
+                [(0, 768 * MIB, 3)],
+                (
+                    "bootmem-linux: the SRAT isn't used: 65536 frames of memory are in none of its"
+                    " blocks, 256 or more: 0x0000000030000000-0x000000003fffffff"
+                ),
+            ),
+        ):
+            write(self.path("srat"), inputs.srat(blocks, [3, 5]))
+            words = ["--report", "nodes", "--kernel", "16M,32M", "--srat", "srat", "zp"]
+            err = tool("bootmem-linux", *words, folder=self.work)[2]
+            self.check(f"linux: an SRAT, {what}", err.splitlines()[-1:], [wanted])
+        write(self.path("srat"), inputs.srat([(0, 512 * MIB, 0), (512 * MIB, 512 * MIB, 1)], [0, 1]))
+        whole = inputs.slit([[10, 20], [20, 10]])
+        for what, table, status, first, changes in (
+            ("whole", whole, 0, "slit used", 0),
+            ("a wrong checksum", unsealed(whole), 0, "slit used", 1),
+            ("a wrong cell", inputs.slit([[10, 20], [20, 11]]), 0, "slit not valid 1 1", 0),
+            ("a byte short", whole[:-1], 5, None, 0),
+        ):
+            write(self.path("slit"), table)
+            words = ["--report", "zonelists", "--srat", "srat", "--slit", "slit", "zp"]
+            ended, out, said = self.linux(*words)
+            self.check(
+                f"linux: a SLIT, {what}",
+                (ended, (out.splitlines() or [None])[0], len(said)),
+                (status, first, changes),
+            )
 
 
 def processor(domain, kind=2, flags=1, number=0):

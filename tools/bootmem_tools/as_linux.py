@@ -13,6 +13,7 @@ from typing import Iterator, NamedTuple, Sequence
 from bootmem_tools import (
     command_line,
     direct_map,
+    explain,
     inputs,
     linux_claims,
     linux_cma,
@@ -355,6 +356,19 @@ class Boot:
         else:
             self.files["srat"] = reading.table
 
+    def read_slit(self) -> None:
+        """Reads a SLIT with a wrong checksum as the kernel does."""
+        table = self.files.get("slit", b"")
+        if is_whole_slit(table) and sum(table) % 256:
+            self.say(
+                "changed",
+                (
+                    "the SLIT: its checksum is wrong: the kernel doesn't look at it that early"
+                    " (acpi_table_parse)"
+                ),
+            )
+            self.files["slit"] = inputs.sealed(table)
+
     def run(self) -> bool:
         """Keeps the reports of the map, of memory and of nodes; tells whether the program made
         them."""
@@ -607,6 +621,11 @@ class Boot:
         )
 
 
+def is_whole_slit(table: bytes) -> bool:
+    """Tells whether a table is a SLIT with a whole header, and as long as that says."""
+    return table[:4] == b"SLIT" and int.from_bytes(table[4:8], "little") == len(table) >= 44
+
+
 def is_valid_slit(table: bytes) -> bool:
     """Tells whether the kernel takes the distances of a SLIT (slit_valid)."""
     if len(table) < 44 or table[:4] != b"SLIT":
@@ -627,6 +646,7 @@ def prepare(boot: Boot) -> Prepared:
     boot.read_line()
     boot.read_efi()
     boot.read_srat()
+    boot.read_slit()
     runs = boot.run() and boot.restore_image()
     read = boot.mark_setup_data()
     if runs:
@@ -670,6 +690,36 @@ def prepared(
         yield prepare(boot) if boot and len(boot.page) == inputs.PAGE_SIZE else untouched
 
 
+def lines_of(boot: Prepared) -> list[str]:
+    """Returns what is to be known of a prepared boot, a line each."""
+    note = notes.srat_note(notes.value_in(boot.read, "--srat"), boot.texts)
+    return boot.said + ([note] if note else [])
+
+
+def why_failed(status: int, said: str, given: Sequence[str]) -> str | None:
+    """Returns why the program refused these words, or couldn't read a file; None if it said more than one line itself, as the installed command
+    does, or if the words don't tell."""
+    return explain.explain("bootmem", status, given) if said.count("bootmem: ") == 1 else None
+
+
+def explained(failure: runner.Failed, names: Sequence[str], given: Sequence[str]) -> tool.Trouble:
+    """Returns the trouble of a run for these reports and words, with the reason if the words tell it."""
+    why = why_failed(failure.ended, failure.said, ["--report", ",".join(names), *given])
+    return tool.Trouble(f"{failure}; {why}") if why else failure
+
+
+def run_explained(program: str, names: Sequence[str], given: Sequence[str]) -> Texts:
+    """Returns the reports of these names for these words.
+
+    # Errors
+    A Trouble, with the reason if the words tell it, if the program doesn't end with status 0.
+    """
+    try:
+        return runner.run_program(program, names, given)
+    except runner.Failed as failure:
+        raise explained(failure, names, given) from None
+
+
 def run_for(
     name: str, program: str, names: Sequence[str], given: Sequence[str], is_linux: bool
 ) -> tuple[Texts, list[linux_claims.Claim]]:
@@ -677,16 +727,17 @@ def run_for(
     claims that are cut out of memory: none unless the boot is to be as Linux makes it. What is to
     be known of the boot is said on standard error."""
     if not is_linux:
-        return runner.run_for(name, program, names, given), []
+        try:
+            return runner.run_for(name, program, names, given), []
+        except runner.Failed as failure:
+            raise explained(failure, names, given) from None
     parser = tool.Parser(prog=name, add_help=False, allow_abbrev=False)
     add_options(parser)
     add_log(parser)
     _, settings, rest = split_words(parser, given)
     program = os.path.abspath(program)
     with prepared(program, rest, settings) as boot:
-        found = runner.run_program(program, names, boot.words)
-        uncovered = notes.uncovered_note(notes.value_in(boot.read, "--srat"), boot.texts)
-        for said in (*boot.said, uncovered):
-            if said:
-                tool.complain(name, said)
+        found = run_explained(program, names, boot.words)
+        for said in lines_of(boot):
+            tool.complain(name, said)
         return found, boot.claims

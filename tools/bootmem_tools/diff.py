@@ -5,7 +5,7 @@ from __future__ import annotations
 import shlex
 from typing import Iterable, NoReturn, Optional
 
-from bootmem_tools import ranges, reports, runner, tool
+from bootmem_tools import as_linux, ranges, reports, runner, tool
 
 NAME = "bootmem-diff"
 # The reports of both sides, and the names of those to compare, if the words have them.
@@ -70,7 +70,7 @@ def run(program: str, names: list[str], text: str) -> tuple[list[str], reports.T
         words = shlex.split(text)
     except ValueError as error:
         raise tool.Trouble(f"{text!r}: {error}") from error
-    return words, runner.run_program(program, names, words)
+    return words, as_linux.run_explained(program, names, words)
 
 
 def changes(name: str, before: Iterable[str], after: Iterable[str]) -> list[Change]:

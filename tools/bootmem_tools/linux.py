@@ -6,6 +6,7 @@ from __future__ import annotations
 import argparse
 import os
 import subprocess
+import sys
 from typing import NoReturn
 
 from bootmem_tools import as_linux, linux_claims, ranges, runner, tool
@@ -63,11 +64,17 @@ def main(arguments: list[str]) -> int:
     own, settings, rest = read_words(arguments)
     program = os.path.abspath(runner.find_program(own.program))
     with as_linux.prepared(program, rest, settings) as prepared:
-        for line in prepared.said:
+        for line in as_linux.lines_of(prepared):
             tool.complain(NAME, line)
         for claim in prepared.claims if own.explain else []:
             tool.complain(NAME, f"claim: {claim_text(claim)}")
-        return subprocess.run([program, *prepared.words], check=False).returncode
+        done = subprocess.run([program, *prepared.words], stderr=subprocess.PIPE, check=False)
+        said = done.stderr.decode("utf-8", "replace")
+        print(said, end="", file=sys.stderr, flush=True)
+        why = as_linux.why_failed(done.returncode, said, prepared.words)
+        if why:
+            tool.complain(NAME, why)
+        return done.returncode
 
 
 def command() -> NoReturn:

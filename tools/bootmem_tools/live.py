@@ -375,10 +375,10 @@ def told_by_program(given: argparse.Namespace, folder: str, with_srat: bool = Tr
     return Told(f"bootmem {' '.join(words)}", words, texts, [])
 
 
-def uncovered_in(folder: str, words: Sequence[str], texts: Texts) -> str | None:
-    """Returns the note of the memory that no block of the folder's SRAT covers, or None."""
+def srat_note_in(folder: str, words: Sequence[str], texts: Texts) -> str | None:
+    """Returns the note on the folder's SRAT, or None."""
     name = notes.value_in(words, "--srat")
-    return notes.uncovered_note(os.path.join(folder, name), texts) if name else None
+    return notes.srat_note(os.path.join(folder, name), texts) if name else None
 
 
 def compare(given: argparse.Namespace, folder: str, words: Sequence[str], texts: Texts) -> Iterator[Finding]:
@@ -387,7 +387,7 @@ def compare(given: argparse.Namespace, folder: str, words: Sequence[str], texts:
         yield Finding("panics", why)
     if "--kernel" not in words:
         yield Finding("passed", f"kernel: {runner.ASSUMED}")
-    for note in (notes.place_note(notes.value_in(words, "--kernel"), texts), uncovered_in(folder, words, texts)):
+    for note in (notes.place_note(notes.value_in(words, "--kernel"), texts), srat_note_in(folder, words, texts)):
         if note:
             yield Finding("noted", note)
     srat = os.path.join(given.sys or "/sys", "firmware", "acpi", "tables", "SRAT")

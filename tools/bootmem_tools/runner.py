@@ -85,9 +85,12 @@ def texts_of(names: Sequence[str], text: str) -> Texts:
     return found
 
 
-def failed(status: int, said: str) -> Trouble:
-    """Returns the trouble of a run that ended with this status and line."""
-    return Trouble(f"the program ended with status {status}: {said or 'it said nothing'}")
+class Failed(Trouble):
+    """The trouble of a run that ended with this status and what it said on standard error."""
+
+    def __init__(self, ended: int, said: str) -> None:
+        super().__init__(f"the program ended with status {ended}: {said or 'it said nothing'}")
+        self.ended, self.said = ended, said
 
 
 def run_program(program: str, names: Sequence[str], words: Sequence[str],
@@ -99,7 +102,7 @@ def run_program(program: str, names: Sequence[str], words: Sequence[str],
     """
     status, text, said = call_program(program, names, words, folder)
     if status != 0:
-        raise failed(status, said)
+        raise Failed(status, said)
     return texts_of(names, text)
 
 
@@ -115,7 +118,7 @@ def run_or_stop(program: str, names: Sequence[str], words: Sequence[str],
     if status == STOPPED:
         return {}, said[len("bootmem: "):] if said.startswith("bootmem: ") else said
     if status != 0:
-        raise failed(status, said)
+        raise Failed(status, said)
     return texts_of(names, text), None
 
 
