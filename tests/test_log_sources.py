@@ -153,12 +153,16 @@ class Sources(Case):
                 (LOGGED["pc-6g-numa2-hole"] + "ACPI: SRAT: SRAT not used.\n", 0, "the kernel dropped its SRAT ('SRAT not used'), so none is made"),
                 ("ACPI: SRAT 0x000000007FFE23D2 000160 (v01 BOCHS  BXPC     00000001 BXPC 00000001)\nNUMA turned off\n", 0,
                  "the log lists an SRAT, but none of its entries (NUMA turned off): no SRAT is made"),
+                ("NODE_DATA(0) allocated [mem 0x1-0x2]\nInitmem setup node 3 [mem 0x1-0x2]\n", 0,
+                 "the log has node 3, but no line of an SRAT: none is made, so all memory is on node 0"),
                 ("ACPI: SRAT: Node 1 PXM 1 [mem 0x80000000-0xbfffffff]\n", 0, "line 4: domain 1 is node 1, and by the lines before it would be "
                  "node 0: the log lacks some of the SRAT's entries"),
                 ("ACPI: SRAT: Node 0 PXM 0 [mem 0x80000\n", 1, "line 4: no whole entry of an SRAT: 'ACPI: SRAT: Node 0 PXM 0 [mem 0x80000'"),
                 ("ACPI: SRAT: Node 0 PXM 4294967296 [mem 0x0-0xfff]\n", 1, "line 4: no domain has the number 4294967296")):
             got, _, err = tool("zp-from-log", "--output", "zp", "--no-initrd", given=MAP + lines, folder=self.work)
             self.check(lines.splitlines()[-1], (got, err), (status, f"zp-from-log: {said}\n"))
+        got, out, err = tool("zp-from-log", "--output", "zp", "--no-initrd", given=f"{MAP}NODE_DATA(0) allocated [mem 0x1-0x2]\n", folder=self.work)
+        self.check("one node", (got, out, err), (0, "", ""))
         got, out, err = tool("zp-from-log", "--output", "none", "--srat", "srat", "--no-initrd", given=MAP, folder=self.work)
         self.check("no line of an SRAT", (got, out, err[:46], os.path.exists(self.path("none"))),
                    (1, "", "zp-from-log: no line 'SRAT: Node 0 PXM 0 [mem ", False))
@@ -175,7 +179,9 @@ cmdline: command line, 117 bytes
 kernel: the place of its image, 0x1000000,0x3400000
 release: the kernel's release, 6.1.0-57-amd64
 next: cd here && bootmem --cmdline cmdline --kernel 0x1000000,0x3400000 zp.bin
-""", "zp-from-log: the log has 2 boots: the last is taken\n"))
+""", "zp-from-log: the log has 2 boots: the last is taken\n"
+                                                      "zp-from-log: the log has node 1, but no line of an SRAT: none is made, so all memory "
+                                                      "is on node 0\n"))
         self.check("folder: its files", sorted(os.listdir(self.path("here"))), ["cmdline", "kernel", "release", "zp.bin"])
         self.check("folder: the line", text_of(self.path("here", "cmdline")), text_of(example("q35-8g-numa2", "cmdline")))
         shutil.copy(example("q35-8g-numa2", "srat.bin"), self.path("here"))
@@ -187,6 +193,11 @@ next: cd here && bootmem --cmdline cmdline --kernel 0x1000000,0x3400000 zp.bin
         self.check("folder: next", (status, out.splitlines()[-1], err),
                    (0, "next: cd 'a b' && bootmem --cmdline cmdline --srat srat.bin --kernel 16M,32M zp.bin",
                     "zp-from-log: the line 'Command line:' has 960 letters: the log may have cut it\n"))
+        for line in ("efi: EFI v2.70 by EDK II", "memblock_reserve: [0x1000-0x1fff] efi_memblock_x86_reserve_range+0x1fc/0x22a"):
+            status, _, err = tool("zp-from-log", "--folder", "there", "--kernel", "16M,32M", "--no-initrd", given=stamped(f"{MAP}{line}\n"),
+                                  folder=self.work)
+            self.check(f"folder: no descriptors, no line: {line}", (status, [said[:49] for said in err.splitlines()]),
+                       (0, ["zp-from-log: the firmware is UEFI, and the log do", "zp-from-log: no line 'Command line:': it is taken"]))
         for words in (["--folder", "x", "--output", "y"], [], ["--folder", "x", "--srat", "y"], ["--output", "x", "--kernel", "1M,1M"],
                       ["--folder", "x", "--kernel", "1M"]):
             self.check(f"refused: {words}", tool("zp-from-log", *words, folder=self.work)[:2], (2, ""))

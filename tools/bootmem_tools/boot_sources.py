@@ -28,6 +28,8 @@ ZERO_PAGE = "sys/kernel/boot_params/data"
 RELEASES = ("proc/sys/kernel/osrelease", "sos_commands/kernel/uname_-a", "uname")
 TABLE = tool.Kind("ACPI table", 1 << 20, is_text=False)
 LONG = 950  # letters of a line of a log that may be cut (LOG_LINE_MAX is 1,024 with its prefix)
+UNLISTED = ("the firmware is UEFI, and the log doesn't list its descriptors, as a kernel does with efi=debug: "
+            "what boot services have isn't known, and the crash area may lie lower than by these inputs")
 UNNAMED = "no initrd; --initrd names one, --no-initrd says that there is none"
 
 
@@ -42,6 +44,7 @@ class Boot:
         self.kernel: str | None = None
         self.files: dict[str, bytes] = {}  # by their names in a folder of bootmem-collect
         self.lacks_initrd: str | None = None  # why no initrd is known
+        self.has_log = False
 
     def put(self, name: str, data: bytes | None) -> None:
         """Keeps a file, if there are bytes of it and none are kept."""
@@ -81,11 +84,14 @@ class Boot:
         lines, boots = kernel_log.last_boot(lines)
         if boots > 1:
             self.say(f"the log has {boots} boots: the last is taken")
+        self.has_log = True
         entries = kernel_log.entries_of_log(lines)
         if entries and not self.entries:
             self.entries, self.initrd = entries, kernel_log.initrd_of_log(lines)
             self.lacks_initrd = f"no line RAMDISK: the zero page names {UNNAMED}"
         self.descriptors = self.descriptors or kernel_log.descriptors_of_log(lines)
+        if not self.descriptors and kernel_log.is_uefi(lines):
+            self.say(UNLISTED)
         self.kernel = self.kernel or kernel_log.image_of_log(lines)
         self.put_line(kernel_log.line_of_log(lines))
         self.put("release", text_of(kernel_log.release_of_log(lines)))

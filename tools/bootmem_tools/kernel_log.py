@@ -24,6 +24,7 @@ BEGUN = re.compile(r"Linux version \d|\bCommand line: ")
 SPAN = r"\[mem 0x([0-9a-f]+)-0x([0-9a-f]+)\]"
 ENTRY = rf"{SPAN} (.+)"
 DESCRIPTOR = r"efi: mem(\d+): \[(.+?)\] range=\[0x([0-9a-f]+)-0x([0-9a-f]+)\]"
+UEFI = re.compile(r"\befi: EFI v\d|\] efi_memblock_x86_reserve_range")
 # Types and attributes of descriptors by the names that the kernel prints (efi_md_typeattr_format;
 # UEFI, section 7.2.3).
 EFI_TYPES = ("Reserved", "Loader Code", "Loader Data", "Boot Code", "Boot Data", "Runtime Code", "Runtime Data", "Conventional",
@@ -178,6 +179,11 @@ def line_of_log(lines: Numbered) -> str | None:
     """Returns the command line of the line `Command line:`, or None."""
     found = (re.search(r"\bCommand line: (.*)", line) for _, line in lines)
     return next((match.group(1) for match in found if match), None)
+
+
+def is_uefi(lines: Numbered) -> bool:
+    """Tells whether a log is that of a boot with UEFI firmware (efi_init, efi_memblock_x86_reserve_range)."""
+    return any(UEFI.search(line) for _, line in lines)
 
 
 def release_of_log(lines: Numbered) -> str | None:

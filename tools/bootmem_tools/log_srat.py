@@ -17,6 +17,7 @@ MEMORY = re.compile(
 )
 BEGUN = re.compile(r"SRAT: (Node \d+ PXM|PXM \d+ -> APIC)")
 LISTED = re.compile(r"ACPI: SRAT 0x[0-9A-Fa-f]+ ")
+NODE = re.compile(r"\bNODE_DATA\((\d{1,4})\) allocated|\bInitmem setup node (\d{1,4}) \[")
 ENABLED, HOTPLUG, NON_VOLATILE = 1, 2, 4  # flags of a range
 APIC_DIGITS = 2  # of an APIC id; an x2APIC id has four or more
 UNUSABLE = 255  # the first x2APIC id that takes x2APIC mode
@@ -118,7 +119,10 @@ def read_srat(lines: Numbered) -> Found:
     if not entries:
         why = " (NUMA turned off)" if "NUMA turned off" in text else ""
         lacking = [f"the log lists an SRAT, but none of its entries{why}: no SRAT is made"]
-        return Found(None, lacking if LISTED.search(text) else [])
+        if not LISTED.search(text):
+            nodes = sorted({int(number) for match in NODE.finditer(text) for number in match.groups() if number})
+            lacking = [f"the log has node {nodes[-1]}, but no line of an SRAT: none is made, so all memory is on node 0"] if nodes[-1:] > [0] else []
+        return Found(None, lacking)
     if any(entry[0] == 2 and int.from_bytes(entry[8:12], "little") >= UNUSABLE for entry in entries):
         notes.append(f"x2APIC ids of {UNUSABLE} or more: bootmem-linux takes --x2apic for them")
     return Found(inputs.srat_of(entries), notes)

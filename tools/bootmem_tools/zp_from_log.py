@@ -212,6 +212,8 @@ def main(words: list[str]) -> int:
     check_entries(boot.entries, given.folder is not None or given.e820ext is not None)
     found = files_of(boot, choose_initrd(given, boot))
     if given.folder is not None:
+        if boot.has_log and "cmdline" not in found:
+            tool.complain(NAME, "no line 'Command line:': it is taken as empty, without mem=, memmap= and crashkernel=")
         write_folder(given.folder, found)
     else:
         tool.write_files(named_files(given, boot, found))
