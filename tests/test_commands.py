@@ -76,7 +76,7 @@ class Commands(Case):
         commands = self.path("bin")
         os.makedirs(commands)
         os.symlink(PROGRAM, os.path.join(commands, "bootmem"))
-        shutil.copy(example("q35-8g-numa2", "log"), self.work)
+        shutil.copy(example("q35-2g-shortlog", "log"), self.work)  # with all lines, and one node
         write(os.path.join(commands, "dmesg"), f"#!/bin/sh\ncat '{self.work}/log'\n".encode())
         os.chmod(os.path.join(commands, "dmesg"), 0o755)
         names = ("bootmem-draw", "bootmem-where", "bootmem-diff", "zp-from-log", "bootmem-json", "bootmem-fleet", "claims-from-log")

@@ -1,8 +1,8 @@
-"""bootmem-diff: the kernel's own maps of two machines, two runs, and what can't be compared."""
+"""bootmem-diff: the kernel's own maps of two machines, two runs, a log, and what can't be compared."""
 
 import unittest
 
-from support import Case, example, text_of, tool
+from support import BOOTS, Case, example, has_file, program, text_of, tool, words_of, write
 
 
 class Diff(Case):
@@ -52,6 +52,36 @@ class Diff(Case):
         self.check("diff, zones", tool("bootmem-diff", "--report", "zones", "map.txt", "map.txt", folder=folder)[:2], (2, ""))
         self.check("diff, a broken line", tool("bootmem-diff", "map.txt", "-", folder=folder,
                                           given=text_of(example("first", "map.txt")) + "0x1..0x2\n")[:2], (2, ""))
+
+    def test_log(self):
+        """A kernel's log has the map, the memory, the nodes and the crash area that bootmem-linux gives its boot."""
+        for name in (name for name in BOOTS if has_file(name, "log")):
+            folder = example(name)
+            log = text_of(example(name, "log"))
+            area = tool("bootmem-linux", "--report", "crash", "--log", "log", *linux_words(name), folder=folder)[1]
+            self.check(f"{name}: the area", tool("bootmem-diff", "log", "-", folder=folder, given=area), (0, "", ""))
+            self.check(f"{name}: it is compared", "crash at" in area, "for crashkernel" in log)
+            made = program(folder, "--report", "map,memory", *words_of(name))
+            self.check(f"{name}: map and memory", tool("bootmem-diff", "-", "log", folder=folder, given=made), (0, "", ""))
+        folder = example("q35-8g-numa2")
+        log = text_of(example("q35-8g-numa2", "log"))
+        moved = log.replace("Reserving 256MB of memory at 1776MB", "Reserving 128MB of low memory at 16MB for crashkernel\nReserving 256MB of memory at 1760MB")
+        wanted = ("0x0000000001000000-0x0000000008ffffff none -> crash\n0x000000006e000000-0x000000006effffff none -> crash\n"
+                  "0x000000007e000000-0x000000007effffff crash -> none\n")
+        made = program(folder, "--report", "map,crash", *words_of("q35-8g-numa2"))
+        write(self.path("made"), made)
+        self.check("diff, another area", tool("bootmem-diff", self.path("made"), "-", given=moved), (1, f"== crash\n{wanted}", ""))
+        self.check("diff, one report", tool("bootmem-diff", "--report", "map", self.path("made"), "-", given=moved), (0, "", ""))
+        self.check("diff, a report that a log hasn't", tool("bootmem-diff", "--report", "owners", self.path("made"), "-", given=moved),
+                   (2, "", "bootmem-diff: A has no report owners\n"))
+        self.check("diff, a log without a map", tool("bootmem-diff", "-", "map.txt", folder=folder, given="BIOS-provided physical RAM map:\n"),
+                   (2, "", "bootmem-diff: standard input: no report of bootmem in it\n"))
+
+
+def linux_words(name):
+    """The words of bootmem-linux for a machine."""
+    more = ["--efi", "efi.bin"] if has_file(name, "efi.bin") and "--efi" not in words_of(name) else []
+    return (text_of(example(name, "linux")).split() if has_file(name, "linux") else []) + more + words_of(name)
 
 
 if __name__ == "__main__":

@@ -1,11 +1,11 @@
-"""bootmem-diff: what changed between two texts of reports, or two runs of bootmem, by address."""
+"""bootmem-diff: what changed between two texts of reports, a log and a text, or two runs of bootmem, by address."""
 
 from __future__ import annotations
 
 import shlex
 from typing import Iterable, NoReturn, Optional
 
-from bootmem_tools import as_linux, ranges, reports, runner, tool
+from bootmem_tools import as_linux, kernel_log, ranges, reports, runner, tool
 
 NAME = "bootmem-diff"
 # The reports of both sides, and the names of those to compare, if the words have them.
@@ -13,7 +13,7 @@ Sides = tuple[reports.Texts, reports.Texts, Optional[list[str]]]
 # A range in which the sides differ: its first and last byte, and what each side says of it.
 Change = tuple[int, int, str, str]
 
-COMPARED = ["map", "owners", "memory", "reserved", "nodes", "blocks"]
+COMPARED = ["map", "owners", "memory", "reserved", "nodes", "blocks", "crash"]
 USAGE = """bootmem-diff [--report LIST] A B
        bootmem-diff [--report LIST] [--program P] --a WORDS --b WORDS"""
 ABOUT = """Compares two texts of reports address by address, or what bootmem prints for two lists of words, and prints
@@ -25,6 +25,9 @@ one line for each range in which they differ:
 follow a line `== NAME`."""
 EPILOG = f"""A and B are files; one of them may be - for standard input. Each has one report, or several with their lines
 `== NAME`. Without --report the reports map and owners are compared, as far as both sides have them.
+
+One of them may be a kernel's log (dmesg). It has the map, with memblock=debug the memory records, the nodes of an SRAT
+that is used, and the crash area in whole MiB. All of these that the other side has are compared.
 
 WORDS are the program's words in one argument, quoted as for a shell, without --report.
 
@@ -40,7 +43,7 @@ examples:
 def read_words(words: list[str]) -> Sides:
     """Returns both sides' reports, and the names of the reports to compare, or None."""
     parser = tool.new_parser(NAME, USAGE, ABOUT, EPILOG)
-    parser.add_argument("files", metavar="A B", nargs="*", help="the two texts of reports")
+    parser.add_argument("files", metavar="A B", nargs="*", help="the two texts of reports, or a text and a log")
     parser.add_argument("--report", metavar="LIST", help=f"compare these, of {','.join(COMPARED)}")
     parser.add_argument("--a", metavar="WORDS", help="the words of the first run")
     parser.add_argument("--b", metavar="WORDS", help="the words of the second run")
@@ -61,7 +64,29 @@ def read_words(words: list[str]) -> Sides:
         parser.error("two texts A and B, or --a and --b with the words of two runs")
     if given.files == ["-", "-"]:
         parser.error("both A and B from standard input")
-    return reports.read_reports(given.files[0]), reports.read_reports(given.files[1]), names
+    (before, is_log), (after, is_other) = map(read_side, given.files)
+    if is_log or is_other:
+        names = names or [name for name in COMPARED if name in before and name in after] or None
+    return before, after, names
+
+
+def judge_side(first: bytes) -> str | None:
+    """Returns why a text that begins with these bytes has no report and is no log, or None."""
+    return None if kernel_log.HEAD.encode() in first else reports.judge_reports(first)
+
+
+def read_side(path: str) -> tuple[reports.Texts, bool]:
+    """Returns the reports of a file, or what a kernel's log says of memory, and whether it is a log.
+
+    # Errors
+    A Trouble if it is neither.
+    """
+    text = tool.read_text(path, kind=tool.Kind("text of reports", tool.LONGEST, judge=judge_side))
+    is_log = not text.startswith("== ") and kernel_log.HEAD in text
+    found = kernel_log.reports_of_log(text.splitlines()) if is_log else reports.split_reports(text)
+    if not found:
+        raise tool.Trouble(f"{tool.shown_name(path)}: no report of bootmem in it")
+    return found, is_log
 
 
 def run(program: str, names: list[str], text: str) -> tuple[list[str], reports.Texts]:

@@ -44,6 +44,7 @@ NAMES = {number: name for name, number in TYPES.items()}
 NAMES |= {7: "persistent (type 7)", 12: "persistent (type 12)"}
 JOIN = re.compile(rf"NUMA: Node (\d+) {SPAN} \+ {SPAN} -> {SPAN}")
 FAKED = re.compile(rf"Faking a node at {SPAN}")
+RESERVED = re.compile(r"Reserving (\d{1,11})MB of (low )?memory at (\d{1,11})MB for crashkernel")
 # A run of the map: its type, its first and its last byte.
 Run = tuple[int, int, int]
 
@@ -332,3 +333,21 @@ def node_spans(lines: Sequence[str], blocks: Sequence[Run]) -> list[Run]:
             rest = [one for one in found if one[0] != node or one[2] < first or last < one[1]]
             found = rest + [(node, first, last)]
     return sorted(found, key=lambda one: one[1])
+
+
+def crash_text(lines: Sequence[str]) -> str:
+    """Returns the report `crash` of a log that says where the area lies, in whole MiB; an empty text of another one
+    (reserve_crashkernel, reserve_crashkernel_low)."""
+    found: dict[str, str] = {}
+    for match in filter(None, map(RESERVED.search, lines)):
+        size, first = int(match.group(1)) << 20, int(match.group(3)) << 20
+        if size:
+            found["low" if match.group(2) else "at"] = f"{ranges.hex_text(first)}..{ranges.hex_text(first + size - 1)}"
+    return "".join(f"crash {name} {found[name]}\n" for name in ("at", "low") if name in found) if "at" in found else ""
+
+
+def reports_of_log(lines: Sequence[str]) -> dict[str, list[str]]:
+    """Returns what the last boot of a log says of memory, as lines of reports by their names."""
+    last = [line for _, line in last_boot([(number, clean(line)) for number, line in enumerate(lines, 1)])[0]]
+    texts = {"map": map_text(last), "memory": memory_text(last), "nodes": nodes_text(last), "crash": crash_text(last)}
+    return {name: text.splitlines() for name, text in texts.items() if text}
