@@ -53,7 +53,7 @@ class Where(Case):
             self.check(f"where {bad}", tool("bootmem-where", bad, "map.txt", folder=folder)[:2], (2, ""))
         self.check("where, --report", tool("bootmem-where", "0", "--", "--report", "map", "zp.bin", folder=folder)[:2], (2, ""))
         status, out, err = tool("bootmem-where", "0", "zp.bin", folder=folder)
-        self.check("where, no reports", (status, out, err.endswith("words behind --\n")), (1, "", True))
+        self.check("where, no reports", (status, out, err.endswith("words after --\n")), (1, "", True))
         status, out, err = tool("bootmem-where", "0", "--", "cmdline", folder=folder)
         self.check("where, refused", (status, out), (1, ""))
         self.has("where, refused", err, "bootmem: zeropage: wrong length")
@@ -68,6 +68,19 @@ class Where(Case):
                 status, _, err = tool(one, *more, "--", option, value, "zp.bin", folder=folder)
                 self.check(f"{one} {option} {value}", (status, err), (0, wanted.replace("bootmem-where", one)))
         self.check("where, no program", tool("bootmem-where", "0", "--program", "/nowhere", "--", "zp.bin", folder=folder)[:2], (1, ""))
+
+    def test_own_words(self):
+        """Words of the program that don't come after -- are refused, with where they belong."""
+        for one, more in (("bootmem-where", ("0",)), ("bootmem-json", ()), ("bootmem-draw", ("--text",))):
+            status, out, err = tool(one, *more, "--srat", "srat.bin", folder=example("q35-8g-numa2"))
+            self.check(f"{one}, no --", (status, out, err.partition("; ")[2]),
+                       (2, "", f"the program's own words come after -- ({one} --help tells the words)\n"))
+            status, out, err = tool(one, *more, "--srat", "--", "zp.bin", folder=example("q35-8g-numa2"))
+            self.check(f"{one}, before --", (status, out, err.partition(": ")[2]),
+                       (2, "", f"unrecognized arguments: --srat ({one} --help tells the words)\n"))
+        status, out, err = tool("bootmem-json", "--report", "map", "zp.bin", folder=example("q35-8g-numa2"))
+        self.check("json, a zero page", (status, out, err),
+                   (1, "", "bootmem-json: zp.bin: no text: it has a zero byte, or put the program's own words after --\n"))
 
     def test_uncovered(self):
         """Memory that no block of the SRAT covers is named: where the table is used all the same, and where it isn't."""

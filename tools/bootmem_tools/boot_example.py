@@ -378,7 +378,7 @@ def read_words(words: list[str], qemu: list[str] | None) -> argparse.Namespace:
     )
     given = parser.parse_args(words)
     if not qemu:
-        parser.error("QEMU's command, behind --")
+        parser.error("QEMU's command, after --")
     return given
 
 

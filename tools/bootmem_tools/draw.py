@@ -70,15 +70,15 @@ def read_words(words: list[str]) -> tuple[argparse.Namespace, Boots]:
     parser.add_argument("--output", metavar="FILE", help="write to FILE; without it to standard output")
     as_linux.add_flag(parser)
     runner.add_program(parser)
-    given = parser.parse_args(own)
+    given = tool.parse_own(parser, own, program_words)
     if given.as_linux and program_words is None:
-        parser.error("--as-linux without words behind --")
+        parser.error("--as-linux without words after --")
     if given.html is not None and (given.text or given.output is not None):
         parser.error("--html beside --text or --output")
     read_range(given, parser)
     most = 2 if given.html is not None else 1
     if len(given.files) + (program_words is not None) > most:
-        parser.error(f"more than {most} of FILE and words behind --")
+        parser.error(f"more than {most} of FILE and words after --")
     if given.files.count("-") > 1:
         parser.error("two texts from standard input")
     tool.refuse_over([path for path in (given.html, given.output) if path is not None], [*given.files, *(program_words or [])])

@@ -569,7 +569,7 @@ def read_words(words: List[str], qemu: Optional[List[str]]) -> argparse.Namespac
         parser.error("--compare with folders alone")
     if not given.compare and (not given.vmlinux or not given.output or not qemu or given.folders):
         parser.error(
-            "--vmlinux, --output and, behind --, QEMU's command; or --compare with folders"
+            "--vmlinux, --output and, after --, QEMU's command; or --compare with folders"
         )
     if given.kernel is not None:
         given.kernel = image_place(parser, given.kernel)

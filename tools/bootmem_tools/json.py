@@ -43,21 +43,21 @@ def read_words(words: list[str]) -> tuple[bool, reports.Texts]:
     parser.add_argument("--compact", action="store_true", help="one line, without blanks")
     as_linux.add_flag(parser)
     runner.add_program(parser)
-    given = parser.parse_args(own)
+    given = tool.parse_own(parser, own, program_words)
     if given.as_linux and program_words is None:
-        parser.error("--as-linux without words behind --")
+        parser.error("--as-linux without words after --")
     names = given.report.split(",") if given.report is not None else None
     for name in names or []:
         if name not in REPORTS:
             parser.error(f"{name}: no report: one of {', '.join(REPORTS)}")
     if program_words is not None:
         if given.file is not None:
-            parser.error("a FILE and words behind -- at once")
+            parser.error("a FILE and words after -- at once")
         texts, _ = as_linux.run_for(NAME, runner.find_program(given.program), names or WANTED, program_words, given.as_linux)
         return given.compact, texts
     if names is None:
         return given.compact, reports.read_reports(given.file or "-", behind=True)
-    lines = tool.read_text(given.file or "-").splitlines()
+    lines = tool.read_text(given.file or "-", behind=True).splitlines()
     if len(names) > 1 or any(line.startswith("== ") for line in lines):
         parser.error("--report names one report whose text has no line `== NAME`")
     return given.compact, {names[0]: lines}

@@ -19,7 +19,7 @@ WIDTH = 80  # of help, in letters
 LONGEST = 1 << 30  # bytes of a text: the report blocks of 16 TiB in single frames has half as many
 SHORT = 60  # letters of a line that an error quotes
 
-BEHIND = ", or put the program's own words behind --"
+BEHIND = ", or put the program's own words after --"
 UNPROVED = ("This tool isn't proved: it only reads what the proved program prints, or writes what it "
             "reads.")
 
@@ -145,6 +145,16 @@ def split_words(words: Sequence[str]) -> tuple[list[str], list[str] | None]:
         return list(words), None
     place = list(words).index("--")
     return list(words[:place]), list(words[place + 1:])
+
+
+def parse_own(parser: Parser, own: list[str], program_words: list[str] | None) -> argparse.Namespace:
+    """Returns the tool's own words as they were parsed; if one is unknown and there are no words of the program, the error says where these
+    come."""
+    given, unknown = parser.parse_known_args(own)
+    if unknown:
+        where = "" if program_words is not None else "; the program's own words come after --"
+        parser.error(f"unrecognized arguments: {' '.join(unknown)}{where}")
+    return given
 
 
 def shown_name(path: str) -> str:

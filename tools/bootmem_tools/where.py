@@ -44,9 +44,9 @@ def read_words(words: list[str]) -> tuple[int, reports.Texts, list[linux_claims.
     parser.add_argument("--frame", action="store_true", help="ADDRESS is the number of a frame of 4,096 bytes")
     as_linux.add_flag(parser)
     runner.add_program(parser)
-    given = parser.parse_args(own)
+    given = tool.parse_own(parser, own, program_words)
     if given.as_linux and program_words is None:
-        parser.error("--as-linux without words behind --")
+        parser.error("--as-linux without words after --")
     address = ranges.parse_size(given.address)
     if address is not None and given.frame:
         address *= ranges.FRAME
@@ -55,7 +55,7 @@ def read_words(words: list[str]) -> tuple[int, reports.Texts, list[linux_claims.
     if program_words is None:
         return address, reports.read_reports(given.file or "-", behind=True), []
     if given.file is not None:
-        parser.error("a FILE and words behind -- at once")
+        parser.error("a FILE and words after -- at once")
     return address, *as_linux.run_for(NAME, runner.find_program(given.program), WANTED, program_words, given.as_linux)
 
 
