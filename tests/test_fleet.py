@@ -32,6 +32,15 @@ class Fleet(Case):
         names = [line.split("\t")[0] for line in FLEET.splitlines()]
         self.check("fleet", tool("bootmem-fleet", *names, folder=EXAMPLES), (0, FLEET, ""))
         self.check("fleet --raw", tool("bootmem-fleet", "--raw", *names, folder=EXAMPLES), (0, RAW, ""))
+        header = "folder\tstatus\tline\truns\tusable\tfree\tcrash\tlow\tnuma\tnodes"
+        self.check("fleet --columns", tool("bootmem-fleet", "--columns", *names, folder=EXAMPLES), (0, f"{header}\n{FLEET}", ""))
+        status, out, _ = tool("bootmem-fleet", "--columns", "--greatest", names[0], folder=EXAMPLES)
+        self.check("fleet --columns --greatest", (status, out.splitlines()[0], out.splitlines()[1].count("\t")), (0, f"{header}\tplain\thigh", 11))
+        self.check("fleet --columns --json", tool("bootmem-fleet", "--columns", "--json", names[0], folder=EXAMPLES)[:2], (2, ""))
+        status, out, err = tool("bootmem-fleet", "examples", folder=os.path.dirname(EXAMPLES))
+        self.check("fleet: a folder of folders", (status, out.split("\t")[1:3], err.splitlines()[0]),
+                   (1, ["3", "bootmem: cannot read zp.bin"],
+                    "bootmem-fleet: examples: it has no zp.bin, but its folders have: name these, as by examples/*/"))
         status, out, err = tool("bootmem-fleet", "--json", "--jobs", "2", *sorted(os.listdir(EXAMPLES)), folder=EXAMPLES)
         rows = [json.loads(line) for line in out.splitlines()]
         self.check("fleet --json", (status, [fits(row, SCHEMA["$defs"]["machine"]) for row in rows]), (1, [None] * len(rows)))

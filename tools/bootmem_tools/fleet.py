@@ -3,6 +3,7 @@
 from __future__ import annotations
 
 import argparse
+import glob
 import json
 import multiprocessing
 import os
@@ -14,8 +15,9 @@ from typing import IO, NamedTuple, NoReturn
 from bootmem_tools import as_linux, command_line, crash, machine, notes, objects, ranges, reports, runner, tool
 
 NAME = "bootmem-fleet"
-USAGE = """bootmem-fleet [--json] [--cmdline-add WORDS] [--cmdline-drop NAME]..
-                     [--greatest] [--kernel BASE,SIZE] [--jobs N]
+USAGE = """bootmem-fleet [--json | --columns] [--cmdline-add WORDS]
+                     [--cmdline-drop NAME].. [--greatest]
+                     [--kernel BASE,SIZE] [--jobs N]
                      [--verbose] [--raw] [--pages 4K|2M|1G]
                      [--brk BYTES] [--x2apic] [--cma] [--program P] FOLDER.."""
 ABOUT = """Boots the machines of folders that bootmem-collect (collect.sh) gathered, as many at once as there are processors, as
@@ -36,8 +38,8 @@ Linux 6.1 does, and prints a line for each, in the order of the words, with a ta
            (crashkernel=S and S,high), in MiB
 
 If bootmem ended with another status than 0, or a folder has no such thing, a column has -."""
-EPILOG = f"""A folder has zp.bin, and if they are there e820ext.bin, cmdline, srat.bin, efi.bin, and kernel (or words, as under examples)
-with the place of the kernel's image; without it the tool assumes 16 MiB to 48 MiB, and says so.
+EPILOG = f"""A folder has zp.bin, and if they are there e820ext.bin, cmdline, srat.bin, slit.bin, efi.bin, and kernel (or words, as under
+examples) with the place of the kernel's image; without it the tool assumes 16 MiB to 48 MiB, and says so.
 
 The inputs are read as that kernel reads them, and what it claims before the crash area is taken out of memory, as
 bootmem-linux does; --verbose prints what was changed or assumed, or can't be known, of each machine. With --raw the
@@ -64,6 +66,7 @@ PANICS = 3  # the status if each run ended with 0, and Linux 6.1 is known to pan
 LACKS = 4  # the status if none of this, and an area that is asked for doesn't fit
 LACKING = ("no area", "in use", "low failed")  # outcomes of such an area
 FORMS = {"plain": "", "high": ",high"}
+COLUMNS = ["folder", "status", "line", "runs", "usable", "free", "crash", "low", "numa", "nodes"]
 
 
 class Plan(NamedTuple):
@@ -93,7 +96,9 @@ def read_words(words: list[str]) -> argparse.Namespace:
     """Returns the tool's words."""
     parser = tool.new_parser(NAME, USAGE, ABOUT, EPILOG)
     parser.add_argument("folders", metavar="FOLDER", nargs="+", help="what bootmem-collect gathered of a machine")
-    parser.add_argument("--json", action="store_true", help="one JSON object a line")
+    form = parser.add_mutually_exclusive_group()
+    form.add_argument("--json", action="store_true", help="one JSON object a line")
+    form.add_argument("--columns", action="store_true", help="first a line with the names of the columns")
     parser.add_argument("--cmdline-add", metavar="WORDS", help="append WORDS to each command line")
     parser.add_argument("--cmdline-drop", metavar="NAME", action="append", default=[], help="first take this option out of it")
     parser.add_argument("--greatest", action="store_true", help="also find the greatest areas that fit, by some ten boots each")
@@ -253,6 +258,12 @@ def columns(row: objects.Object, has_greatest: bool = False) -> list[str]:
     return ["-" if text is None else str(text) for text in texts]
 
 
+def outer_folders(folders: list[str]) -> list[str]:
+    """Returns those that have no zero page, but folders that have one."""
+    pageless = [folder for folder in folders if os.path.isdir(folder) and not os.path.exists(os.path.join(folder, "zp.bin"))]
+    return [folder for folder in pageless if glob.glob(os.path.join(glob.escape(folder), "*", "zp.bin"))]
+
+
 def complaints(plan: Plan) -> list[str]:
     """Returns what is wrong with the words that are added to every line, each complaint once, whatever machine they are added on."""
     if not plan.add:
@@ -271,6 +282,10 @@ def main(words: list[str]) -> int:
     jobs = min(given.jobs or len(os.sched_getaffinity(0)), len(given.folders))
     for line in complaints(plan):
         tool.complain(NAME, f"--cmdline-add: {line}")
+    for folder in outer_folders(given.folders):
+        tool.complain(NAME, f"{folder}: it has no zp.bin, but its folders have: name these, as by {os.path.join(folder, '*/')}")
+    if given.columns:
+        print("\t".join(COLUMNS + (list(FORMS) if given.greatest else [])))
     failed, panics, lacks, assumed = False, False, False, 0
     progress, done = tool.Progress(NAME), 0
     with multiprocessing.get_context("fork").Pool(jobs) as pool:
