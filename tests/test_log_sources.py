@@ -198,6 +198,10 @@ next: cd here && bootmem --cmdline cmdline --kernel 0x1000000,0x3400000 zp.bin
                                   folder=self.work)
             self.check(f"folder: no descriptors, no line: {line}", (status, [said[:49] for said in err.splitlines()]),
                        (0, ["zp-from-log: the firmware is UEFI, and the log do", "zp-from-log: no line 'Command line:': it is taken"]))
+        status, out, err = tool("zp-from-log", "--folder", "lost", given=stamped("Zone ranges:\n  DMA [mem 0x1000-0xffffff]\n"), folder=self.work)
+        self.check("folder: a log without its start", (status, out, err),
+                   (1, "", "zp-from-log: a log without lines 'BIOS-e820: [mem ..] type': if dmesg has lost the first lines of the boot, "
+                    "journalctl -k -b or /var/log/dmesg may have them\n"))
         for words in (["--folder", "x", "--output", "y"], [], ["--folder", "x", "--srat", "y"], ["--output", "x", "--kernel", "1M,1M"],
                       ["--folder", "x", "--kernel", "1M"]):
             self.check(f"refused: {words}", tool("zp-from-log", *words, folder=self.work)[:2], (2, ""))

@@ -4,6 +4,7 @@
 from __future__ import annotations
 
 import os
+import re
 from typing import Callable, Optional
 
 from bootmem_tools import firmware_map, kernel_log, log_srat, machine, tool
@@ -27,6 +28,7 @@ SHOWN = ("zoneinfo", "buddyinfo")
 ZERO_PAGE = "sys/kernel/boot_params/data"
 RELEASES = ("proc/sys/kernel/osrelease", "sos_commands/kernel/uname_-a", "uname")
 TABLE = tool.Kind("ACPI table", 1 << 20, is_text=False)
+STAMPED = re.compile(r"\[ *\d+\.\d+\]")  # a line of dmesg
 LONG = 950  # letters of a line of a log that may be cut (LOG_LINE_MAX is 1,024 with its prefix)
 UNLISTED = ("the firmware is UEFI, and the log doesn't list its descriptors, as a kernel does with efi=debug: "
             "what boot services have isn't known, and the crash area may lie lower than by these inputs")
@@ -71,6 +73,9 @@ class Boot:
             self.read_log(lines)
         elif firmware_map.is_iomem(text):
             self.read_iomem(text)
+        elif lines and all(STAMPED.match(line) for _, line in lines):
+            raise tool.Trouble("a log without lines 'BIOS-e820: [mem ..] type': if dmesg has lost the first lines of the boot, "
+                               "journalctl -k -b or /var/log/dmesg may have them")
         else:
             self.take_entries(kernel_log.entries_of_list(lines), "a list")
 
