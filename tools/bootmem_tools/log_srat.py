@@ -121,7 +121,9 @@ def read_srat(lines: Numbered) -> Found:
         lacking = [f"the log lists an SRAT, but none of its entries{why}: no SRAT is made"]
         if not LISTED.search(text):
             nodes = sorted({int(number) for match in NODE.finditer(text) for number in match.groups() if number})
-            lacking = [f"the log has node {nodes[-1]}, but no line of an SRAT: none is made, so all memory is on node 0"] if nodes[-1:] > [0] else []
+            lacking = []
+            if nodes[-1:] > [0]:
+                lacking.append(f"the log has node {nodes[-1]}, but no line of an SRAT: none is made, so all memory is on node 0")
         return Found(None, lacking)
     if any(entry[0] == 2 and int.from_bytes(entry[8:12], "little") >= UNUSABLE for entry in entries):
         notes.append(f"x2APIC ids of {UNUSABLE} or more: bootmem-linux takes --x2apic for them")
