@@ -2,7 +2,7 @@
  *
  * The library is the program bootmem (bootmem.1, bootmem.5) as one call over bytes: no file is opened, nothing is printed, no
  * process is started. bootmem_run hands over the program's reports, as text. bootmem_map, bootmem_crash, bootmem_memory, bootmem_nodes,
- * bootmem_zones and bootmem_blocks hand over what the boot made, as values. Their contracts are in crates/bootmem_c/src, run.rt and told.rt.
+ * bootmem_zones and bootmem_blocks hand over what the boot made, as values. Their contracts are in crates/bootmem_c/src, run.rt and boot_values.rt.
  *
  * Units. Addresses, sizes and lengths are in bytes, frames are 4096 bytes, numbers have the byte order of the machine.
  *

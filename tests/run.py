@@ -25,10 +25,10 @@ HERE = os.path.dirname(os.path.abspath(__file__))
 TOP = os.path.dirname(HERE)
 # Scripts with the words of each; those that need more than the program are left out if it isn't
 # there.
-SCRIPTS = {"pins.py": [], "rooms.py": [], "definitions.py": [], "real_boots.sh": ["PROGRAM"],
+SCRIPTS = {"pins.py": [], "rooms.py": [], "named.py": [], "definitions.py": [], "real_boots.sh": ["PROGRAM"],
            "audits.sh": ["PROGRAM", "AUDIT"], "outside.sh": ["PROGRAM"], "collect.sh": [], "install.sh": [], "shown.sh": ["PROGRAM"],
            "library.sh": ["PROGRAM"]}
-SOURCES = ["pins.py", "rooms.py", "definitions.py", "words"]
+SOURCES = ["pins.py", "rooms.py", "named.py", "definitions.py", "words"]
 NEEDED = {"library.sh": ["libbootmem.a"], "audits.sh": ["bootaudit"],
           "install.sh": ["bootmem", "bootaudit"], "shown.sh": ["bootaudit"]}
 
