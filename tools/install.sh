@@ -127,7 +127,6 @@ document() {
 	case $1 in
 	README.md | examples/README.md | docs/TOOLS.md | docs/RECIPES.md | docs/KERNEL.md | docs/FORMATS.md)
 		words='s|](docs/|](|g; s|\[docs/|[|g; s| in `docs/`||; s|`docs/|`|g'
-		words="$words; s|\`\.\./CONTRIBUTING|\`CONTRIBUTING|"
 		for tool in $tools; do
 			words="$words; s|\(\.\./\)*tools/$tool|$tool|g"
 		done
