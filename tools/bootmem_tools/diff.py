@@ -81,7 +81,10 @@ def read_side(path: str) -> tuple[reports.Texts, bool]:
     # Errors
     A Trouble if it is neither.
     """
-    text = tool.read_text(path, kind=tool.Kind("text of reports", tool.LONGEST, judge=judge_side))
+    kind = tool.Kind(
+        "text of reports", tool.LONGEST, judge=judge_side, may_be_compressed=True
+    )
+    text = tool.read_text(path, kind=kind)
     is_log = not text.startswith("== ") and kernel_log.HEAD in text
     found = kernel_log.reports_of_log(text.splitlines()) if is_log else reports.split_reports(text)
     if not found:

@@ -7,12 +7,16 @@ import argparse
 import contextlib
 import os
 import re
+import shlex
 import signal
 import stat
 import sys
 import tempfile
 import textwrap
-from typing import BinaryIO, Callable, Mapping, NamedTuple, NoReturn, Optional, Sequence
+from io import BufferedReader
+from typing import BinaryIO, Callable, Mapping, NamedTuple, NoReturn, Optional, Sequence, cast
+
+from bootmem_tools import compressed
 
 VERSION = "0.1.0"
 WIDTH = 80  # of help, in letters
@@ -25,12 +29,15 @@ UNPROVED = ("This tool isn't proved: it only reads what the proved program print
 
 
 class Trouble(Exception):
-    """Why a tool ends: one line for standard error, and the exit status where it isn't the
-    tool's own."""
+    """Why a tool ends: one line for standard error, the exit status where it isn't the tool's own,
+    and the command to run next if there is an obvious one."""
 
-    def __init__(self, message: str, status: int | None = None) -> None:
+    def __init__(
+        self, message: str, status: int | None = None, next_command: str | None = None
+    ) -> None:
         super().__init__(message)
         self.status = status
+        self.next_command = next_command
 
 
 def run_tool(name: str, main: Callable[[list[str]], int], failure: int = 1) -> NoReturn:
@@ -43,7 +50,7 @@ def run_tool(name: str, main: Callable[[list[str]], int], failure: int = 1) -> N
         status = main(sys.argv[1:])
         sys.stdout.flush()
     except Trouble as trouble:
-        complain(name, str(trouble))
+        complain_of(name, trouble)
         status = failure if trouble.status is None else trouble.status
     except OSError as error:
         what = f"{error.filename}: " if error.filename else ""
@@ -70,6 +77,19 @@ def open_missing() -> None:
 def complain(name: str, message: str) -> None:
     """Prints one line on standard error in the tool's name."""
     print(f"{name}: {printable(message)}", file=sys.stderr, flush=True)
+
+
+def complain_of(name: str, trouble: Exception, of: str = "") -> None:
+    """Prints why something failed as one line, after what it is of, and a line `next:` with the
+    command to run next if the trouble has one."""
+    complain(name, f"{of}{trouble}")
+    say_next(trouble.next_command if isinstance(trouble, Trouble) else None)
+
+
+def say_next(command: str | None) -> None:
+    """Prints a line with the command to run next, if there is one, on standard error."""
+    if command:
+        print(f"next: {printable(command)}", file=sys.stderr, flush=True)
 
 
 class Progress:
@@ -168,16 +188,19 @@ Judge = Callable[[bytes], Optional[str]]
 
 class Kind(NamedTuple):
     """What a file should be: its name for errors, its greatest length in bytes, whether it is a
-    text, and what judges its first bytes."""
+    text, what judges its first bytes, and whether it may be compressed; the others are then of what
+    it has."""
 
     what: str
     limit: int
     is_text: bool = True
     judge: Judge | None = None
+    may_be_compressed: bool = False
 
 
 TEXT = Kind("text", LONGEST)
-LOG = Kind("text of a log", 64 << 20)  # no kernel's log buffer is longer
+# no kernel's log buffer is longer
+LOG = Kind("text of a log", 64 << 20, may_be_compressed=True)
 
 
 def read_limited(file: BinaryIO, name: str, kind: Kind, hint: str = "") -> bytes:
@@ -215,9 +238,35 @@ def read_bytes(path: str, kind: Kind, hint: str = "") -> bytes:
     if path == "-":
         if sys.stdin is None:
             raise Trouble(f"standard input is closed{hint}")
-        return read_limited(sys.stdin.buffer, shown_name(path), kind, hint)
+        return read_whole(cast(BufferedReader, sys.stdin.buffer), path, kind, hint)
     with open(path, "rb") as file:
-        return read_limited(file, path, kind, hint)
+        return read_whole(file, path, kind, hint)
+
+
+def read_whole(file: BufferedReader, path: str, kind: Kind, hint: str) -> bytes:
+    """Returns the bytes of a file of this path, unpacked if its kind may be compressed.
+
+    # Errors
+    As `read_limited`, or a Trouble if it is compressed and can't be unpacked.
+    """
+    name = shown_name(path)
+    mark = file.peek(compressed.LONGEST_MARK) if kind.may_be_compressed else b""
+    packer = compressed.name_of(mark)
+    if packer is None:
+        return read_limited(file, name, kind, hint)
+    unpacked = compressed.opened(file, packer)
+    if unpacked is None:
+        raise Trouble(
+            f"{name}: it is compressed by {packer}, which this Python has no module for: unpack it "
+            f"by {packer} -d",
+            next_command=f"{packer} -d {shlex.quote(path)}" if path != "-" else None,
+        )
+    try:
+        return read_limited(unpacked, name, kind, hint)
+    except compressed.ERRORS as error:
+        if getattr(error, "errno", None):
+            raise
+        raise Trouble(f"{name}: it is compressed by {packer}, and not whole: {error}") from error
 
 
 def read_text(path: str, behind: bool = False, kind: Kind = TEXT) -> str:

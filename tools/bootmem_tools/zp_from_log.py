@@ -25,7 +25,7 @@ or from another SOURCE, below. With --folder it makes all of a boot's inputs tha
 bootmem-collect makes one."""
 EPILOG = """SOURCE is standard input if there is none or it is -, else a file or a folder:
 
-  a log        of a kernel
+  a log        of a kernel, compressed or not
   a list       of a base, a size and a type, its name or its number, in a line:
                0x100000 2046M usable
   iomem        a text of /proc/iomem, read by root: the map after mem= and

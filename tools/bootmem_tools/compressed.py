@@ -1,0 +1,54 @@
+"""Compressed logs, as logrotate leaves them: what a file has before gzip, bzip2, xz or zstd packed
+it."""
+
+from __future__ import annotations
+
+import bz2
+import gzip
+import importlib
+import lzma
+import zlib
+from typing import BinaryIO, Callable, Optional, cast
+
+# Opens what a compressed file has.
+Opener = Callable[[BinaryIO], BinaryIO]
+
+GZIP, BZIP2, XZ, ZSTD = b"\x1f\x8b", b"BZh", b"\xfd7zXZ\0", b"\x28\xb5\x2f\xfd"
+LONGEST_MARK = 6
+# What reading a compressed file fails with if it was cut or changed; an OSError then has no number.
+ERRORS = (EOFError, OSError, zlib.error, lzma.LZMAError)
+
+
+def zstd_opener() -> Optional[Opener]:
+    """Returns what opens a file of zstd, or None if this Python has no module for it."""
+    try:
+        module = importlib.import_module("compression.zstd")  # of Python 3.14
+        return cast(Opener, module.ZstdFile)
+    except ImportError:
+        pass
+    try:
+        module = importlib.import_module("zstandard")
+    except ImportError:
+        return None
+    return lambda file: cast(
+        BinaryIO, module.ZstdDecompressor().stream_reader(file, read_across_frames=True)
+    )
+
+
+OPENERS: dict[bytes, tuple[str, Callable[[], Optional[Opener]]]] = {
+    GZIP: ("gzip", lambda: lambda file: cast(BinaryIO, gzip.GzipFile(fileobj=file))),
+    BZIP2: ("bzip2", lambda: lambda file: cast(BinaryIO, bz2.BZ2File(file))),
+    XZ: ("xz", lambda: lambda file: cast(BinaryIO, lzma.LZMAFile(file))),
+    ZSTD: ("zstd", lambda: zstd_opener()),
+}
+
+
+def name_of(first: bytes) -> str | None:
+    """Returns the name of what packed a file that begins with these bytes, or None."""
+    return next((name for mark, (name, _) in OPENERS.items() if first.startswith(mark)), None)
+
+
+def opened(file: BinaryIO, name: str) -> BinaryIO | None:
+    """Returns what a file packed by this name has, or None if this Python can't unpack it."""
+    make = next(opener for one, opener in OPENERS.values() if one == name)()
+    return make(file) if make else None
