@@ -45,13 +45,18 @@ class Found(NamedTuple):
         return any(one.size for one in self.greatest)
 
 
+def total_of(found: Sequence[ranges.Range]) -> int:
+    """Returns the bytes of an area together with its low part."""
+    return sum(last + 1 - first for first, last in found)
+
+
 def area_text(found: Sequence[ranges.Range]) -> str:
-    """Returns the area, and its low part if it has one."""
+    """Returns the area, and its low part if it has one, with the size of both together."""
     area = f"at {ranges.range_text(*found[-1])}"
     if len(found) == 1:
         return area
-    first, last = found[0]
-    return f"{area}, low part {ranges.range_text(first, last)} ({ranges.size_text(last + 1 - first)})"
+    low, both = (ranges.size_text(total_of(parts)) for parts in (found[:-1], found))
+    return f"{area}, low part {ranges.range_text(*found[0])} ({low}), {both} in all"
 
 
 def greatest_lines(found: Greatest) -> list[str]:
@@ -82,7 +87,8 @@ def area_object(found: Sequence[ranges.Range]) -> Object | None:
     """Returns the area with its low part as an object, or None if there is none."""
     if not found:
         return None
-    return {**range_object(found[-1]), "low": range_object(found[0]) if len(found) > 1 else None}
+    low = range_object(found[0]) if len(found) > 1 else None
+    return {**range_object(found[-1]), "low": low, "total": total_of(found)}
 
 
 def greatest_object(found: Greatest) -> Object:
