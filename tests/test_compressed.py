@@ -25,7 +25,7 @@ READERS = {
     "bootmem-diff": ["map.txt", "LOG"],
     "bootmem-linux": ["--explain", "--report", "crash", "--log", "LOG", *BOOT],
     "bootmem-crash": ["--log", "LOG", "--size", "1G", *BOOT],
-    "bootmem-live": ["--log", "LOG", "."],
+    "bootmem-live": ["--log", "LOG", "HOST"],
     "bootmem-json": ["--as-linux", "--report", "crash", "--", "--log", "LOG", *BOOT],
 }
 
@@ -36,7 +36,7 @@ class Compressed(Case):
     def run_over(self, name, log):
         """What a tool comes to over this log, with the files that it wrote."""
         out = self.path("out")
-        words = [{"LOG": log, "OUT": out}.get(word, word) for word in READERS[name]]
+        words = [{"LOG": log, "OUT": out, "HOST": self.path("host")}.get(word, word) for word in READERS[name]]
         status, said, err = tool(name, *words, folder=example(MACHINE))
         written = {path: bytes_of(path) for path in [out, *glob.glob(os.path.join(out, "*"))] if os.path.isfile(path)}
         for path in written:
@@ -47,6 +47,8 @@ class Compressed(Case):
         """Each tool that takes a log, over the log as each program compresses it."""
         log = bytes_of(example(MACHINE, "log"))
         write(self.path("plain"), log)
+        shutil.copytree(example(MACHINE), self.path("host"))
+        write(self.path("host", "iomem"), "00001000-0009ffff : System RAM\n")
         for name in READERS:
             wanted = self.run_over(name, self.path("plain"))
             self.check(f"{name}: it reads the log", wanted[0] in (0, 1) and (wanted[1] != "" or name in ("zp-from-log", "bootmem-diff")), True)

@@ -44,6 +44,14 @@ fn main() {
         eprintln!("  - set BOOTMEM_LIB_DIR to the folder that has it ('make lib' builds it at the top of bootmem's sources)");
         eprintln!("  - install the package bootmem-dev ('make deb' makes it), or run 'make install' after 'make lib'");
         eprintln!("  - without the library, run the program 'bootmem-json' as a process, which prints the reports as JSON");
+        // in the sources there is one obvious command; an installed crate has no Makefile above it
+        let own = env::var("CARGO_MANIFEST_DIR").unwrap_or_default();
+        if let Ok(top) = Path::new(&own).join("../..").canonicalize() {
+            if top.join("Makefile").is_file() {
+                let top = top.display();
+                eprintln!("next: make -C '{top}' lib && export BOOTMEM_LIB_DIR='{top}'");
+            }
+        }
         std::process::exit(1);
     });
     println!("cargo:rerun-if-changed={folder}/{ARCHIVE}");

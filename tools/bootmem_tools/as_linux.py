@@ -18,7 +18,9 @@ from bootmem_tools import (
     linux_claims,
     linux_cma,
     linux_log,
+    linux_map,
     linux_srat,
+    next_step,
     notes,
     ranges,
     runner,
@@ -102,7 +104,8 @@ def add_log(parser: argparse.ArgumentParser) -> None:
     parser.add_argument(
         "--log",
         metavar="FILE",
-        help="a log of this kernel: it tells ACPI tables, EFI tables and nodes of setup_data",
+        help="a log of this kernel, compressed or not: it tells ACPI tables, EFI tables and nodes "
+        "of setup_data",
     )
 
 
@@ -190,6 +193,7 @@ class Boot:
         self.files = {
             name: self.read(given.options[name]) for name in READ if name in given.options
         }
+        self.node_length = len(self.files.get("e820ext", b""))  # as the loader made it
         self.line = ""
         self.texts: Texts = {}
         self.entries: list[Entry] = []  # of the report map
@@ -277,11 +281,7 @@ class Boot:
             if one.kind == linux_claims.CONVENTIONAL
             and one.attributes & linux_claims.SPECIFIC_PURPOSE
         ]
-        if (
-            special
-            and "efi=nosoftreserve" not in self.line.split()
-            and command_line.EFI not in self.line.split()
-        ):
+        if special and "efi=nosoftreserve" not in self.line.split() and not self.adds_efi():
             self.say(
                 "changed",
                 (
@@ -291,6 +291,10 @@ class Boot:
             )
             self.line = f"{command_line.EFI} {self.line}"
         self.keep_line()
+
+    def adds_efi(self) -> bool:
+        """Tells whether the line adds EFI's map, by a word with any value (setup_add_efi_memmap)."""
+        return any(word.name == command_line.EFI for word in command_line.words_of(self.line)[0])
 
     def keep_line(self) -> None:
         """Makes the line the program's, if there is anything in it."""
@@ -304,6 +308,25 @@ class Boot:
             part for part in (self.line[:end].rstrip(), *added, self.line[end:].lstrip()) if part
         )
         self.keep_line()
+
+    def drop_descriptors(self) -> None:
+        """Drops the descriptors of EFI's map that the kernel finds invalid. With add_efi_memmap it
+        adds them to its map before."""
+        if "efi" not in self.files:
+            return
+        cleaned = linux_map.clean_descriptors(self.files["efi"])
+        self.files["efi"] = cleaned.data
+        for line in linux_map.dropped_lines(cleaned.dropped):
+            self.say("changed", line)
+        is_far = any(one.first < one.end for _, one in cleaned.dropped)
+        if is_far and self.adds_efi():
+            self.say(
+                "unknown",
+                (
+                    f"with {command_line.EFI} the kernel adds what goes beyond 2^64 to its map before"
+                    " it drops it, and the map may never settle (do_add_efi_memmap)"
+                ),
+            )
 
     def read_efi(self) -> None:
         """Takes the attribute of mirrored memory out of EFI's descriptors, unless the line has
@@ -393,15 +416,6 @@ class Boot:
         self.place = notes.place_note(self.given.options.get("kernel"), self.texts)
         if direct_map.is_within(self.ram(), first, end):
             return True
-        if command_line.EFI in self.line.split():
-            self.say(
-                "unknown",
-                (
-                    f"the kernel's image isn't all RAM, and with {command_line.EFI} no word of the"
-                    " line makes it RAM"
-                ),
-            )
-            return True
         self.say(
             "changed",
             (
@@ -409,11 +423,33 @@ class Boot:
                 " becomes RAM (e820_add_kernel_range)"
             ),
         )
+        if self.adds_efi():
+            self.settle_map(first, end)
+            return self.run()
         self.add_words(
             [f"memmap={end - first:#x}%{first:#x}", f"memmap={end - first:#x}@{first:#x}"]
         )
         self.restored = first, end
         return self.run()
+
+    def settle_map(self, first: int, end: int) -> None:
+        """Puts the map with EFI's entries, in which a range is RAM, into the zero page and its
+        extension, and takes the words that made it out of the line: EFI's entries come after all
+        of these, so no word could make the range RAM."""
+        entries = [
+            (run.first, run.last + 1 - run.first, int(run.fields["type"])) for run in self.entries
+        ]
+        try:
+            self.page, more = linux_map.with_table(
+                self.page, linux_map.with_ram(entries, first, end)
+            )
+        except ValueError as error:
+            raise tool.Trouble(f"the map with the kernel's image as RAM: {error}", 2) from error
+        self.files.pop("e820ext", None)
+        if more is not None:
+            self.files["e820ext"] = more
+        self.line = linux_map.without_edits(self.line)
+        self.files["cmdline"] = self.line.encode("latin-1") + b"\n"
 
     def largest_page(self) -> int:
         """Returns the largest page of the direct map; the line can forbid those of 1 GiB."""
@@ -436,7 +472,7 @@ class Boot:
         ]
         ram = self.ram()
         has_node = linux_claims.has_setup_data(self.page)
-        extension = len(self.files.get("e820ext", b"")) if has_node else 0
+        extension = self.node_length if has_node else 0
         return linux_claims.Machine(
             self.page,
             self.line,
@@ -644,6 +680,7 @@ def prepare(boot: Boot) -> Prepared:
     inputs, without early claims."""
     boot.read_extension()
     boot.read_line()
+    boot.drop_descriptors()
     boot.read_efi()
     boot.read_srat()
     boot.read_slit()
@@ -705,7 +742,16 @@ def why_failed(status: int, said: str, given: Sequence[str]) -> str | None:
 def explained(failure: runner.Failed, names: Sequence[str], given: Sequence[str]) -> tool.Trouble:
     """Returns the trouble of a run for these reports and words, with the reason if the words tell it."""
     why = why_failed(failure.ended, failure.said, ["--report", ",".join(names), *given])
-    return tool.Trouble(f"{failure}; {why}") if why else failure
+    if not why:
+        return failure
+    return tool.Trouble(f"{failure}; {why}", next_command=next_for(failure.ended, given))
+
+
+def next_for(status: int, given: Sequence[str]) -> str | None:
+    """Returns the command that makes the file that the program couldn't read, or None."""
+    if status != explain.UNREADABLE:
+        return None
+    return next_step.for_missing(explain.files_of("bootmem", given))
 
 
 def run_explained(program: str, names: Sequence[str], given: Sequence[str]) -> Texts:

@@ -10,7 +10,10 @@ import re
 import tempfile
 from typing import Iterable, Iterator, NamedTuple, NoReturn, Sequence
 
-from bootmem_tools import as_linux, command_line, crash_sizes, linux_claims, machine, notes, ranges, reports, runner, tool
+from bootmem_tools import (
+    as_linux, command_line, crash_sizes, linux_claims, machine, next_step, notes, ranges, reports,
+    runner, tool
+)
 from bootmem_tools.crash_sizes import Found, Greatest, Outcome
 
 NAME = "bootmem-crash"
@@ -107,10 +110,14 @@ class Machine:
     def __init__(self, given: argparse.Namespace) -> None:
         folder = given.machine if os.path.isdir(given.machine) else None
         self.program = os.path.abspath(runner.find_program(given.program))
+        if folder:
+            next_step.refuse_pageless(NAME, folder)
         self.page = os.path.join(folder, "zp.bin") if folder else given.machine
         self.kernel = given.kernel or (machine.kernel_in(folder) if folder else None)
         self.progress, self.boots = tool.Progress(NAME), 0
         self.sizes: list[str] = given.size
+        lacks = folder is not None and not given.srat and machine.lacks_srat(folder)
+        self.next_command = next_step.for_srat(given.machine) if lacks else None
         named = {name: getattr(given, name) or self.beside(folder, file) for name, file in FILES}
         self.is_raw: bool = given.raw
         self.place: str | None = None
@@ -355,6 +362,8 @@ def warnings(own: Machine, texts: reports.Texts) -> Iterator[str]:
     """Yields what a reader should know before believing the answers; the reports are those of the inputs as they are
     read."""
     yield from own.said
+    if own.next_command:
+        yield machine.NO_SRAT
     if own.is_raw and own.kernel is None:
         yield runner.ASSUMED
     yield from (note for note in (own.place, *notes.notes_for(own.read, texts)) if note)
@@ -377,7 +386,7 @@ def main(words: list[str]) -> int:
         except (tool.Trouble, OSError) as trouble:
             if len(given.machines) == 1:
                 raise
-            tool.complain(NAME, f"{name}: {trouble}")
+            tool.complain_of(NAME, trouble, "" if str(trouble).startswith(name) else f"{name}: ")
             status = 2
             continue
         status = max(status, 0 if fits else 1)
@@ -393,6 +402,7 @@ def answer(own: Machine, given: argparse.Namespace) -> bool:
     several = len(given.machines) > 1
     for note in said if not given.json else []:
         tool.complain(NAME, f"{given.machine}: {note}" if several else note)
+    tool.say_next(own.next_command if not given.json else None)
     if several and not given.json:
         print(f"== {given.machine}")
     found = find(own, texts, given.machine, not given.json)

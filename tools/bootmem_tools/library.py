@@ -17,7 +17,10 @@ from __future__ import annotations
 
 import ctypes
 import os
+import shlex
 from typing import Any, Mapping, NamedTuple, Sequence, Union
+
+from bootmem_tools import next_step
 
 # Zones: below 16 MiB, from there to 4 GiB, and above.
 DMA, DMA32, NORMAL = 0, 1, 2
@@ -216,7 +219,18 @@ def _opened() -> ctypes.CDLL:
     try:
         return ctypes.CDLL(os.environ.get("BOOTMEM_LIB", "libbootmem.so"))
     except OSError as error:
-        raise OSError(_MISSING.format(error)) from None
+        raise OSError(_MISSING.format(error) + _next_line()) from None
+
+
+def _next_line() -> str:
+    """Returns the line with the command that builds the library, or names the one that is built; an
+    empty text outside the sources."""
+    top = next_step.top_of_clone()
+    if top is None:
+        return ""
+    built = os.path.join(top, "libbootmem.so")
+    named = f"export BOOTMEM_LIB={shlex.quote(built)}"
+    return f"\nnext: {named if os.path.exists(built) else next_step.make('lib')}"
 
 
 def _loaded() -> ctypes.CDLL:

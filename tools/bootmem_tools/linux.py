@@ -74,6 +74,7 @@ def main(arguments: list[str]) -> int:
         why = as_linux.why_failed(done.returncode, said, prepared.words)
         if why:
             tool.complain(NAME, why)
+            tool.say_next(as_linux.next_for(done.returncode, prepared.words))
         return done.returncode
 
 

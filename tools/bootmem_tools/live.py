@@ -12,7 +12,9 @@ import sys
 import tempfile
 from typing import Iterable, Iterator, NamedTuple, NoReturn, Sequence
 
-from bootmem_tools import as_linux, linux_claims, machine, notes, ranges, reports, runner, tool
+from bootmem_tools import (
+    as_linux, linux_claims, machine, next_step, notes, ranges, reports, runner, tool
+)
 from bootmem_tools.grammar import read_lines
 
 NAME = "bootmem-live"
@@ -393,6 +395,8 @@ def compare(given: argparse.Namespace, folder: str, words: Sequence[str], texts:
     srat = os.path.join(given.sys or "/sys", "firmware", "acpi", "tables", "SRAT")
     if not given.folder and "--srat" not in words and os.path.exists(srat):
         yield Finding("passed", "srat: this machine has an SRAT that root alone can read; bootmem takes all memory for node 0")
+    if given.folder and "--srat" not in words and machine.lacks_srat(folder):
+        yield Finding("passed", machine.NO_SRAT)
     iomem, zoneinfo = machine.text_in(folder, "iomem"), machine.text_in(folder, "zoneinfo")
     made: list[ranges.Range] = []
     if iomem is None:
@@ -421,6 +425,7 @@ def drops_srat(texts: Texts) -> bool:
 
 def print_findings(given: argparse.Namespace, folder: str) -> collections.Counter[str]:
     """Prints the command and the findings for a folder; how many there are of each kind."""
+    next_step.refuse_pageless(NAME, folder)
     told = told_by_program(given, folder) if given.raw else told_by_linux(given, folder)
     findings = [Finding("noted", said) for said in told.notes]
     if given.raw and drops_srat(told.texts):
@@ -433,6 +438,9 @@ def print_findings(given: argparse.Namespace, folder: str) -> collections.Counte
     for finding in findings:
         counts[finding.kind] += 1
         print(f"{finding.kind:<8} {finding.text}")
+    if any(one.kind == "passed" and one.text.startswith("srat: ") for one in findings):
+        sys.stdout.flush()
+        tool.say_next(next_step.for_srat(folder) if given.folder else f"sudo {NAME}")
     return counts
 
 

@@ -17,6 +17,8 @@ from bootmem_tools.tool import Kind, read_text
 FILES = (("--e820ext", "e820ext.bin"), ("--srat", "srat.bin"), ("--efi", "efi.bin"))
 REACH = 1 << 46  # of page tables of four levels
 FEW = 256  # frames: fewer that no block covers pass numa_meminfo_cover_memory
+NO_SRAT = ("srat: the kernel has several nodes, but the folder has no srat.bin, so bootmem takes all "
+           "memory for node 0")
 SIGNATURE = 0x1C0  # of efi_info in the zero page: EL64 or EL32 if the firmware is UEFI
 SHOWN = Kind("text of a kernel", 64 << 20)  # a text in a machine's folder
 
@@ -68,6 +70,12 @@ def kernel_in(folder: str) -> str | None:
     if told is not None:
         return told.strip()
     return image_place(read_iomem(text_in(folder, "iomem") or ""))
+
+
+def lacks_srat(folder: str) -> bool:
+    """Tells whether a folder of collect.sh has no SRAT, though its kernel shows several nodes."""
+    has_nodes = re.search(r"^Node [1-9]", text_in(folder, "zoneinfo") or "", re.MULTILINE)
+    return bool(has_nodes) and not os.path.lexists(os.path.join(folder, "srat.bin"))
 
 
 def files_in(folder: str) -> list[str]:

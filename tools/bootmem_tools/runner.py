@@ -9,7 +9,7 @@ import subprocess
 import sys
 from typing import Iterable, Optional, Sequence
 
-from bootmem_tools import notes
+from bootmem_tools import next_step, notes
 from bootmem_tools.reports import Texts, split_reports
 from bootmem_tools.tool import Trouble, complain
 
@@ -40,7 +40,8 @@ def find_program(named: str | None = None) -> str:
     if chosen:
         found = shutil.which(chosen)
         if found is None:
-            raise Trouble(f"{chosen}: no program that can be run")
+            command = next_step.make_named(chosen)
+            raise Trouble(f"{chosen}: no program that can be run", next_command=command)
         return found
     here = os.path.dirname(os.path.realpath(sys.argv[0]))
     beside = [os.path.join(here, "..", "libexec", "bootmem", "bootmem"), os.path.join(here, "bootmem")]
@@ -52,7 +53,7 @@ def find_program(named: str | None = None) -> str:
     found = shutil.which("bootmem")
     if found is None:
         raise Trouble("there is no program bootmem beside this tool or on the PATH; "
-                      "--program or BOOTMEM names it")
+                      "--program or BOOTMEM names it", next_command=next_step.make("bootmem"))
     return found
 
 
