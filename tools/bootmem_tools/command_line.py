@@ -402,6 +402,30 @@ def kernel_crash(raw: str, words: Sequence[Word], total: Totals) -> tuple[Crash,
     return asked(*plain, said.get("high", 0), said.get("low"), low_default(words)), places, faults
 
 
+def is_taken_from(data: bytes, first: int, total: Callable[[str], Total]) -> bool:
+    """Tells whether the kernel takes what it asks for of the crash area from what a line has from
+    this byte on, at least in part."""
+    raw = raw_line(data)[:LONGEST]
+    words, _ = words_of(raw)
+    others = " ".join(one.text for one in words if program_word(one.text)[0] != "crashkernel")
+    crash, places, faults = kernel_crash(raw, words, lambda: total(others))
+    asks = {"plain": crash.size, "high": crash.high, "low": crash.size or crash.high}
+    return any(
+        place >= first and place not in faults and asks[form] for form, place in places.items()
+    )
+
+
+def asks_for_area(text: str) -> bool:
+    """Tells whether words ask for a crash area, also by a name that is nearly crashkernel; a size
+    of 0 asks for none."""
+    for word in words_of(text)[0]:
+        value = program_word(word.text)[1] or ""
+        is_zero = value[:1].isdigit() and ":" not in value and memparse(value, 0)[0] == 0
+        if near(word.name) == "crashkernel" and not is_zero:
+            return True
+    return False
+
+
 def asked(size: int, base: int, high: int, low: int | None, default: int) -> Crash:
     """Returns what is asked for: the form high counts if the plain one has no size, and a low
     part only if one of them has."""

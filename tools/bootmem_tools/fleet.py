@@ -10,9 +10,12 @@ import os
 import subprocess
 import sys
 import tempfile
-from typing import IO, NamedTuple, NoReturn
+from typing import NamedTuple, NoReturn
 
-from bootmem_tools import as_linux, command_line, crash, machine, notes, objects, ranges, reports, runner, tool
+from bootmem_tools import (
+    as_linux, command_line, crash, linux_log, machine, next_step, notes, objects, ranges, reports,
+    runner, tool
+)
 
 NAME = "bootmem-fleet"
 USAGE = """bootmem-fleet [--json | --columns] [--cmdline-add WORDS]
@@ -39,7 +42,9 @@ Linux 6.1 does, and prints a line for each, in the order of the words, with a ta
 
 If bootmem ended with another status than 0, or a folder has no such thing, a column has -."""
 EPILOG = f"""A folder has zp.bin, and if they are there e820ext.bin, cmdline, srat.bin, slit.bin, efi.bin, and kernel (or words, as under
-examples) with the place of the kernel's image; without it the tool assumes 16 MiB to 48 MiB, and says so.
+examples) with the place of the kernel's image; without it the tool assumes 16 MiB to 48 MiB, and says so. If it has
+log, with the kernel's log from the boot's start on, the tool takes from it what bootmem-linux --log does, except with
+--raw.
 
 The inputs are read as that kernel reads them, and what it claims before the crash area is taken out of memory, as
 bootmem-linux does; --verbose prints what was changed or assumed, or can't be known, of each machine. With --raw the
@@ -53,7 +58,9 @@ is told once on standard error.
 {runner.FINDING}
 
 exit status: 0 if each run ended with 0, 1 if one didn't, 2 for words that aren't those above, 3 if each run ended with 0 and
-Linux 6.1 is known to panic on a machine, 4 if none of this and the area that a machine's line asks for doesn't fit there.
+Linux 6.1 is known to panic on a machine, 5 if none of this and WORDS of --cmdline-add ask for a crash area but the
+kernel takes nothing of it from them on any machine, 4 if none of this and the area that a machine's line asks for
+doesn't fit there.
 
 examples:
   bootmem-fleet host*/
@@ -64,6 +71,7 @@ FILES = (("--e820ext", "e820ext.bin"), ("--cmdline", "cmdline"), ("--srat", "sra
 ASKED = ["map", "summary", "crash", "nodes"]
 PANICS = 3  # the status if each run ended with 0, and Linux 6.1 is known to panic on a machine
 LACKS = 4  # the status if none of this, and an area that is asked for doesn't fit
+UNTAKEN = 5  # the status if neither 1 nor 3, and what --cmdline-add asks for counts on no machine
 LACKING = ("no area", "in use", "low failed")  # outcomes of such an area
 FORMS = {"plain": "", "high": ",high"}
 COLUMNS = ["folder", "status", "line", "runs", "usable", "free", "crash", "low", "numa", "nodes"]
@@ -79,17 +87,19 @@ class Plan(NamedTuple):
     is_raw: bool = False
     settings: as_linux.Settings = as_linux.Settings()
     greatest: bool = False
+    asks: bool = False  # whether `add` asks for a crash area
 
 
 class Answer(NamedTuple):
-    """The outcome for a folder: its row, whether the image's place was assumed, and what is to be said of its
-    inputs."""
+    """The outcome for a folder: its row, whether the image's place was assumed, what is to be said
+    of its inputs, and whether the kernel takes its crash area from the words that were added."""
 
     row: objects.Object
     assumed: bool
     said: list[str]
     panics: bool = False
     note: str | None = None
+    is_taken: bool = False
 
 
 def read_words(words: list[str]) -> argparse.Namespace:
@@ -139,16 +149,30 @@ def dropped(line: str, names: list[str]) -> str:
     return " ".join(word for word in words if word and word.lstrip('"').split("=", 1)[0] not in names)
 
 
-def changed_line(folder: str, plan: Plan, file: IO[bytes]) -> None:
-    """Writes the folder's line, changed as the plan says, to the file."""
+def line_of(folder: str, plan: Plan) -> tuple[bytes, int]:
+    """Returns the folder's line, changed as the plan says, and where the added words begin."""
     path = os.path.join(folder, "cmdline")
     line = b""
     if os.path.exists(path):
         line = command_line.read_file(path).split(b"\0")[0].rstrip(b"\n")
     text = dropped(line.decode("latin-1"), plan.drop) if plan.drop else line.decode("latin-1")
-    made = f"{text} {plan.add}".strip() if plan.add else text
-    file.write(made.encode("latin-1") + b"\n")
-    file.flush()
+    added = (plan.add or "").strip().encode("utf-8", "surrogateescape").decode("latin-1")
+    made = f"{text} {added}".strip() if added else text
+    return made.encode("latin-1") + b"\n", len(made) - len(added)
+
+
+def takes_added(folder: str, plan: Plan, row: objects.Object) -> bool:
+    """Tells whether the crash area of a folder's row is, at least in part, the one that the added
+    words ask for."""
+    if not row["crash"] or row["crash"]["outcome"] == "none":
+        return False
+    line, first = line_of(folder, plan)
+    if b"crashkernel" not in line[:first]:
+        return True
+    extension = ["--e820ext", "e820ext.bin"]
+    words = extension if os.path.exists(os.path.join(folder, extension[1])) else []
+    total = command_line.total_by(plan.program, [*words, "zp.bin"], folder)
+    return command_line.is_taken_from(line, first, total)
 
 
 def run(folder: str, plan: Plan, names: list[str], words: list[str]) -> tuple[int, str, reports.Texts]:
@@ -178,13 +202,19 @@ def run_folder(folder: str, plan: Plan, words: list[str], kernel: list[str]) -> 
     """Returns the answer for one folder, whose files these words name."""
     with tempfile.NamedTemporaryFile() as file:
         if plan.add or plan.drop:
-            changed_line(folder, plan, file)
+            file.write(line_of(folder, plan)[0])
+            file.flush()
             if "--cmdline" in words:
                 words[words.index("--cmdline") + 1] = file.name
             else:
                 words += ["--cmdline", file.name]
         words += [*kernel, "zp.bin"]
+        told, said = (linux_log.NOTHING, []) if plan.is_raw else linux_log.in_folder(folder)
+        plan = plan._replace(settings=plan.settings._replace(told=told))
         answer = boot_folder(folder, plan, words, kernel)
+        answer = answer._replace(said=said + answer.said)
+        if plan.asks:
+            answer = answer._replace(is_taken=takes_added(folder, plan, answer.row))
         if plan.greatest and answer.row["status"] == 0:
             answer.row["greatest"] = greatest_of(folder, plan, notes.value_in(words, "--cmdline"), notes.value_in(kernel, "--kernel"))
         return answer
@@ -273,41 +303,88 @@ def complaints(plan: Plan) -> list[str]:
     return list(dict.fromkeys([line for line in reading.changes if "left out" in line] + reading.notes))
 
 
-def main(words: list[str]) -> int:
-    """Prints a line for each folder; the status says whether each run ended with 0."""
-    given = read_words(words)
-    plan = Plan(os.path.abspath(runner.find_program(given.program)), given.cmdline_add, given.cmdline_drop, given.kernel, given.raw,
-                given.settings, given.greatest)
-    as_linux.refuse_itself(plan.program)
-    jobs = min(given.jobs or len(os.sched_getaffinity(0)), len(given.folders))
+class Tally:
+    """What the answers come to: whether a run failed, a machine panics or lacks an area, for how
+    many the image's place was assumed, and on how many the added words count."""
+
+    def __init__(self) -> None:
+        self.failed = self.panics = self.lacks = False
+        self.assumed = self.done = self.taken = 0
+
+    def add(self, answer: Answer) -> None:
+        """Adds an answer."""
+        area = answer.row["crash"]
+        self.done += 1
+        self.failed = self.failed or answer.row["status"] != 0
+        self.panics = self.panics or answer.panics
+        self.lacks = self.lacks or bool(area) and area["outcome"] in LACKING
+        self.assumed += answer.assumed
+        self.taken += answer.is_taken
+
+    def status(self, plan: Plan) -> int:
+        """Returns the exit status."""
+        if self.failed:
+            return 1
+        if self.panics:
+            return PANICS
+        if plan.asks and not self.taken:
+            return UNTAKEN
+        return LACKS if self.lacks else 0
+
+    def complain(self, plan: Plan) -> None:
+        """Says what holds for all folders together."""
+        if self.assumed:
+            tool.complain(NAME, f"of {self.assumed} of {self.done} folders nothing tells where the "
+                          "kernel's image lies: 16 MiB to 48 MiB is assumed")
+        if plan.asks and not self.taken:
+            tool.complain(NAME, f"--cmdline-add {plan.add}: on none of {self.done} machines the "
+                          "kernel takes a crash area from it")
+
+
+def print_answer(answer: Answer, given: argparse.Namespace) -> None:
+    """Prints the line for a folder, and what is to be said of it."""
+    is_text = not given.json
+    print("\t".join(columns(answer.row, given.greatest)) if is_text else json.dumps(answer.row))
+    folder = answer.row["folder"]
+    for line in [answer.note] * bool(answer.note) + answer.said * given.verbose:
+        tool.complain(NAME, f"{folder}: {line}")
+
+
+def say_first(given: argparse.Namespace, plan: Plan) -> None:
+    """Says what is wrong with the words, before any folder is read."""
     for line in complaints(plan):
         tool.complain(NAME, f"--cmdline-add: {line}")
     for folder in outer_folders(given.folders):
-        tool.complain(NAME, f"{folder}: it has no zp.bin, but its folders have: name these, as by {os.path.join(folder, '*/')}")
+        inner = os.path.join(folder, "*/")
+        tool.complain(NAME, f"{folder}: it has no zp.bin, but its folders have: name these, as by {inner}")
+        tool.say_next(next_step.for_page(NAME, folder))
+
+
+def main(words: list[str]) -> int:
+    """Prints a line for each folder; the status says whether each run ended with 0."""
+    given = read_words(words)
+    program, add = os.path.abspath(runner.find_program(given.program)), given.cmdline_add
+    asks = command_line.asks_for_area(add or "")
+    plan = Plan(program, add, given.cmdline_drop, given.kernel, given.raw, given.settings,
+                given.greatest, asks)
+    as_linux.refuse_itself(plan.program)
+    folders = given.folders
+    jobs = min(given.jobs or len(os.sched_getaffinity(0)), len(folders))
+    say_first(given, plan)
     if given.columns:
         print("\t".join(COLUMNS + (list(FORMS) if given.greatest else [])))
-    failed, panics, lacks, assumed = False, False, False, 0
-    progress, done = tool.Progress(NAME), 0
+    progress, tally = tool.Progress(NAME), Tally()
+    work = [(folder, plan) for folder in folders]
     with multiprocessing.get_context("fork").Pool(jobs) as pool:
-        for answer in pool.imap(answer_of, [(folder, plan) for folder in given.folders], chunksize=max(1, min(16, len(given.folders) // jobs))):
+        for answer in pool.imap(answer_of, work, chunksize=max(1, min(16, len(folders) // jobs))):
             progress.clear()
-            print(json.dumps(answer.row) if given.json else "\t".join(columns(answer.row, given.greatest)))
-            done += 1
+            tally.add(answer)
+            print_answer(answer, given)
             if not sys.stdout.isatty():
-                progress.show(f"{done} of {len(given.folders)} folders")
-            failed = failed or answer.row["status"] != 0
-            panics = panics or answer.panics
-            lacks = lacks or bool(answer.row["crash"]) and answer.row["crash"]["outcome"] in LACKING
-            assumed += answer.assumed
-            if answer.note:
-                tool.complain(NAME, f"{answer.row['folder']}: {answer.note}")
-            for line in answer.said if given.verbose else []:
-                tool.complain(NAME, f"{answer.row['folder']}: {line}")
+                progress.show(f"{tally.done} of {len(folders)} folders")
     progress.clear()
-    if assumed:
-        tool.complain(NAME, f"of {assumed} of {len(given.folders)} folders nothing tells where the kernel's image lies: 16 MiB to "
-                               "48 MiB is assumed")
-    return 1 if failed else PANICS if panics else LACKS if lacks else 0
+    tally.complain(plan)
+    return tally.status(plan)
 
 
 def command() -> NoReturn:

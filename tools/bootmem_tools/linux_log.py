@@ -3,6 +3,7 @@ ACPI tables, and tables of EFI that stay out of boot services' memory."""
 
 from __future__ import annotations
 
+import os
 import re
 from typing import Iterator, NamedTuple
 
@@ -19,6 +20,7 @@ TABLE = re.compile(
 RESERVED = re.compile(
     r"e820: update \[mem 0x([0-9a-f]{1,16})-0x([0-9a-f]{1,16})\] usable ==> reserved"
 )
+HEAD = "BIOS-provided physical RAM map:"  # a line of each boot's start
 EFI_TABLE = re.compile(rf"\b({'|'.join(EFI_TABLES)})=0x([0-9a-f]{{1,16}})\b")
 
 
@@ -40,6 +42,22 @@ NOTHING = Told(False, [], [], [], [])  # without a log
 def read_log(path: str | None) -> Told:
     """Returns what the log in a file tells; nothing if the path is None."""
     return NOTHING if path is None else told_by(tool.read_text(path, kind=tool.LOG))
+
+
+def in_folder(folder: str, name: str = "log") -> tuple[Told, list[str]]:
+    """Returns what the log in a folder tells, nothing if there is none or it lacks the boot's start;
+    and a line that says whether it is used, or none.
+
+    # Errors
+    A Trouble if it is no text.
+    """
+    path = os.path.join(folder, name)
+    if not os.path.isfile(path):
+        return NOTHING, []
+    text = tool.read_text(path, kind=tool.LOG)
+    if HEAD not in text:
+        return NOTHING, [f"passed over: {name}: it has no line '{HEAD}', so not the boot's start"]
+    return told_by(text), [f"read: {name}: it tells ACPI tables, EFI tables and nodes of setup_data"]
 
 
 def told_by(text: str) -> Told:
