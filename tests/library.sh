@@ -81,6 +81,22 @@ if has "${CC:-cc}" "the program's bytes and the example in C"; then
 			values "$folder" "$report" $words
 		done
 	done
+	# a SLIT without an SRAT and with one, of two wrong lengths, and another table in its place
+	slit=examples/srat-slit/slit.bin
+	head -c -1 "$slit" >"$work/short"
+	cat "$slit" "$work/short" >"$work/long"
+	for words in "zp.bin" "--srat srat.bin zp.bin"; do
+		for table in slit.bin "$work/short" "$work/long" srat.bin; do
+			# shellcheck disable=SC2086
+			(cd examples/srat-slit && "$program" --report zonelists --slit "$table" $words >"$work/out" 2>"$work/err"; echo "status $?" >>"$work/err")
+			# shellcheck disable=SC2086
+			(cd examples/srat-slit && "$work/by_library" --report zonelists --slit "$table" $words >"$work/got" 2>"$work/why"; echo "status $?" >>"$work/why")
+			ok "the SLIT $(basename "$table"), $words" cmp "$work/got" "$work/out"
+			ok "the SLIT $(basename "$table"), $words: the line" cmp "$work/why" "$work/err"
+			# shellcheck disable=SC2086
+			values examples/srat-slit nodes --slit "$table" $words
+		done
+	done
 	for words in --none "" zp.bin "--report map" "--make 3" "--report none zp.bin" "--make 3 --srat README.md"; do
 		# shellcheck disable=SC2086
 		(cd examples && "$program" $words >"$work/out" 2>"$work/err"; echo "status $?" >>"$work/err")

@@ -137,6 +137,39 @@ fn each_input_is_read() {
     assert_eq!(last(Boot::new(&far).la57()), (1 << 47) + (1 << 30) - 1);
 }
 
+/// A SLIT of these distances, a row for each domain.
+fn slit(rows: &[&[u8]]) -> Vec<u8> {
+    let cells: Vec<u8> = rows.concat();
+    let length = 44 + cells.len() as u32;
+    let mut table = [b"SLIT", &length.to_le_bytes()[..], &[0; 28]].concat();
+    table.extend((rows.len() as u64).to_le_bytes());
+    table.extend(cells);
+    table[9] = table.iter().fold(0u8, |sum, byte| sum.wrapping_sub(*byte));
+    table
+}
+
+#[test]
+fn a_slit_has_the_answers_of_the_program() {
+    let page = zero_page(&e820_table(1 << 30)).unwrap();
+    let whole = slit(&[&[10, 20], &[20, 10]]);
+    let text = Boot::new(&page).slit(&whole).report("zonelists").unwrap();
+    assert!(text.starts_with("slit no srat\n"), "{text}");
+    let long = [&whole[..], b"x"].concat();
+    for (table, fault) in [
+        (&whole[..whole.len() - 1], "length"),
+        (&long[..], "length"),
+        (&whole[..43], "short"),
+        (&slit(&[&[10, 20], &[20]])[..], "localities"),
+    ] {
+        let refusal = Boot::new(&page)
+            .slit(table)
+            .report("zonelists")
+            .unwrap_err();
+        assert_eq!(refusal.reason, Reason::Faulty);
+        assert_eq!(refusal.line, format!("bootmem: slit: {fault}"));
+    }
+}
+
 #[test]
 fn too_many_entries_are_an_error() {
     let entries = vec![(0, 4096, E820_RAM); 129];
