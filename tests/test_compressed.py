@@ -36,9 +36,14 @@ class Compressed(Case):
     def run_over(self, name, log):
         """What a tool comes to over this log, with the files that it wrote."""
         out = self.path("out")
-        words = [{"LOG": log, "OUT": out, "HOST": self.path("host")}.get(word, word) for word in READERS[name]]
+        words = [{"LOG": log, "OUT": out, "HOST": self.path("host")}.get(word,
+                                                                         word) for word
+                 in READERS[name]]
         status, said, err = tool(name, *words, folder=example(MACHINE))
-        written = {path: bytes_of(path) for path in [out, *glob.glob(os.path.join(out, "*"))] if os.path.isfile(path)}
+        written = {path: bytes_of(path) for path in [out,
+                                                     *glob.glob(os.path.join(out,
+                                                                             "*"))]
+                   if os.path.isfile(path)}
         for path in written:
             os.remove(path)
         return status, said, err, written
@@ -51,7 +56,11 @@ class Compressed(Case):
         write(self.path("host", "iomem"), "00001000-0009ffff : System RAM\n")
         for name in READERS:
             wanted = self.run_over(name, self.path("plain"))
-            self.check(f"{name}: it reads the log", wanted[0] in (0, 1) and (wanted[1] != "" or name in ("zp-from-log", "bootmem-diff")), True)
+            self.check(f"{name}: it reads the log", wanted[0] in (0,
+                                                                  1) and (wanted[1] != "" or name
+                                                                          in ("zp-from-log",
+                                                                              "bootmem-diff")),
+                       True)
             for packer, pack in PACKERS.items():
                 write(self.path(packer), pack(log))
                 self.check(f"{name}, {packer}", self.run_over(name, self.path(packer)), wanted)
@@ -64,12 +73,14 @@ class Compressed(Case):
             half = len(log) // 2
             packed = pack(log[:half]) + pack(log[half:])
             status, _, _ = tool("zp-from-log", "--output", "zp", given=packed, folder=self.work)
-            self.check(f"{packer} from standard input", (status, bytes_of(self.path("zp"))), (0, wanted))
+            self.check(f"{packer} from standard input", (status, bytes_of(self.path("zp"))),
+                       (0, wanted))
 
     def test_sosreport(self):
         """A log among the files of a sosreport."""
         os.makedirs(self.path("sos", "var", "log"))
-        write(self.path("sos", "var", "log", "dmesg"), gzip.compress(bytes_of(example(MACHINE, "log"))))
+        write(self.path("sos", "var", "log", "dmesg"),
+              gzip.compress(bytes_of(example(MACHINE, "log"))))
         wanted = self.run_over("zp-from-log", example(MACHINE, "log"))[3][self.path("out")]
         status, _, _ = tool("zp-from-log", "--output", "zp", "sos", folder=self.work)
         self.check("a sosreport", (status, bytes_of(self.path("zp"))), (0, wanted))
@@ -87,31 +98,40 @@ class Compressed(Case):
             ):
                 write(self.path("log"), data)
                 status, out, err = tool("zp-from-log", "--output", "zp", "log", folder=self.work)
-                self.check(f"{packer}, {what}: {err}", (status, out, err.count("\n"), why in err, os.path.exists(self.path("zp"))),
+                self.check(f"{packer}, {what}: {err}", (status, out, err.count("\n"), why in err,
+                                                        os.path.exists(self.path("zp"))),
                            (1, "", 1, True, False))
         write(self.path("log"), gzip.compress(b"x" * (LOG.limit + 1)))
-        self.has("too long", tool("zp-from-log", "--output", "zp", "log", folder=self.work)[2], f"longer than {LOG.limit} bytes")
+        self.has("too long", tool("zp-from-log", "--output", "zp", "log", folder=self.work)[2],
+                 f"longer than {LOG.limit} bytes")
 
     def test_zstd(self):
-        """zstd: without a module for it the error names what unpacks it; with one the log is read."""
+        """zstd: without a module for it the error names what unpacks it; with one the log is
+        read."""
         write(self.path("a log"), compressed.ZSTD + bytes(20))
-        with mock.patch.object(compressed, "zstd_opener", lambda: None), self.assertRaises(Trouble) as raised:
+        with mock.patch.object(compressed, "zstd_opener",
+                               lambda: None), self.assertRaises(Trouble) as raised:
             read_bytes(self.path("a log"), LOG)
-        self.has("zstd: the error", str(raised.exception), "it is compressed by zstd, which this Python has no module for: unpack it by zstd -d")
-        self.check("zstd: the next command", raised.exception.next_command, f"zstd -d '{self.path('a log')}'")
+        self.has("zstd: the error", str(raised.exception),
+                 "it is compressed by zstd, which this Python has no module for: unpack it by zstd -d")
+        self.check("zstd: the next command", raised.exception.next_command,
+                   f"zstd -d '{self.path('a log')}'")
         if compressed.zstd_opener() is None:
             status, out, err = tool("zp-from-log", "--output", "zp", "a log", folder=self.work)
-            self.check("zstd: a run", (status, out, err.splitlines()[1:]), (1, "", ["next: zstd -d 'a log'"]))
+            self.check("zstd: a run", (status, out, err.splitlines()[1:]), (1, "",
+                                                                            ["next: zstd -d 'a log'"]))
         elif shutil.which("zstd"):
             log = bytes_of(example(MACHINE, "log"))
-            packed = subprocess.run(["zstd", "-c"], input=log, stdout=subprocess.PIPE, check=True).stdout
+            packed = subprocess.run(["zstd", "-c"], input=log, stdout=subprocess.PIPE,
+                                    check=True).stdout
             write(self.path("a log"), packed)
             self.check("zstd: read", read_bytes(self.path("a log"), LOG), log)
 
     def test_others(self):
         """What is no log isn't unpacked: a compressed zero page is refused."""
         write(self.path("zp.gz"), gzip.compress(bytes_of(example(MACHINE, "zp.bin"))))
-        self.check("a zero page", tool("bootmem-crash", "--size", "1M", "zp.gz", folder=self.work)[:2], (2, ""))
+        self.check("a zero page", tool("bootmem-crash", "--size", "1M", "zp.gz",
+                                       folder=self.work)[:2], (2, ""))
 
 
 if __name__ == "__main__":

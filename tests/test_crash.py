@@ -117,33 +117,44 @@ class Crash(Case):
         found = [json.loads(line) for line in out.splitlines()]
         self.check("several --json", (status, err, [(one["machine"], one["fits"]) for one in found]),
                    (0, "", [("pc-512m-crash64m", True), ("q35-8g-numa2", True)]))
-        area = {"first": "0x0000000005000000", "last": "0x000000001fdfffff", "low": None, "total": 430 * MIB}
+        area = {"first": "0x0000000005000000", "last": "0x000000001fdfffff", "low": None,
+                "total": 430 * MIB}
         self.check("--json: greatest", found[0]["greatest"], {form: {"size": 430 * MIB, "area": area} for form in ("plain", "high")})
         self.check("--json: below 4 GiB", found[1]["greatest"]["plain"]["below_4g"]["size"], 1966 * MIB)
-        area = {"first": "0x000000001b000000", "last": "0x000000001effffff", "low": None, "total": 64 * MIB}
+        area = {"first": "0x000000001b000000", "last": "0x000000001effffff", "low": None,
+                "total": 64 * MIB}
         self.check("--json: the line", found[0]["asked"], [{"from": "line", "asked": "crashkernel=64M", "picked": None, "fits": True, "area": area,
                                                             "reasons": []}])
 
     def test_low_part(self):
-        """An area above 4 GiB has a low part: both are printed, each of its size, and the sum of them; one below 4 GiB has none. The low
-        part is of 256 MiB, or of the size that the line asks for."""
+        """An area above 4 GiB has a low part: both are printed, each of its size, and the sum of
+        them; one below 4 GiB has none. The low part is of 256 MiB, or of the size that the line
+        asks for."""
         machine = "q35-8g-numa2"
         write(self.path("low"), b"quiet crashkernel=128M,low crashkernel=64M\n")
-        for words, high, low, both in (([], 512, 256, "768 MiB"), (["--cmdline", self.path("low")], 512, 128, "640 MiB"),
-                                       ([], 1920, 256, "2.1 GiB"), ([], 4091, 256, "4.2 GiB"), ([], 1, 256, "257 MiB")):
+        for words, high, low, both in (([], 512, 256, "768 MiB"), (["--cmdline", self.path("low")],
+                                                                   512, 128, "640 MiB"),
+                                       ([], 1920, 256, "2.1 GiB"), ([], 4091, 256, "4.2 GiB"),
+                                       ([], 1, 256, "257 MiB")):
             size = f"{high}M,high"
             status, out, _ = crash(machine, *words, "--size", size)
-            places = [(int(first, 16), int(last, 16) + 1) for first, last in re.findall(r"(0x\w{16})-(0x\w{16})", out)]
-            self.check(f"{size}, {low} MiB low: sizes", (status, [(end - first) // MIB for first, end in places]), (0, [high, low]))
-            self.check(f"{size}: above and below 4 GiB", [first >= 4 * GIB for first, _ in places], [True, False])
+            places = [(int(first, 16), int(last, 16) + 1) for first,
+                      last in re.findall(r"(0x\w{16})-(0x\w{16})", out)]
+            self.check(f"{size}, {low} MiB low: sizes", (status, [(end - first) // MIB for first,
+                                                                  end in places]),
+                       (0, [high, low]))
+            self.check(f"{size}: above and below 4 GiB", [first >= 4 * GIB for first, _ in places],
+                       [True, False])
             self.check(f"{size}: the sum", out.endswith(f" ({low} MiB), {both} in all\n"), True)
             _, out, _ = crash(machine, *words, "--json", "--size", size)
             area = json.loads(out)["asked"][0]["area"]
-            told = [(int(one["first"], 16), int(one["last"], 16) + 1) for one in (area, area["low"])]
+            told = [(int(one["first"], 16), int(one["last"],
+                                                16) + 1) for one in (area, area["low"])]
             self.check(f"{size}: --json", (told, area["total"]), (places, (high + low) * MIB))
         status, out, _ = crash(machine, "--size", "512M,high", "--size", "512M")
         self.check("several sizes", [line.count("0x") for line in out.splitlines()], [4, 2])
-        self.has("no low part, no sum", out, "crashkernel=512M fits at 0x000000005f000000-0x000000007effffff\n")
+        self.has("no low part, no sum", out,
+                 "crashkernel=512M fits at 0x000000005f000000-0x000000007effffff\n")
 
     def test_few_boots(self):
         """The greatest size is found in a few boots, also where the maps behind the area have no place for themselves: each next size fails."""

@@ -66,7 +66,8 @@ class Fleet(Case):
                               ("crashkernl=512M", "word 1: crashkernl=512M: passed over, by the kernel too: is crashkernel= meant?")):
             status, out, err = tool("bootmem-fleet", "--kernel", "16M,32M", "--cmdline-drop", "mem", "--cmdline-add", words, "bad", "bad",
                                     folder=self.work)
-            self.check(f"fleet {words}: told once", (status, out.count("\n"), err), (5, 2, f"bootmem-fleet: --cmdline-add: {wanted}\n"
+            self.check(f"fleet {words}: told once", (status, out.count("\n"), err),
+                       (5, 2, f"bootmem-fleet: --cmdline-add: {wanted}\n"
                        f"bootmem-fleet: --cmdline-add {words}: on none of 2 machines the kernel takes a crash area from it\n"))
         self.check("fleet: ranges are no complaint", tool("bootmem-fleet", "--cmdline-drop", "mem", "--cmdline-add",
                                                           "crashkernel=1G-4G:192M,4G-:256M", "bad", folder=self.work)[2], "")
@@ -106,58 +107,89 @@ class Fleet(Case):
                    (0, 500, True))
 
     def test_untaken(self):
-        """The status says if the kernel takes no crash area from the added words on any machine: they are malformed or misspelt, no range
-        has the total memory, or another word of the line counts before them."""
-        for name, line in (("none", "quiet"), ("own", "quiet crashkernel=64M"), ("high", "crashkernel=64M,high"), ("end", "quiet -- x")):
+        """The status says if the kernel takes no crash area from the added words on any machine:
+        they are malformed or misspelt, no range has the total memory, or another word of the line
+        counts before them."""
+        for name, line in (("none", "quiet"), ("own", "quiet crashkernel=64M"),
+                           ("high", "crashkernel=64M,high"), ("end", "quiet -- x")):
             os.makedirs(self.path(name))
-            for file, data in (("zp.bin", zero_page([(0, 0x9FC00, 1), (MIB, GIB - MIB, 1)])), ("cmdline", line), ("kernel", "16M,32M")):
+            for file, data in (("zp.bin", zero_page([(0, 0x9FC00, 1), (MIB, GIB - MIB, 1)])),
+                               ("cmdline", line), ("kernel", "16M,32M")):
                 write(self.path(name, file), data)
         for words, folders, status in (
-                ("crashkernel=128M", "none own high end", 0), ("crashkernel=128M,high", "none own", 0), ("crashkernel=128M,high", "own", 5),
-                ("crashkernel=128MB", "none own end", 5), ("crashkernl=128M", "none own", 5), ("Crashkernel=128M", "none", 5),
-                ("crashkernel=2G", "none own", 4), ("crashkernel=2G-:128M", "none own", 5), ("crashkernel=2G-:128M", "high", 5),
-                ("crashkernel=1G-:128M", "high own", 0), ("crashkernel=64G-:128M crashkernel=64M,high", "none", 0),
-                ("crashkernel=64M,low", "none", 5), ("crashkernel=64M,low", "own", 0), ("crashkernel=0", "none own", 0),
-                ("quiet", "none", 0), ("", "none", 0), ("crashkernel=128MB", "none nothing", 1), ("crashkernel=128M -- x", "none", 0)):
-            got, _, err = tool("bootmem-fleet", "--cmdline-add", words, *folders.split(), folder=self.work)
-            self.check(f"fleet --cmdline-add {words!r} {folders}", (got, "the kernel takes a crash area from it" in err),
+                ("crashkernel=128M", "none own high end", 0), ("crashkernel=128M,high", "none own",
+                                                               0), ("crashkernel=128M,high", "own",
+                                                                    5),
+                ("crashkernel=128MB", "none own end", 5), ("crashkernl=128M", "none own", 5),
+                ("Crashkernel=128M", "none", 5),
+                ("crashkernel=2G", "none own", 4), ("crashkernel=2G-:128M", "none own", 5),
+                ("crashkernel=2G-:128M", "high", 5),
+                ("crashkernel=1G-:128M", "high own", 0),
+                ("crashkernel=64G-:128M crashkernel=64M,high", "none", 0),
+                ("crashkernel=64M,low", "none", 5), ("crashkernel=64M,low", "own", 0),
+                ("crashkernel=0", "none own", 0),
+                ("quiet", "none", 0), ("", "none", 0), ("crashkernel=128MB", "none nothing", 1),
+                ("crashkernel=128M -- x", "none", 0)):
+            got, _, err = tool("bootmem-fleet", "--cmdline-add", words, *folders.split(),
+                               folder=self.work)
+            self.check(f"fleet --cmdline-add {words!r} {folders}", (got,
+                                                                    "the kernel takes a crash area from it" in err),
                        (status, status == 5 or "nothing" in folders))
-        for words, folders, status in (("crashkernel=128M", "none", 0), ("crashkernel=2G-:128M", "none own", 5), ("crashkernl=128M", "own", 5)):
-            self.check(f"fleet --raw --cmdline-add {words} {folders}", tool("bootmem-fleet", "--raw", "--cmdline-add", words, *folders.split(),
-                                                                            folder=self.work)[0], status)
+        for words, folders, status in (("crashkernel=128M", "none", 0), ("crashkernel=2G-:128M",
+                                                                         "none own", 5),
+                                       ("crashkernl=128M", "own", 5)):
+            self.check(f"fleet --raw --cmdline-add {words} {folders}", tool("bootmem-fleet",
+                                                                            "--raw",
+                                                                            "--cmdline-add", words,
+                                                                            *folders.split(),
+                                                                            folder=self.work)[0],
+                       status)
         write(self.path("none", "srat.bin"), inputs.srat([(0, GIB - 16 * 4096, 0)]))
-        self.check("a panic goes before", tool("bootmem-fleet", "--cmdline-add", "crashkernel=128MB", "none", folder=self.work)[0], 3)
-        self.check("the status is told", all("5 if none of this and WORDS" in " ".join(text.split()) for text in
+        self.check("a panic goes before", tool("bootmem-fleet", "--cmdline-add",
+                                               "crashkernel=128MB", "none", folder=self.work)[0],
+                   3)
+        self.check("the status is told",
+                   all("5 if none of this and WORDS" in " ".join(text.split()) for text in
                                              (tool("bootmem-fleet", "--help")[1],)), True)
 
     def test_log(self):
-        """A folder's log tells what bootmem-linux --log takes from it; --raw takes nothing, and a log without the boot's start is passed over."""
+        """A folder's log tells what bootmem-linux --log takes from it; --raw takes nothing, and a
+        log without the boot's start is passed over."""
         shutil.copytree(example("ovmf-2g-tpm"), self.path("host"))
-        words = ["--report", "crash,summary", "--log", "log", "--efi", "efi.bin", "--cmdline", "cmdline", "--kernel", "0x1600000,0x3400000", "zp.bin"]
+        words = ["--report", "crash,summary", "--log", "log", "--efi", "efi.bin", "--cmdline",
+                 "cmdline", "--kernel", "0x1600000,0x3400000", "zp.bin"]
         alone = tool("bootmem-linux", *words, folder=self.path("host"))[1]
         del words[words.index("--log"):words.index("--log") + 2]
         without = tool("bootmem-linux", *words, folder=self.path("host"))[1]
         rows = {}
         log = bytes_of(self.path("host", "log"))
-        for what, data, said in (("log", log, "host: read: log: it tells ACPI tables"), ("packed", gzip.compress(log), "host: read: log: "),
-                                 ("late", b"[    9.000000] ACPI: Reserving DSDT table memory at [mem 0x3ff10000-0x3ff12fff]\n",
+        for what, data, said in (("log", log, "host: read: log: ACPI tables"),
+                                 ("packed", gzip.compress(log), "host: read: log: "),
+                                 ("late",
+                                  b"[    9.000000] ACPI: Reserving DSDT table memory at [mem 0x3ff10000-0x3ff12fff]\n",
                                   "host: passed over: log: it has no line 'BIOS-provided physical RAM map:'"), ("none", None, None)):
             os.remove(self.path("host", "log"))
             if data is not None:
                 write(self.path("host", "log"), data)
             status, out, err = tool("bootmem-fleet", "--verbose", "host", folder=self.work)
             rows[what] = out.split("\t")[5:7]
-            self.check(f"fleet: {what}", (status, said is None or said in err, "log: " in err), (0, True, said is not None))
+            self.check(f"fleet: {what}", (status, said is None or said in err, "log: " in err),
+                       (0, True, said is not None))
             rows[what, "raw"] = tool("bootmem-fleet", "--raw", "host", folder=self.work)[1]
             if data is None:
                 write(self.path("host", "log"), bytes(9))
-        for what, text in (("log", alone), ("packed", alone), ("late", without), ("none", without)):
+        for what, text in (("log", alone), ("packed", alone), ("late", without),
+                           ("none", without)):
             free = text.split("free ")[1].split()[0]
-            self.check(f"fleet: {what}: as bootmem-linux", (rows[what][0], f"crash at {rows[what][1]}\n" in text), (free, True))
+            self.check(f"fleet: {what}: as bootmem-linux", (rows[what][0],
+                                                            f"crash at {rows[what][1]}\n" in text),
+                       (free, True))
         self.check("fleet: the log matters", rows["log"] != rows["none"], True)
-        self.check("fleet --raw: no log", len({row for what, row in rows.items() if "raw" in what}), 1)
+        self.check("fleet --raw: no log", len({row for what,
+                                               row in rows.items() if "raw" in what}), 1)
         status, out, _ = tool("bootmem-fleet", "host", folder=self.work)
-        self.check("fleet: a log that is no text", (status, out.split("\t")[1:3]), (1, ["2", "host/log: no text of a log: it has a zero byte"]))
+        self.check("fleet: a log that is no text", (status, out.split("\t")[1:3]),
+                   (1, ["2", "host/log: no text of a log: it has a zero byte"]))
 
     def as_linux(self):
         """A line by ranges, and one that asks for nothing: the area is the kernel's, by total memory rounded up, below an initrd from

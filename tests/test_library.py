@@ -106,30 +106,40 @@ class Calls(unittest.TestCase):
             self.assertEqual((refused.exception.status, str(refused.exception)), (status, line))
 
     def test_a_slit(self):
-        """A SLIT has the program's answers, word for word: without an SRAT, with one, of another length, and with each other fault."""
+        """A SLIT has the program's answers, word for word: without an SRAT, with one, of another
+        length, and with each other fault."""
         domains = srat([(0, 512 << 20, 0), (512 << 20, 512 << 20, 1)], [0, 1])
         whole = slit([[10, 20], [20, 10]])
-        answers = [("no SRAT", whole, None, "slit no srat"), ("an SRAT", whole, domains, "slit used"),
-                   ("a domain less", slit([[10]]), domains, "slit used"), ("a bad cell", slit([[10, 20], [20, 11]]), domains, "slit not valid 1 1"),
+        answers = [("no SRAT", whole, None, "slit no srat"), ("an SRAT", whole, domains,
+                                                              "slit used"),
+                   ("a domain less", slit([[10]]), domains, "slit used"), ("a bad cell",
+                                                                           slit([[10, 20], [20, 11]]), domains, "slit not valid 1 1"),
                    ("a bad cell, no SRAT", slit([[11]]), None, "slit no srat")]
-        faults = [("a byte less", whole[:-1], "length"), ("a byte more", whole + b"\0", "length"), ("43 bytes", whole[:43], "short"),
+        faults = [("a byte less", whole[:-1], "length"), ("a byte more", whole + b"\0", "length"),
+                  ("43 bytes", whole[:43], "short"),
                   ("a row that lacks a cell", slit([[10, 20], [20]]), "localities"), *REFUSED]
-        for name, table, domains_beside, line in answers + [(name, table, beside, fault) for name, table, fault in faults
+        for name, table, domains_beside, line in answers + [(name, table, beside, fault) for name,
+                                                            table, fault in faults
                                                             for beside in (None, domains)]:
-            words, files = ["--report", "zonelists", "--slit", "slit", "zp.bin"], {"zp.bin": PAGE, "slit": table}
+            words, files = ["--report", "zonelists", "--slit", "slit",
+                            "zp.bin"], {"zp.bin": PAGE, "slit": table}
             if domains_beside:
                 words, files = ["--srat", "srat", *words], {**files, "srat": domains_beside}
             with self.subTest(name=name, srat=domains_beside is not None):
                 status, out, err = library.call(words, files)
                 if line.startswith("slit "):
-                    self.assertEqual((status, out.decode().splitlines()[:1], err), (0, [line], b""))
+                    self.assertEqual((status, out.decode().splitlines()[:1], err),
+                                     (0, [line], b""))
                 else:
-                    self.assertEqual((status, out, err.decode()), (5, b"", f"bootmem: slit: {line}\n"))
+                    self.assertEqual((status, out, err.decode()), (5, b"",
+                                                                   f"bootmem: slit: {line}\n"))
                     with self.assertRaises(library.Refused) as refused:
                         library.nodes(words[:-5] + words[-3:], files)
-                    self.assertEqual((refused.exception.reason, str(refused.exception)), ("faulty", f"bootmem: slit: {line}"))
+                    self.assertEqual((refused.exception.reason, str(refused.exception)),
+                                     ("faulty", f"bootmem: slit: {line}"))
                 if os.access(support.PROGRAM, os.X_OK):
-                    self.assertEqual((status, out.decode(), err.decode()), support.run_over(files, words))
+                    self.assertEqual((status, out.decode(), err.decode()),
+                                     support.run_over(files, words))
 
     def test_the_first_of_a_name_counts(self):
         # two files of one name can't stand in a dict, but a name can be bytes or text

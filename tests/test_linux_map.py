@@ -1,12 +1,15 @@
-"""bootmem-linux and the map: descriptors of EFI that Linux drops, the image as RAM after EFI's map was
-added, and nodes of setup_data."""
+"""bootmem-linux and the map: descriptors of EFI that Linux drops, the image as RAM after EFI's map
+was added, and nodes of setup_data."""
 
 import os
 import re
 import struct
 import unittest
 
-from support import GIB, LOW, MIB, PROGRAM, RAM, RESERVED, Case, entries_of, extension, machine_of, program, ran, tool, write
+from support import (
+    GIB, LOW, MIB, PROGRAM, RAM, RESERVED, Case, entries_of, extension, machine_of, program, ran,
+    tool, write
+)
 from bootmem_tools import as_linux, inputs, linux_claims, linux_log, linux_map
 
 TOP = 1 << 64
@@ -26,101 +29,146 @@ class Map(Case):
     def make(self, entries, line, descriptors=()):
         """Writes the inputs of a machine."""
         page, more = inputs.map_files(entries)
-        for name, data in (("zp", page), ("line", line), ("efi", inputs.efi_map(descriptors)), ("ext", more or extension([]))):
+        for name, data in (("zp", page), ("line", line), ("efi", inputs.efi_map(descriptors)),
+                           ("ext", more or extension([]))):
             write(self.path(name), data)
         return ["--cmdline", "line", "--efi", "efi", "--e820ext", "ext", "zp"]
 
     def test_far(self):
-        """A descriptor that ends beyond 2^64 or has no pages is left out, the others are claimed; the program refuses the far one."""
+        """A descriptor that ends beyond 2^64 or has no pages is left out, the others are claimed;
+        the program refuses the far one."""
         for what, one, said in (
             ("far", (7, TOP - 8192, 3, 15), "its 0x3 pages end beyond 2^64"),
             ("up to 2^64", (7, TOP - 4096, 1, 15), "its 0x1 pages end beyond 2^64"),
-            ("far by its pages", (4, 0x3E000000, 1 << 52, 15), "its 0x10000000000000 pages end beyond 2^64"),
+            ("far by its pages", (4, 0x3E000000, 1 << 52, 15),
+             "its 0x10000000000000 pages end beyond 2^64"),
             ("no pages", (4, 0x3E000000, 0, 15), "it has no pages"),
             ("below 2^64", (7, TOP - 8192, 1, 15), None),
             ("above 2^46", (7, 1 << 46, 256, 15), None),
         ):
-            words = ["--report", "crash", "--kernel", "64M,16M", *self.make(machine_of(GIB), "crashkernel=64M", [one, SERVICES])]
+            words = ["--report", "crash", "--kernel", "64M,16M", *self.make(machine_of(GIB),
+                                                                            "crashkernel=64M",
+                                                                            [one, SERVICES])]
             status, _, theirs = ran([PROGRAM, *words], folder=self.work)
             is_far = said is not None and "beyond" in said
-            self.check(f"{what}: the program", (status, theirs), (5, b"bootmem: efi: descriptor 0 too far\n") if is_far else (0, b""))
+            self.check(f"{what}: the program", (status, theirs), (5,
+                                                                  b"bootmem: efi: descriptor 0 too far\n") if is_far else (0, b""))
             status, out, err = self.linux("--explain", *words)
             left = re.findall(r"descriptor (\d+) of EFI's memory map, at 0x(\w+): (.*), so it is left out \((\w+)\)", err)
-            self.check(f"{what}: left out", (status, left), (0, [("0", f"{one[1]:016x}", said, RULE)] if said else []))
-            self.has(f"{what}: the others are claimed", err, "claim: 0x000000003e400000-0x000000003e4fffff boot services, type 4")
+            self.check(f"{what}: left out", (status, left), (0, [("0", f"{one[1]:016x}", said,
+                                                                  RULE)] if said else []))
+            self.has(f"{what}: the others are claimed", err,
+                     "claim: 0x000000003e400000-0x000000003e4fffff boot services, type 4")
             self.has(f"{what}: the area", out, "crash at 0x000000003")
         far = [(7, TOP - 4096 * place, 9, 15) for place in range(1, 7)]
-        _, _, err = self.linux(*self.make(machine_of(GIB), "quiet", [*far[:3], SERVICES, *far[3:]]))
+        _, _, err = self.linux(*self.make(machine_of(GIB), "quiet", [*far[:3], SERVICES,
+                                                                     *far[3:]]))
         self.check("several", re.findall(r"descriptor (\d+) of", err), ["0", "1", "2", "4"])
-        self.has("several: the rest", err, "changed: 2 more descriptors of EFI's memory map: left out")
+        self.has("several: the rest", err,
+                 "changed: 2 more descriptors of EFI's memory map: left out")
 
     def test_far_added(self):
-        """With add_efi_memmap the kernel adds a far descriptor to its map before it drops it, which the tool says; the rest is added."""
+        """With add_efi_memmap the kernel adds a far descriptor to its map before it drops it,
+        which the tool says; the rest is added."""
         added = (7, 2 * GIB, 256, 15)
-        for line, one, says in (("add_efi_memmap", (7, TOP - 4096, 1, 15), True), ("add_efi_memmap=1", (7, TOP - 4096, 1, 15), True),
-                                ("quiet", (7, TOP - 4096, 1, 15), False), ("add_efi_memmap", (7, GIB, 0, 15), False)):
-            status, out, err = self.linux("--report", "map", *self.make(machine_of(GIB), line, [one, added]))
-            self.check(f"{line} {one}", (status, "the map may never settle (do_add_efi_memmap)" in err), (0, says))
-            self.check(f"{line} {one}: the rest", "0x0000000080000000..0x00000000800fffff 1 usable" in out, line != "quiet")
+        for line, one, says in (("add_efi_memmap", (7, TOP - 4096, 1, 15), True),
+                                ("add_efi_memmap=1", (7, TOP - 4096, 1, 15), True),
+                                ("quiet", (7, TOP - 4096, 1, 15), False), ("add_efi_memmap",
+                                                                           (7, GIB, 0, 15),
+                                                                           False)):
+            status, out, err = self.linux("--report", "map", *self.make(machine_of(GIB), line,
+                                                                        [one, added]))
+            self.check(f"{line} {one}", (status,
+                                         "the map may never settle (do_add_efi_memmap)" in err),
+                       (0, says))
+            self.check(f"{line} {one}: the rest",
+                       "0x0000000080000000..0x00000000800fffff 1 usable" in out, line != "quiet")
 
     def test_clean(self):
-        """What is left of a map: the bytes of the other descriptors; a malformed map stays as it is."""
+        """What is left of a map: the bytes of the other descriptors; a malformed map stays as it
+        is."""
         one, other, far = SERVICES, (7, 2 * GIB, 256, 0x4000F), (7, TOP - 4096, 9, 15)
         cleaned = linux_map.clean_descriptors(inputs.efi_map([one, far, other]))
-        self.check("the others", (cleaned.data, [place for place, _ in cleaned.dropped]), (inputs.efi_map([one, other]), [1]))
+        self.check("the others", (cleaned.data, [place for place, _ in cleaned.dropped]),
+                   (inputs.efi_map([one, other]), [1]))
         whole = inputs.efi_map([far])
-        for what, data in (("a part of a descriptor", whole + bytes(7)), ("no header", b"abc"), ("a short stride", b"\1" + whole[1:])):
+        for what, data in (("a part of a descriptor", whole + bytes(7)), ("no header", b"abc"),
+                           ("a short stride", b"\1" + whole[1:])):
             self.check(what, linux_map.clean_descriptors(data), (data, []))
 
     def test_image(self):
-        """The image is RAM after EFI's map was added: where the zero page or EFI's map says otherwise, or the line does."""
+        """The image is RAM after EFI's map was added: where the zero page or EFI's map says
+        otherwise, or the line does."""
         efi = [(7, GIB, 256, 15), (6, GIB + MIB, 1, 0x800000000000000F)]
-        added = ["0x0000000040000000..0x00000000400fffff 1 usable", "0x0000000040100000..0x0000000040100fff 2 reserved"]
+        added = ["0x0000000040000000..0x00000000400fffff 1 usable",
+                 "0x0000000040100000..0x0000000040100fff 2 reserved"]
         whole = [LOW, (MIB, 233 * MIB, RAM)]
         for what, entries, line, more, kept in (
-            ("the zero page", BAD, "add_efi_memmap", [], "0x0000000002130000..0x00000000021fffff 2 reserved"),
-            ("the zero page, a value", BAD, "add_efi_memmap=1 quiet", [], "0x0000000002130000..0x00000000021fffff 2 reserved"),
-            ("EFI's map", whole, "add_efi_memmap", [(0, 32 * MIB, 512, 15)], "0x0000000002130000..0x00000000021fffff 2 reserved"),
-            ("the line", whole, "memmap=2M$32M add_efi_memmap", [], "0x0000000002130000..0x00000000021fffff 2 reserved"),
+            ("the zero page", BAD, "add_efi_memmap", [],
+             "0x0000000002130000..0x00000000021fffff 2 reserved"),
+            ("the zero page, a value", BAD, "add_efi_memmap=1 quiet", [],
+             "0x0000000002130000..0x00000000021fffff 2 reserved"),
+            ("EFI's map", whole, "add_efi_memmap", [(0, 32 * MIB, 512, 15)],
+             "0x0000000002130000..0x00000000021fffff 2 reserved"),
+            ("the line", whole, "memmap=2M$32M add_efi_memmap", [],
+             "0x0000000002130000..0x00000000021fffff 2 reserved"),
             ("a removed end", whole, "mem=32M add_efi_memmap", [], added[0]),
-            ("a user map", whole, "memmap=exactmap memmap=640K@0 memmap=31M@1M add_efi_memmap", [], added[0]),
+            ("a user map", whole, "memmap=exactmap memmap=640K@0 memmap=31M@1M add_efi_memmap", [],
+             added[0]),
         ):
             words = self.make(entries, f"{line} crashkernel=4M@4M -- mem=1M", efi + more)
             status, out, err = self.linux("--report", "map,crash", *IMAGE, *words)
             lines = out.splitlines()
-            self.check(f"{what}: it is said", (status, "becomes RAM (e820_add_kernel_range)" in err, "no word of the line" in err), (0, True, False))
-            self.check(f"{what}: EFI's map is added", [one for one in added if one not in lines], [])
+            self.check(f"{what}: it is said", (status,
+                                               "becomes RAM (e820_add_kernel_range)" in err,
+                                               "no word of the line" in err), (0, True, False))
+            self.check(f"{what}: EFI's map is added", [one for one in added if one not in lines],
+                       [])
             self.check(f"{what}: outside the image", kept in lines, True)
             # brk has 17 frames from the image's end on, which are cut out of memory
-            self.check(f"{what}: up to its end", any(one.startswith("0x0000000002111000..") and one.endswith(" 1 usable") for one in lines), True)
-            self.check(f"{what}: the rest of the line", lines[-1], "crash at 0x0000000000400000..0x00000000007fffff")
+            self.check(f"{what}: up to its end",
+                       any(one.startswith("0x0000000002111000..") and one.endswith(" 1 usable")
+                           for one in lines), True)
+            self.check(f"{what}: the rest of the line", lines[-1],
+                       "crash at 0x0000000000400000..0x00000000007fffff")
             self.check(f"{what}: the place", "the map has no RAM at" in err, False)
             alone = program(self.work, "--report", "map", *IMAGE, *words)
             self.check(f"{what}: the program alone", "0x0000000002111000.." in alone, False)
 
     def test_image_in_table(self):
-        """The table that is made: as many entries as there are, in the zero page and an extension; other fields stay."""
+        """The table that is made: as many entries as there are, in the zero page and an
+        extension; other fields stay."""
         entries = [(0, 10, 1), (10, 30, 2), (50, 50, 3), (200, 10, 4)]
-        for span, wanted in (((20, 60), [(0, 10, 1), (10, 10, 2), (20, 40, 1), (60, 40, 3), (200, 10, 4)]),
-                             ((15, 25), [(0, 10, 1), (10, 5, 2), (15, 10, 1), (25, 15, 2), (50, 50, 3), (200, 10, 4)]),
+        for span, wanted in (((20, 60), [(0, 10, 1), (10, 10, 2), (20, 40, 1), (60, 40, 3),
+                                         (200, 10, 4)]),
+                             ((15, 25), [(0, 10, 1), (10, 5, 2), (15, 10, 1), (25, 15, 2),
+                                         (50, 50, 3), (200, 10, 4)]),
                              ((10, 40), [(0, 10, 1), (10, 30, 1), (50, 50, 3), (200, 10, 4)]),
-                             ((110, 120), [(0, 10, 1), (10, 30, 2), (50, 50, 3), (110, 10, 1), (200, 10, 4)])):
+                             ((110, 120), [(0, 10, 1), (10, 30, 2), (50, 50, 3), (110, 10, 1),
+                                           (200, 10, 4)])):
             self.check(f"RAM at {span}", linux_map.with_ram(entries, *span), wanted)
         page = inputs.zero_page([(0, 1, 1)] * 5, (768 * MIB, MIB))
         many = [(place * 4096, 4096, 1 + place % 2) for place in range(130)]
         made, more = linux_map.with_table(page, many)
-        self.check("130 entries", (made[inputs.COUNT], entries_of(made, 128, inputs.ENTRIES), inputs.entries_of(more[16:])), (128, many[:128], many[128:]))
+        self.check("130 entries", (made[inputs.COUNT], entries_of(made, 128, inputs.ENTRIES),
+                                   inputs.entries_of(more[16:])), (128, many[:128], many[128:]))
         self.check("other fields", linux_map.with_table(made, [(0, 1, 1)] * 5), (page, None))
-        spread = [LOW, (MIB, 15 * MIB, RAM), *((64 * MIB + 2 * place * MIB, MIB, RAM) for place in range(140))]
+        spread = [LOW, (MIB, 15 * MIB, RAM), *((64 * MIB + 2 * place * MIB, MIB,
+                                                RAM) for place in range(140))]
         words = self.make(spread, "add_efi_memmap", [(7, GIB, 256, 15)])
         status, out, _ = self.linux("--report", "map", *IMAGE, *words)
-        wanted = [f"\n{base:#018x}.." for base, _, _ in spread[1:]] + ["\n0x0000000040000000..", "\n0x0000000002111000..0x000000000212ffff 1 usable\n"]
-        self.check("142 runs and the image", (status, [one for one in wanted if one not in out]), (0, []))
+        wanted = [f"\n{base:#018x}.." for base, _, _ in spread[1:]] + ["\n0x0000000040000000..",
+                                                                       "\n0x0000000002111000..0x000000000212ffff 1 usable\n"]
+        self.check("142 runs and the image", (status, [one for one in wanted if one not in out]),
+                   (0, []))
 
     def test_line(self):
         """The words that change the map go, the others and what follows -- stay."""
-        for line, wanted in (("quiet mem=1G memmap=1M$1M a=b", "quiet a=b"), ("add_efi_memmap", ""), ("mem=1G -- mem=2G", "-- mem=2G"),
-                             ("memory=1 crashkernel=1G-:64M", "memory=1 crashkernel=1G-:64M"), ('"mem=1 G" x="a b"', 'x="a b"')):
+        for line, wanted in (("quiet mem=1G memmap=1M$1M a=b", "quiet a=b"), ("add_efi_memmap",
+                                                                              ""),
+                             ("mem=1G -- mem=2G", "-- mem=2G"),
+                             ("memory=1 crashkernel=1G-:64M", "memory=1 crashkernel=1G-:64M"),
+                             ('"mem=1 G" x="a b"', 'x="a b"')):
             self.check(line, linux_map.without_edits(line), wanted)
 
 
@@ -137,10 +185,12 @@ class Nodes(Case):
     """Nodes of setup_data: RAM that they have gets type 128 (e820__reserve_setup_data)."""
 
     def runs(self, words, settings, folder=None):
-        """The runs of type 128 in the inputs as they are read: the first byte of each and the one past its last."""
+        """The runs of type 128 in the inputs as they are read: the first byte of each and the one
+        past its last."""
         with as_linux.prepared(PROGRAM, words, settings, folder) as boot:
             out = program(self.work, "--report", "map", *boot.read)
-        return [(int(first, 16), int(last, 16) + 1) for first, last in re.findall(r"(0x\w+)\.\.(0x\w+) 128 ", out)]
+        return [(int(first, 16), int(last, 16) + 1) for first,
+                last in re.findall(r"(0x\w+)\.\.(0x\w+) 128 ", out)]
 
     def page(self, first=0x30001000):
         """A zero page of 1 GiB that names the first node."""
@@ -149,40 +199,53 @@ class Nodes(Case):
         return bytes(page)
 
     def test_types(self):
-        """Each node that a log tells has the type, also beside add_efi_memmap and edits; without a log the first one, as long as the
-        extension or EFI's loader data is."""
+        """Each node that a log tells has the type, also beside add_efi_memmap and edits; without
+        a log the first one, as long as the extension or EFI's loader data is."""
         write(self.path("zp"), self.page())
         write(self.path("log"), LOG)
         told = as_linux.Settings(told=linux_log.read_log(self.path("log")))
         nodes = [(0x30001000, 0x3000102C), (0x30100000, 0x30100020)]
         words = ["--kernel", "64M,16M", self.path("zp")]
         self.check("by a log", self.runs(words, told), nodes)
-        self.check("without one", self.runs(words, as_linux.Settings()), [(0x30001000, 0x30001010)])
+        self.check("without one", self.runs(words, as_linux.Settings()), [(0x30001000,
+                                                                           0x30001010)])
         write(self.path("ext"), extension([(2 * GIB, MIB, RAM)] * 3))
-        self.check("by the extension", self.runs(["--e820ext", self.path("ext"), *words], as_linux.Settings()), [(0x30001000, 0x3000104C)])
+        self.check("by the extension", self.runs(["--e820ext", self.path("ext"), *words],
+                                                 as_linux.Settings()), [(0x30001000, 0x3000104C)])
         write(self.path("efi"), inputs.efi_map([(2, 0x30000000, 16, 15), (7, 2 * GIB, 256, 15)]))
-        self.check("by loader data", self.runs(["--efi", self.path("efi"), *words], as_linux.Settings()), [(0x30001000, 0x30010000)])
-        for line, wanted in (("add_efi_memmap", nodes), ("memmap=1M$512M", nodes), ("mem=769M", nodes[:1]), ("memmap=exactmap memmap=640K@0 memmap=800M@1M", nodes),
+        self.check("by loader data", self.runs(["--efi", self.path("efi"), *words],
+                                               as_linux.Settings()), [(0x30001000, 0x30010000)])
+        for line, wanted in (("add_efi_memmap", nodes), ("memmap=1M$512M", nodes),
+                             ("mem=769M", nodes[:1]),
+                             ("memmap=exactmap memmap=640K@0 memmap=800M@1M", nodes),
                              ("mem=512M", [])):
             write(self.path("line"), line)
-            self.check(line, self.runs(["--cmdline", self.path("line"), "--efi", self.path("efi"), *words], told), wanted)
+            self.check(line, self.runs(["--cmdline", self.path("line"), "--efi", self.path("efi"),
+                                        *words], told), wanted)
 
     def test_image_and_node(self):
-        """Where the map is made anew for the image, a node keeps its length, which the extension tells."""
+        """Where the map is made anew for the image, a node keeps its length, which the extension
+        tells."""
         page = bytearray(inputs.zero_page(BAD))
         struct.pack_into("<Q", page, linux_claims.SETUP_DATA, 0x8000000)
-        for name, data in (("zp", bytes(page)), ("line", b"add_efi_memmap"), ("ext", extension([(2 * GIB, MIB, RAM)] * 2))):
+        for name, data in (("zp", bytes(page)), ("line", b"add_efi_memmap"), ("ext",
+                                                                              extension([(2 * GIB, MIB, RAM)] * 2))):
             write(self.path(name), data)
-        words = [*IMAGE, "--cmdline", self.path("line"), "--e820ext", self.path("ext"), self.path("zp")]
-        self.check("the node", self.runs(words, as_linux.Settings()), [(0x8000000, 0x8000000 + 56)])
+        words = [*IMAGE, "--cmdline", self.path("line"), "--e820ext", self.path("ext"),
+                 self.path("zp")]
+        self.check("the node", self.runs(words, as_linux.Settings()), [(0x8000000,
+                                                                        0x8000000 + 56)])
 
     def test_claimed(self):
-        """Each node is claimed, from the log of --log and from the one in a folder of bootmem-fleet."""
+        """Each node is claimed, from the log of --log and from the one in a folder of
+        bootmem-fleet."""
         os.makedirs(self.path("host"))
         for name, data in (("zp.bin", self.page()), ("log", LOG), ("kernel", "64M,16M")):
             write(self.path("host", name), data)
-        _, _, err = tool("bootmem-linux", "--explain", "--log", "log", "--kernel", "64M,16M", "zp.bin", folder=self.path("host"))
-        self.check("by --log", re.findall(r"claim: 0x0*(\w+)-\w+ setup_data", err), ["30001000", "30100000"])
+        _, _, err = tool("bootmem-linux", "--explain", "--log", "log", "--kernel", "64M,16M",
+                         "zp.bin", folder=self.path("host"))
+        self.check("by --log", re.findall(r"claim: 0x0*(\w+)-\w+ setup_data", err),
+                   ["30001000", "30100000"])
         frees = []
         for log in (LOG, None):
             if log is None:

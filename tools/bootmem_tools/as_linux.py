@@ -293,7 +293,8 @@ class Boot:
         self.keep_line()
 
     def adds_efi(self) -> bool:
-        """Tells whether the line adds EFI's map, by a word with any value (setup_add_efi_memmap)."""
+        """Tells whether the line adds EFI's map; the word may have a value
+        (setup_add_efi_memmap)."""
         return any(word.name == command_line.EFI for word in command_line.words_of(self.line)[0])
 
     def keep_line(self) -> None:
@@ -323,8 +324,8 @@ class Boot:
             self.say(
                 "unknown",
                 (
-                    f"with {command_line.EFI} the kernel adds what goes beyond 2^64 to its map before"
-                    " it drops it, and the map may never settle (do_add_efi_memmap)"
+                    f"with {command_line.EFI} the kernel adds what goes beyond 2^64 to its map"
+                    " before it drops it, and the map may never settle (do_add_efi_memmap)"
                 ),
             )
 

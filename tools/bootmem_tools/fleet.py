@@ -42,9 +42,9 @@ Linux 6.1 does, and prints a line for each, in the order of the words, with a ta
 
 If bootmem ended with another status than 0, or a folder has no such thing, a column has -."""
 EPILOG = f"""A folder has zp.bin, and if they are there e820ext.bin, cmdline, srat.bin, slit.bin, efi.bin, and kernel (or words, as under
-examples) with the place of the kernel's image; without it the tool assumes 16 MiB to 48 MiB, and says so. If it has
-log, with the kernel's log from the boot's start on, the tool takes from it what bootmem-linux --log does, except with
---raw.
+examples) with the place of the kernel's image; without it the tool assumes 16 MiB to 48 MiB, and says so.
+If it has log, with the kernel's log from the boot's start on, the tool takes from it what
+bootmem-linux --log does, except with --raw.
 
 The inputs are read as that kernel reads them, and what it claims before the crash area is taken out of memory, as
 bootmem-linux does; --verbose prints what was changed or assumed, or can't be known, of each machine. With --raw the
@@ -58,9 +58,9 @@ is told once on standard error.
 {runner.FINDING}
 
 exit status: 0 if each run ended with 0, 1 if one didn't, 2 for words that aren't those above, 3 if each run ended with 0 and
-Linux 6.1 is known to panic on a machine, 5 if none of this and WORDS of --cmdline-add ask for a crash area but the
-kernel takes nothing of it from them on any machine, 4 if none of this and the area that a machine's line asks for
-doesn't fit there.
+Linux 6.1 is known to panic on a machine, 5 if none of this and WORDS of --cmdline-add ask for a
+crash area but the kernel takes nothing of it from them on any machine, 4 if none of this and the
+area that a machine's line asks for doesn't fit there.
 
 examples:
   bootmem-fleet host*/
@@ -356,7 +356,8 @@ def say_first(given: argparse.Namespace, plan: Plan) -> None:
         tool.complain(NAME, f"--cmdline-add: {line}")
     for folder in outer_folders(given.folders):
         inner = os.path.join(folder, "*/")
-        tool.complain(NAME, f"{folder}: it has no zp.bin, but its folders have: name these, as by {inner}")
+        tool.complain(NAME, f"{folder}: it has no zp.bin, but its folders have: name these, as by "
+                      f"{inner}")
         tool.say_next(next_step.for_page(NAME, folder))
 
 

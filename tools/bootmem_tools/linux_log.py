@@ -45,8 +45,8 @@ def read_log(path: str | None) -> Told:
 
 
 def in_folder(folder: str, name: str = "log") -> tuple[Told, list[str]]:
-    """Returns what the log in a folder tells, nothing if there is none or it lacks the boot's start;
-    and a line that says whether it is used, or none.
+    """Returns what the log in a folder tells, nothing if there is none or it lacks the boot's
+    start; and a line that says whether it is used, or none.
 
     # Errors
     A Trouble if it is no text.
@@ -57,7 +57,7 @@ def in_folder(folder: str, name: str = "log") -> tuple[Told, list[str]]:
     text = tool.read_text(path, kind=tool.LOG)
     if HEAD not in text:
         return NOTHING, [f"passed over: {name}: it has no line '{HEAD}', so not the boot's start"]
-    return told_by(text), [f"read: {name}: it tells ACPI tables, EFI tables and nodes of setup_data"]
+    return told_by(text), [f"read: {name}: ACPI tables, EFI tables and nodes of setup_data"]
 
 
 def told_by(text: str) -> Told:

@@ -52,7 +52,8 @@ def dropped_lines(dropped: Sequence[tuple[int, Descriptor]]) -> list[str]:
             f" is left out ({RULE})"
         )
     if len(dropped) > MOST:
-        lines.append(f"{len(dropped) - MOST} more descriptors of EFI's memory map: left out ({RULE})")
+        rest = len(dropped) - MOST
+        lines.append(f"{rest} more descriptors of EFI's memory map: left out ({RULE})")
     return lines
 
 

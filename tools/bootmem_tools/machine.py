@@ -17,8 +17,8 @@ from bootmem_tools.tool import Kind, read_text
 FILES = (("--e820ext", "e820ext.bin"), ("--srat", "srat.bin"), ("--efi", "efi.bin"))
 REACH = 1 << 46  # of page tables of four levels
 FEW = 256  # frames: fewer that no block covers pass numa_meminfo_cover_memory
-NO_SRAT = ("srat: the kernel has several nodes, but the folder has no srat.bin, so bootmem takes all "
-           "memory for node 0")
+NO_SRAT = ("srat: the kernel has several nodes, but the folder has no srat.bin, so bootmem takes "
+           "all memory for node 0")
 SIGNATURE = 0x1C0  # of efi_info in the zero page: EL64 or EL32 if the firmware is UEFI
 SHOWN = Kind("text of a kernel", 64 << 20)  # a text in a machine's folder
 

@@ -33,7 +33,9 @@ def make_named(program: str) -> str | None:
     """Returns the command that makes the program of this path, if it is that of a repository."""
     folder, name = os.path.split(os.path.abspath(program))
     is_one = name == "bootmem" and os.path.isfile(os.path.join(folder, "tools", "collect.sh"))
-    return f"make -C {shlex.quote(folder)} bootmem" if is_one and not os.path.exists(program) else None
+    if not is_one or os.path.exists(program):
+        return None
+    return f"make -C {shlex.quote(folder)} bootmem"
 
 
 def collect(folder: str, is_root: bool = False) -> str:
@@ -61,7 +63,8 @@ def refuse_pageless(name: str, folder: str) -> None:
     A Trouble with the command to run next.
     """
     if not os.path.lexists(os.path.join(folder, "zp.bin")):
-        raise tool.Trouble(f"{folder}: it has no zp.bin, the zero page", next_command=for_page(name, folder))
+        why = f"{folder}: it has no zp.bin, the zero page"
+        raise tool.Trouble(why, next_command=for_page(name, folder))
 
 
 def for_srat(folder: str) -> str:
