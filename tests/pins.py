@@ -33,7 +33,7 @@ PROMISED = {
     "memblock_grow/reserved-grow_reserved-new_place_is_never_claimed",
     "memblock_grow/new_records-lacks_room-table_doubles_one_record_early",
     "memblock_grow/places-old_place_frames-old_place_stays_claimed",
-    "boot_stages/memory-limit_memory-all_memory_is_claimed_for_the_kernel",
+    "boot_stages/memory-limit_and_claim_first_mib-all_memory_is_claimed_for_the_kernel",
     # nodes and the early script
     "srat_reader/table-srat_header_fault-checksum_isnt_tested",
     "srat_reader/table-srat_header_fault-checksum_is_named_before_the_length",

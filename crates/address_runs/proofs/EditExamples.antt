@@ -2,7 +2,7 @@
 use Rattle.std.proofs.Common.{◌≡◌, ℕ, ◌+◌, ◌==◌, if◌then◌else◌, Option, Some, None, refl, arith}
 use Rattle.std.proofs.lemmas.Bool.Decides.{nat_tests}
 use Rattle.bm_base.specs.Range.{RangeView}
-use Rattle.address_runs.specs.Edits.{cover_range, uncover_range, relabel_range, replace_in_range, NothingFrom}
+use Rattle.address_runs.specs.Edits.{cover_range, uncover_range, relabel_range, replace_in_range, IsEmptyFrom}
 
 abbrev bytes : ℕ → ℕ → RangeView
 bytes base size = record { base = base; size = size }
@@ -20,7 +20,8 @@ covered_examples = (refl, refl, refl)
 uncovered_examples : (uncover_range (bytes 2 2) one_value 3 ≡ None) × (uncover_range (bytes 4 2) one_value 3 ≡ Some 7)
 uncovered_examples = (refl, refl)
 
--- relabelling changes a value inside the range, keeps an empty address empty, and changes nothing outside
+-- relabelling changes a value inside the range, keeps an empty address empty, and changes nothing
+-- outside
 relabelled_examples : (relabel_range (bytes 2 2) (λ v. v + 1) one_value 3 ≡ Some 8)
     × (relabel_range (bytes 2 2) (λ v. v + 1) one_value 2 ≡ None)
     × (relabel_range (bytes 4 2) (λ v. v + 1) one_value 3 ≡ Some 7)
@@ -32,5 +33,5 @@ replaced_examples : (replace_in_range (bytes 2 2) 9 one_value 2 ≡ Some 9) × (
 replaced_examples = (refl, refl, refl)
 
 -- the last address that carries something is 3
-nothing_behind : NothingFrom 4 one_value × (NothingFrom 3 one_value → ⊥)
+nothing_behind : IsEmptyFrom 4 one_value × (IsEmptyFrom 3 one_value → ⊥)
 nothing_behind = ((λ x le. grind (arith, nat_tests)), λ none. let same : Some 7 ≡ None = none 3 (omega arith) in cc same)

@@ -4,7 +4,7 @@ use Rattle.std.proofs.lemmas.Bool.Decides.{nat_tests}
 use Rattle.address_runs.specs.Runs.{RunOf, DecidesEquality, run_end, lies_in, value_at, IsBefore, AreRuns, runs_from, runs_of}
 use Rattle.address_runs.specs.Sweep.{StartAtOrPast, EndBy, FirstEndsPast, FirstEndsAtOrPast}
 use Rattle.address_runs.specs.Overlay.{overlay_runs, HaveAddresses}
-use Rattle.address_runs.proofs.RunsLaws.{the_list}
+use Rattle.address_runs.proofs.RunsLaws.{runs_equal_runs_of}
 
 run : ℕ → ℕ → ℕ → RunOf ℕ
 run base size value = record { base = base; size = size; value = value }
@@ -14,7 +14,8 @@ abbrev gaps : ℕ → Option ℕ
 gaps x = if nat_lt x 2 then Some 1 else (if nat_lt x 4 then None else
     (if nat_lt x 6 then Some 1 else (if nat_lt x 7 then Some 2 else None)))
 
--- a gap separates two runs of one value; touching runs have different values; one value everywhere is one run
+-- a gap separates two runs of one value; touching runs have different values; one value everywhere
+-- is one run
 from_examples : (runs_from (λ a b. a == b) gaps 0 8 ≡ run 0 2 1 ∷ (run 4 2 1 ∷ (run 6 1 2 ∷ [])))
     × (runs_from (λ a b. a == b) (λ x. Some 7) 0 8 ≡ run 0 8 7 ∷ [])
 unfolding runs_from run
@@ -60,8 +61,8 @@ not_canonical = (
 )
 
 -- the runs of all addresses below 2^64: one page of RAM, and nothing at all
-tells_numbers : DecidesEquality {X = ℕ} (λ a b. a == b)
-tells_numbers = record { true_is_equal = λ a b h. grind (arith, nat_tests); equal_is_true = λ a b h. grind (arith, nat_tests) }
+equal_numbers_decide_equality : DecidesEquality {X = ℕ} (λ a b. a == b)
+equal_numbers_decide_equality = record { true_is_equal = λ a b h. grind (arith, nat_tests); equal_is_true = λ a b h. grind (arith, nat_tests) }
 
 one_page : ℕ → Option ℕ
 one_page = value_at (run 0x1000 0x1000 1 ∷ [])
@@ -72,7 +73,7 @@ none_behind_the_page x far = grind (arith, nat_tests)
 
 runs_of_one_page : run 0x1000 0x1000 1 ∷ [] ≡ runs_of (λ a b. a == b) one_page
 unfolding one_page run
-runs_of_one_page = the_list (λ a b. a == b) tells_numbers one_page (run 0x1000 0x1000 1 ∷ []) none_behind_the_page
+runs_of_one_page = runs_equal_runs_of (λ a b. a == b) equal_numbers_decide_equality one_page (run 0x1000 0x1000 1 ∷ []) none_behind_the_page
     (record { runs = (omega arith, tt, tt); each = λ x. refl })
 
 -- values are joined by their sum
@@ -86,7 +87,8 @@ all_overlaid_examples : (overlay_runs sum_of (run 0 4 1 ∷ (run 2 4 3 ∷ [])) 
 unfolding run
 all_overlaid_examples = (refl, refl, refl)
 
--- both sides of each fact on where a list begins and ends; a run that ends exactly at the address must have another value
+-- both sides of each fact on where a list begins and ends; a run that ends exactly at the address
+-- must have another value
 start_examples : StartAtOrPast 4 (run 4 2 1 ∷ []) × EndBy 6 (Some 2) (run 4 2 1 ∷ []) × FirstEndsPast 5 (run 4 2 1 ∷ [])
     × FirstEndsAtOrPast 6 (run 4 2 1 ∷ [])
 unfolding run

@@ -41,9 +41,9 @@ runs_ascend [] runs = tt
 runs_ascend (r ∷ rs) runs = (runs.0, rest_from r rs runs, runs_ascend rs runs.2)
 
 -- right at the end of a run there is another value, or none
-pub other_behind : {X : Type 0} (r : RunOf X) (rs : List (RunOf X)) → AreRuns (r ∷ rs) → value_at rs (run_end r) ≢ Some r.value
-other_behind r [] runs = λ same. cc
-other_behind r (s ∷ ss) runs =
+pub another_value_at_run_end : {X : Type 0} (r : RunOf X) (rs : List (RunOf X)) → AreRuns (r ∷ rs) → value_at rs (run_end r) ≢ Some r.value
+another_value_at_run_end r [] runs = λ same. cc
+another_value_at_run_end r (s ∷ ss) runs =
     let starts : StartAtOrPast s.base (s ∷ ss) = omega arith in
     elim (cases_lt (run_end r) s.base) as (λ _. value_at (s ∷ ss) (run_end r) ≢ Some r.value) [
       | inl lt ↦ rw (none_below s.base (run_end r) (s ∷ ss) runs.2 starts lt) (λ same. cc)
@@ -81,7 +81,7 @@ no_shorter r s rs ss rr ra same bases values =
       | inl lt ↦
           let last : value_at (r ∷ rs) (run_end r) ≡ value_at rs (run_end r) = value_behind r rs (run_end r) (omega arith) in
           let still : value_at (s ∷ ss) (run_end r) ≡ Some s.value = value_inside s ss (run_end r) (omega arith) lt in
-          absurd (other_behind r rs rr (sym last ∙ same (run_end r) ∙ still ∙ ap (λ v. Some v) (sym values)))
+          absurd (another_value_at_run_end r rs rr (sym last ∙ same (run_end r) ∙ still ∙ ap (λ v. Some v) (sym values)))
       | inr ge ↦ ge
     ]
 
@@ -116,8 +116,8 @@ same_lists {X} (r ∷ rs) (s ∷ ss) rr ra same =
     rw heads (ap (λ ts. r ∷ ts) (same_lists rs ss rr.2 ra.2 (same_rest r rs ss rr (rw heads at ra) equal)))
 
 -- a function has at most one list of runs
-pub one_list : {X : Type 0} (f : ℕ → Option X) (rs ss : List (RunOf X)) → IsRunsOf f rs → IsRunsOf f ss → rs ≡ ss
-one_list f rs ss rr ra = same_lists rs ss rr.runs ra.runs (λ x. rr.each x ∙ sym (ra.each x))
+pub runs_of_function_are_equal : {X : Type 0} (f : ℕ → Option X) (rs ss : List (RunOf X)) → IsRunsOf f rs → IsRunsOf f ss → rs ≡ ss
+runs_of_function_are_equal f rs ss rr ra = same_lists rs ss rr.runs ra.runs (λ x. rr.each x ∙ sym (ra.each x))
 
 -- what the test of `prepend_address` decides
 touches : (same : Bool) (a b : ℕ) → ((a == b) && same) ≡ true → (a ≡ b) × (same ≡ true)
@@ -134,9 +134,9 @@ before_longer x n v r (s ∷ ss) ends values before =
     (omega arith, λ touch equal. let at : run_end r ≡ s.base = omega arith in before.1 at (cc (values, equal)))
 
 -- an address and its value before a canonical list make a canonical list
-runs_led_some : {X : Type 0} (same : X → X → Bool) → DecidesEquality same → (x : ℕ) (v : X) (r : RunOf X) (rs : List (RunOf X))
+AreRuns-prepend_address_some : {X : Type 0} (same : X → X → Bool) → DecidesEquality same → (x : ℕ) (v : X) (r : RunOf X) (rs : List (RunOf X))
     → AreRuns (r ∷ rs) → x + 1 ≤ r.base → AreRuns (prepend_address same x (Some v) (r ∷ rs))
-runs_led_some same tells x v r rs runs start = by_test ((r.base == x + 1) && same v r.value) refl
+AreRuns-prepend_address_some same tells x v r rs runs start = by_test ((r.base == x + 1) && same v r.value) refl
   where
     by_test : (t : Bool) → ((r.base == x + 1) && same v r.value) ≡ t
         → AreRuns (if t then record { base = x; size = r.size + 1; value = v } ∷ rs else one_address x v ∷ (r ∷ rs))
@@ -150,18 +150,18 @@ runs_led_some same tells x v r rs runs start = by_test ((r.base == x + 1) && sam
         ∙ touches_not (same v r.value) r.base (x + 1) fails (sym touch)) in
         (omega arith, (start, other), runs)
 
-runs_led : {X : Type 0} (same : X → X → Bool) → DecidesEquality same → (x : ℕ) (v : Option X) (rs : List (RunOf X))
+AreRuns-prepend_address : {X : Type 0} (same : X → X → Bool) → DecidesEquality same → (x : ℕ) (v : Option X) (rs : List (RunOf X))
     → AreRuns rs → StartAtOrPast (x + 1) rs → AreRuns (prepend_address same x v rs)
-runs_led same tells x None rs runs start = runs
-runs_led same tells x (Some v) [] runs start = (omega arith, tt, tt)
-runs_led same tells x (Some v) (r ∷ rs) runs start = runs_led_some same tells x v r rs runs start
+AreRuns-prepend_address same tells x None rs runs start = runs
+AreRuns-prepend_address same tells x (Some v) [] runs start = (omega arith, tt, tt)
+AreRuns-prepend_address same tells x (Some v) (r ∷ rs) runs start = AreRuns-prepend_address_some same tells x v r rs runs start
 
-start_led : {X : Type 0} (same : X → X → Bool) (x : ℕ) (v : Option X) (rs : List (RunOf X)) → StartAtOrPast (x + 1) rs
+StartAtOrPast-prepend_address : {X : Type 0} (same : X → X → Bool) (x : ℕ) (v : Option X) (rs : List (RunOf X)) → StartAtOrPast (x + 1) rs
     → StartAtOrPast x (prepend_address same x v rs)
-start_led same x None [] start = tt
-start_led same x None (r ∷ rs) start = omega arith
-start_led same x (Some v) [] start = omega arith
-start_led same x (Some v) (r ∷ rs) start = by_test ((r.base == x + 1) && same v r.value)
+StartAtOrPast-prepend_address same x None [] start = tt
+StartAtOrPast-prepend_address same x None (r ∷ rs) start = omega arith
+StartAtOrPast-prepend_address same x (Some v) [] start = omega arith
+StartAtOrPast-prepend_address same x (Some v) (r ∷ rs) start = by_test ((r.base == x + 1) && same v r.value)
   where
     by_test : (t : Bool)
         → StartAtOrPast x (if t then record { base = x; size = r.size + 1; value = v } ∷ rs else one_address x v ∷ (r ∷ rs))
@@ -169,15 +169,15 @@ start_led same x (Some v) (r ∷ rs) start = by_test ((r.base == x + 1) && same 
     by_test false = omega arith
 
 -- at the new address the list gives the new value, elsewhere what it gave before
-value_led : {X : Type 0} (same : X → X → Bool) → DecidesEquality same → (x : ℕ) (v : Option X) (rs : List (RunOf X)) (y : ℕ)
+value_at-prepend_address : {X : Type 0} (same : X → X → Bool) → DecidesEquality same → (x : ℕ) (v : Option X) (rs : List (RunOf X)) (y : ℕ)
     → AreRuns rs → StartAtOrPast (x + 1) rs → value_at (prepend_address same x v rs) y ≡ (if y == x then v else value_at rs y)
-value_led same tells x None rs y runs start =
+value_at-prepend_address same tells x None rs y runs start =
     elim (cases_lt x y) as (λ _. value_at rs y ≡ (if y == x then None else value_at rs y)) [
       | inl lt ↦ let not_here : (y == x) ≡ false = grind (arith, nat_tests) in rw not_here refl
       | inr ge ↦ let lt : y < x + 1 = omega arith in rw (none_below (x + 1) y rs runs start lt) (grind (arith, nat_tests))
     ]
-value_led same tells x (Some v) [] y runs start = grind (arith, nat_tests)
-value_led same tells x (Some v) (r ∷ rs) y runs start = by_test ((r.base == x + 1) && same v r.value) refl
+value_at-prepend_address same tells x (Some v) [] y runs start = grind (arith, nat_tests)
+value_at-prepend_address same tells x (Some v) (r ∷ rs) y runs start = by_test ((r.base == x + 1) && same v r.value) refl
   where
     by_test : (t : Bool) → ((r.base == x + 1) && same v r.value) ≡ t
         → value_at (if t then record { base = x; size = r.size + 1; value = v } ∷ rs else one_address x v ∷ (r ∷ rs)) y
@@ -196,20 +196,20 @@ pub record IsRunsBetween {X : Type 0} (f : ℕ → Option X) (x n : ℕ) (rs : L
   pub within : (y : ℕ) → x ≤ y → y < x + n → value_at rs y ≡ f y
   pub past : (y : ℕ) → x + n ≤ y → value_at rs y ≡ None
 
-between_led : {X : Type 0} (same : X → X → Bool) → DecidesEquality same → (f : ℕ → Option X) (x n : ℕ) (rs : List (RunOf X))
+IsRunsBetween-prepend_address : {X : Type 0} (same : X → X → Bool) → DecidesEquality same → (f : ℕ → Option X) (x n : ℕ) (rs : List (RunOf X))
     → IsRunsBetween f (x + 1) n rs → IsRunsBetween f x (suc n) (prepend_address same x (f x) rs)
-between_led {X} same tells f x n rs known = record {
-  runs = runs_led same tells x (f x) rs known.runs known.start;
-  start = start_led same x (f x) rs known.start;
+IsRunsBetween-prepend_address {X} same tells f x n rs known = record {
+  runs = AreRuns-prepend_address same tells x (f x) rs known.runs known.start;
+  start = StartAtOrPast-prepend_address same x (f x) rs known.start;
   within = λ y above below_end.
-      value_led same tells x (f x) rs y known.runs known.start ∙ (
+      value_at-prepend_address same tells x (f x) rs y known.runs known.start ∙ (
       elim (cases_lt x y) as (λ _. (if y == x then f x else value_at rs y) ≡ f y) [
         | inl lt ↦ let not_here : (y == x) ≡ false = grind (arith, nat_tests) in rw not_here (known.within y (omega arith) (omega arith))
         | inr ge ↦ let here : y ≡ x = omega arith in let is : (y == x) ≡ true = grind (arith, nat_tests) in rw is (ap f (sym here))
       ]);
   past = λ y behind_end.
       let not_here : (y == x) ≡ false = grind (arith, nat_tests) in
-      value_led same tells x (f x) rs y known.runs known.start ∙ rw not_here (known.past y (omega arith));
+      value_at-prepend_address same tells x (f x) rs y known.runs known.start ∙ rw not_here (known.past y (omega arith));
 }
 
 -- the runs of all addresses below a limit are all runs, if there are no values at or above it
@@ -228,15 +228,15 @@ pub from_runs : {X : Type 0} (same : X → X → Bool) → DecidesEquality same 
     → IsRunsBetween f x n (runs_from same f x n)
 unfolding runs_from
 from_runs same tells f zero x = record { runs = tt; start = tt; within = λ y above below_end. absurd (omega arith); past = λ y h. refl }
-from_runs same tells f (suc n) x = between_led same tells f x n (runs_from same f (x + 1) n) (from_runs same tells f n (x + 1))
+from_runs same tells f (suc n) x = IsRunsBetween-prepend_address same tells f x n (runs_from same f (x + 1) n) (from_runs same tells f n (x + 1))
 
 -- `runs_of` returns the runs of a function that has no value at or above 2^64
-pub by_address : {X : Type 0} (same : X → X → Bool) → DecidesEquality same → (f : ℕ → Option X) → ((x : ℕ) → 2 ^ 64 ≤ x → f x ≡ None)
+pub runs_of_are_runs : {X : Type 0} (same : X → X → Bool) → DecidesEquality same → (f : ℕ → Option X) → ((x : ℕ) → 2 ^ 64 ≤ x → f x ≡ None)
     → IsRunsOf f (runs_of same f)
 unfolding runs_of
-by_address same tells f none = all_runs f (runs_from same f 0 (2 ^ 64)) (from_runs same tells f (2 ^ 64) 0) none
+runs_of_are_runs same tells f none = all_runs f (runs_from same f 0 (2 ^ 64)) (from_runs same tells f (2 ^ 64) 0) none
 
 -- so every list of its runs equals this one
-pub the_list : {X : Type 0} (same : X → X → Bool) → DecidesEquality same → (f : ℕ → Option X) (rs : List (RunOf X))
+pub runs_equal_runs_of : {X : Type 0} (same : X → X → Bool) → DecidesEquality same → (f : ℕ → Option X) (rs : List (RunOf X))
     → ((x : ℕ) → 2 ^ 64 ≤ x → f x ≡ None) → IsRunsOf f rs → rs ≡ runs_of same f
-the_list same tells f rs none known = one_list f rs (runs_of same f) known (by_address same tells f none)
+runs_equal_runs_of same tells f rs none known = runs_of_function_are_equal f rs (runs_of same f) known (runs_of_are_runs same tells f none)

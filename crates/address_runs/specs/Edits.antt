@@ -39,5 +39,5 @@ module _ {X : Type 0} where
   agree same (Some a) (Some b) = same a b
 
   -- no address at or above `at` carries anything
-  abbrev pub NothingFrom : ℕ → (ℕ → Option X) → Type 0
-  NothingFrom at f = (x : ℕ) → at ≤ x → f x ≡ None
+  abbrev pub IsEmptyFrom : ℕ → (ℕ → Option X) → Type 0
+  IsEmptyFrom at f = (x : ℕ) → at ≤ x → f x ≡ None

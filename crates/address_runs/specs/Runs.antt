@@ -21,12 +21,12 @@ module _ {X : Type 0} where
   run_end r = r.base + r.size
 
   -- the range of its addresses
-  abbrev pub extent_of : RunOf X → RangeView
-  extent_of r = record { base = r.base; size = r.size }
+  abbrev pub range_of_run : RunOf X → RangeView
+  range_of_run r = record { base = r.base; size = r.size }
 
   -- whether the address lies in the run
   abbrev pub lies_in : RunOf X → ℕ → Bool
-  lies_in r x = covers (extent_of r) x
+  lies_in r x = covers (range_of_run r) x
 
   -- what a list of runs gives at an address: the value of the first run that contains it, if any
   -- does

@@ -2,24 +2,24 @@
 use Rattle.std.proofs.Common.{◌≡◌, ◌≢◌, ℕ, ◌+◌, ◌<◌, ◌==◌, false, List, [], ◌∷◌, ◌++◌, length, take, drop, get_or, refl, ap, add-one, drop-cons, eq-eqb, suc}
 use Rattle.std.proofs.lemmas.Bool.{ne_eqb}
 use Rattle.std.proofs.lemmas.List.{take_more}
-use Rattle.audit_lines.specs.Reports.{LinesAndRest, split_lines, with_byte, with_newline}
+use Rattle.audit_lines.specs.Reports.{LinesAndRest, split_lines, lines_with_byte, lines_with_newline}
 
 -- bytes before a text, none of them a newline
 abbrev pub glued : List ℕ → LinesAndRest → LinesAndRest
 glued [] split = split
-glued (b ∷ bs) split = with_byte b (glued bs split)
+glued (b ∷ bs) split = lines_with_byte b (glued bs split)
 
-pub glued_more : (front : List ℕ) (b : ℕ) (split : LinesAndRest) → glued (front ++ (b ∷ [])) split ≡ glued front (with_byte b split)
+pub glued_more : (front : List ℕ) (b : ℕ) (split : LinesAndRest) → glued (front ++ (b ∷ [])) split ≡ glued front (lines_with_byte b split)
 glued_more [] b split = refl
-glued_more (a ∷ front) b split = ap (with_byte a) (glued_more front b split)
+glued_more (a ∷ front) b split = ap (lines_with_byte a) (glued_more front b split)
 
-glued_line : (front : List ℕ) (lines : List (List ℕ)) (left : List ℕ) → glued front (with_newline (lines, left)) ≡ (front ∷ lines, left)
+glued_line : (front : List ℕ) (lines : List (List ℕ)) (left : List ℕ) → glued front (lines_with_newline (lines, left)) ≡ (front ∷ lines, left)
 glued_line [] lines left = refl
-glued_line (a ∷ front) lines left = ap (with_byte a) (glued_line front lines left)
+glued_line (a ∷ front) lines left = ap (lines_with_byte a) (glued_line front lines left)
 
 pub glued_end : (front : List ℕ) → glued front ([], []) ≡ ([], front)
 glued_end [] = refl
-glued_end (a ∷ front) = ap (with_byte a) (glued_end front)
+glued_end (a ∷ front) = ap (lines_with_byte a) (glued_end front)
 
 -- a newline ends the bytes before it as a line
 pub newline_found : (text : List ℕ) (i : ℕ) → i < length text → get_or text i 0 ≡ 10

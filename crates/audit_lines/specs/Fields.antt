@@ -42,13 +42,13 @@ abbrev pub is_address : List ℕ → Bool
 is_address text = are_sixteen_digits (rest_after (codes "0x") text)
 
 -- the number that was read, and the rest of the text
-abbrev pub value_and_rest : List ℕ → Result (ℕ × ℕ) NumFault → Option (ℕ × List ℕ)
-value_and_rest left (Ok (value, taken)) = Some (value, left)
-value_and_rest left (Err fault) = None
+abbrev pub read_value_and_rest : List ℕ → Result (ℕ × ℕ) NumFault → Option (ℕ × List ℕ)
+read_value_and_rest left (Ok (value, taken)) = Some (value, left)
+read_value_and_rest left (Err fault) = None
 
 -- an address at the start of the text
 unfoldable pub address_in : List ℕ → Option (ℕ × List ℕ)
-address_in text = if is_address (take 18 text) then value_and_rest (drop 18 text) (number_of (take 18 text)) else None
+address_in text = if is_address (take 18 text) then read_value_and_rest (drop 18 text) (number_of (take 18 text)) else None
 
 -- the range with this first and this last byte, if the last is below 2^64 - 1 and not below the
 -- first

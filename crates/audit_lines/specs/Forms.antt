@@ -29,8 +29,8 @@ guard true = Some tt
 guard false = None
 
 -- `A..A T NAME`: a run, its type, which isn't 0, and the name of that type
-unfoldable pub map_in : ℕ → List ℕ → Option MapLine
-map_in index text = do
+unfoldable pub map_line_in : ℕ → List ℕ → Option MapLine
+map_line_in index text = do
   range ← range_at_start text
   kind_text ← rest_after (codes " ") range.1
   kind ← number_in (2 ^ 32 - 1) kind_text
@@ -83,8 +83,8 @@ unfoldable pub is_owner : List ℕ → Bool
 is_owner text = is_first_owner text || is_later_owner text || is_numbered_owner text
 
 -- `INDEX: A..A OWNER`: the index of the line in four columns, a range, and the name of its owner
-unfoldable pub owner_in : ℕ → List ℕ → Option RangeView
-owner_in index text = do
+unfoldable pub owner_line_in : ℕ → List ℕ → Option RangeView
+owner_line_in index text = do
   colon ← rest_after (padded_decimal 4 index) text
   range_text ← rest_after (codes ": ") colon
   range ← range_at_start range_text

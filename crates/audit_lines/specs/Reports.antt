@@ -11,18 +11,18 @@ LinesAndRest = List (List ℕ) × List ℕ
 
 -- the lines of a text with one more byte at its start, which isn't a newline: the byte belongs to
 -- the first line
-abbrev pub with_byte : ℕ → LinesAndRest → LinesAndRest
-with_byte b ([], left) = ([], b ∷ left)
-with_byte b (line ∷ lines, left) = ((b ∷ line) ∷ lines, left)
+abbrev pub lines_with_byte : ℕ → LinesAndRest → LinesAndRest
+lines_with_byte b ([], left) = ([], b ∷ left)
+lines_with_byte b (line ∷ lines, left) = ((b ∷ line) ∷ lines, left)
 
 -- the lines of a text with one more newline at its start: it ends an empty line
-abbrev pub with_newline : LinesAndRest → LinesAndRest
-with_newline (lines, left) = ([] ∷ lines, left)
+abbrev pub lines_with_newline : LinesAndRest → LinesAndRest
+lines_with_newline (lines, left) = ([] ∷ lines, left)
 
 -- the lines of a text, without their newlines, and the text after the last newline
 unfoldable pub split_lines : List ℕ → LinesAndRest
 split_lines [] = ([], [])
-split_lines (b ∷ bs) = if b == 10 then with_newline (split_lines bs) else with_byte b (split_lines bs)
+split_lines (b ∷ bs) = if b == 10 then lines_with_newline (split_lines bs) else lines_with_byte b (split_lines bs)
 
 module _ {L : Type 0} (form : ℕ → List ℕ → Option L) (extent : L → RangeView) where
   -- the line that the text spells at this index, from 0 on; faults number lines from 1

@@ -51,7 +51,7 @@ fn begins_with_zero(text: &[u8]) -> bool
 pub fn address_in(text: &[u8]) -> Option<(u64, &[u8])>
     ensures { option_map (λ found. (found.0, found.1.now)) result ≡ address_in text.now }
 {
-    let (front, rest) = cut_at(text, 18);
+    let (front, rest) = split_at_count(text, 18);
     if !is_address(front) {
         return None;
     }
@@ -62,7 +62,7 @@ pub fn address_in(text: &[u8]) -> Option<(u64, &[u8])>
 }
 
 /// Returns the first `count` bytes of the text, or all if there are fewer, and the rest.
-fn cut_at(text: &[u8], count: usize) -> (&[u8], &[u8])
+fn split_at_count(text: &[u8], count: usize) -> (&[u8], &[u8])
     ensures front { result.0.now ≡ take count text.now }
     ensures back { result.1.now ≡ drop count text.now }
 {

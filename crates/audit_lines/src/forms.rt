@@ -4,7 +4,7 @@
 ghost use Rattle.std.specs.Prelude.{◌≡◌, ◌-◌, ◌^◌};
 ghost use Rattle.std.specs.Option.{option_map};
 ghost use Rattle.audit_lines.specs.Fields.{rest_after, is_at_end};
-ghost use Rattle.audit_lines.specs.Forms.{block_in, block_if_bounded, map_type_name, map_in, owner_in, zone_in};
+ghost use Rattle.audit_lines.specs.Forms.{block_in, block_if_bounded, map_type_name, map_line_in, owner_line_in, zone_in};
 ghost use Rattle.bm_base.specs.Text.{padded_decimal};
 
 use crate::fields::{address_in, number_in, range_at_start, rest_after};
@@ -14,14 +14,14 @@ use crate::report::ReportLine;
 use bm_base::{FRAME_SIZE, Range, Zone};
 
 impl ReportLine for MapLine {
-    ghost use Rattle.audit_lines.specs.Forms.{map_in};
+    ghost use Rattle.audit_lines.specs.Forms.{map_line_in};
 
-    ghost form = { map_in };
+    ghost form = { map_line_in };
 
     ghost extent = { λ l. l.range };
 
     /// Returns the run that the line `A..A T NAME` states, or `None` if the text has another form.
-    #[tactic(auto, unfolding(crate::specs::Forms::map_in))]
+    #[tactic(auto, unfolding(crate::specs::Forms::map_line_in))]
     fn read(_index: u64, text: &[u8]) -> Option<MapLine> {
         let Some((range, rest)) = range_at_start(text) else {
             return None;
@@ -45,15 +45,15 @@ impl ReportLine for MapLine {
 }
 
 impl ReportLine for Range {
-    ghost use Rattle.audit_lines.specs.Forms.{owner_in};
+    ghost use Rattle.audit_lines.specs.Forms.{owner_line_in};
 
-    ghost form = { owner_in };
+    ghost form = { owner_line_in };
 
     ghost extent = { λ r. r };
 
     /// Returns the range that the line `INDEX: A..A OWNER` states, or `None` if the text has
     /// another form.
-    #[tactic(auto, unfolding(crate::specs::Forms::owner_in))]
+    #[tactic(auto, unfolding(crate::specs::Forms::owner_line_in))]
     fn read(index: u64, text: &[u8]) -> Option<Range> {
         let rest = rest_after(rest_after_index(text, index)?, b": ")?;
         let Some((range, rest)) = range_at_start(rest) else {

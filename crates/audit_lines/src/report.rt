@@ -5,7 +5,7 @@ ghost use Rattle.audit_lines.specs.Lines.{AscendApart};
 ghost use Rattle.audit_lines.specs.Reports.{report_line_at, report_of, split_lines};
 ghost use Rattle.bm_base.specs.Answers.{Answers};
 ghost use Rattle.bm_base.specs.Range.{RangeView, end_of};
-ghost use Rattle.bm_base.specs.ResultSteps.{with_error};
+ghost use Rattle.bm_base.specs.ResultSteps.{map_error};
 
 use std::alloc::Global;
 
@@ -69,7 +69,7 @@ pub trait ReportLine: Copy + Drop {
 /// - `Memory`: the program ran out of memory. This never happens for an empty report.
 pub fn read_report<L: ReportLine>(alloc: Global, bytes: &[u8]) -> Result<Vec<L>, ReadError>
     ensures answers { Answers ReadError.Memory (λ lines. lines.items) result
-        (with_error ReadError.Fault (report_of L.form L.extent bytes.now)) }
+        (map_error ReadError.Fault (report_of L.form L.extent bytes.now)) }
     ensures memory { IsErrOf result ReadError.Memory → 0 < length bytes.now }
     ensures order { IfOk result (λ lines. AscendApart (map L.extent lines.items)) }
     ensures few { IfOk result (λ lines. length lines.items ≤ length bytes.now) }

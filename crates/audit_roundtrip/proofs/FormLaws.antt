@@ -8,7 +8,7 @@ use Rattle.bm_base.specs.declared.zone.Zone.{Zone}
 use Rattle.bm_base.specs.declared.zone.Zone.TheVariants as zones
 use Rattle.audit_lines.specs.Blocks.{BlockLineView, IsBlockLine, bytes_of_block}
 use Rattle.audit_lines.specs.Fields.{address_in, rest_after, number_in}
-use Rattle.audit_lines.specs.Forms.{block_in, is_exactly, is_numbered, is_owner, map_type_name, map_in, owner_in, zone_in}
+use Rattle.audit_lines.specs.Forms.{block_in, is_exactly, is_numbered, is_owner, map_type_name, map_line_in, owner_line_in, zone_in}
 use Rattle.audit_lines.specs.declared.lines.MapLine.{MapLine}
 use Rattle.audit_lines.proofs.FieldLaws.{behind_front}
 use Rattle.audit_roundtrip.proofs.NumberLaws.{address_line, address_read, number_line, number_read, range_line, range_read, index_line}
@@ -96,8 +96,8 @@ apart_five a b c d e =
     append_assoc ((a ++ b) ++ c) d e ∙ append_assoc (a ++ b) c (d ++ e) ∙ append_assoc a b (c ++ (d ++ e))
 
 map_by : (l : MapLine) (index : ℕ) → 0 < l.range.size → end_of l.range < 2 ^ 64 → 0 < l.kind → l.kind < 2 ^ 32
-    → map_in index (range_text l.range ++ (codes " " ++ (decimal l.kind ++ (codes " " ++ map_type_name l.kind)))) ≡ Some l
-unfolding map_in
+    → map_line_in index (range_text l.range ++ (codes " " ++ (decimal l.kind ++ (codes " " ++ map_type_name l.kind)))) ≡ Some l
+unfolding map_line_in
 map_by l index some near kind small =
     let name : List ℕ = codes " " ++ map_type_name l.kind in
     let left : rest_after (map_type_name l.kind) (map_type_name l.kind) ≡ Some [] =
@@ -116,9 +116,9 @@ abbrev pub map_words : MapLine → List ℕ
 map_words l = range_text l.range ++ codes " " ++ decimal l.kind ++ codes " " ++ map_type_name l.kind
 
 pub map_read : (l : MapLine) (index : ℕ) → 0 < l.range.size → end_of l.range < 2 ^ 64 → 0 < l.kind → l.kind < 2 ^ 32
-    → map_in index (map_words l) ≡ Some l
+    → map_line_in index (map_words l) ≡ Some l
 map_read l index some near kind small =
-    ap (map_in index) (apart_five (range_text l.range) (codes " ") (decimal l.kind) (codes " ") (map_type_name l.kind))
+    ap (map_line_in index) (apart_five (range_text l.range) (codes " ") (decimal l.kind) (codes " ") (map_type_name l.kind))
     ∙ map_by l index some near kind small
 
 one_line-if : (test : Bool) (xs ys : List ℕ) → IsOneLine xs → IsOneLine ys → IsOneLine (if test then xs else ys)
@@ -161,8 +161,8 @@ map_one l some near small =
 
 -- a line of the owners
 owner_by : (r : RangeView) (name : List ℕ) (index : ℕ) → 0 < r.size → end_of r < 2 ^ 64 → is_owner name ≡ true
-    → owner_in index (padded_decimal 4 index ++ (codes ": " ++ (range_text r ++ (codes " " ++ name)))) ≡ Some r
-unfolding owner_in
+    → owner_line_in index (padded_decimal 4 index ++ (codes ": " ++ (range_text r ++ (codes " " ++ name)))) ≡ Some r
+unfolding owner_line_in
 owner_by r name index some near known =
     rw (
       behind_front (padded_decimal 4 index) (codes ": " ++ (range_text r ++ (codes " " ++ name))),
@@ -176,9 +176,9 @@ abbrev pub owner_words : ℕ → RangeView → List ℕ → List ℕ
 owner_words index r name = index_text index ++ range_text r ++ codes " " ++ name
 
 pub owner_read : (r : RangeView) (name : List ℕ) (index : ℕ) → 0 < r.size → end_of r < 2 ^ 64 → is_owner name ≡ true
-    → owner_in index (owner_words index r name) ≡ Some r
+    → owner_line_in index (owner_words index r name) ≡ Some r
 owner_read r name index some near known =
-    ap (owner_in index) (apart_five (padded_decimal 4 index) (codes ": ") (range_text r) (codes " ") name)
+    ap (owner_line_in index) (apart_five (padded_decimal 4 index) (codes ": ") (range_text r) (codes " ") name)
     ∙ owner_by r name index some near known
 
 pub owner_one : (r : RangeView) (name : List ℕ) (index : ℕ) → index < 2 ^ 64 → 0 < r.size → end_of r < 2 ^ 64 → IsOneLine name

@@ -7,7 +7,7 @@ use Rattle.bm_base.specs.declared.zone.Zone.{Zone}
 use Rattle.bm_base.specs.declared.zone.Zone.TheVariants as zones
 use Rattle.audit_lines.specs.Blocks.{BlockLineView, bytes_of_block}
 use Rattle.audit_lines.specs.Fields.{address_in, rest_after, is_at_end, number_in, range_at_start}
-use Rattle.audit_lines.specs.Forms.{block_in, block_if_bounded, guard, map_type_name, map_in, zone_in}
+use Rattle.audit_lines.specs.Forms.{block_in, block_if_bounded, guard, map_type_name, map_line_in, zone_in}
 use Rattle.audit_lines.specs.declared.lines.MapLine.{MapLine}
 use Rattle.audit_lines.proofs.FieldLaws.{behind_is}
 use Rattle.report_memory.specs.Lines.{range_text}
@@ -29,8 +29,8 @@ map_parts l range kind text one two three four five line a b c d e f =
     ∙ ap (λ (xs : List ℕ). codes " " ++ xs) (e ∙ ap (λ (xs : List ℕ). map_type_name kind ++ xs) f ∙ append-nil (map_type_name kind)))))
     ∙ sym (apart_five (range_text range) (codes " ") (decimal kind) (codes " ") (map_type_name kind)) ∙ ap map_words line
 
-pub map_is : (index : ℕ) (text : List ℕ) (l : MapLine) → map_in index text ≡ Some l → text ≡ map_words l
-unfolding map_in
+pub map_is : (index : ℕ) (text : List ℕ) (l : MapLine) → map_line_in index text ≡ Some l → text ≡ map_words l
+unfolding map_line_in
 map_is index text l found =
     let one = chain (range_at_start text) _ l found in
     let two = chain (rest_after (codes " ") one.0.1) _ l one.1.1 in

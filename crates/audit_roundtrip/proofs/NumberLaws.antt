@@ -14,7 +14,7 @@ use Rattle.bm_base.specs.Range.{RangeView, end_of}
 use Rattle.bm_base.specs.Size.{begins_with_digit, begins_with_zero, fit_in_u64, front_digits, is_hexadecimal, number_of, prefix_of, radix_of, front_digits_value}
 use Rattle.bm_base.specs.Text.{hex_text, hex_digits, padded_decimal}
 use Rattle.bm_base.proofs.SizeLaws.{front_digits-all, is_hexadecimal-other, number_of-mark}
-use Rattle.bm_base.proofs.TextLaws.{hex_onto, hex_sixteen}
+use Rattle.bm_base.proofs.TextLaws.{prepend_hex_digits, hex_sixteen}
 use Rattle.audit_lines.specs.Fields.{address_in, number_at_most, rest_after, is_address, is_lower_hex, number_in, range_at_start}
 use Rattle.audit_lines.proofs.FieldLaws.{behind_front}
 use Rattle.report_memory.specs.Lines.{range_text}
@@ -40,8 +40,8 @@ abbrev pub AreGlyphs : List ℕ → Type 0
 AreGlyphs [] = Unit {0}
 AreGlyphs (c ∷ cs) = IsGlyph c × AreGlyphs cs
 
-hex_glyphs : (k n : ℕ) (rest : List ℕ) → AreGlyphs rest → AreGlyphs (hex_onto k n rest)
-unfolding hex_onto
+hex_glyphs : (k n : ℕ) (rest : List ℕ) → AreGlyphs rest → AreGlyphs (prepend_hex_digits k n rest)
+unfolding prepend_hex_digits
 hex_glyphs zero n rest glyphs = glyphs
 hex_glyphs (suc k) n rest glyphs =
     hex_glyphs k (n / 16) (digit_glyph false (n % 16) ∷ rest) (glyph_is (n % 16) (omega arith), glyphs)
@@ -63,7 +63,7 @@ zeros_value (suc z) ds = zeros_value z ds
 abbrev pub address_digits : ℕ → List ℕ
 address_digits n = replicate (16 - length (hex_digits n)) 48 ++ hex_digits n
 
-digits_are : (n : ℕ) → n < 2 ^ 64 → hex_onto 16 n [] ≡ address_digits n
+digits_are : (n : ℕ) → n < 2 ^ 64 → prepend_hex_digits 16 n [] ≡ address_digits n
 digits_are n small = ap (drop 2) (hex_sixteen n small)
 
 digits_glyphs : (n : ℕ) → n < 2 ^ 64 → AreGlyphs (address_digits n)

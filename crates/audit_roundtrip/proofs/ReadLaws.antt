@@ -16,8 +16,8 @@ use Rattle.bm_base.specs.OptionSteps.{◌>>=◌}
 use Rattle.bm_base.specs.Size.{begins_with_digit, fit_in_u64, front_digits, number_of, prefix_of, radix_of, front_digits_value}
 use Rattle.bm_base.specs.Text.{hex_text}
 use Rattle.bm_base.proofs.SizeLaws.{is_hexadecimal-other}
-use Rattle.bm_base.proofs.TextLaws.{hex_onto, hex_sixteen}
-use Rattle.audit_lines.specs.Fields.{address_in, are_sixteen_digits, number_at_most, rest_after, is_lower_hex, number_in, range_at_start, range_from_bytes, value_and_rest}
+use Rattle.bm_base.proofs.TextLaws.{prepend_hex_digits, hex_sixteen}
+use Rattle.audit_lines.specs.Fields.{address_in, are_sixteen_digits, number_at_most, rest_after, is_lower_hex, number_in, range_at_start, range_from_bytes, read_value_and_rest}
 use Rattle.audit_lines.proofs.FieldLaws.{behind_is}
 use Rattle.report_memory.specs.Lines.{range_text}
 use Rattle.audit_roundtrip.proofs.NumberLaws.{AreGlyphs, hex_number}
@@ -140,8 +140,8 @@ glyph_of c lower =
     ]
 
 hex_again : (ds : List ℕ) (k m : ℕ) (rest : List ℕ) → list_all is_lower_hex ds ≡ true
-    → hex_onto (length ds + k) (digits_value_after 16 m ds) rest ≡ hex_onto k m (ds ++ rest)
-unfolding hex_onto
+    → prepend_hex_digits (length ds + k) (digits_value_after 16 m ds) rest ≡ prepend_hex_digits k m (ds ++ rest)
+unfolding prepend_hex_digits
 hex_again [] k m rest lower = rw (zero-add k) refl
 hex_again (d ∷ ds) k m rest lower =
     let parts = and_parts (is_lower_hex d) (list_all is_lower_hex ds) lower in
@@ -149,7 +149,7 @@ hex_again (d ∷ ds) k m rest lower =
     let front : (m * 16 + digit_value d) / 16 ≡ m = omega (arith, glyph.1) in
     let last : (m * 16 + digit_value d) % 16 ≡ digit_value d = omega (arith, glyph.1) in
     let long : length (d ∷ ds) + k ≡ length ds + suc k = omega arith in
-    ap (λ (n : ℕ). hex_onto n (digits_value_after 16 (m * 16 + digit_value d) ds) rest) long
+    ap (λ (n : ℕ). prepend_hex_digits n (digits_value_after 16 (m * 16 + digit_value d) ds) rest) long
     ∙ hex_again ds (suc k) (m * 16 + digit_value d) rest parts.1 ∙ rw (front, last, glyph.0) refl
 
 glyphs_from : (ds : List ℕ) → list_all is_lower_hex ds ≡ true → AreGlyphs ds
@@ -162,13 +162,13 @@ glyphs_from (d ∷ ds) lower =
 
 sixteen_again : (ds : List ℕ) → length ds ≡ 16 → list_all is_lower_hex ds ≡ true → digits_value 16 ds < 2 ^ 64
     → hex_text (digits_value 16 ds) ≡ codes "0x" ++ ds
-unfolding hex_onto
+unfolding prepend_hex_digits
 sixteen_again ds long lower small =
-    let again : hex_onto 16 (digits_value 16 ds) [] ≡ ds =
-    ap (λ (n : ℕ). hex_onto n (digits_value 16 ds) []) (sym (ap (λ (n : ℕ). n + 0) long)) ∙ hex_again ds 0 0 [] lower ∙ none ds in
+    let again : prepend_hex_digits 16 (digits_value 16 ds) [] ≡ ds =
+    ap (λ (n : ℕ). prepend_hex_digits n (digits_value 16 ds) []) (sym (ap (λ (n : ℕ). n + 0) long)) ∙ hex_again ds 0 0 [] lower ∙ none ds in
     sym (hex_sixteen (digits_value 16 ds) small) ∙ ap (λ (xs : List ℕ). codes "0x" ++ xs) again
   where
-    none : (xs : List ℕ) → hex_onto 0 0 (xs ++ []) ≡ xs
+    none : (xs : List ℕ) → prepend_hex_digits 0 0 (xs ++ []) ≡ xs
     none xs = append-nil xs
 
 pub address_is : (n : ℕ) (text rest : List ℕ) → address_in text ≡ Some (n, rest) → text ≡ hex_text n ++ rest
@@ -177,7 +177,7 @@ address_is n text rest found = by_front (rest_after (codes "0x") (take 18 text))
   where
     by_value : (ds : List ℕ) → take 18 text ≡ codes "0x" ++ ds → length ds ≡ 16 → list_all is_lower_hex ds ≡ true → (fits : Bool)
         → nat_lt (digits_value 16 ds) (2 ^ 64) ≡ fits
-        → value_and_rest (drop 18 text)
+        → read_value_and_rest (drop 18 text)
         (if◌then◌else◌ {A = Result (ℕ × ℕ) NumFault} fits (Ok (digits_value 16 ds, 2 + length ds)) (Err TooLarge))
         ≡ Some (n, rest) → text ≡ hex_text n ++ rest
     by_value ds front long lower false test found = cc
@@ -190,7 +190,7 @@ address_is n text rest found = by_front (rest_after (codes "0x") (take 18 text))
 
     by_digits : (ds : List ℕ) → rest_after (codes "0x") (take 18 text) ≡ Some ds → (right : Bool)
         → (length ds == 16) && list_all is_lower_hex ds ≡ right
-        → ◌≡◌ {A = Option (ℕ × List ℕ)} (if right then value_and_rest (drop 18 text) (number_of (take 18 text)) else None) (Some (n, rest))
+        → ◌≡◌ {A = Option (ℕ × List ℕ)} (if right then read_value_and_rest (drop 18 text) (number_of (take 18 text)) else None) (Some (n, rest))
         → text ≡ hex_text n ++ rest
     by_digits ds is false test found = cc
     by_digits ds is true test found =
@@ -199,10 +199,10 @@ address_is n text rest found = by_front (rest_after (codes "0x") (take 18 text))
         let long : length ds ≡ 16 = (Decides-eqb (length ds) 16).0 parts.0 in
         let read : number_of (take 18 text) ≡ fit_in_u64 (digits_value 16 ds) (2 + length ds) =
         ap number_of front ∙ hex_number ds (glyphs_from ds parts.1) (omega (arith, long)) in
-        by_value ds front long parts.1 (nat_lt (digits_value 16 ds) (2 ^ 64)) refl (sym (ap (value_and_rest (drop 18 text)) read) ∙ found)
+        by_value ds front long parts.1 (nat_lt (digits_value 16 ds) (2 ^ 64)) refl (sym (ap (read_value_and_rest (drop 18 text)) read) ∙ found)
 
     by_front : (found_front : Option (List ℕ)) → rest_after (codes "0x") (take 18 text) ≡ found_front
-        → ◌≡◌ {A = Option (ℕ × List ℕ)} (if are_sixteen_digits found_front then value_and_rest (drop 18 text) (number_of (take 18 text))
+        → ◌≡◌ {A = Option (ℕ × List ℕ)} (if are_sixteen_digits found_front then read_value_and_rest (drop 18 text) (number_of (take 18 text))
         else None)
         (Some (n, rest))
         → text ≡ hex_text n ++ rest

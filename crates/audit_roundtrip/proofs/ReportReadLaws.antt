@@ -6,7 +6,7 @@ use Rattle.std.proofs.lemmas.Bool.Decides.{Decides-eqb}
 use Rattle.std.proofs.lemmas.List.Elements.{All-head, All-tail}
 use Rattle.bm_base.specs.Range.{RangeView, end_of}
 use Rattle.bm_base.specs.ResultSteps.{◌>>=◌}
-use Rattle.audit_lines.specs.Reports.{LinesAndRest, line_if_in_order, report_line_at, line_or_fault, report_from, report_of, split_lines, with_byte, with_newline}
+use Rattle.audit_lines.specs.Reports.{LinesAndRest, line_if_in_order, report_line_at, line_or_fault, report_from, report_of, split_lines, lines_with_byte, lines_with_newline}
 use Rattle.audit_lines.specs.declared.report.LineFault.{LineFault}
 use Rattle.audit_lines.specs.declared.report.LineFault.TheVariants as faults
 use Rattle.report_memory.specs.Lines.{indexed_lines}
@@ -19,11 +19,11 @@ joined_by (t ∷ ts) left = t ++ (10 ∷ joined_by ts left)
 abbrev join_split_lines : LinesAndRest → List ℕ
 join_split_lines (texts, left) = joined_by texts left
 
-joined_byte : (b : ℕ) (split : LinesAndRest) → join_split_lines (with_byte b split) ≡ b ∷ join_split_lines split
+joined_byte : (b : ℕ) (split : LinesAndRest) → join_split_lines (lines_with_byte b split) ≡ b ∷ join_split_lines split
 joined_byte b ([], left) = refl
 joined_byte b (t ∷ ts, left) = refl
 
-joined_newline : (split : LinesAndRest) → join_split_lines (with_newline split) ≡ 10 ∷ join_split_lines split
+joined_newline : (split : LinesAndRest) → join_split_lines (lines_with_newline split) ≡ 10 ∷ join_split_lines split
 joined_newline (ts, left) = refl
 
 bytes_joined : (bytes : List ℕ) → join_split_lines (split_lines bytes) ≡ bytes

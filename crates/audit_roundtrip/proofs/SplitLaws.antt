@@ -1,6 +1,6 @@
 -- Lemmas: a text of lines is split into these lines.
 use Rattle.std.proofs.Common.{◌≡◌, ℕ, ◌==◌, false, List, [], ◌∷◌, ◌++◌, refl, ap}
-use Rattle.audit_lines.specs.Reports.{split_lines, with_byte}
+use Rattle.audit_lines.specs.Reports.{split_lines, lines_with_byte}
 
 abbrev pub IsOneLine : List ℕ → Type 0
 IsOneLine [] = Unit {0}
@@ -15,4 +15,4 @@ pub split_first : (text rest : List ℕ) → IsOneLine text
     → split_lines (text ++ (10 ∷ rest)) ≡ (text ∷ (split_lines rest).0, (split_lines rest).1)
 unfolding split_lines
 split_first [] rest one = refl
-split_first (b ∷ bs) rest one = rw (one.0) (ap (with_byte b) (split_first bs rest one.1))
+split_first (b ∷ bs) rest one = rw (one.0) (ap (lines_with_byte b) (split_first bs rest one.1))

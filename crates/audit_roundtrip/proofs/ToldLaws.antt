@@ -2,12 +2,12 @@
 use Rattle.std.proofs.Common.{◌≡◌, ℕ, ◌<◌, ◌^◌, List, [], ◌∷◌, length, map, codes, Option, Ok, true, refl, ap, arith}
 use Rattle.std.specs.List.{All}
 use Rattle.std.proofs.lemmas.List.Elements.{All-head, All-tail}
-use Rattle.address_runs.specs.Runs.{RunOf, extent_of}
+use Rattle.address_runs.specs.Runs.{RunOf, range_of_run}
 use Rattle.bm_base.specs.Range.{RangeView}
 use Rattle.bm_base.specs.declared.zone.Zone.{Zone}
 use Rattle.bm_base.specs.declared.zone.Zone.TheVariants as zones
 use Rattle.audit_lines.specs.Blocks.{bytes_of_block}
-use Rattle.audit_lines.specs.Forms.{block_in, is_exactly, is_numbered, is_owner, map_type_name, map_in, owner_in}
+use Rattle.audit_lines.specs.Forms.{block_in, is_exactly, is_numbered, is_owner, map_type_name, map_line_in, owner_line_in}
 use Rattle.audit_lines.specs.Fields.{rest_after}
 use Rattle.audit_lines.specs.Lines.{AscendApart, StartFrom}
 use Rattle.audit_lines.specs.Reports.{report_of}
@@ -37,7 +37,7 @@ unfolding map_type_name
 same_name kind = refl
 
 run_back : (r : RunOf ℕ) → IsPrintableRun r
-    → IsReadBack map_in (λ l. l.range) map_line (λ n x. map_words (line_of_run x)) line_of_run r
+    → IsReadBack map_line_in (λ l. l.range) map_line (λ n x. map_words (line_of_run x)) line_of_run r
 run_back r told = record {
   ended = λ n. rw (same_name r.value) refl;
   one = λ n small. map_one (line_of_run r) told.0.0 told.0.1 told.1.1;
@@ -80,11 +80,11 @@ name_line (owners.Map n) told = numbered_line (codes "map ") n told refl
 name_line (owners.Script n) told = numbered_line (codes "script ") n told refl
 
 owner_back : (r : RunOf Owner) → IsPrintableOwnerRun r
-    → IsReadBack owner_in (λ e. e) owner_line (λ n x. owner_words n (extent_of x) (owner_text x.value)) extent_of r
+    → IsReadBack owner_line_in (λ e. e) owner_line (λ n x. owner_words n (range_of_run x) (owner_text x.value)) range_of_run r
 owner_back r told = record {
   ended = λ n. refl;
-  one = λ n small. owner_one (extent_of r) (owner_text r.value) n small told.0.0 told.0.1 (name_line r.value told.1);
-  read = λ n. owner_read (extent_of r) (owner_text r.value) n told.0.0 told.0.1 (name_known r.value told.1);
+  one = λ n small. owner_one (range_of_run r) (owner_text r.value) n small told.0.0 told.0.1 (name_line r.value told.1);
+  read = λ n. owner_read (range_of_run r) (owner_text r.value) n told.0.0 told.0.1 (name_known r.value told.1);
 }
 
 pub same_zone : (zone : Zone) → zone_word zone ≡ zone_name zone
@@ -105,30 +105,30 @@ from_first : (rs : List RangeView) → StartFrom 0 rs
 from_first [] = tt
 from_first (r ∷ rs) = omega arith
 
-ranges_told : (runs : List (RunOf ℕ)) → map (λ l. l.range) (map line_of_run runs) ≡ map extent_of runs
+ranges_told : (runs : List (RunOf ℕ)) → map (λ l. l.range) (map line_of_run runs) ≡ map range_of_run runs
 ranges_told [] = refl
-ranges_told (r ∷ rs) = ap (λ (es : List RangeView). extent_of r ∷ es) (ranges_told rs)
+ranges_told (r ∷ rs) = ap (λ (es : List RangeView). range_of_run r ∷ es) (ranges_told rs)
 
-pub map_back : (runs : List (RunOf ℕ)) → length runs < 2 ^ 64 → All IsPrintableRun runs → AscendApart (map extent_of runs)
-    → report_of map_in (λ l. l.range) (map_text runs) ≡ Ok (map line_of_run runs)
+pub map_back : (runs : List (RunOf ℕ)) → length runs < 2 ^ 64 → All IsPrintableRun runs → AscendApart (map range_of_run runs)
+    → report_of map_line_in (λ l. l.range) (map_text runs) ≡ Ok (map line_of_run runs)
 map_back runs few told order =
-    lines_read map_in (λ l. l.range) map_line (λ n x. map_words (line_of_run x)) line_of_run runs 0 0 (omega (arith, few))
-    (all_back map_in (λ l. l.range) map_line (λ n x. map_words (line_of_run x)) line_of_run IsPrintableRun run_back runs told)
+    lines_read map_line_in (λ l. l.range) map_line (λ n x. map_words (line_of_run x)) line_of_run runs 0 0 (omega (arith, few))
+    (all_back map_line_in (λ l. l.range) map_line (λ n x. map_words (line_of_run x)) line_of_run IsPrintableRun run_back runs told)
     (from_first (map (λ l. l.range) (map line_of_run runs))) (rw (ranges_told runs) order)
 
 same_ranges : (es : List RangeView) → map (λ e. e) es ≡ es
 same_ranges [] = refl
 same_ranges (e ∷ es) = ap (λ (others : List RangeView). e ∷ others) (same_ranges es)
 
-pub owners_back : (runs : List (RunOf Owner)) → length runs < 2 ^ 64 → All IsPrintableOwnerRun runs → AscendApart (map extent_of runs)
-    → report_of owner_in (λ r. r) (owners_text runs) ≡ Ok (map extent_of runs)
+pub owners_back : (runs : List (RunOf Owner)) → length runs < 2 ^ 64 → All IsPrintableOwnerRun runs → AscendApart (map range_of_run runs)
+    → report_of owner_line_in (λ r. r) (owners_text runs) ≡ Ok (map range_of_run runs)
 owners_back runs few told order =
-    lines_read owner_in (λ e. e) owner_line (λ n x. owner_words n (extent_of x) (owner_text x.value)) extent_of runs 0 0
+    lines_read owner_line_in (λ e. e) owner_line (λ n x. owner_words n (range_of_run x) (owner_text x.value)) range_of_run runs 0 0
     (omega (arith, few))
-    (all_back owner_in (λ e. e) owner_line (λ n x.
-    owner_words n (extent_of x) (owner_text x.value)) extent_of IsPrintableOwnerRun owner_back
+    (all_back owner_line_in (λ e. e) owner_line (λ n x.
+    owner_words n (range_of_run x) (owner_text x.value)) range_of_run IsPrintableOwnerRun owner_back
     runs told)
-    (from_first (map (λ e. e) (map extent_of runs))) (rw (same_ranges (map extent_of runs)) order)
+    (from_first (map (λ e. e) (map range_of_run runs))) (rw (same_ranges (map range_of_run runs)) order)
 
 pub blocks_back : (blocks : List Block) → length blocks < 2 ^ 64 → All IsPrintableBlock blocks
     → AscendApart (map bytes_of_block (map line_of_block blocks))

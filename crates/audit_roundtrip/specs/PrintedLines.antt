@@ -1,7 +1,7 @@
 -- The lines of the three reports that runs and blocks are read back as, and the conditions for
 -- that.
 use Rattle.std.specs.Prelude.{◌≡◌, ℕ, ◌/◌, ◌%◌, ◌<◌, ◌^◌}
-use Rattle.address_runs.specs.Runs.{RunOf, extent_of}
+use Rattle.address_runs.specs.Runs.{RunOf, range_of_run}
 use Rattle.bm_base.specs.Range.{end_of}
 use Rattle.bm_base.specs.Frames.{bytes_of_frame}
 use Rattle.bm_base.specs.declared.range.TheConstants.{FRAME_SIZE}
@@ -13,11 +13,11 @@ use Rattle.memblock_model.specs.declared.owner.Owner.TheVariants as owners
 
 -- the line of a run of the map: its addresses and its type
 abbrev pub line_of_run : RunOf ℕ → MapLine
-line_of_run r = record { range = extent_of r; kind = r.value }
+line_of_run r = record { range = range_of_run r; kind = r.value }
 
 -- the run isn't empty, and ends below 2^64
 abbrev pub IsPrintableRange : {V : Type 0} → RunOf V → Type 0
-IsPrintableRange r = (0 < r.size) × (end_of (extent_of r) < 2 ^ 64)
+IsPrintableRange r = (0 < r.size) × (end_of (range_of_run r) < 2 ^ 64)
 
 -- its type also has 32 bits and is above 0
 abbrev pub IsPrintableRun : RunOf ℕ → Type 0
@@ -44,8 +44,8 @@ abbrev pub IsPrintableBlock : Block → Type 0
 IsPrintableBlock b = (b.node < 2 ^ 32) × IsBlockLine (line_of_block b)
 
 -- in the other direction: the run and the block of a line
-abbrev pub parsed_map_run : MapLine → RunOf ℕ
-parsed_map_run l = record { base = l.range.base; size = l.range.size; value = l.kind }
+abbrev pub run_of_line : MapLine → RunOf ℕ
+run_of_line l = record { base = l.range.base; size = l.range.size; value = l.kind }
 
 abbrev pub block_of_line : BlockLineView → Block
 block_of_line b = record { node = b.node; zone = b.zone; order = b.order; first = b.at / FRAME_SIZE }

@@ -3,13 +3,13 @@
 
 ghost use Rattle.std.specs.Prelude.{◌≡◌, ◌<◌, ◌^◌, ℕ, List, Ok, length, map};
 ghost use Rattle.std.specs.List.{All};
-ghost use Rattle.address_runs.specs.Runs.{RunOf, extent_of};
+ghost use Rattle.address_runs.specs.Runs.{RunOf, range_of_run};
 ghost use Rattle.audit_lines.specs.Blocks.{BlockLineView, bytes_of_block};
-ghost use Rattle.audit_lines.specs.Forms.{block_in, map_in, owner_in};
+ghost use Rattle.audit_lines.specs.Forms.{block_in, map_line_in, owner_line_in};
 ghost use Rattle.audit_lines.specs.Lines.{AscendApart};
 ghost use Rattle.audit_lines.specs.Reports.{report_of};
 ghost use Rattle.audit_lines.specs.declared.lines.MapLine.{MapLine};
-ghost use Rattle.audit_roundtrip.specs.PrintedLines.{BeginsAtFrame, IsPrintableBlock, IsPrintableOwnerRun, IsPrintableRun, block_of_line, parsed_map_run, line_of_block, line_of_run};
+ghost use Rattle.audit_roundtrip.specs.PrintedLines.{BeginsAtFrame, IsPrintableBlock, IsPrintableOwnerRun, IsPrintableRun, block_of_line, run_of_line, line_of_block, line_of_run};
 ghost use Rattle.buddy_blocks.specs.declared.block.Block.{Block};
 ghost use Rattle.memblock_model.specs.declared.owner.Owner.{Owner};
 ghost use Rattle.report_memory.specs.Lines.{indexed_lines};
@@ -22,16 +22,16 @@ ghost use Rattle.report_stages.specs.BlocksText.{block_line};
 /// runs.
 pub fn map_is_read_back()
     ensures { (runs : List (RunOf ℕ)) → length runs < 2 ^ 64 → All IsPrintableRun runs
-        → AscendApart (map extent_of runs)
-        → report_of map_in (λ l. l.range) (map_text runs) ≡ Ok (map line_of_run runs) }
+        → AscendApart (map range_of_run runs)
+        → report_of map_line_in (λ l. l.range) (map_text runs) ≡ Ok (map line_of_run runs) }
 {}
 
 /// Law: the text of the owners is read as the ranges that have an owner. The ranges must be
 /// ascending and disjoint, not empty, and end below 2^64. There must be fewer than 2^64 ranges.
 pub fn owners_are_read_back()
     ensures { (runs : List (RunOf Owner)) → length runs < 2 ^ 64 → All IsPrintableOwnerRun runs
-        → AscendApart (map extent_of runs)
-        → report_of owner_in (λ r. r) (owners_text runs) ≡ Ok (map extent_of runs) }
+        → AscendApart (map range_of_run runs)
+        → report_of owner_line_in (λ r. r) (owners_text runs) ≡ Ok (map range_of_run runs) }
 {}
 
 /// Law: the text of blocks is read as these blocks. The blocks must be ascending and disjoint, of
@@ -46,8 +46,8 @@ pub fn blocks_are_read_back()
 /// Law: bytes that are read as a map are exactly the text of that map.
 pub fn read_map_is_printed()
     ensures { (bytes : List ℕ) (lines : List MapLine)
-        → report_of map_in (λ l. l.range) bytes ≡ Ok lines
-        → bytes ≡ map_text (map parsed_map_run lines) }
+        → report_of map_line_in (λ l. l.range) bytes ≡ Ok lines
+        → bytes ≡ map_text (map run_of_line lines) }
 {}
 
 /// Law: bytes that are read as blocks, each of which begins at a frame, are exactly the lines of

@@ -4,13 +4,13 @@ use Rattle.std.specs.List.{All}
 use Rattle.std.proofs.lemmas.Bool.{cases_lt}
 use Rattle.std.proofs.lemmas.List.{drop_more}
 use Rattle.std.proofs.lemmas.List.Elements.{All-cons, All-head, All-nil, All-tail}
-use Rattle.address_runs.specs.Edits.{NothingFrom}
+use Rattle.address_runs.specs.Edits.{IsEmptyFrom}
 use Rattle.address_runs.specs.Runs.{AreRuns, IsRunsOf, RunOf, run_end, value_at}
 use Rattle.address_runs.proofs.RunsLaws.{behind, inside, none_below, rest_from}
 use Rattle.audit_roundtrip.specs.PrintedLines.{IsPrintableOwnerRun, IsPrintableRun}
 use Rattle.boot_model.specs.Boot.{InputsView, BootedView, claims, whole_boot}
 use Rattle.boot_model.proofs.BootLaws.{goes_on, map_between}
-use Rattle.conservation.proofs.ToldLaws.{IsToldOf, is_told_of}
+use Rattle.conservation.proofs.ToldLaws.{IsReportOfBoot, is_told_of}
 use Rattle.e820_model.specs.Map.{map_of}
 use Rattle.e820_model.proofs.ClaimLaws.{kind_small}
 use Rattle.memblock_model.specs.Items.{owner_of, owner_runs_of}
@@ -25,7 +25,7 @@ one_more {X} P xs i x d few is here rest =
     subst (λ (ys : List X). All P ys) (sym (drop_more xs i d few)) (All-cons P (get_or xs i d) (drop (i + 1) xs) (subst P is here) rest)
 
 -- runs that end below 2^64 have no value from there on
-nothing_past : {X : Type 0} (rs : List (RunOf X)) → All RunEndsInSpace rs → NothingFrom (2 ^ 64) (value_at rs)
+nothing_past : {X : Type 0} (rs : List (RunOf X)) → All RunEndsInSpace rs → IsEmptyFrom (2 ^ 64) (value_at rs)
 nothing_past [] near x far = refl
 nothing_past (r ∷ rs) near x far =
     let end : r.base + r.size < 2 ^ 64 = All-head RunEndsInSpace r rs near in
@@ -57,7 +57,7 @@ owners_told (r ∷ rs) runs near =
 module _ (given : InputsView) (told : BootedView) (ends : whole_boot given ≡ Ok told) where
   map_types : (x k : ℕ) → value_at told.map x ≡ Some k → (0 < k) × (k < 2 ^ 32)
   map_types x k found =
-      let of : IsToldOf given told = is_told_of given told ends in
+      let of : IsReportOfBoot given told = is_told_of given told ends in
       let is : told.map ≡ map_of (claims given) = ap (λ (t : BootedView). t.map) (sym of.tells) ∙ (goes_on given of.made of.boots).map in
       let given_so : value_at (map_of (claims given)) x ≡ Some k = ap (λ (rs : List (RunOf ℕ)). value_at rs x) (sym is) ∙ found in
       elim (cases_lt x (2 ^ 64)) as (λ _. (0 < k) × (k < 2 ^ 32)) [

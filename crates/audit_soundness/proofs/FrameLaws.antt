@@ -7,7 +7,7 @@ use Rattle.std.proofs.lemmas.List.Sums.{sum_by-cons}
 use Rattle.bm_base.specs.Range.{RangeView, covers}
 use Rattle.bm_base.specs.Frames.{bytes_of_frame}
 use Rattle.bm_base.proofs.EachLaws.{each_in-all, each_in-each, each_in-fails}
-use Rattle.address_runs.specs.Runs.{IsRunsOf, RunOf, extent_of, lies_in, value_at}
+use Rattle.address_runs.specs.Runs.{IsRunsOf, RunOf, range_of_run, lies_in, value_at}
 use Rattle.memblock_model.specs.Items.{owner_of}
 use Rattle.memblock_model.specs.declared.item.Item.{Item}
 use Rattle.memblock_model.specs.declared.owner.Owner.{Owner}
@@ -57,30 +57,30 @@ usable_told limit runs frame usable =
     (memory_told runs x ∙ usable.1 x (frame_covers frame x above below)))
 
 -- a byte has an owner by the lines exactly if a run gives it one
-owned_told : (rs : List (RunOf Owner)) (x : ℕ) → has_owner (map extent_of rs) x ≡ is_some (value_at rs x)
+owned_told : (rs : List (RunOf Owner)) (x : ℕ) → has_owner (map range_of_run rs) x ≡ is_some (value_at rs x)
 owned_told [] x = refl
 owned_told (r ∷ rs) x =
-    elim (cases_Bool (lies_in r x)) as (λ _. has_owner (map extent_of (r ∷ rs)) x ≡ is_some (value_at (r ∷ rs) x)) [
+    elim (cases_Bool (lies_in r x)) as (λ _. has_owner (map range_of_run (r ∷ rs)) x ≡ is_some (value_at (r ∷ rs) x)) [
       | inl inside ↦ rw inside refl
       | inr outside ↦ rw outside (owned_told rs x)
     ]
 
 module _ (items : List Item) (rs : List (RunOf Owner)) (runs : IsRunsOf (owner_of items) rs) where
-  owned_by : (x : ℕ) → has_owner (map extent_of rs) x ≡ is_some (owner_of items x)
+  owned_by : (x : ℕ) → has_owner (map range_of_run rs) x ≡ is_some (owner_of items x)
   owned_by x = owned_told rs x ∙ ap is_some (runs.each x)
 
   -- so a frame is untouched by the lines exactly if it is by the runs
-  pub untouched_told : (frame : ℕ) → IsUntouched items frame → is_untouched (map extent_of rs) frame ≡ true
+  pub untouched_told : (frame : ℕ) → IsUntouched items frame → is_untouched (map range_of_run rs) frame ≡ true
   unfolding is_untouched
   untouched_told frame bare =
-      each_in-all (bytes_of_frame frame) (λ x. not (has_owner (map extent_of rs) x)) (λ x above below.
+      each_in-all (bytes_of_frame frame) (λ x. not (has_owner (map range_of_run rs) x)) (λ x above below.
       ap not (owned_by x ∙ ap is_some (bare x (frame_covers frame x above below))))
 
-  pub touched_told : (frame : ℕ) → IsTouched items frame → is_untouched (map extent_of rs) frame ≡ false
+  pub touched_told : (frame : ℕ) → IsTouched items frame → is_untouched (map range_of_run rs) frame ≡ false
   unfolding is_untouched
   touched_told frame touched =
       let ends = covers_frame frame touched.byte touched.inside in
-      each_in-fails (bytes_of_frame frame) (λ x. not (has_owner (map extent_of rs) x)) touched.byte ends.0 ends.1
+      each_in-fails (bytes_of_frame frame) (λ x. not (has_owner (map range_of_run rs) x)) touched.byte ends.0 ends.1
       (ap not (owned_by touched.byte ∙ ap is_some touched.owned))
 
 -- the line of a block has a frame exactly if the block has it

@@ -6,8 +6,8 @@ use Rattle.std.proofs.lemmas.Bool.Decides.{nat_tests}
 use Rattle.std.proofs.lemmas.List.Elements.{All-cons, All-head, All-nil, All-tail}
 use Rattle.std.proofs.lemmas.Nat.{pow_pos}
 use Rattle.bm_base.specs.Range.{RangeView, end_of}
-use Rattle.address_runs.specs.Edits.{NothingFrom}
-use Rattle.address_runs.specs.Runs.{AreRuns, RunOf, extent_of}
+use Rattle.address_runs.specs.Edits.{IsEmptyFrom}
+use Rattle.address_runs.specs.Runs.{AreRuns, RunOf, range_of_run}
 use Rattle.audit_lines.specs.Blocks.{bytes_of_block}
 use Rattle.audit_lines.specs.Lines.{AscendApart, StartFrom}
 use Rattle.audit_roundtrip.specs.PrintedLines.{IsPrintableBlock, line_of_block}
@@ -27,31 +27,31 @@ use Rattle.conservation.proofs.CountLaws.{in_block}
 use Rattle.conservation.proofs.HeadlineLaws.{below, is_told}
 
 -- runs are ascending and disjoint
-pub runs_ascend : {X : Type 0} (rs : List (RunOf X)) → AreRuns rs → AscendApart (map extent_of rs)
+pub runs_ascend : {X : Type 0} (rs : List (RunOf X)) → AreRuns rs → AscendApart (map range_of_run rs)
 runs_ascend [] runs = tt
 runs_ascend (r ∷ []) runs = (tt, tt)
 runs_ascend (r ∷ (s ∷ ss)) runs = (runs.1.0, runs_ascend (s ∷ ss) runs.2)
 
 -- disjoint ranges below an end, none of them empty, are no more than there are bytes
-few_from : {X : Type 0} (end at : ℕ) (rs : List (RunOf X)) → at ≤ end → StartFrom at (map extent_of rs) → AscendApart (map extent_of rs)
-    → All (λ r. (0 < r.size) × (end_of (extent_of r) ≤ end)) rs → at + length rs ≤ end
+few_from : {X : Type 0} (end at : ℕ) (rs : List (RunOf X)) → at ≤ end → StartFrom at (map range_of_run rs) → AscendApart (map range_of_run rs)
+    → All (λ r. (0 < r.size) × (end_of (range_of_run r) ≤ end)) rs → at + length rs ≤ end
 few_from end at [] low start order all = omega (arith, low)
 few_from end at (r ∷ rs) low start order all =
-    let here = All-head (λ s. (0 < s.size) × (end_of (extent_of s) ≤ end)) r rs all in
+    let here = All-head (λ s. (0 < s.size) × (end_of (range_of_run s) ≤ end)) r rs all in
     let some : 0 < r.size = here.0 in
     let last : r.base + r.size ≤ end = here.1 in
-    let rest : r.base + r.size + length rs ≤ end = few_from end (end_of (extent_of r)) rs here.1 order.0 order.1
-    (All-tail (λ s. (0 < s.size) × (end_of (extent_of s) ≤ end)) r rs all) in
+    let rest : r.base + r.size + length rs ≤ end = few_from end (end_of (range_of_run r)) rs here.1 order.0 order.1
+    (All-tail (λ s. (0 < s.size) × (end_of (range_of_run s) ≤ end)) r rs all) in
     omega (arith, start, some, rest)
 
 start_at : (es : List RangeView) → StartFrom 0 es
 start_at [] = tt
 start_at (e ∷ es) = omega arith
 
-pub few_runs : {X : Type 0} (rs : List (RunOf X)) → AscendApart (map extent_of rs)
-    → All (λ r. (0 < r.size) × (end_of (extent_of r) < 2 ^ 64)) rs → length rs < 2 ^ 64
+pub few_runs : {X : Type 0} (rs : List (RunOf X)) → AscendApart (map range_of_run rs)
+    → All (λ r. (0 < r.size) × (end_of (range_of_run r) < 2 ^ 64)) rs → length rs < 2 ^ 64
 few_runs rs order all =
-    let few : 0 + length rs ≤ 2 ^ 64 - 1 = few_from (2 ^ 64 - 1) 0 rs (omega arith) (start_at (map extent_of rs)) order
+    let few : 0 + length rs ≤ 2 ^ 64 - 1 = few_from (2 ^ 64 - 1) 0 rs (omega arith) (start_at (map range_of_run rs)) order
     (λ k d inside. (let ends = all k d inside in (ends.0, omega (arith, ends.1)))) in
     omega (arith, few)
 
@@ -88,7 +88,7 @@ module _ (f : Frames) where
   pub blocks_ascend : AscendApart (map bytes_of_block (map line_of_block (blocks_of f)))
   blocks_ascend = ascend_told 0 (blocks_of f) (listed_ascends f) (listed_sound f)
 
-  module _ (near : NothingFrom MAX_FRAMES f) where
+  module _ (near : IsEmptyFrom MAX_FRAMES f) where
     -- a free frame is below 2^40
     free_near : (frame node : ℕ) → f frame ≡ Some node → frame < 2 ^ 40
     free_near frame node free =

@@ -2,11 +2,11 @@
 use Rattle.std.proofs.Common.{◌≡◌, ℕ, nat_lt, false, List, length, map, Option, Some, Ok, refl, sym, subst, arith}
 use Rattle.std.proofs.lemmas.Bool.Decides.{nat_tests}
 use Rattle.bm_base.specs.Range.{RangeView}
-use Rattle.bm_base.specs.Width.{reach_of}
+use Rattle.bm_base.specs.Width.{address_limit_of}
 use Rattle.bm_base.specs.declared.width.Width.{Width}
-use Rattle.address_runs.specs.Runs.{AreRuns, RunOf, extent_of}
+use Rattle.address_runs.specs.Runs.{AreRuns, RunOf, range_of_run}
 use Rattle.audit_lines.specs.Blocks.{bytes_of_block}
-use Rattle.audit_lines.specs.Forms.{block_in, map_in, owner_in}
+use Rattle.audit_lines.specs.Forms.{block_in, map_line_in, owner_line_in}
 use Rattle.audit_lines.specs.Lines.{AscendApart}
 use Rattle.audit_lines.specs.Reports.{report_of}
 use Rattle.audit_roundtrip.specs.PrintedLines.{line_of_block, line_of_run}
@@ -22,7 +22,7 @@ use Rattle.boot_model.specs.Boot.{InputsView, BootedView, claims, whole_boot}
 use Rattle.boot_model.proofs.BootLaws.{goes_on, map_between}
 use Rattle.conservation.specs.Headline.{booted_blocks}
 use Rattle.conservation.proofs.HeadlineLaws.{below}
-use Rattle.conservation.proofs.ToldLaws.{IsToldOf, is_told_of}
+use Rattle.conservation.proofs.ToldLaws.{IsReportOfBoot, is_told_of}
 use Rattle.debugfs_reports.specs.Report.{report_text}
 use Rattle.debugfs_reports.specs.declared.report.Report.TheVariants as reports
 use Rattle.memblock_model.specs.Items.{owner_runs_of}
@@ -41,20 +41,20 @@ read_saved form extent report held text lines is read =
 
 pub map_runs : (given : InputsView) (told : BootedView) → whole_boot given ≡ Ok told → AreRuns told.map
 map_runs given told ends =
-    let of : IsToldOf given told = is_told_of given told ends in
+    let of : IsReportOfBoot given told = is_told_of given told ends in
     subst (λ (t : BootedView). AreRuns t.map) of.tells
     (subst (λ (rs : List (RunOf ℕ)). AreRuns rs) (sym (goes_on given of.made of.boots).map) (map_between (claims given)).runs)
 
 module _ (given : InputsView) (told : BootedView) (ends : whole_boot given ≡ Ok told) (can : IsPrintableBoot told) where
-  pub map_read : report_of map_in (λ l. l.range) (report_text reports.Map told) ≡ Ok (map line_of_run told.map)
+  pub map_read : report_of map_line_in (λ l. l.range) (report_text reports.Map told) ≡ Ok (map line_of_run told.map)
   map_read =
-      let order : AscendApart (map extent_of told.map) = runs_ascend told.map (map_runs given told ends) in
+      let order : AscendApart (map range_of_run told.map) = runs_ascend told.map (map_runs given told ends) in
       map_back told.map (few_runs told.map order (λ k d inside. (can.map k d inside).0)) can.map order
 
-  pub owners_read : report_of owner_in (λ r. r) (report_text reports.Owners told) ≡ Ok (map extent_of (owner_runs_of told.items))
+  pub owners_read : report_of owner_line_in (λ r. r) (report_text reports.Owners told) ≡ Ok (map range_of_run (owner_runs_of told.items))
   owners_read =
       let rs : List (RunOf Owner) = owner_runs_of told.items in
-      let order : AscendApart (map extent_of rs) = runs_ascend rs (owner_runs told.items can.within).runs in
+      let order : AscendApart (map range_of_run rs) = runs_ascend rs (owner_runs told.items can.within).runs in
       owners_back rs (few_runs rs order (λ k d inside. (can.owners k d inside).0)) can.owners order
 
   pub blocks_read : report_of block_in bytes_of_block (report_text reports.Blocks told) ≡ Ok (map line_of_block (booted_blocks told))
@@ -66,17 +66,17 @@ module _ (given : InputsView) (told : BootedView) (ends : whole_boot given ≡ O
     abbrev told_lines : SavedView
     told_lines = record {
       map_lines = map line_of_run told.map;
-      owners = map extent_of (owner_runs_of told.items);
+      owners = map range_of_run (owner_runs_of told.items);
       blocks = map line_of_block (booted_blocks told);
     }
 
     lines_told : saved_in_files held wanted ≡ Ok told_lines
     lines_told =
         rw (
-          read_saved map_in (λ l. l.range) saved.Map (held wanted.map_name) (report_text reports.Map told)
+          read_saved map_line_in (λ l. l.range) saved.Map (held wanted.map_name) (report_text reports.Map told)
               (map line_of_run told.map) is.map map_read,
-          read_saved owner_in (λ r. r) saved.Owners (held wanted.owners_name) (report_text reports.Owners told)
-              (map extent_of (owner_runs_of told.items)) is.owners owners_read,
+          read_saved owner_line_in (λ r. r) saved.Owners (held wanted.owners_name) (report_text reports.Owners told)
+              (map range_of_run (owner_runs_of told.items)) is.owners owners_read,
           read_saved block_in bytes_of_block saved.Blocks (held wanted.blocks_name) (report_text reports.Blocks told)
               (map line_of_block (booted_blocks told)) is.blocks blocks_read,
         ) refl
@@ -87,7 +87,7 @@ module _ (given : InputsView) (told : BootedView) (ends : whole_boot given ≡ O
       lines = told_lines;
       words = refl;
       texts = lines_told;
-      conserved = subst (λ (w : Width). LinesConserveMemory (reach_of w) told_lines.map_lines told_lines.owners told_lines.blocks)
+      conserved = subst (λ (w : Width). LinesConserveMemory (address_limit_of w) told_lines.map_lines told_lines.owners told_lines.blocks)
           (sym is.width)
           (lines_conserved given told ends can.within);
     }

@@ -2,8 +2,8 @@
 use Rattle.std.specs.Prelude.{◌<◌, ◌^◌}
 use Rattle.std.specs.List.{All}
 use Rattle.bm_base.specs.Range.{end_of}
-use Rattle.address_runs.specs.Edits.{NothingFrom}
-use Rattle.address_runs.specs.Runs.{RunOf, extent_of}
+use Rattle.address_runs.specs.Edits.{IsEmptyFrom}
+use Rattle.address_runs.specs.Runs.{RunOf, range_of_run}
 use Rattle.audit_roundtrip.specs.PrintedLines.{IsPrintableOwner, IsPrintableOwnerRun, IsPrintableRun}
 use Rattle.boot_model.specs.Boot.{BootedView}
 use Rattle.memblock_model.specs.Items.{owner_of, owner_runs_of}
@@ -14,11 +14,11 @@ use Rattle.memblock_model.specs.declared.owner.Owner.{Owner}
 pub record IsPrintableBoot (told : BootedView) : Type 0 where
   pub map : All IsPrintableRun told.map
   pub owners : All IsPrintableOwnerRun (owner_runs_of told.items)
-  pub within : NothingFrom (2 ^ 64) (owner_of told.items)
+  pub within : IsEmptyFrom (2 ^ 64) (owner_of told.items)
 
 -- the run ends below 2^64, as the program's types ensure
 abbrev pub RunEndsInSpace : {V : Type 0} → RunOf V → Type 0
-RunEndsInSpace r = end_of (extent_of r) < 2 ^ 64
+RunEndsInSpace r = end_of (range_of_run r) < 2 ^ 64
 
 -- the run ends below 2^64, and the owner's number has 32 bits, as the program's types ensure
 abbrev pub IsBoundedOwnerRun : RunOf Owner → Type 0

@@ -2,12 +2,12 @@
 //! texts that are read back.
 
 ghost use Rattle.std.specs.Prelude.{◌≡◌, ◌^◌, Some, Ok, map};
-ghost use Rattle.address_runs.specs.Edits.{NothingFrom};
-ghost use Rattle.address_runs.specs.Runs.{extent_of};
+ghost use Rattle.address_runs.specs.Edits.{IsEmptyFrom};
+ghost use Rattle.address_runs.specs.Runs.{range_of_run};
 ghost use Rattle.audit_soundness.specs.Saved.{AreSaved};
 ghost use Rattle.audit_soundness.specs.PrintableBoots.{IsPrintableBoot};
 ghost use Rattle.audit_lines.specs.Blocks.{bytes_of_block};
-ghost use Rattle.audit_lines.specs.Forms.{block_in, map_in, owner_in};
+ghost use Rattle.audit_lines.specs.Forms.{block_in, map_line_in, owner_line_in};
 ghost use Rattle.audit_lines.specs.Reports.{report_of};
 ghost use Rattle.audit_roundtrip.specs.PrintedLines.{line_of_block, line_of_run};
 ghost use Rattle.boot_audit.specs.Conserved.{LinesConserveMemory};
@@ -28,9 +28,9 @@ ghost use Rattle.memblock_model.specs.Items.{owner_of, owner_runs_of};
 /// zone, and couldn't merge with its buddy.
 pub fn booted_lines_conserve_memory()
     ensures { (given : InputsView) (told : BootedView) → whole_boot given ≡ Ok told
-        → NothingFrom (2 ^ 64) (owner_of told.items)
+        → IsEmptyFrom (2 ^ 64) (owner_of told.items)
         → LinesConserveMemory (booted_address_limit told) (map line_of_run told.map)
-        (map extent_of (owner_runs_of told.items))
+        (map range_of_run (owner_runs_of told.items))
         (map line_of_block (booted_blocks told)) }
 {}
 
@@ -39,12 +39,12 @@ pub fn booted_lines_conserve_memory()
 pub fn booted_reports_are_read_back()
     ensures map { (given : InputsView) (told : BootedView) → whole_boot given ≡ Ok told
         → IsPrintableBoot told
-        → report_of map_in (λ l. l.range) (report_text reports.Map told)
+        → report_of map_line_in (λ l. l.range) (report_text reports.Map told)
         ≡ Ok (map line_of_run told.map) }
     ensures owners { (given : InputsView) (told : BootedView) → whole_boot given ≡ Ok told
         → IsPrintableBoot told
-        → report_of owner_in (λ r. r) (report_text reports.Owners told)
-        ≡ Ok (map extent_of (owner_runs_of told.items)) }
+        → report_of owner_line_in (λ r. r) (report_text reports.Owners told)
+        ≡ Ok (map range_of_run (owner_runs_of told.items)) }
     ensures blocks { (given : InputsView) (told : BootedView) → whole_boot given ≡ Ok told
         → IsPrintableBoot told
         → report_of block_in bytes_of_block (report_text reports.Blocks told)

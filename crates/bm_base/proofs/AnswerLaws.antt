@@ -1,10 +1,11 @@
 -- If two calls answer what their definitions say, so does their sequence.
 use Rattle.std.proofs.Common.{◌≡◌, Result, Ok, Err, refl, ap}
 use Rattle.bm_base.specs.Answers.{Answers}
-use Rattle.bm_base.specs.ResultSteps.{◌>>=◌, with_error}
+use Rattle.bm_base.specs.ResultSteps.{◌>>=◌, map_error}
 
 module _ {A B C D E : Type 0} (memory : E) (view : A → B) (shown : C → D) where
-  -- `?` continues: the definition's first step has the value that the first call returned, so the rest decides the whole result
+  -- `?` continues: the definition's first step has the value that the first call returned, so the
+  -- rest decides the whole result
   pub goes_on : (a : A) (said : Result B E) (step : B → Result D E) (rest : Result C E)
       → Answers memory view (Ok a) said → Answers memory shown rest (step (view a)) → Answers memory shown rest (said >>= step)
   goes_on a said step rest first answers = rw first answers
@@ -24,12 +25,12 @@ module _ {A B C D E : Type 0} (memory : E) (view : A → B) (shown : C → D) wh
 module _ {A B E F : Type 0} (convert : E → F) (memory : E) (view : A → B) where
   -- an error that is converted on its way (`map_err`, or `?` by `From`)
   pub converted : (answer : Result A E) (said : Result B E)
-      → Answers memory view answer said → Answers (convert memory) view (with_error convert answer) (with_error convert said)
-  converted (Ok a) said answers = ap (with_error convert) answers
-  converted (Err error) said answers = λ other. ap (with_error convert) (answers (λ is. other (ap convert is)))
+      → Answers memory view answer said → Answers (convert memory) view (map_error convert answer) (map_error convert said)
+  converted (Ok a) said answers = ap (map_error convert) answers
+  converted (Err error) said answers = λ other. ap (map_error convert) (answers (λ is. other (ap convert is)))
 
   -- a converted error that stops the whole
-  pub stops_converted : {C D : Type 0} (shown : C → D) (error : E) (said : Result B E) (step : B → Result D F)
-      → Answers memory view (Err error) said → Answers (convert memory) shown (Err (convert error)) (with_error convert said >>= step)
-  stops_converted shown error said step answers =
-      stops (convert memory) view shown (convert error) (with_error convert said) step (converted (Err error) said answers)
+  pub converted_error_stops : {C D : Type 0} (shown : C → D) (error : E) (said : Result B E) (step : B → Result D F)
+      → Answers memory view (Err error) said → Answers (convert memory) shown (Err (convert error)) (map_error convert said >>= step)
+  converted_error_stops shown error said step answers =
+      stops (convert memory) view shown (convert error) (map_error convert said) step (converted (Err error) said answers)

@@ -10,7 +10,7 @@ use Rattle.bm_base.specs.Size.{number_of, size_of}
 use Rattle.bm_base.specs.declared.size.NumFault.TheVariants.{NoDigits, TooLarge}
 use Rattle.bm_base.specs.Spelling.{SpellsIn, hexadecimal, octal, decimal, SpellsNumber, SpellsSize, number_alone, number_with_suffix}
 use Rattle.bm_base.proofs.SpellingLaws.{size-read}
-use Rattle.bm_base.specs.Width.{reach_of, root_table_of}
+use Rattle.bm_base.specs.Width.{address_limit_of, root_table_size_of}
 use Rattle.bm_base.specs.declared.width.Width.TheVariants.{Bits46, Bits52}
 use Rattle.bm_base.specs.Zones.{zone_of}
 use Rattle.bm_base.specs.declared.range.TheConstants.{FRAME_SIZE}
@@ -74,8 +74,8 @@ zone_examples : (zone_of 0 ≡ Dma) × (zone_of 4095 ≡ Dma) × (zone_of 4096 �
 zone_examples = (refl, refl, refl, refl, refl)
 
 -- 64 TiB and 4 PiB: 2^19 and 2^25 sections of 128 MiB, 256 of them a root, 8 bytes a root
-width_examples : (reach_of Bits46 ≡ 70368744177664) × (reach_of Bits52 ≡ 4503599627370496)
-    × (root_table_of Bits46 ≡ 2 ^ 19 / 256 * 8) × (root_table_of Bits52 ≡ 2 ^ 25 / 256 * 8)
+width_examples : (address_limit_of Bits46 ≡ 70368744177664) × (address_limit_of Bits52 ≡ 4503599627370496)
+    × (root_table_size_of Bits46 ≡ 2 ^ 19 / 256 * 8) × (root_table_size_of Bits52 ≡ 2 ^ 25 / 256 * 8)
 width_examples = (refl, refl, refl, refl)
 
 -- a frame is 4,096 bytes (`PAGE_SHIFT` 12); the zones end at 16 MiB (`MAX_DMA_PFN`) and at 4 GiB

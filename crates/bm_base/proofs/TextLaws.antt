@@ -11,29 +11,29 @@ abbrev pub padded : ℕ → List ℕ → List ℕ
 padded w ds = replicate (w - length ds) 48 ++ ds
 
 -- the last k hexadecimal digits of n, then the rest
-unfoldable pub hex_onto : ℕ → ℕ → List ℕ → List ℕ
-hex_onto zero n rest = rest
-hex_onto (suc k) n rest = hex_onto k (n / 16) (digit_glyph false (n % 16) ∷ rest)
+unfoldable pub prepend_hex_digits : ℕ → ℕ → List ℕ → List ℕ
+prepend_hex_digits zero n rest = rest
+prepend_hex_digits (suc k) n rest = prepend_hex_digits k (n / 16) (digit_glyph false (n % 16) ∷ rest)
 
-hex_none : (n : ℕ) (rest : List ℕ) → hex_onto 0 n rest ≡ rest
-unfolding hex_onto
+hex_none : (n : ℕ) (rest : List ℕ) → prepend_hex_digits 0 n rest ≡ rest
+unfolding prepend_hex_digits
 hex_none n rest = refl
 
 -- moving a zero from the rest to the padding changes nothing
-zeros_more : (k : ℕ) (rest : List ℕ) → replicate k 48 ++ (48 ∷ rest) ≡ replicate (suc k) 48 ++ rest
-zeros_more zero rest = refl
-zeros_more (suc k) rest = ap (λ xs. 48 ∷ xs) (zeros_more k rest)
+zero_moves_to_padding : (k : ℕ) (rest : List ℕ) → replicate k 48 ++ (48 ∷ rest) ≡ replicate (suc k) 48 ++ rest
+zero_moves_to_padding zero rest = refl
+zero_moves_to_padding (suc k) rest = ap (λ xs. 48 ∷ xs) (zero_moves_to_padding k rest)
 
 -- k digits of 0 are k zeros
-hex_zeros : (k : ℕ) (rest : List ℕ) → hex_onto k 0 rest ≡ replicate k 48 ++ rest
-unfolding hex_onto
+hex_zeros : (k : ℕ) (rest : List ℕ) → prepend_hex_digits k 0 rest ≡ replicate k 48 ++ rest
+unfolding prepend_hex_digits
 hex_zeros zero rest = refl
-hex_zeros (suc k) rest = hex_zeros k (48 ∷ rest) ∙ zeros_more k rest
+hex_zeros (suc k) rest = hex_zeros k (48 ∷ rest) ∙ zero_moves_to_padding k rest
 
 -- a number below 16 is zeros and one digit
 one_digit : (k j n : ℕ) (rest : List ℕ) → n < 16
-    → hex_onto (suc k) n rest ≡ padded (suc k + length rest) (digits_onto (suc j) 16 false n rest)
-unfolding hex_onto
+    → prepend_hex_digits (suc k) n rest ≡ padded (suc k + length rest) (digits_onto (suc j) 16 false n rest)
+unfolding prepend_hex_digits
 one_digit k j n rest small =
     let none : n / 16 ≡ 0 = omega arith in
     let width : suc k + length rest - length (digit_glyph false (n % 16) ∷ rest) ≡ k = omega arith in
@@ -41,8 +41,8 @@ one_digit k j n rest small =
 
 -- the last k + 1 digits of a number below 16^(k+1) are its digits, padded with zeros
 padded_onto : (k j n : ℕ) (rest : List ℕ) → n < 16 ^ (suc k) → k ≤ j
-    → hex_onto (suc k) n rest ≡ padded (suc k + length rest) (digits_onto (suc j) 16 false n rest)
-unfolding hex_onto
+    → prepend_hex_digits (suc k) n rest ≡ padded (suc k + length rest) (digits_onto (suc j) 16 false n rest)
+unfolding prepend_hex_digits
 padded_onto zero j n rest small fuel = one_digit zero j n rest (omega arith)
 padded_onto (suc k) zero n rest small fuel = absurd (omega arith)
 padded_onto (suc k) (suc j) n rest small fuel =
@@ -54,15 +54,15 @@ padded_onto (suc k) (suc j) n rest small fuel =
     (cases_lt n 16)
 
 -- the text of an address is `0x` and the last 16 digits of the address
-pub hex_sixteen : (n : ℕ) → n < 2 ^ 64 → codes "0x" ++ hex_onto 16 n [] ≡ hex_text n
+pub hex_sixteen : (n : ℕ) → n < 2 ^ 64 → codes "0x" ++ prepend_hex_digits 16 n [] ≡ hex_text n
 unfolding digits
 hex_sixteen n small = ap (λ ds. codes "0x" ++ ds) (padded_onto 15 63 n [] (omega arith) (omega arith))
 
 -- writing the next digit to the left keeps what is to be written in all
 pub hex_step : (text : List ℕ) (i left : ℕ) → i < 16 → length text ≡ 18
-    → hex_onto (16 - (i + 1)) (left / 16) (drop (18 - (i + 1)) (set text (17 - i) (digit_glyph false (left % 16))))
-    ≡ hex_onto (16 - i) left (drop (18 - i) text)
-unfolding hex_onto
+    → prepend_hex_digits (16 - (i + 1)) (left / 16) (drop (18 - (i + 1)) (set text (17 - i) (digit_glyph false (left % 16))))
+    ≡ prepend_hex_digits (16 - i) left (drop (18 - i) text)
+unfolding prepend_hex_digits
 hex_step text i left below long =
     let place : 18 - (i + 1) ≡ 17 - i = omega arith in
     let count : 16 - i ≡ suc (16 - (i + 1)) = omega arith in
@@ -72,12 +72,13 @@ hex_step text i left below long =
 
 -- after 16 steps the text is `0x` and all digits
 pub hex_end : (text : List ℕ) (i left n : ℕ) → i ≡ 16 → n < 2 ^ 64 → take 2 text ≡ codes "0x"
-    → hex_onto (16 - i) left (drop (18 - i) text) ≡ hex_onto 16 n [] → text ≡ hex_text n
+    → prepend_hex_digits (16 - i) left (drop (18 - i) text) ≡ prepend_hex_digits 16 n [] → text ≡ hex_text n
 hex_end text i left n end small head digits =
-    let ready : drop 2 text ≡ hex_onto 16 n [] = sym (hex_none left (drop 2 text)) ∙ rw end at digits in
+    let ready : drop 2 text ≡ prepend_hex_digits 16 n [] = sym (hex_none left (drop 2 text)) ∙ rw end at digits in
     sym (take-append-drop 2 text) ∙ rw (head, ready) (hex_sixteen n small)
 
--- a number at the right end of 20 spaces, cut to the width or to its first digit, is the padded number
+-- a number at the right end of 20 spaces, cut to the width or to its first digit, is the padded
+-- number
 pub right_aligned : (width start n : ℕ) (text : List ℕ) → width ≤ 20 → start + length (decimal n) ≡ 20
     → drop start text ≡ decimal n ++ [] → take start text ≡ take start (replicate 20 32)
     → drop (min start (20 - width)) text ≡ padded_decimal width n

@@ -8,6 +8,6 @@ Ok a >>= step = step a
 Err error >>= step = Err error
 
 -- converts the error of a step to another type
-abbrev pub with_error : {A E F : Type 0} → (E → F) → Result A E → Result A F
-with_error convert (Ok a) = Ok a
-with_error convert (Err error) = Err (convert error)
+abbrev pub map_error : {A E F : Type 0} → (E → F) → Result A E → Result A F
+map_error convert (Ok a) = Ok a
+map_error convert (Err error) = Err (convert error)

@@ -1,6 +1,6 @@
 //! The number of bits of a physical address, which depends on the depth of the page tables.
 ghost use Rattle.std.specs.Prelude.{◌≡◌};
-ghost use Rattle.bm_base.specs.Width.{reach_of, root_table_of};
+ghost use Rattle.bm_base.specs.Width.{address_limit_of, root_table_size_of};
 
 /// The width of physical addresses (`MAX_PHYSMEM_BITS` of arch/x86/include/asm/sparsemem.h, which
 /// depends on `pgtable_l5_enabled`).
@@ -15,7 +15,7 @@ pub enum Width {
 impl Width {
     /// Returns the first address above all possible memory: 2^46 or 2^52.
     pub fn limit(self) -> u64
-        ensures { result ≡ reach_of self }
+        ensures { result ≡ address_limit_of self }
     {
         match self {
             Width::Bits46 => 1 << 46,
@@ -26,7 +26,7 @@ impl Width {
     /// Returns the size in bytes of the kernel's table of section roots (`mem_section`): 8 bytes
     /// for each of `NR_SECTION_ROOTS` roots, a root being 256 sections of 128 MiB.
     pub fn root_table(self) -> u64
-        ensures { result ≡ root_table_of self }
+        ensures { result ≡ root_table_size_of self }
     {
         match self {
             Width::Bits46 => 16_384,

@@ -2,7 +2,7 @@
 use Rattle.std.proofs.Common.{◌≡◌, ℕ, ◌-◌, ◌<◌, ◌≤◌, List, ◌++◌, length, take, drop, Option, Some, arith}
 use Rattle.std.proofs.lemmas.List.{length-take-le}
 use Rattle.bm_io.specs.Calls.{HasTaken, nothing_taken, took, HasGiven, gave}
-use Rattle.bm_io.proofs.StreamLaws.{left_of, gone_more}
+use Rattle.bm_io.proofs.StreamLaws.{remaining_slice, taken_count_after_write}
 
 -- before the first write nothing was taken
 pub taken_none : {W : Type 0} (writes : W → List ℕ → Option ℕ → W → Type 0) (chunk : List ℕ) (before : W)
@@ -13,10 +13,10 @@ taken_none writes chunk before = let zero : length chunk - length chunk ≡ 0 = 
 pub taken_more : {W : Type 0} (writes : W → List ℕ → Option ℕ → W → Type 0) (chunk rest : List ℕ) (before mid after : W) (n : ℕ)
     → HasTaken writes chunk before (length chunk - length rest) mid → rest ≡ drop (length chunk - length rest) chunk
     → n ≤ length rest → 0 < n → writes mid rest (Some n) after
-    → HasTaken writes chunk before (length chunk - length (left_of rest n)) after
+    → HasTaken writes chunk before (length chunk - length (remaining_slice rest n)) after
 taken_more writes chunk rest before mid after n so_far left small some call =
     let offered : writes mid (drop (length chunk - length rest) chunk) (Some n) after = rw (← left) call in
-    rw (gone_more chunk rest n left small) (took so_far offered some)
+    rw (taken_count_after_write chunk rest n left small) (took so_far offered some)
 
 -- one more read gave some bytes
 pub given_more : {F : Type 0} (reads : F → Option (List ℕ) → F → Type 0) (before mid after : F) (so_far buffer now : List ℕ) (n : ℕ)

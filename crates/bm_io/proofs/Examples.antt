@@ -9,15 +9,15 @@ use Rattle.bm_io.specs.MemFiles.{MemFileView, MemFilesView, file_bytes, HaveOwnN
 use Rattle.bm_io.specs.Puts.{Puts}
 use Rattle.bm_io.specs.Calls.{HasTaken, nothing_taken, took, HasGiven, nothing_given, gave, IsPutBy, IsReadBy, IsFetchedBy}
 use Rattle.bm_io.specs.MemSink.{MemSinkView}
-use Rattle.bm_io.proofs.PutsLaws.{unwanted}
+use Rattle.bm_io.proofs.PutsLaws.{put_ok_keeps_wants}
 
 -- a counter goes up and stops at 2^64 - 1
 counts : (count_after 5 3 ≡ 8) × (count_after (2 ^ 64 - 2) 3 ≡ 2 ^ 64 - 1)
 counts = (refl, refl)
 
 -- a rise shows, except at 2^64 - 1
-it_rose : Rose 5 6 × Rose (2 ^ 64 - 1) (2 ^ 64 - 1)
-it_rose = (omega arith, omega arith)
+rose_examples : Rose 5 6 × Rose (2 ^ 64 - 1) (2 ^ 64 - 1)
+rose_examples = (omega arith, omega arith)
 
 it_stood : Rose 5 5 → ⊥
 it_stood rose = omega arith
@@ -29,8 +29,8 @@ rose_by_the_limit : RoseByMoreThan 16 4 20 → ⊥
 rose_by_the_limit more = omega arith
 
 -- if contents are known, `zp` holds these three bytes; if they are unknown, nothing is claimed
-told_bytes : IsKnownAs (Some (λ name. Some (codes "abc"))) (codes "zp") (codes "abc") × IsKnownAs None (codes "zp") []
-told_bytes = (refl, tt)
+known_bytes_examples : IsKnownAs (Some (λ name. Some (codes "abc"))) (codes "zp") (codes "abc") × IsKnownAs None (codes "zp") []
+known_bytes_examples = (refl, tt)
 
 not_so_told : IsKnownAs (Some (λ name. Some (codes "abc"))) (codes "zp") [] → ⊥
 not_so_told told = cc told
@@ -62,10 +62,10 @@ refused_by_name = inr refl
 abbrev before_failure : MemSinkView
 before_failure = record { written = codes "ab"; failing = 2 ∷ []; calls = 1; faults = 0; wants = 0 }
 
-abbrev behind_failure : MemSinkView
-behind_failure = record { written = codes "abc"; failing = 2 ∷ []; calls = 2; faults = 1; wants = 0 }
+abbrev after_failure : MemSinkView
+after_failure = record { written = codes "abc"; failing = 2 ∷ []; calls = 2; faults = 1; wants = 0 }
 
-half_of_a_chunk : AppendsFront (Some before_failure.written) (Some behind_failure.written) (codes "cd")
+half_of_a_chunk : AppendsFront (Some before_failure.written) (Some after_failure.written) (codes "cd")
 half_of_a_chunk = (1, omega arith, refl)
 
 -- the bytes and counters of an output in memory are known
@@ -73,7 +73,7 @@ abbrev held_sink : SinkOf MemSinkView
 held_sink = record { written = λ s. Some s.written; faults = λ s. s.faults; wants = λ s. s.wants }
 
 -- that call failed with a cause; without a counted fault it couldn't have failed
-failed_put : Puts held_sink before_failure behind_failure (Err put.Failed) (codes "cd")
+failed_put : Puts held_sink before_failure after_failure (Err put.Failed) (codes "cd")
 failed_put = record {
   whole = tt;
   front = half_of_a_chunk;
@@ -89,8 +89,8 @@ no_cause puts = let rose = puts.failed refl in omega (arith, rose)
 
 -- an output may count a fault, retry and append everything, with the result Ok. Running out of
 -- memory is always reported
-tried_again : Puts held_sink before_failure behind_failure (Ok tt) (codes "c")
-tried_again = record {
+retried_put : Puts held_sink before_failure after_failure (Ok tt) (codes "c")
+retried_put = record {
   whole = refl;
   front = tt;
   failed = λ is. cc;
@@ -100,8 +100,8 @@ tried_again = record {
   wants_stay = omega arith;
 }
 
-want_unheard : Puts held_sink before_failure (record behind_failure { wants = 1 }) (Ok tt) (codes "c") → ⊥
-want_unheard puts = let still = unwanted puts in omega (arith, still)
+ok_never_counts_want : Puts held_sink before_failure (record after_failure { wants = 1 }) (Ok tt) (codes "c") → ⊥
+ok_never_counts_want puts = let still = put_ok_keeps_wants puts in omega (arith, still)
 
 -- a write that failed took none of the bytes
 none_taken : TakesKnown (Some (codes "x")) (Some (codes "xa")) (codes "abc") None → ⊥
@@ -149,8 +149,8 @@ one_too_many = (
 )
 
 -- a read that fails after two bytes: they count as read, and none is returned
-failed_behind_two : IsReadBy known_reads (codes "abc") 9 (Err fetch.Failed) 2 (codes "c")
-failed_behind_two = (
+read_fails_after_two : IsReadBy known_reads (codes "abc") 9 (Err fetch.Failed) 2 (codes "c")
+read_fails_after_two = (
   codes "ab",
   codes "c",
   gave {given = []} {bytes = codes "ab"} {mid = codes "abc"} nothing_given (refl, λ none. cc) (omega arith),

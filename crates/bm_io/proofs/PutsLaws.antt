@@ -27,13 +27,13 @@ joined_at bytes chunks i d inside =
     ∙ sym (flat_map-append bytes (take i chunks) (drop i chunks)) ∙ ap (λ t. flat_map bytes t) (take-append-drop i chunks)
 
 -- if two joined lists of bytes are empty, both are
-pub none_first : (xs ys : List ℕ) → xs ++ ys ≡ [] → xs ≡ []
-none_first [] ys none = refl
-none_first (x ∷ xs) ys none = cc
+pub both_empty_first : (xs ys : List ℕ) → xs ++ ys ≡ [] → xs ≡ []
+both_empty_first [] ys none = refl
+both_empty_first (x ∷ xs) ys none = cc
 
-pub none_behind : (xs ys : List ℕ) → xs ++ ys ≡ [] → ys ≡ []
-none_behind [] ys none = none
-none_behind (x ∷ xs) ys none = cc
+pub both_empty_second : (xs ys : List ℕ) → xs ++ ys ≡ [] → ys ≡ []
+both_empty_second [] ys none = none
+both_empty_second (x ∷ xs) ys none = cc
 
 -- bytes that were written whole and then the first bytes of others are the first bytes of all
 front_then : (old mid new : Option (List ℕ)) (first bytes rest : List ℕ)
@@ -48,9 +48,9 @@ front_then old mid new first bytes rest before front =
     )
 
 -- writing bytes whole didn't run out of memory
-pub unwanted : {S : Type 0} {sink : SinkOf S} {old new : S} {done : Unit {0}} {bytes : List ℕ} → Puts sink old new (Ok done) bytes
+pub put_ok_keeps_wants : {S : Type 0} {sink : SinkOf S} {old new : S} {done : Unit {0}} {bytes : List ℕ} → Puts sink old new (Ok done) bytes
     → sink.wants new ≡ sink.wants old
-unwanted puts = elim puts.no_want [
+put_ok_keeps_wants puts = elim puts.no_want [
   | inl wanting ↦ cc
   | inr same ↦ same
 ]

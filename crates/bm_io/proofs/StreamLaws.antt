@@ -4,36 +4,36 @@ use Rattle.std.specs.Io.KnownBytes.{Appends}
 use Rattle.std.proofs.KnownBytes.{Appends-trans}
 
 -- the remaining bytes after k more, as a slice
-abbrev pub left_of : List ℕ → ℕ → List ℕ
-left_of rest k = take (length rest - k) (drop k rest)
+abbrev pub remaining_slice : List ℕ → ℕ → List ℕ
+remaining_slice rest k = take (length rest - k) (drop k rest)
 
-left_is : (rest : List ℕ) (k : ℕ) → left_of rest k ≡ drop k rest
+left_is : (rest : List ℕ) (k : ℕ) → remaining_slice rest k ≡ drop k rest
 left_is rest k = take_all (length rest - k) (drop k rest) (rw (length-drop k rest) (omega arith))
 
 -- the number of bytes of the chunk that were taken
-pub gone_more : (chunk rest : List ℕ) (k : ℕ) → rest ≡ drop (length chunk - length rest) chunk → k ≤ length rest
-    → length chunk - length (left_of rest k) ≡ (length chunk - length rest) + k
-gone_more chunk rest k left small =
+pub taken_count_after_write : (chunk rest : List ℕ) (k : ℕ) → rest ≡ drop (length chunk - length rest) chunk → k ≤ length rest
+    → length chunk - length (remaining_slice rest k) ≡ (length chunk - length rest) + k
+taken_count_after_write chunk rest k left small =
     let all : length rest ≡ length chunk - (length chunk - length rest) =
     ap (λ (t : List ℕ). length t) left ∙ length-drop (length chunk - length rest) chunk in
     rw (left_is rest k, length-drop k rest) (omega arith)
 
 -- the rest after k more bytes is the rest of the chunk
-pub left_more : (chunk rest : List ℕ) (k : ℕ) → rest ≡ drop (length chunk - length rest) chunk → k ≤ length rest
-    → left_of rest k ≡ drop (length chunk - length (left_of rest k)) chunk
-left_more chunk rest k left small =
+pub remaining_after_write : (chunk rest : List ℕ) (k : ℕ) → rest ≡ drop (length chunk - length rest) chunk → k ≤ length rest
+    → remaining_slice rest k ≡ drop (length chunk - length (remaining_slice rest k)) chunk
+remaining_after_write chunk rest k left small =
     left_is rest k ∙ ap (λ (t : List ℕ). drop k t) left
     ∙ drop-drop k (length chunk - length rest) chunk
-    ∙ sym (ap (λ (n : ℕ). drop n chunk) (gone_more chunk rest k left small))
+    ∙ sym (ap (λ (n : ℕ). drop n chunk) (taken_count_after_write chunk rest k left small))
 
 -- the bytes so far and k more of the rest are the first bytes of the chunk
-pub front_more : (old mid new : Option (List ℕ)) (chunk rest : List ℕ) (k : ℕ)
+pub front_after_write : (old mid new : Option (List ℕ)) (chunk rest : List ℕ) (k : ℕ)
     → Appends old mid (take (length chunk - length rest) chunk) → rest ≡ drop (length chunk - length rest) chunk
     → k ≤ length rest → Appends mid new (take k rest)
-    → Appends old new (take (length chunk - length (left_of rest k)) chunk)
-front_more old mid new chunk rest k before left small more =
+    → Appends old new (take (length chunk - length (remaining_slice rest k)) chunk)
+front_after_write old mid new chunk rest k before left small more =
     let n : ℕ = length chunk - length rest in
-    let whole : take n chunk ++ take k rest ≡ take (length chunk - length (left_of rest k)) chunk =
+    let whole : take n chunk ++ take k rest ≡ take (length chunk - length (remaining_slice rest k)) chunk =
     ap (λ (t : List ℕ). take n chunk ++ take k t) left ∙ sym (take-add n k chunk)
-    ∙ sym (ap (λ (m : ℕ). take m chunk) (gone_more chunk rest k left small)) in
+    ∙ sym (ap (λ (m : ℕ). take m chunk) (taken_count_after_write chunk rest k left small)) in
     rw (← whole) (Appends-trans old mid new (take n chunk) (take k rest) before more)

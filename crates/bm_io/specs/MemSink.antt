@@ -20,7 +20,7 @@ put_failures (Err put.Memory) = 0
 
 -- what a put with this result adds to `wants`, the count of puts that ran out of memory: 1 if it
 -- is one of them, else 0
-abbrev pub wants_of_memory : Result (Unit {0}) Put → ℕ
-wants_of_memory (Ok done) = 0
-wants_of_memory (Err put.Failed) = 0
-wants_of_memory (Err put.Memory) = 1
+abbrev pub out_of_memory_puts : Result (Unit {0}) Put → ℕ
+out_of_memory_puts (Ok done) = 0
+out_of_memory_puts (Err put.Failed) = 0
+out_of_memory_puts (Err put.Memory) = 1

@@ -20,7 +20,7 @@ pub fn put_all<S: Sink, P: AsSlice<u8>>(out: &mut S, chunks: &[P]) -> Result<(),
     ensures untouched { flat_map P.items chunks.now ≡ [] → out.new ≡ out.old }
 {
     for chunk in chunks {
-        put_some(out, chunk.as_slice())?;
+        put_if_not_empty(out, chunk.as_slice())?;
     }
     Ok(())
 }
@@ -30,7 +30,7 @@ pub fn put_all<S: Sink, P: AsSlice<u8>>(out: &mut S, chunks: &[P]) -> Result<(),
 /// # Errors
 ///
 /// The error of the put.
-fn put_some<S: Sink>(out: &mut S, chunk: &[u8]) -> Result<(), Put>
+fn put_if_not_empty<S: Sink>(out: &mut S, chunk: &[u8]) -> Result<(), Put>
     ensures puts { Puts S.Sink out.old out.new result chunk.now }
     ensures untouched { chunk.now ≡ [] → out.new ≡ out.old }
 {

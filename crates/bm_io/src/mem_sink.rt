@@ -2,7 +2,7 @@
 //! are planned by the numbers of the calls.
 ghost use Rattle.std.specs.Prelude.{◌≡◌, ◌+◌, ◌-◌, ◌/◌, ◌^◌, ◌<◌, ◌≤◌, [], ◌++◌, length, take, Some, Contains, OnOk, IsErrOf};
 ghost use Rattle.bm_io.specs.Counts.{count_after};
-ghost use Rattle.bm_io.specs.MemSink.{put_failures, wants_of_memory};
+ghost use Rattle.bm_io.specs.MemSink.{put_failures, out_of_memory_puts};
 
 use crate::writing::{Put, Sink};
 use std::marker::Model;
@@ -86,7 +86,7 @@ impl Sink for MemSink {
         ensures failing { self.new.failing ≡ self.old.failing }
         ensures calls { self.new.calls ≡ count_after self.old.calls 1 }
         ensures faults { self.new.faults ≡ count_after self.old.faults (put_failures result) }
-        ensures wants { self.new.wants ≡ count_after self.old.wants (wants_of_memory result) }
+        ensures wants { self.new.wants ≡ count_after self.old.wants (out_of_memory_puts result) }
         ensures uncounted { OnOk result
             ((self.new.faults ≡ self.old.faults) × (self.new.wants ≡ self.old.wants)) }
         ensures faults_stay { self.old.faults ≤ self.new.faults }

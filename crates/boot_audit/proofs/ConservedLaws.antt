@@ -5,7 +5,7 @@ use Rattle.std.proofs.lemmas.Bool.{cases_Bool, cases_lt, and_parts}
 use Rattle.std.proofs.lemmas.Bool.Decides.{nat_tests}
 use Rattle.bm_base.specs.Range.{RangeView, covers, end_of}
 use Rattle.bm_base.specs.Frames.{bytes_of_frame}
-use Rattle.bm_base.specs.Width.{reach_of}
+use Rattle.bm_base.specs.Width.{address_limit_of}
 use Rattle.bm_base.specs.declared.width.Width.{Width}
 use Rattle.bm_base.specs.declared.width.Width.TheVariants as widths
 use Rattle.bm_base.proofs.EachLaws.{each_in-each}
@@ -15,18 +15,18 @@ use Rattle.audit_lines.specs.declared.lines.MapLine.{MapLine}
 use Rattle.boot_audit.specs.declared.judgement.Verdict.TheVariants as verdicts
 use Rattle.boot_audit.specs.Conserved.{LinesConserveMemory, IsTouchedOrInOne, count_blocks_of_frame}
 use Rattle.boot_audit.specs.Frames.{could_merge, frames_of_block, is_in_a_block, is_in_memory, is_aligned, is_in_zone, is_untouched, is_usable}
-use Rattle.boot_audit.specs.Verdicts.{verdict_of_faults, first_line, is_free, is_lost, is_not_free, least_below, least_frame, or_this, verdict_on}
+use Rattle.boot_audit.specs.Verdicts.{verdict_of_faults, first_line_passing, is_free, is_lost, is_in_block_but_not_free, least_below, least_frame, or_this, verdict_on_lines}
 use Rattle.boot_audit.proofs.LineLaws.{covers_below}
 use Rattle.boot_audit.proofs.SweepLaws.{least_none}
 
 -- if no line passes the test, none of the blocks does
-pub no_line : (p : BlockLineView → Bool) (n : ℕ) (bs : List BlockLineView) → first_line p n bs ≡ None
+pub no_line : (p : BlockLineView → Bool) (n : ℕ) (bs : List BlockLineView) → first_line_passing p n bs ≡ None
     → (k : ℕ) (d : BlockLineView) → k < length bs → p (get_or bs k d) ≡ false
 no_line p n [] none k d inside = absurd (omega arith)
 no_line p n (b ∷ bs) none k d inside =
     elim (cases_Bool (p b)) as (λ _. p (get_or (b ∷ bs) k d) ≡ false) [
       | inl passes ↦ let wrong : ◌≡◌ {A = Option ℕ} (Some n) None = rw passes at none in cc
-      | inr fails ↦ let rest : first_line p (n + 1) bs ≡ None = rw fails at none in
+      | inr fails ↦ let rest : first_line_passing p (n + 1) bs ≡ None = rw fails at none in
           at_place k inside (λ j below. no_line p (n + 1) bs rest j d below) fails
     ]
   where
@@ -37,7 +37,7 @@ no_line p n (b ∷ bs) none k d inside =
 
 pub first_none : (p : BlockLineView → Bool) (n : ℕ) (bs : List BlockLineView)
     → ((k : ℕ) (d : BlockLineView) → k < length bs → p (get_or bs k d) ≡ false)
-    → first_line p n bs ≡ None
+    → first_line_passing p n bs ≡ None
 first_none p n [] each = refl
 first_none p n (b ∷ bs) each =
     let here : p b ≡ false = each 0 b (omega arith) in
@@ -139,7 +139,7 @@ module _ (limit : ℕ) (lines : List MapLine) (owners : List RangeView) (bs : Li
     (order : AscendApart (map frames_of_block bs)) (fit : (k : ℕ) (d : BlockLineView) → k < length bs → IsBlockLine (get_or bs k d)) where
   -- a usable frame, if no frame is lost and each frame in a block is free
   touched_or_one : (f : ℕ) (untouched in_it : Bool) → is_untouched owners f ≡ untouched → is_in_a_block bs f ≡ in_it
-      → is_usable limit lines f ≡ true → is_not_free limit lines owners bs f ≡ false → is_lost limit lines owners bs f ≡ false
+      → is_usable limit lines f ≡ true → is_in_block_but_not_free limit lines owners bs f ≡ false → is_lost limit lines owners bs f ≡ false
       → IsTouchedOrInOne owners bs f
   touched_or_one f false false touch out usable free kept = inl (touch, none_with bs f out)
   touched_or_one f false true touch in_it usable free kept =
@@ -150,26 +150,26 @@ module _ (limit : ℕ) (lines : List MapLine) (owners : List RangeView) (bs : Li
 
   free_in_it : (f : ℕ) (in_it free : Bool) → is_in_a_block bs f ≡ in_it → is_free limit lines owners f ≡ free
       → 0 < count_blocks_of_frame bs f
-      → (f < 2 ^ 40 → is_not_free limit lines owners bs f ≡ false)
+      → (f < 2 ^ 40 → is_in_block_but_not_free limit lines owners bs f ≡ false)
       → (is_usable limit lines f ≡ true) × (is_untouched owners f ≡ true)
   free_in_it f false free out is some none = let zero_of : count_blocks_of_frame bs f ≡ 0 = none_with bs f out in absurd (omega arith)
   free_in_it f true true in_it is some none = and_parts (is_usable limit lines f) (is_untouched owners f) is
   free_in_it f true false in_it is some none =
       let wrong : ◌≡◌ {A = Bool} true false = rw (in_it, is) at (none (in_block_near bs f fit in_it)) in cc
 
-  pub sound_says : verdict_on limit lines owners bs ≡ verdicts.Sound → LinesConserveMemory limit lines owners bs
+  pub sound_says : verdict_on_lines limit lines owners bs ≡ verdicts.Sound → LinesConserveMemory limit lines owners bs
   sound_says is =
-      let none = faultless (first_line (λ b. not (is_aligned b)) 1 bs) (first_line (λ b. not (is_in_zone b)) 1 bs)
-      (least_frame (is_not_free limit lines owners bs)) (least_frame (is_lost limit lines owners bs))
-      (first_line (could_merge bs) 1 bs) is in
+      let none = faultless (first_line_passing (λ b. not (is_aligned b)) 1 bs) (first_line_passing (λ b. not (is_in_zone b)) 1 bs)
+      (least_frame (is_in_block_but_not_free limit lines owners bs)) (least_frame (is_lost limit lines owners bs))
+      (first_line_passing (could_merge bs) 1 bs) is in
       record {
         frames = λ f usable.
             let small = usable_near limit lines f near usable in
             touched_or_one f (is_untouched owners f) (is_in_a_block bs f) refl refl usable
-            (none_least (is_not_free limit lines owners bs) (2 ^ 40) none.2 f small)
+            (none_least (is_in_block_but_not_free limit lines owners bs) (2 ^ 40) none.2 f small)
             (none_least (is_lost limit lines owners bs) (2 ^ 40) none.3 f small);
         others = λ f some. free_in_it f (is_in_a_block bs f) (is_free limit lines owners f) refl refl some
-            (none_least (is_not_free limit lines owners bs) (2 ^ 40) none.2 f);
+            (none_least (is_in_block_but_not_free limit lines owners bs) (2 ^ 40) none.2 f);
         each = λ k d inside. record {
           aligned = not_false (is_aligned (get_or bs k d)) (no_line (λ b. not (is_aligned b)) 1 bs none.0 k d inside);
           in_zone = not_false (is_in_zone (get_or bs k d)) (no_line (λ b. not (is_in_zone b)) 1 bs none.1 k d inside);
@@ -178,7 +178,7 @@ module _ (limit : ℕ) (lines : List MapLine) (owners : List RangeView) (bs : Li
       }
 
   none_unfree : (f : ℕ) (in_it : Bool) → is_in_a_block bs f ≡ in_it → LinesConserveMemory limit lines owners bs
-      → is_not_free limit lines owners bs f ≡ false
+      → is_in_block_but_not_free limit lines owners bs f ≡ false
   none_unfree f false out kept = rw out refl
   none_unfree f true in_it kept =
       let one : count_blocks_of_frame bs f ≡ 1 = one_with bs f order in_it in
@@ -199,27 +199,27 @@ module _ (limit : ℕ) (lines : List MapLine) (owners : List RangeView) (bs : Li
   none_lost f true false first second kept = rw (first, second) refl
   none_lost f true true first second kept = lost_no_more f (is_in_a_block bs f) refl first second (kept.frames f first)
 
-  pub conserved_says : LinesConserveMemory limit lines owners bs → verdict_on limit lines owners bs ≡ verdicts.Sound
+  pub conserved_says : LinesConserveMemory limit lines owners bs → verdict_on_lines limit lines owners bs ≡ verdicts.Sound
   conserved_says kept =
-      let aligned : first_line (λ b. not (is_aligned b)) 1 bs ≡ None =
+      let aligned : first_line_passing (λ b. not (is_aligned b)) 1 bs ≡ None =
       first_none (λ b. not (is_aligned b)) 1 bs (λ k d inside. ap not ((kept.each k d inside).aligned)) in
-      let zoned : first_line (λ b. not (is_in_zone b)) 1 bs ≡ None =
+      let zoned : first_line_passing (λ b. not (is_in_zone b)) 1 bs ≡ None =
       first_none (λ b. not (is_in_zone b)) 1 bs (λ k d inside. ap not ((kept.each k d inside).in_zone)) in
-      let free : least_frame (is_not_free limit lines owners bs) ≡ None =
-      least_none (is_not_free limit lines owners bs) (2 ^ 40) (λ f small. none_unfree f (is_in_a_block bs f) refl kept) in
+      let free : least_frame (is_in_block_but_not_free limit lines owners bs) ≡ None =
+      least_none (is_in_block_but_not_free limit lines owners bs) (2 ^ 40) (λ f small. none_unfree f (is_in_a_block bs f) refl kept) in
       let found : least_frame (is_lost limit lines owners bs) ≡ None =
       least_none (is_lost limit lines owners bs) (2 ^ 40)
       (λ f small. none_lost f (is_usable limit lines f) (is_untouched owners f) refl refl kept) in
-      let whole : first_line (could_merge bs) 1 bs ≡ None =
+      let whole : first_line_passing (could_merge bs) 1 bs ≡ None =
       first_none (could_merge bs) 1 bs (λ k d inside. (kept.each k d inside).maximal) in
-      all_none (first_line (λ b. not (is_aligned b)) 1 bs) (first_line (λ b. not (is_in_zone b)) 1 bs)
-      (least_frame (is_not_free limit lines owners bs)) (least_frame (is_lost limit lines owners bs))
-      (first_line (could_merge bs) 1 bs) aligned zoned free found whole
+      all_none (first_line_passing (λ b. not (is_aligned b)) 1 bs) (first_line_passing (λ b. not (is_in_zone b)) 1 bs)
+      (least_frame (is_in_block_but_not_free limit lines owners bs)) (least_frame (is_lost limit lines owners bs))
+      (first_line_passing (could_merge bs) 1 bs) aligned zoned free found whole
     where
       all_none : (m z f l x : Option ℕ) → m ≡ None → z ≡ None → f ≡ None → l ≡ None → x ≡ None
           → verdict_of_faults m z f l x ≡ verdicts.Sound
       all_none m z f l x a b c d e = rw (a, b, c, d, e) refl
 
-pub reach_near : (width : Width) → reach_of width ≤ 2 ^ 52
+pub reach_near : (width : Width) → address_limit_of width ≤ 2 ^ 52
 reach_near widths.Bits46 = omega arith
 reach_near widths.Bits52 = omega arith

@@ -11,8 +11,8 @@ use Rattle.audit_lines.specs.Blocks.{BlockLineView, bytes_of_block}
 use Rattle.audit_lines.specs.declared.lines.MapLine.{MapLine}
 use Rattle.boot_audit.specs.declared.sweep.ByteState.TheVariants as states
 use Rattle.boot_audit.specs.Frames.{frames_of_block, is_in_a_block, is_in_memory, is_aligned, has_owner, is_untouched, is_usable}
-use Rattle.boot_audit.specs.Sweep.{is_byte_in_block, is_free_byte, byte_state_at, byte_state_by}
-use Rattle.boot_audit.specs.Verdicts.{first_line, is_free, is_lost, is_not_free}
+use Rattle.boot_audit.specs.Sweep.{is_byte_in_block, is_free_byte, byte_state_at, byte_state_of}
+use Rattle.boot_audit.specs.Verdicts.{first_line_passing, is_free, is_lost, is_in_block_but_not_free}
 use Rattle.boot_audit.proofs.SweepLaws.{Tells}
 
 -- n frames that begin at a multiple of 4096: their bytes are those whose frame is one of the n
@@ -33,11 +33,11 @@ block_byte b f x aligned frame = byte_by b.at (2 ^ b.order) f x ((Decides-eqb (b
 abbrev or_of : Bool → Bool → Bool
 or_of a b = a || b
 
-blocks_byte : (blocks : List BlockLineView) (n f x : ℕ) → first_line (λ b. not (is_aligned b)) n blocks ≡ None → x / 4096 ≡ f
+blocks_byte : (blocks : List BlockLineView) (n f x : ℕ) → first_line_passing (λ b. not (is_aligned b)) n blocks ≡ None → x / 4096 ≡ f
     → is_byte_in_block blocks x ≡ is_in_a_block blocks f
 blocks_byte [] n f x aligned frame = refl
 blocks_byte (b ∷ bs) n f x aligned frame =
-    let parts = aligned_first (is_aligned b) n (first_line (λ c. not (is_aligned c)) (n + 1) bs) aligned in
+    let parts = aligned_first (is_aligned b) n (first_line_passing (λ c. not (is_aligned c)) (n + 1) bs) aligned in
     ap (λ (c : Bool). or_of c (is_byte_in_block bs x)) (block_byte b f x parts.0 frame)
     ∙ ap (or_of (covers (frames_of_block b) f)) (blocks_byte bs (n + 1) f x parts.1 frame)
   where
@@ -47,19 +47,19 @@ blocks_byte (b ∷ bs) n f x aligned frame =
     aligned_first false line others is = cc
 
 -- what each state says of a byte
-lost_says : (free blocked : Bool) → byte_state_by free blocked ≡ states.Lost → (free ≡ true) × (blocked ≡ false)
+lost_says : (free blocked : Bool) → byte_state_of free blocked ≡ states.Lost → (free ≡ true) × (blocked ≡ false)
 lost_says true true is = cc
 lost_says true false is = (refl, refl)
 lost_says false true is = cc
 lost_says false false is = cc
 
-not_free_says : (free blocked : Bool) → byte_state_by free blocked ≡ states.NotFree → (free ≡ false) × (blocked ≡ true)
+not_free_says : (free blocked : Bool) → byte_state_of free blocked ≡ states.NotFree → (free ≡ false) × (blocked ≡ true)
 not_free_says true true is = cc
 not_free_says true false is = cc
 not_free_says false true is = (refl, refl)
 not_free_says false false is = cc
 
-free_in_block : (free blocked : Bool) → blocked ≡ true → byte_state_by free blocked ≢ states.NotFree → free ≡ true
+free_in_block : (free blocked : Bool) → blocked ≡ true → byte_state_of free blocked ≢ states.NotFree → free ≡ true
 free_in_block true blocked in_it other = refl
 free_in_block false true in_it other = absurd (other refl)
 free_in_block false false in_it other = cc
@@ -96,7 +96,7 @@ module _ (limit : ℕ) (map_lines : List MapLine) (owners : List RangeView) wher
   one_unfree f x fails above below =
       by_parts f x (nat_lt x limit && is_in_memory map_lines x) (not (has_owner owners x)) refl refl fails above below
 
-  module _ (blocks : List BlockLineView) (aligned : first_line (λ b. not (is_aligned b)) 1 blocks ≡ None) where
+  module _ (blocks : List BlockLineView) (aligned : first_line_passing (λ b. not (is_aligned b)) 1 blocks ≡ None) where
     in_block_is : (f x : ℕ) → 4096 * f ≤ x → x < 4096 * f + 4096 → is_byte_in_block blocks x ≡ is_in_a_block blocks f
     in_block_is f x above below = blocks_byte blocks 1 f x aligned (omega arith)
 
@@ -113,7 +113,7 @@ module _ (limit : ℕ) (map_lines : List MapLine) (owners : List RangeView) wher
         and_from (is_free limit map_lines owners f) (not (is_in_a_block blocks f)) free (ap not out)
 
     lost_by : (f x : ℕ) (free blocked : Bool) → is_free_byte limit map_lines owners x ≡ free → is_byte_in_block blocks x ≡ blocked
-        → byte_state_by free blocked ≢ states.Lost → 4096 * f ≤ x → x < 4096 * f + 4096 → is_lost limit map_lines owners blocks f ≡ false
+        → byte_state_of free blocked ≢ states.Lost → 4096 * f ≤ x → x < 4096 * f + 4096 → is_lost limit map_lines owners blocks f ≡ false
     lost_by f x false blocked first second other above below =
         ap (λ (u : Bool). u && not (is_in_a_block blocks f)) (one_unfree f x first above below)
     lost_by f x true true first second other above below =
@@ -128,7 +128,7 @@ module _ (limit : ℕ) (map_lines : List MapLine) (owners : List RangeView) wher
         lost_by f x (is_free_byte limit map_lines owners x) (is_byte_in_block blocks x) refl refl other above below
 
     not_free_one : (f x : ℕ) → 4096 * f ≤ x → x < 4096 * f + 4096 → byte_state_at limit map_lines owners blocks x ≡ states.NotFree
-        → is_not_free limit map_lines owners blocks f ≡ true
+        → is_in_block_but_not_free limit map_lines owners blocks f ≡ true
     unfolding byte_state_at
     not_free_one f x above below is =
         let says = not_free_says (is_free_byte limit map_lines owners x) (is_byte_in_block blocks x) is in
@@ -137,7 +137,7 @@ module _ (limit : ℕ) (map_lines : List MapLine) (owners : List RangeView) wher
 
     free_by : (f : ℕ) (blocked : Bool) → is_in_a_block blocks f ≡ blocked
         → ((x : ℕ) → 4096 * f ≤ x → x < 4096 * f + 4096 → byte_state_at limit map_lines owners blocks x ≢ states.NotFree)
-        → is_not_free limit map_lines owners blocks f ≡ false
+        → is_in_block_but_not_free limit map_lines owners blocks f ≡ false
     unfolding byte_state_at
     free_by f false out none = ap (λ (u : Bool). u && not (is_free limit map_lines owners f)) out
     free_by f true in_it none =
@@ -147,7 +147,7 @@ module _ (limit : ℕ) (map_lines : List MapLine) (owners : List RangeView) wher
         ap (λ (u : Bool). is_in_a_block blocks f && not u) free ∙ and-false (is_in_a_block blocks f)
 
     pub bytes_tell : Tells (byte_state_at limit map_lines owners blocks) (is_lost limit map_lines owners blocks)
-        (is_not_free limit map_lines owners blocks)
+        (is_in_block_but_not_free limit map_lines owners blocks)
     bytes_tell = record {
       lost_true = lost_all;
       lost_false = lost_one;
@@ -159,7 +159,7 @@ module _ (limit : ℕ) (map_lines : List MapLine) (owners : List RangeView) wher
 pub around : (limit : ℕ) (map_lines : List MapLine) (owners : List RangeView) (blocks : List BlockLineView) (x : ℕ)
     (below inside owned held : Bool)
     → nat_lt x limit ≡ below → is_in_memory map_lines x ≡ inside → has_owner owners x ≡ owned → is_byte_in_block blocks x ≡ held
-    → byte_state_at limit map_lines owners blocks x ≡ byte_state_by ((below && inside) && not owned) held
+    → byte_state_at limit map_lines owners blocks x ≡ byte_state_of ((below && inside) && not owned) held
 unfolding byte_state_at
 around limit map_lines owners blocks x below inside owned held first second third fourth = rw (first, second, third, fourth) refl
 

@@ -6,12 +6,12 @@ use Rattle.std.proofs.lemmas.Bool.{and_parts}
 use Rattle.std.proofs.lemmas.Bool.Decides.{nat_tests}
 use Rattle.std.proofs.lemmas.List.Elements.{All-cons, All-nil}
 use Rattle.bm_base.specs.Range.{RangeView, end_of}
-use Rattle.bm_base.specs.ResultSteps.{◌>>=◌, with_error}
+use Rattle.bm_base.specs.ResultSteps.{◌>>=◌, map_error}
 use Rattle.bm_base.specs.OptionSteps.{◌>>=◌ as ◌and_then◌}
-use Rattle.bm_base.specs.Width.{reach_of}
+use Rattle.bm_base.specs.Width.{address_limit_of}
 use Rattle.audit_lines.specs.Blocks.{BlockLineView, IsBlockLine, bytes_of_block}
 use Rattle.audit_lines.specs.Fields.{rest_after, is_at_end, number_in, address_in}
-use Rattle.audit_lines.specs.Forms.{block_in, map_in, owner_in, zone_in}
+use Rattle.audit_lines.specs.Forms.{block_in, map_line_in, owner_line_in, zone_in}
 use Rattle.audit_lines.specs.Lines.{AscendApart}
 use Rattle.audit_lines.specs.Reports.{line_if_in_order, report_line_at, line_or_fault, report_from, report_of, split_lines}
 use Rattle.audit_lines.specs.declared.lines.MapLine.{MapLine}
@@ -25,7 +25,7 @@ use Rattle.boot_audit.specs.declared.failure.SavedReport.{SavedReport}
 use Rattle.boot_audit.specs.declared.failure.SavedReport.TheVariants as reports
 use Rattle.boot_audit.specs.declared.judgement.Verdict.TheVariants as verdicts
 use Rattle.boot_audit.specs.Headline.{FilesConserveMemory}
-use Rattle.boot_audit.specs.Outcome.{SavedView, lines_in_file, saved_in_files, audit_outcome, verdict_by}
+use Rattle.boot_audit.specs.Outcome.{SavedView, lines_in_file, saved_in_files, audit_outcome, verdict_for_args}
 use Rattle.boot_audit.specs.Reason.{AuditReason}
 use Rattle.boot_audit.specs.Args.{AuditArgsView}
 use Rattle.boot_audit.proofs.ConservedLaws.{conserved_says, reach_near, sound_says}
@@ -106,7 +106,7 @@ read_of form extent report (Some bytes) lines is = (bytes, by_length (nat_lt 536
   where
     by_length : (long : Bool) (said : Result (List _) LineFault)
         → ◌≡◌ {A = Result (List _) AuditReason} (if long then Err (reasons.Faulty report faults.TooLong)
-        else with_error (λ fault. reasons.Faulty report (faults.Line fault)) said) (Ok lines) → said ≡ Ok lines
+        else map_error (λ fault. reasons.Faulty report (faults.Line fault)) said) (Ok lines) → said ≡ Ok lines
     by_length true said is = cc
     by_length false (Ok some) is = let same : some ≡ lines = cc in rw same refl
     by_length false (Err fault) is = cc
@@ -127,8 +127,8 @@ good_blocks held blocks is =
 good_lines : (held : FileContents) (wanted : AuditArgsView) (lines : SavedView) → saved_in_files held wanted ≡ Ok lines
     → AreGood lines.blocks
 good_lines held wanted lines is =
-    by_map (lines_in_file map_in (λ l. l.range) reports.Map (held wanted.map_name))
-    (lines_in_file owner_in (λ r. r) reports.Owners (held wanted.owners_name))
+    by_map (lines_in_file map_line_in (λ l. l.range) reports.Map (held wanted.map_name))
+    (lines_in_file owner_line_in (λ r. r) reports.Owners (held wanted.owners_name))
     (lines_in_file block_in bytes_of_block reports.Blocks (held wanted.blocks_name)) refl is
   where
     by_map : (m : Result (List MapLine) AuditReason) (o : Result (List RangeView) AuditReason) (b : Result (List BlockLineView) AuditReason)
@@ -149,17 +149,17 @@ sound_conserved None held is = cc
 sound_conserved (Some wanted) held is = by_lines (saved_in_files held wanted) refl is
   where
     by_lines : (said : Result SavedView AuditReason) → saved_in_files held wanted ≡ said
-        → (said >>= λ lines. Ok (verdict_by wanted lines)) ≡ Ok verdicts.Sound → FilesConserveMemory (Some wanted) held
+        → (said >>= λ lines. Ok (verdict_for_args wanted lines)) ≡ Ok verdicts.Sound → FilesConserveMemory (Some wanted) held
     by_lines (Err reason) reads is = cc
     by_lines (Ok lines) reads is =
         let good = good_lines held wanted lines reads in
-        let sound : verdict_by wanted lines ≡ verdicts.Sound = cc in
+        let sound : verdict_for_args wanted lines ≡ verdicts.Sound = cc in
         record {
           wanted = wanted;
           lines = lines;
           words = refl;
           texts = reads;
-          conserved = sound_says (reach_of wanted.width) lines.map_lines lines.owners lines.blocks (reach_near wanted.width)
+          conserved = sound_says (address_limit_of wanted.width) lines.map_lines lines.owners lines.blocks (reach_near wanted.width)
               (frames_ascend lines.blocks good.0) good.1 sound;
         }
 
@@ -167,7 +167,7 @@ pub conserved_sound : (accepted : Option AuditArgsView) (held : FileContents) �
     → audit_outcome accepted held ≡ Ok verdicts.Sound
 conserved_sound accepted held kept =
     let good = good_lines held kept.wanted kept.lines kept.texts in
-    let sound : verdict_by kept.wanted kept.lines ≡ verdicts.Sound =
-    conserved_says (reach_of kept.wanted.width) kept.lines.map_lines kept.lines.owners kept.lines.blocks (reach_near kept.wanted.width)
+    let sound : verdict_for_args kept.wanted kept.lines ≡ verdicts.Sound =
+    conserved_says (address_limit_of kept.wanted.width) kept.lines.map_lines kept.lines.owners kept.lines.blocks (reach_near kept.wanted.width)
     (frames_ascend kept.lines.blocks good.0) good.1 kept.conserved in
     rw (kept.words, kept.texts, sound) refl

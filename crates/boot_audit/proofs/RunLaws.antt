@@ -7,7 +7,7 @@ use Rattle.program_end.specs.Causes.{EndHasCause, InputFaultsRose}
 use Rattle.program_end.specs.Ends.{WritesOutcome, WritingHasCause}
 use Rattle.program_end.specs.Program.{FileContents}
 use Rattle.program_end.specs.Status.{End, exit_status}
-use Rattle.program_end.proofs.EndLaws.{ends_complete}
+use Rattle.program_end.proofs.EndLaws.{complete_unless_memory}
 use Rattle.boot_audit.specs.declared.failure.SavedReport.{SavedReport}
 use Rattle.boot_audit.specs.declared.judgement.Verdict.{Verdict}
 use Rattle.boot_audit.specs.declared.judgement.Verdict.TheVariants as verdicts
@@ -41,6 +41,6 @@ module _ (accepted : Option AuditArgsView) (end : End AuditReason) (status : ℕ
       → ((report : SavedReport) → ¬ InputFaultsRose bootaudit before now accepted report) → (status ≡ 0) ⊎ (status ≡ 7))
   ran_conserved sink old new before now cause output None writes = tt
   ran_conserved sink old new before now cause output (Some held) writes = λ kept.
-      ends_complete bootaudit sink before now accepted old new end status is cause output
+      complete_unless_memory bootaudit sink before now accepted old new end status is cause output
       (audit_outcome accepted held) writes verdicts.Sound
       (conserved_sound accepted held kept)

@@ -38,7 +38,7 @@ pub record Tells (st : ℕ → ByteState) (lost not_free : ℕ → Bool) : Type 
 
 -- no frame that begins before `from` is lost; all bytes from `from` up to `at` are lost, but have
 -- no whole frame yet
-pub record IsOpen (st : ℕ → ByteState) (lost : ℕ → Bool) (from at : ℕ) : Type 0 where
+pub record IsLostSoFar (st : ℕ → ByteState) (lost : ℕ → Bool) (from at : ℕ) : Type 0 where
   pub ordered : from ≤ at
   pub before : (f : ℕ) → 4096 * f < from → lost f ≡ false
   pub all : (x : ℕ) → from ≤ x → x < at → st x ≡ states.Lost
@@ -51,7 +51,7 @@ pub record IsLeast (lost : ℕ → Bool) (k : ℕ) : Type 0 where
   pub first : (f : ℕ) → f < k → lost f ≡ false
 
 abbrev pub SoFar : (ℕ → ByteState) → (ℕ → Bool) → ℕ → ℕ → Option ℕ → Type 0
-SoFar st lost from at None = IsOpen st lost from at
+SoFar st lost from at None = IsLostSoFar st lost from at
 SoFar st lost from at (Some k) = IsLeast lost k
 
 module _ (st : ℕ → ByteState) (lost not_free : ℕ → Bool) (tells : Tells st lost not_free) where
@@ -64,7 +64,7 @@ module _ (st : ℕ → ByteState) (lost not_free : ℕ → Bool) (tells : Tells 
   }
 
   found_by : (from at until : ℕ) (ends : Bool) → nat_lt until (4096 * ((from + 4095) / 4096) + 4096) ≡ ends → at < until → until ≤ 2 ^ 52
-      → ((x : ℕ) → at ≤ x → x < until → st x ≡ states.Lost) → IsOpen st lost from at
+      → ((x : ℕ) → at ≤ x → x < until → st x ≡ states.Lost) → IsLostSoFar st lost from at
       → SoFar st lost from until (first_whole_frame from until)
   found_by from at until true is forward near piece known = rw is record {
     ordered = let low = known.ordered in omega arith;
@@ -89,7 +89,7 @@ module _ (st : ℕ → ByteState) (lost not_free : ℕ → Bool) (tells : Tells 
       }
 
   closed : (from at until : ℕ) (s : ByteState) → s ≢ states.Lost → at < until
-      → ((x : ℕ) → at ≤ x → x < until → st x ≡ s) → IsOpen st lost from at → IsOpen st lost until until
+      → ((x : ℕ) → at ≤ x → x < until → st x ≡ s) → IsLostSoFar st lost from at → IsLostSoFar st lost until until
   closed from at until s other forward piece known = record {
     ordered = omega arith;
     before = λ f below. elim (cases_lt (4096 * f) from) as (λ _. lost f ≡ false) [

@@ -12,8 +12,8 @@ use Rattle.bm_base.specs.declared.zone.Zone.TheVariants as zones
 use Rattle.audit_lines.specs.Blocks.{BlockLineView}
 use Rattle.audit_lines.specs.Lines.{StartFrom, AscendApart}
 use Rattle.boot_audit.specs.Frames.{are_of_one_zone, could_merge, frames_of_block, is_in_same_zone_block, parent_of, same_zone}
-use Rattle.boot_audit.specs.Verdicts.{first_line}
-use Rattle.boot_audit.specs.Walk.{is_covered_up_to, is_next_in_run, could_merge_in_run, run_start, first_mergeable_from}
+use Rattle.boot_audit.specs.Verdicts.{first_line_passing}
+use Rattle.boot_audit.specs.Walk.{is_covered_up_to, is_next_in_run, could_merge_after_run, run_start, first_mergeable_from}
 use Rattle.boot_audit.proofs.LineLaws.{either, says_below, says_first, says_past, says_before}
 
 abbrev first : BlockLineView → ℕ
@@ -296,7 +296,7 @@ module _ (b : BlockLineView) (front bs : List BlockLineView) (from : ℕ) (known
   each_is true false low full = apart_behind full
   each_is false full low is = apart_front low
 
-  joins_is : could_merge (front ++ bs) b ≡ could_merge_in_run from b bs
+  joins_is : could_merge (front ++ bs) b ≡ could_merge_after_run from b bs
   unfolding could_merge
   joins_is =
       ap (λ (u : Bool). nat_lt b.order 10 && u)
@@ -308,18 +308,18 @@ line_by passes line others = if passes then Some line else others
 
 walk_finds_first_line : (front rest : List BlockLineView) (last : Option BlockLineView) (from line : ℕ) → Front front last from
     → ((b : BlockLineView) (bs : List BlockLineView) → rest ≡ b ∷ bs → StartsBehind last b) → AscendApart (map frames_of_block rest)
-    → first_mergeable_from last from line rest ≡ first_line (could_merge (front ++ rest)) line rest
+    → first_mergeable_from last from line rest ≡ first_line_passing (could_merge (front ++ rest)) line rest
 walk_finds_first_line front [] last from line known start order = refl
 walk_finds_first_line front (b ∷ bs) last from line known start order =
     let next = next_front front last from b known (start b bs refl) in
     let same : (front ++ (b ∷ [])) ++ bs ≡ front ++ (b ∷ bs) = append_assoc front (b ∷ []) bs in
-    let here : could_merge (front ++ (b ∷ bs)) b ≡ could_merge_in_run (run_start last from b) b bs =
-    subst (λ (ls : List BlockLineView). could_merge ls b ≡ could_merge_in_run (run_start last from b) b bs) same
+    let here : could_merge (front ++ (b ∷ bs)) b ≡ could_merge_after_run (run_start last from b) b bs =
+    subst (λ (ls : List BlockLineView). could_merge ls b ≡ could_merge_after_run (run_start last from b) b bs) same
     (joins_is b (front ++ (b ∷ [])) bs (run_start last from b) next order.0 order.1) in
     let others : first_mergeable_from (Some b) (run_start last from b) (line + 1) bs
-    ≡ first_line (could_merge (front ++ (b ∷ bs))) (line + 1) bs =
+    ≡ first_line_passing (could_merge (front ++ (b ∷ bs))) (line + 1) bs =
     subst (λ (ls : List BlockLineView). first_mergeable_from (Some b) (run_start last from b) (line + 1) bs
-    ≡ first_line (could_merge ls) (line + 1) bs) same
+    ≡ first_line_passing (could_merge ls) (line + 1) bs) same
     (walk_finds_first_line (front ++ (b ∷ [])) bs (Some b) (run_start last from b) (line + 1) next (next_starts bs order.0) order.1) in
     ap (λ (u : Bool). line_by u line (first_mergeable_from (Some b) (run_start last from b) (line + 1) bs)) (sym here)
     ∙ ap (line_by (could_merge (front ++ (b ∷ bs)) b) line) others
@@ -330,5 +330,5 @@ walk_finds_first_line front (b ∷ bs) last from line known start order =
     next_starts cs starts c ds is = let begun : StartFrom (end b) (map frames_of_block (c ∷ ds)) = rw is at starts in begun
 
 pub walk_is : (blocks : List BlockLineView) → AscendApart (map frames_of_block blocks)
-    → first_mergeable_from None 0 1 blocks ≡ first_line (could_merge blocks) 1 blocks
+    → first_mergeable_from None 0 1 blocks ≡ first_line_passing (could_merge blocks) 1 blocks
 walk_is blocks order = walk_finds_first_line [] blocks None 0 1 refl (λ b bs is. tt) order

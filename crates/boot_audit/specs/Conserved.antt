@@ -2,7 +2,7 @@
 use Rattle.std.specs.Prelude.{◌≡◌, ℕ, ◌+◌, ◌<◌, true, false, if◌then◌else◌, List, [], ◌∷◌, ◌⊎◌}
 use Rattle.std.specs.List.{All}
 use Rattle.bm_base.specs.Range.{RangeView, covers}
-use Rattle.bm_base.specs.Width.{reach_of}
+use Rattle.bm_base.specs.Width.{address_limit_of}
 use Rattle.bm_base.specs.declared.width.Width.{Width}
 use Rattle.audit_lines.specs.Blocks.{BlockLineView}
 use Rattle.audit_lines.specs.declared.lines.MapLine.{MapLine}
@@ -38,4 +38,4 @@ pub record LinesConserveMemory (limit : ℕ) (map_lines : List MapLine) (owners 
 
 -- the saved lines show that memory was conserved, for physical addresses of this width
 abbrev pub SavedConservesMemory : Saved → Width → Type 0
-SavedConservesMemory saved width = LinesConserveMemory (reach_of width) saved.map.items saved.owners.items saved.blocks.items
+SavedConservesMemory saved width = LinesConserveMemory (address_limit_of width) saved.map.items saved.owners.items saved.blocks.items

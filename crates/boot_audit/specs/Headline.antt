@@ -1,6 +1,6 @@
 -- What status 0 promises if the files' contents are known.
 use Rattle.std.specs.Prelude.{◌≡◌, Option, Some, Ok}
-use Rattle.bm_base.specs.Width.{reach_of}
+use Rattle.bm_base.specs.Width.{address_limit_of}
 use Rattle.program_end.specs.Program.{FileContents}
 use Rattle.boot_audit.specs.Conserved.{LinesConserveMemory}
 use Rattle.boot_audit.specs.Outcome.{SavedView, saved_in_files}
@@ -13,4 +13,4 @@ pub record FilesConserveMemory (accepted : Option AuditArgsView) (held : FileCon
   pub lines : SavedView
   pub words : accepted ≡ Some wanted
   pub texts : saved_in_files held wanted ≡ Ok lines
-  pub conserved : LinesConserveMemory (reach_of wanted.width) lines.map_lines lines.owners lines.blocks
+  pub conserved : LinesConserveMemory (address_limit_of wanted.width) lines.map_lines lines.owners lines.blocks

@@ -2,13 +2,13 @@
 -- gives the bytes of each file.
 use Rattle.std.specs.Prelude.{ℕ, nat_lt, if◌then◌else◌, List, length, Option, Some, None, Result, Ok, Err}
 use Rattle.bm_base.specs.Range.{RangeView}
-use Rattle.bm_base.specs.ResultSteps.{◌>>=◌, with_error}
-use Rattle.bm_base.specs.Width.{reach_of}
+use Rattle.bm_base.specs.ResultSteps.{◌>>=◌, map_error}
+use Rattle.bm_base.specs.Width.{address_limit_of}
 use Rattle.program_end.specs.declared.failure.Reason.TheVariants as reasons
-use Rattle.program_end.specs.Fetches.{or_usage}
+use Rattle.program_end.specs.Fetches.{accepted_or_usage}
 use Rattle.program_end.specs.Program.{FileContents}
 use Rattle.audit_lines.specs.Blocks.{BlockLineView, bytes_of_block}
-use Rattle.audit_lines.specs.Forms.{block_in, map_in, owner_in}
+use Rattle.audit_lines.specs.Forms.{block_in, map_line_in, owner_line_in}
 use Rattle.audit_lines.specs.Reports.{report_of}
 use Rattle.audit_lines.specs.declared.lines.MapLine.{MapLine}
 use Rattle.boot_audit.specs.declared.failure.ReportFault.TheVariants as faults
@@ -16,7 +16,7 @@ use Rattle.boot_audit.specs.declared.failure.SavedReport.{SavedReport}
 use Rattle.boot_audit.specs.declared.failure.SavedReport.TheVariants as reports
 use Rattle.boot_audit.specs.declared.judgement.Verdict.{Verdict}
 use Rattle.boot_audit.specs.Reason.{AuditReason}
-use Rattle.boot_audit.specs.Verdicts.{verdict_on}
+use Rattle.boot_audit.specs.Verdicts.{verdict_on_lines}
 use Rattle.boot_audit.specs.Args.{AuditArgsView}
 
 -- the lines of a report, from the bytes of its file (`None` if there is no such file), which may
@@ -26,7 +26,7 @@ abbrev pub lines_in_file : {L : Type 0} → (ℕ → List ℕ → Option L) → 
 lines_in_file form extent report None = Err (reasons.Unread report)
 lines_in_file form extent report (Some bytes) =
     if nat_lt 536870912 (length bytes) then Err (reasons.Faulty report faults.TooLong) else
-    with_error (λ fault. reasons.Faulty report (faults.Line fault)) (report_of form extent bytes)
+    map_error (λ fault. reasons.Faulty report (faults.Line fault)) (report_of form extent bytes)
 
 -- the lines of the three reports
 pub record SavedView : Type 0 where
@@ -37,18 +37,18 @@ pub record SavedView : Type 0 where
 -- the lines of the three files, or the reason of the first that has none
 abbrev pub saved_in_files : FileContents → AuditArgsView → Result SavedView AuditReason
 saved_in_files held wanted = do
-  map_lines ← lines_in_file map_in (λ l. l.range) reports.Map (held wanted.map_name)
-  owners ← lines_in_file owner_in (λ r. r) reports.Owners (held wanted.owners_name)
+  map_lines ← lines_in_file map_line_in (λ l. l.range) reports.Map (held wanted.map_name)
+  owners ← lines_in_file owner_line_in (λ r. r) reports.Owners (held wanted.owners_name)
   blocks ← lines_in_file block_in bytes_of_block reports.Blocks (held wanted.blocks_name)
   Ok (record { map_lines = map_lines; owners = owners; blocks = blocks })
 
 -- the verdict on these lines, for the width of the command line
-abbrev pub verdict_by : AuditArgsView → SavedView → Verdict
-verdict_by wanted lines = verdict_on (reach_of wanted.width) lines.map_lines lines.owners lines.blocks
+abbrev pub verdict_for_args : AuditArgsView → SavedView → Verdict
+verdict_for_args wanted lines = verdict_on_lines (address_limit_of wanted.width) lines.map_lines lines.owners lines.blocks
 
 -- the outcome of the audit: the verdict on the three files, or the reason why there is none
 abbrev pub audit_outcome : Option AuditArgsView → FileContents → Result Verdict AuditReason
 audit_outcome accepted held = do
-  wanted ← or_usage accepted
+  wanted ← accepted_or_usage accepted
   lines ← saved_in_files held wanted
-  Ok (verdict_by wanted lines)
+  Ok (verdict_for_args wanted lines)

@@ -26,13 +26,13 @@ abbrev pub is_free_byte : ℕ → List MapLine → List RangeView → ℕ → Bo
 is_free_byte limit map owners x = (nat_lt x limit && is_in_memory map x) && not (has_owner owners x)
 
 -- the state of a byte that is free or not, and in a block or not
-abbrev pub byte_state_by : Bool → Bool → ByteState
-byte_state_by free in_block =
+abbrev pub byte_state_of : Bool → Bool → ByteState
+byte_state_of free in_block =
     if free then (if in_block then states.Sound else states.Lost) else (if in_block then states.NotFree else states.Sound)
 
 -- the state of the byte at address `x`
 unfoldable pub byte_state_at : ℕ → List MapLine → List RangeView → List BlockLineView → ℕ → ByteState
-byte_state_at limit map owners blocks x = byte_state_by (is_free_byte limit map owners x) (is_byte_in_block blocks x)
+byte_state_at limit map owners blocks x = byte_state_of (is_free_byte limit map owners x) (is_byte_in_block blocks x)
 
 -- the first frame that lies whole in the bytes from `from` up to `until`
 abbrev pub first_whole_frame : ℕ → ℕ → Option ℕ

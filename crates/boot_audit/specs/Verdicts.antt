@@ -1,7 +1,7 @@
 -- The verdict on saved reports: the first fault, of five kinds.
 use Rattle.std.specs.Prelude.{ℕ, zero, suc, ◌+◌, ◌^◌, ◌<◌, ◌&&◌, Bool, not, if◌then◌else◌, List, [], ◌∷◌, Option, Some, None}
 use Rattle.bm_base.specs.Range.{RangeView}
-use Rattle.bm_base.specs.Width.{reach_of}
+use Rattle.bm_base.specs.Width.{address_limit_of}
 use Rattle.bm_base.specs.declared.width.Width.{Width}
 use Rattle.audit_lines.specs.Blocks.{BlockLineView}
 use Rattle.audit_lines.specs.declared.lines.MapLine.{MapLine}
@@ -11,9 +11,9 @@ use Rattle.boot_audit.specs.declared.judgement.Verdict.TheVariants as verdicts
 use Rattle.boot_audit.specs.Frames.{could_merge, is_in_a_block, is_aligned, is_in_zone, is_untouched, is_usable}
 
 -- the number of the first line that passes the test; the first of these lines has number n
-abbrev pub first_line : (BlockLineView → Bool) → ℕ → List BlockLineView → Option ℕ
-first_line p n [] = None
-first_line p n (b ∷ bs) = if p b then Some n else first_line p (n + 1) bs
+abbrev pub first_line_passing : (BlockLineView → Bool) → ℕ → List BlockLineView → Option ℕ
+first_line_passing p n [] = None
+first_line_passing p n (b ∷ bs) = if p b then Some n else first_line_passing p (n + 1) bs
 
 -- the number found so far if there is one, else n if it passes the test
 abbrev pub or_this : ℕ → Bool → Option ℕ → Option ℕ
@@ -34,8 +34,8 @@ abbrev pub is_free : ℕ → List MapLine → List RangeView → ℕ → Bool
 is_free limit map owners frame = is_usable limit map frame && is_untouched owners frame
 
 -- the frame is in a block, but not free
-abbrev pub is_not_free : ℕ → List MapLine → List RangeView → List BlockLineView → ℕ → Bool
-is_not_free limit map owners blocks frame = is_in_a_block blocks frame && not (is_free limit map owners frame)
+abbrev pub is_in_block_but_not_free : ℕ → List MapLine → List RangeView → List BlockLineView → ℕ → Bool
+is_in_block_but_not_free limit map owners blocks frame = is_in_a_block blocks frame && not (is_free limit map owners frame)
 
 -- the frame is free, but in no block
 abbrev pub is_lost : ℕ → List MapLine → List RangeView → List BlockLineView → ℕ → Bool
@@ -51,18 +51,18 @@ verdict_of_faults None None None None (Some line) = verdicts.NotMaximal line
 verdict_of_faults None None None None None = verdicts.Sound
 
 -- the verdict on lines of the three reports, for addresses below the limit
-abbrev pub verdict_on : ℕ → List MapLine → List RangeView → List BlockLineView → Verdict
-verdict_on limit map owners blocks =
+abbrev pub verdict_on_lines : ℕ → List MapLine → List RangeView → List BlockLineView → Verdict
+verdict_on_lines limit map owners blocks =
     verdict_of_faults
-    (first_line (λ b. not (is_aligned b)) 1 blocks)
-    (first_line (λ b. not (is_in_zone b)) 1 blocks)
-    (least_frame (is_not_free limit map owners blocks))
+    (first_line_passing (λ b. not (is_aligned b)) 1 blocks)
+    (first_line_passing (λ b. not (is_in_zone b)) 1 blocks)
+    (least_frame (is_in_block_but_not_free limit map owners blocks))
     (least_frame (is_lost limit map owners blocks))
-    (first_line (could_merge blocks) 1 blocks)
+    (first_line_passing (could_merge blocks) 1 blocks)
 
 -- the verdict on the saved lines
-abbrev pub verdict_of : Saved → Width → Verdict
-verdict_of saved width = verdict_on (reach_of width) saved.map.items saved.owners.items saved.blocks.items
+abbrev pub verdict_on_saved : Saved → Width → Verdict
+verdict_on_saved saved width = verdict_on_lines (address_limit_of width) saved.map.items saved.owners.items saved.blocks.items
 
 -- if the verdict has a frame, it is below 2^40
 abbrev pub HasFrameInSpace : Verdict → Type 0

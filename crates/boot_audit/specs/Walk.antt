@@ -25,8 +25,8 @@ is_covered_up_to b at until (c ∷ cs) =
 
 -- the block could merge with its buddy; `from` is the first frame of the run that ends with it,
 -- and `others` are the blocks after it
-abbrev pub could_merge_in_run : ℕ → BlockLineView → List BlockLineView → Bool
-could_merge_in_run from b others =
+abbrev pub could_merge_after_run : ℕ → BlockLineView → List BlockLineView → Bool
+could_merge_after_run from b others =
     nat_lt b.order 10 && (nat_le from (parent_of b).base && is_covered_up_to b (end_of (frames_of_block b)) (end_of (parent_of b)) others)
 
 -- the number of the first line whose block could merge. `last` is the block before these, `from`
@@ -34,5 +34,5 @@ could_merge_in_run from b others =
 abbrev pub first_mergeable_from : Option BlockLineView → ℕ → ℕ → List BlockLineView → Option ℕ
 first_mergeable_from last from line [] = None
 first_mergeable_from last from line (b ∷ bs) =
-    if could_merge_in_run (run_start last from b) b bs then Some line
+    if could_merge_after_run (run_start last from b) b bs then Some line
     else first_mergeable_from (Some b) (run_start last from b) (line + 1) bs

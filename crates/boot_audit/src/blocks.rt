@@ -2,7 +2,7 @@
 
 ghost use Rattle.std.specs.Prelude.{◌≡◌, ◌^◌, ◌<◌, length, not};
 ghost use Rattle.boot_audit.specs.Frames.{frames_of_block, is_aligned, is_in_zone, same_zone};
-ghost use Rattle.boot_audit.specs.Verdicts.{first_line};
+ghost use Rattle.boot_audit.specs.Verdicts.{first_line_passing};
 ghost use Rattle.bm_base.specs.Range.{end_of};
 
 use audit_lines::BlockLine;
@@ -11,7 +11,7 @@ use bm_base::{FRAME_SIZE, Zone, zone_of};
 /// Returns the first line, counted from 1, whose block isn't at a multiple of its size.
 pub fn first_misaligned(blocks: &[BlockLine]) -> Option<u32>
     requires { length blocks.now < 2 ^ 32 }
-    ensures { result ≡ first_line (λ b. not (is_aligned b)) 1 blocks.now }
+    ensures { result ≡ first_line_passing (λ b. not (is_aligned b)) 1 blocks.now }
 {
     for (index, block) in blocks.iter().enumerate() {
         if !is_aligned(block) {
@@ -24,7 +24,7 @@ pub fn first_misaligned(blocks: &[BlockLine]) -> Option<u32>
 /// Returns the first line, counted from 1, whose block has a frame outside its zone.
 pub fn first_in_wrong_zone(blocks: &[BlockLine]) -> Option<u32>
     requires { length blocks.now < 2 ^ 32 }
-    ensures { result ≡ first_line (λ b. not (is_in_zone b)) 1 blocks.now }
+    ensures { result ≡ first_line_passing (λ b. not (is_in_zone b)) 1 blocks.now }
 {
     for (index, block) in blocks.iter().enumerate() {
         if !is_in_zone(block) {

@@ -21,7 +21,7 @@ use bm_io::{Fetch, Files};
 use std::alloc::Global;
 
 /// The greatest number of bytes of a saved report: 512 MiB.
-const LIMIT: u64 = 536_870_912;
+const MOST_REPORT_BYTES: u64 = 536_870_912;
 
 /// Fetches the three files that the command line names and returns their lines. In each report the
 /// lines are ascending and disjoint.
@@ -76,7 +76,7 @@ fn fetch_lines<F: Files, L: ReportLine>(
     ensures order { IfOk result (λ lines. AscendApart (map L.extent lines.items)) }
     ensures few { IfOk result (λ lines. length lines.items < 2 ^ 32) }
 {
-    let bytes = match files.fetch(alloc, name, LIMIT) {
+    let bytes = match files.fetch(alloc, name, MOST_REPORT_BYTES) {
         Ok(bytes) => bytes,
         Err(Fetch::Failed) => return Err(NoVerdict::Reason(AuditReason::Unread(report))),
         Err(Fetch::TooLong) => return Err(NoVerdict::Reason(AuditReason::Faulty(

@@ -5,7 +5,7 @@ ghost use Rattle.std.specs.List.{All};
 ghost use Rattle.audit_lines.specs.Blocks.{IsBlockLine, bytes_of_block};
 ghost use Rattle.audit_lines.specs.Lines.{AscendApart};
 ghost use Rattle.boot_audit.specs.Conserved.{SavedConservesMemory};
-ghost use Rattle.boot_audit.specs.Verdicts.{HasFrameInSpace, verdict_of};
+ghost use Rattle.boot_audit.specs.Verdicts.{HasFrameInSpace, verdict_on_saved};
 
 use crate::blocks::{first_in_wrong_zone, first_misaligned};
 use crate::merges::first_mergeable;
@@ -54,7 +54,7 @@ pub fn judge(saved: &Saved, width: Width) -> Result<Verdict, Memory>
     requires owner_order { AscendApart (map (λ r. r) saved.now.owners.items) }
     requires block_order { AscendApart (map bytes_of_block saved.now.blocks.items) }
     requires few { length saved.now.blocks.items < 2 ^ 32 }
-    ensures verdict { result ≡ Ok (verdict_of saved.now width) }
+    ensures verdict { result ≡ Ok (verdict_on_saved saved.now width) }
     ensures near { IfOk result HasFrameInSpace }
 {
     if let Some(line) = first_misaligned(&saved.blocks) {
@@ -81,5 +81,6 @@ pub fn judge(saved: &Saved, width: Width) -> Result<Verdict, Memory>
 pub fn sound_verdict_conserves_memory(saved: &Saved, width: Width)
     requires order { AscendApart (map bytes_of_block saved.now.blocks.items) }
     requires fit { All IsBlockLine saved.now.blocks.items }
-    ensures { (verdict_of saved.now width ≡ Verdict.Sound) ↔ SavedConservesMemory saved.now width }
+    ensures { (verdict_on_saved saved.now width ≡ Verdict.Sound) ↔ SavedConservesMemory saved.now
+        width }
 {}

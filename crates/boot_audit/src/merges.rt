@@ -9,8 +9,8 @@
 ghost use Rattle.std.specs.Prelude.{◌≡◌, ◌+◌, ◌^◌, ◌<◌, length, map};
 ghost use Rattle.audit_lines.specs.Lines.{AscendApart};
 ghost use Rattle.boot_audit.specs.Frames.{are_of_one_zone, could_merge, frames_of_block};
-ghost use Rattle.boot_audit.specs.Verdicts.{first_line};
-ghost use Rattle.boot_audit.specs.Walk.{is_covered_up_to, is_next_in_run, could_merge_in_run, run_start};
+ghost use Rattle.boot_audit.specs.Verdicts.{first_line_passing};
+ghost use Rattle.boot_audit.specs.Walk.{is_covered_up_to, is_next_in_run, could_merge_after_run, run_start};
 ghost use Rattle.bm_base.specs.Range.{end_of};
 
 use crate::blocks::{end_frame, first_frame, same_zone};
@@ -21,13 +21,13 @@ use audit_lines::BlockLine;
 pub fn first_mergeable(blocks: &[BlockLine]) -> Option<u32>
     requires order { AscendApart (map frames_of_block blocks.now) }
     requires few { length blocks.now < 2 ^ 32 }
-    ensures { result ≡ first_line (could_merge blocks.now) 1 blocks.now }
+    ensures { result ≡ first_line_passing (could_merge blocks.now) 1 blocks.now }
 {
     let mut last = None;
     let mut from = 0;
     for (index, block) in blocks.iter().enumerate() {
         from = run_start(last, from, block);
-        if could_merge_in_run(from, block, blocks.split_at(index + 1).1) {
+        if could_merge_after_run(from, block, blocks.split_at(index + 1).1) {
             return Some(index as u32 + 1);
         }
         last = Some(*block);
@@ -63,8 +63,8 @@ fn are_of_one_zone(first: &BlockLine, second: &BlockLine) -> bool
 
 /// Returns whether the block could merge with its buddy. `from` is the first frame of the run that
 /// ends with the block, and `others` are the blocks after it.
-fn could_merge_in_run(from: u64, block: &BlockLine, others: &[BlockLine]) -> bool
-    ensures { result ≡ could_merge_in_run from block.now others.now }
+fn could_merge_after_run(from: u64, block: &BlockLine, others: &[BlockLine]) -> bool
+    ensures { result ≡ could_merge_after_run from block.now others.now }
 {
     if block.order >= 10 {
         return false;

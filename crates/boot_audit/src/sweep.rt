@@ -10,15 +10,15 @@ ghost use Rattle.audit_lines.specs.Blocks.{bytes_of_block};
 ghost use Rattle.audit_lines.specs.Lines.{AscendApart};
 ghost use Rattle.bm_base.specs.Range.{RangeView, end_of};
 ghost use Rattle.boot_audit.specs.Frames.{is_aligned};
-ghost use Rattle.boot_audit.specs.Sweep.{FirstEndsAbove, advance_lost_frame, first_whole_frame, is_in_relevant_line, byte_state_at, byte_state_by};
-ghost use Rattle.boot_audit.specs.Verdicts.{first_line, is_lost, is_not_free, least_frame};
+ghost use Rattle.boot_audit.specs.Sweep.{FirstEndsAbove, advance_lost_frame, first_whole_frame, is_in_relevant_line, byte_state_at, byte_state_of};
+ghost use Rattle.boot_audit.specs.Verdicts.{first_line_passing, is_lost, is_in_block_but_not_free, least_frame};
 
 use crate::judgement::Saved;
 use audit_lines::{BlockLine, MapLine};
 use bm_base::{FRAME_SIZE, Range};
 
 /// The address at which the sweep ends; each block ends at or below it.
-const END: u64 = 1 << 52;
+const SWEEP_END: u64 = 1 << 52;
 
 /// Whether a byte fits the blocks: it should be in a block exactly if it is free.
 #[derive(Clone, Copy, Debug, PartialEq, Eq)]
@@ -143,7 +143,7 @@ fn coverage_at<L: RangeLine>(lines: &[L], at: u64) -> Coverage
     let Some((line, _)) = lines.split_first() else {
         return Coverage {
             inside: false,
-            until: END,
+            until: SWEEP_END,
         };
     };
     let base = line.base();
@@ -194,12 +194,12 @@ fn coverage_below_limit(limit: u64, at: u64) -> Coverage
     if at < limit {
         return Coverage {
             inside: true,
-            until: limit.min(END),
+            until: limit.min(SWEEP_END),
         };
     }
     Coverage {
         inside: false,
-        until: END,
+        until: SWEEP_END,
     }
 }
 
@@ -209,8 +209,8 @@ fn is_free_state(below: bool, in_memory: bool, owned: bool) -> bool
     below && in_memory && !owned
 }
 
-fn byte_state_by(free: bool, in_block: bool) -> ByteState
-    ensures { result ≡ byte_state_by free in_block }
+fn byte_state_of(free: bool, in_block: bool) -> ByteState
+    ensures { result ≡ byte_state_of free in_block }
 {
     if free == in_block {
         return ByteState::Sound;
@@ -224,7 +224,7 @@ fn byte_state_by(free: bool, in_block: bool) -> ByteState
 
 /// Returns the state of the bytes from address `at` on, and how far it stays the same. In each
 /// list the first line must end above `at`.
-fn state_from(
+fn state_run_from(
     limit: u64,
     runs: &[MapLine],
     owners: &[Range],
@@ -249,7 +249,7 @@ fn state_from(
     let held = coverage_at(blocks, at);
     let free = is_free_state(below.inside, memory.inside, owned.inside);
     StateRun {
-        state: byte_state_by(free, held.inside),
+        state: byte_state_of(free, held.inside),
         until: below
             .until
             .min(memory.until)
@@ -290,9 +290,10 @@ pub fn sweep(saved: &Saved, limit: u64) -> FrameFaults
     requires map_order { AscendApart (map (λ l. l.range) saved.now.map.items) }
     requires owner_order { AscendApart (map (λ r. r) saved.now.owners.items) }
     requires block_order { AscendApart (map bytes_of_block saved.now.blocks.items) }
-    requires aligned { first_line (λ b. not (is_aligned b)) 1 saved.now.blocks.items ≡ None }
+    requires aligned { first_line_passing (λ b. not (is_aligned b)) 1 saved.now.blocks.items ≡
+        None }
     ensures not_free { result.not_free
-        ≡ least_frame (is_not_free limit saved.now.map.items saved.now.owners.items
+        ≡ least_frame (is_in_block_but_not_free limit saved.now.map.items saved.now.owners.items
         saved.now.blocks.items) }
     ensures lost { IsNone result.not_free
         → result.lost ≡ least_frame (is_lost limit saved.now.map.items
@@ -304,8 +305,8 @@ pub fn sweep(saved: &Saved, limit: u64) -> FrameFaults
     let mut at = 0;
     let mut from = 0;
     let mut lost = None;
-    while at < END {
-        let piece = state_from(limit, runs, owners, held, at);
+    while at < SWEEP_END {
+        let piece = state_run_from(limit, runs, owners, held, at);
         if let ByteState::NotFree = piece.state {
             return FrameFaults {
                 not_free: Some(at / FRAME_SIZE),

@@ -7,7 +7,7 @@ use Rattle.std.specs.Str.{bytes_eq}
 use Rattle.boot_options.specs.MapOptions.{mem_of}
 use Rattle.boot_options.specs.declared.fault.OptionFault.{OptionFault}
 use Rattle.boot_options.specs.declared.fault.OptionFault.TheVariants as options
-use Rattle.boot_options.specs.Options.{AddEfi, OfMap, WordMeaning, crash_of, command_line_of, memmap_of, numa_of, one_map_option, name_value_of, options_of, option_words, meaning_or_fault, word_meaning, word_meanings_from}
+use Rattle.boot_options.specs.Options.{AddEfi, OfMap, WordMeaning, crash_of, command_line_of, memmap_of, numa_of, meaning_of_map_option, name_value_of, options_of, option_words, meaning_or_fault, word_meaning, word_meanings_from}
 use Rattle.boot_inputs.proofs.WantLaws.{then_other}
 
 word_first : (fault : OptionFault) (said : Option WordMeaning) (b : Bool) (y : Result WordMeaning OptionFault) → fault ≢ options.Memory
@@ -17,7 +17,7 @@ word_first fault said b y other rest = grind arith
 word_other : (number : ℕ) (word : List ℕ × Option (List ℕ)) → ¬ IsErrOf (word_meaning number word) options.Memory
 word_other number word =
     let last = if bytes_eq word.0 (codes "add_efi_memmap") then Ok AddEfi else Ok (OfMap []) in
-    word_first (options.BadMem number) (option_map one_map_option (option_and_then mem_of word.1)) (bytes_eq word.0 (codes "mem")) _ (λ is.
+    word_first (options.BadMem number) (option_map meaning_of_map_option (option_and_then mem_of word.1)) (bytes_eq word.0 (codes "mem")) _ (λ is.
     cc is)
     (word_first (options.BadMemmap number) (option_and_then memmap_of word.1) (bytes_eq word.0 (codes "memmap")) _ (λ is. cc is)
     (word_first (options.BadCrash number) (option_and_then crash_of word.1) (bytes_eq word.0 (codes "crashkernel")) _ (λ is. cc is)

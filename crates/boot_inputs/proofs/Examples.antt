@@ -28,7 +28,7 @@ use Rattle.boot_inputs.specs.CommandLine.{command_line, command_line_diagnostic}
 use Rattle.boot_inputs.specs.Diagnostic.{Diagnostic}
 use Rattle.boot_inputs.specs.Extension.{extension_diagnostic, extension_file}
 use Rattle.boot_inputs.specs.Efi.{efi_diagnostic, efi_file, efi_map_in_frames, efi_or_fault, efi_needs_memory, put_efi}
-use Rattle.boot_inputs.specs.Faults.{IsOfBytes, diagnostic_of}
+use Rattle.boot_inputs.specs.Faults.{HasErrorLine, diagnostic_of}
 use Rattle.boot_inputs.specs.Input.{input_word}
 use Rattle.boot_inputs.specs.Inputs.{FileNames, input_files, inputs_of, inputs_after_named_file}
 use Rattle.program_end.specs.Program.{FileContents}
@@ -37,7 +37,7 @@ use Rattle.boot_inputs.specs.Reading.{are_read_later, are_in_reading_order}
 use Rattle.boot_inputs.specs.Script.{script_or_fault, script_diagnostic, script_file}
 use Rattle.boot_inputs.specs.Slit.{slit_or_fault, slit_diagnostic, slit_file}
 use Rattle.boot_inputs.specs.Srat.{srat_diagnostic, srat_file, srat_or_fault}
-use Rattle.boot_inputs.specs.WithoutEfi.{IsBeforeFiles, LacksDescriptors, LacksEfiWord, asks_for_efi}
+use Rattle.boot_inputs.specs.WithoutEfi.{IsBeforeFiles, LacksDescriptors, LacksEfiWord, has_efi_word}
 use Rattle.boot_inputs.specs.ZeroPage.{zero_page, zero_page_diagnostic}
 
 -- a zero page of `count` entries; the 40 bytes `entries` are the first two
@@ -117,7 +117,7 @@ efi_gives : efi_map_in_frames (record { entries = []; mirrors = record { base = 
 efi_gives = refl
 
 -- a reader's out of memory isn't a fault of bytes
-of_bytes : IsOfBytes (faults.Srat srat.Short) × IsOfBytes faults.TooLong × (IsOfBytes (faults.Srat srat.Memory) → ⊥)
+of_bytes : HasErrorLine (faults.Srat srat.Short) × HasErrorLine faults.TooLong × (HasErrorLine (faults.Srat srat.Memory) → ⊥)
 of_bytes = (refl, refl, λ of. cc of)
 
 -- this and the next four: what the lines of faults say
@@ -248,8 +248,8 @@ unfolding entry_at is_initrd_far
 first_refusals = (refl, refl, refl, refl)
 
 -- the word counts with any value and with none, only before `--`, and only by its whole name
-efi_words : (asks_for_efi (codes "quiet add_efi_memmap") ≡ true) × (asks_for_efi (codes "add_efi_memmap=0") ≡ true)
-    × (asks_for_efi (codes "quiet -- add_efi_memmap") ≡ false) × (asks_for_efi (codes "add_efi") ≡ false)
+efi_words : (has_efi_word (codes "quiet add_efi_memmap") ≡ true) × (has_efi_word (codes "add_efi_memmap=0") ≡ true)
+    × (has_efi_word (codes "quiet -- add_efi_memmap") ≡ false) × (has_efi_word (codes "add_efi") ≡ false)
 efi_words = (refl, refl, refl, refl)
 
 -- a header for descriptors of 48 bytes, with nothing after it

@@ -2,7 +2,7 @@
 use Rattle.std.proofs.Common.{◌≡◌, ◌⊎◌, ◌∙◌, ℕ, Bool, true, false, List, [], ◌∷◌, ◌++◌, Option, Some, None, Result, Ok, Err, refl, sym, ap, inl, inr, arith}
 use Rattle.std.specs.Prelude.{IfOk, if◌then◌else◌, map, not}
 use Rattle.std.specs.Option.{option_and_then}
-use Rattle.bm_base.specs.ResultSteps.{◌>>=◌, with_error}
+use Rattle.bm_base.specs.ResultSteps.{◌>>=◌, map_error}
 use Rattle.e820_model.specs.declared.entry.Entry.{Entry}
 use Rattle.e820_model.specs.Claims.{Claims, final_claims}
 use Rattle.boot_options.specs.Options.{OptionsView, options_of}
@@ -122,7 +122,7 @@ last_step held named file before after is =
 
 -- the options of the command line don't ask for the EFI map
 line_not : (before after : InputsView) (said : Result OptionsView OptionFault) → IfOk said (λ chosen. chosen.add_efi ≡ false)
-    → with_value set_command_line before (with_error faults.CommandLine said) ≡ Ok after → after.options.add_efi ≡ false
+    → with_value set_command_line before (map_error faults.CommandLine said) ≡ Ok after → after.options.add_efi ≡ false
 line_not before after (Ok chosen) not is =
     let same : set_command_line chosen before ≡ after = cc in ap (λ (g : InputsView). g.options.add_efi) (sym same) ∙ not
 line_not before after (Err fault) not is = absurd (cc is)
@@ -146,7 +146,7 @@ entries-of false false ds (Some index) = tt
 
 map_empty : (before after : InputsView) (ds : List Descriptor) (said : Result EfiContent EfiFault)
     → IfOk said (λ m. m.entries ≡ map entry_of_descriptor ds)
-    → ds ≡ [] → with_value put_efi before (with_error faults.Efi said) ≡ Ok after → efi_entries after.efi ≡ []
+    → ds ≡ [] → with_value put_efi before (map_error faults.Efi said) ≡ Ok after → efi_entries after.efi ≡ []
 map_empty before after ds (Ok m) are none is =
     let same : put_efi m before ≡ after = cc in
     ap (λ (g : InputsView). efi_entries g.efi) (sym same) ∙ are ∙ ap (map entry_of_descriptor) none

@@ -1,6 +1,6 @@
 -- The command line of the kernel.
 use Rattle.std.specs.Prelude.{ℕ, Bool, false, ◌||◌, nat_lt, is_some, List, length, codes, Option, Some, None, Result, Ok, Err}
-use Rattle.bm_base.specs.ResultSteps.{with_error}
+use Rattle.bm_base.specs.ResultSteps.{map_error}
 use Rattle.boot_options.specs.declared.fault.OptionFault.{OptionFault}
 use Rattle.boot_options.specs.declared.fault.OptionFault.TheVariants as options
 use Rattle.boot_options.specs.Options.{OptionsView, options_of}
@@ -13,7 +13,7 @@ use Rattle.boot_inputs.specs.File.{File, with_value}
 
 -- the options of the line, or its fault
 abbrev pub options_or_fault : List ℕ → Result OptionsView Fault
-options_or_fault bytes = with_error faults.CommandLine (options_of bytes)
+options_or_fault bytes = map_error faults.CommandLine (options_of bytes)
 
 -- reading the line needs memory: the line has an edit or a plain `crashkernel=`
 abbrev pub options_need_memory : Result OptionsView OptionFault → Bool

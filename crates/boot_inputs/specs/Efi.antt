@@ -1,6 +1,6 @@
 -- The EFI memory map.
 use Rattle.std.specs.Prelude.{ℕ, Bool, nat_lt, List, length, map, codes, Option, Some, None, Result}
-use Rattle.bm_base.specs.ResultSteps.{with_error}
+use Rattle.bm_base.specs.ResultSteps.{map_error}
 use Rattle.efi_map.specs.declared.efi.EfiFault.{EfiFault}
 use Rattle.efi_map.specs.declared.efi.EfiFault.TheVariants as efi
 use Rattle.efi_map.specs.Map.{EfiContent, descriptors_of, efi_of}
@@ -18,7 +18,7 @@ efi_map_in_frames m = record { entries = m.entries; mirrors = map frame_range_of
 
 -- the map of the bytes, or their fault
 abbrev pub efi_or_fault : List ℕ → Result EfiContent Fault
-efi_or_fault bytes = with_error faults.Efi (efi_of bytes)
+efi_or_fault bytes = map_error faults.Efi (efi_of bytes)
 
 -- reading the file needs memory: it has a descriptor
 abbrev pub efi_needs_memory : List ℕ → Bool

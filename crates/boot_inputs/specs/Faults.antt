@@ -28,9 +28,9 @@ diagnostic_of (faults.Slit fault) = slit_diagnostic fault
 diagnostic_of (faults.Efi fault) = efi_diagnostic fault
 
 -- the fault has an error line: it isn't the variant `Memory` of a reader's fault
-abbrev pub IsOfBytes : Fault → Type 0
-IsOfBytes fault = IsSome (diagnostic_of fault)
+abbrev pub HasErrorLine : Fault → Type 0
+HasErrorLine fault = IsSome (diagnostic_of fault)
 
 -- whatever bytes the file has, and whatever the inputs before it are, its fault is never `Memory`
-abbrev pub FaultsAreOfBytes : File → Type 0
-FaultsAreOfBytes file = (bytes : List ℕ) (given : InputsView) → IfErr (file.says bytes given) IsOfBytes
+abbrev pub FaultsHaveErrorLines : File → Type 0
+FaultsHaveErrorLines file = (bytes : List ℕ) (given : InputsView) → IfErr (file.says bytes given) HasErrorLine

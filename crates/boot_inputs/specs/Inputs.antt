@@ -1,6 +1,6 @@
 -- The inputs that the files give, from their names and from what each name holds.
 use Rattle.std.specs.Prelude.{ℕ, List, [], ◌∷◌, length, Option, Some, None, Result, Ok, Err, nat_lt, if◌then◌else◌}
-use Rattle.bm_base.specs.ResultSteps.{◌>>=◌, with_error}
+use Rattle.bm_base.specs.ResultSteps.{◌>>=◌, map_error}
 use Rattle.boot_model.specs.Boot.{InputsView}
 use Rattle.boot_inputs.specs.declared.fault.Fault.{Fault}
 use Rattle.boot_inputs.specs.declared.fault.Fault.TheVariants as faults
@@ -28,7 +28,7 @@ within_limit limit bytes = if nat_lt limit (length bytes) then Err faults.TooLon
 
 -- the result of reading a file, with a fault reported as that of this input (`Faulty`)
 abbrev pub answer_or_faulty_file : {A : Type 0} → Input → Result A Fault → Result A InputsReason
-answer_or_faulty_file input answer = with_error (reasons.Faulty input) answer
+answer_or_faulty_file input answer = map_error (reasons.Faulty input) answer
 
 -- the result of the step on the file's bytes, or `Unread` if there is no such file (None)
 abbrev pub step_or_unread_file : {A : Type 0} → Input → Option (List ℕ) → (List ℕ → Result A InputsReason) → Result A InputsReason

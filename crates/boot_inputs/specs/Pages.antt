@@ -1,6 +1,6 @@
 -- The page script.
 use Rattle.std.specs.Prelude.{ℕ, Bool, false, nat_lt, List, length, codes, Option, Some, None, Result, Ok, Err}
-use Rattle.bm_base.specs.ResultSteps.{with_error}
+use Rattle.bm_base.specs.ResultSteps.{map_error}
 use Rattle.page_alloc.specs.declared.act.PageLine.{PageLine}
 use Rattle.page_alloc.specs.declared.reading.PageFault.{PageFault}
 use Rattle.page_alloc.specs.declared.reading.PageFault.TheVariants as pages
@@ -14,7 +14,7 @@ use Rattle.boot_inputs.specs.File.{File, with_value}
 
 -- the lines of the bytes, or their fault
 abbrev pub page_script_or_fault : List ℕ → Result (List PageLine) Fault
-page_script_or_fault bytes = with_error faults.Pages (page_lines_of bytes)
+page_script_or_fault bytes = map_error faults.Pages (page_lines_of bytes)
 
 -- reading the file needs memory: some line has a command
 abbrev pub page_script_needs_memory : Result (List PageLine) PageFault → Bool

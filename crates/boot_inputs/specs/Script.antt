@@ -1,6 +1,6 @@
 -- The script of early allocations.
 use Rattle.std.specs.Prelude.{ℕ, Bool, false, nat_lt, List, length, codes, Option, Some, None, Result, Ok, Err}
-use Rattle.bm_base.specs.ResultSteps.{with_error}
+use Rattle.bm_base.specs.ResultSteps.{map_error}
 use Rattle.script_reader.specs.declared.act.Line.{Line}
 use Rattle.script_reader.specs.declared.fault.ScriptFault.{ScriptFault}
 use Rattle.script_reader.specs.declared.fault.ScriptFault.TheVariants as script
@@ -14,7 +14,7 @@ use Rattle.boot_inputs.specs.File.{File, with_value}
 
 -- the lines of the bytes, or their fault
 abbrev pub script_or_fault : List ℕ → Result (List Line) Fault
-script_or_fault bytes = with_error faults.Script (script_of bytes)
+script_or_fault bytes = map_error faults.Script (script_of bytes)
 
 -- reading the file needs memory: some line has a command
 abbrev pub script_needs_memory : Result (List Line) ScriptFault → Bool

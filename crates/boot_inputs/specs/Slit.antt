@@ -1,6 +1,6 @@
 -- The firmware's table of distances (the ACPI table SLIT).
 use Rattle.std.specs.Prelude.{ℕ, Bool, false, nat_lt, List, codes, Option, Some, None, Result, Ok, Err}
-use Rattle.bm_base.specs.ResultSteps.{with_error}
+use Rattle.bm_base.specs.ResultSteps.{map_error}
 use Rattle.slit_zonelists.specs.declared.table.SlitFault.{SlitFault}
 use Rattle.slit_zonelists.specs.declared.table.SlitFault.TheVariants as slit
 use Rattle.slit_zonelists.specs.SlitView.{SlitView}
@@ -14,7 +14,7 @@ use Rattle.boot_inputs.specs.File.{File, with_value}
 
 -- the distances of the bytes, or their fault
 abbrev pub slit_or_fault : List ℕ → Result SlitView Fault
-slit_or_fault bytes = with_error faults.Slit (slit_of bytes)
+slit_or_fault bytes = map_error faults.Slit (slit_of bytes)
 
 -- reading the table needs memory: it has a domain
 abbrev pub slit_needs_memory : Result SlitView SlitFault → Bool

@@ -1,6 +1,6 @@
 -- The firmware's table of domains (the ACPI table SRAT).
 use Rattle.std.specs.Prelude.{ℕ, Bool, false, ◌||◌, nat_lt, List, length, codes, Option, Some, None, Result, Ok, Err}
-use Rattle.bm_base.specs.ResultSteps.{with_error}
+use Rattle.bm_base.specs.ResultSteps.{map_error}
 use Rattle.srat_reader.specs.declared.table.SratFault.{SratFault}
 use Rattle.srat_reader.specs.declared.table.SratFault.TheVariants as srat
 use Rattle.srat_reader.specs.Table.{SratView, srat_of}
@@ -13,7 +13,7 @@ use Rattle.boot_inputs.specs.File.{File, with_value}
 
 -- the table of the bytes, or their fault
 abbrev pub srat_or_fault : List ℕ → Result SratView Fault
-srat_or_fault bytes = with_error faults.Srat (srat_of bytes)
+srat_or_fault bytes = map_error faults.Srat (srat_of bytes)
 
 -- reading the table needs memory: it has a processor or a range of memory
 abbrev pub srat_needs_memory : Result SratView SratFault → Bool

@@ -17,12 +17,12 @@ without_efi named input = named input
 
 -- a word of the command line has the name `add_efi_memmap`, whatever its value
 -- (`setup_add_efi_memmap`)
-abbrev pub asks_for_efi : List ℕ → Bool
-asks_for_efi bytes = list_any (λ word. bytes_eq (name_value_of word).0 (codes "add_efi_memmap")) (option_words (raw_line bytes))
+abbrev pub has_efi_word : List ℕ → Bool
+has_efi_word bytes = list_any (λ word. bytes_eq (name_value_of word).0 (codes "add_efi_memmap")) (option_words (raw_line bytes))
 
 -- no word of the command line has that name, or there is no command line
 abbrev pub LacksEfiWord : FileContents → FileNames → Type 0
-LacksEfiWord held named = IfSome (option_and_then held (named inputs.CommandLine)) (λ bytes. asks_for_efi bytes ≡ false)
+LacksEfiWord held named = IfSome (option_and_then held (named inputs.CommandLine)) (λ bytes. has_efi_word bytes ≡ false)
 
 -- nothing follows the header of the EFI memory map, or there is no such file
 abbrev pub LacksDescriptors : FileContents → FileNames → Type 0

@@ -24,28 +24,28 @@ use boot_model::Inputs;
 use std::alloc::Global;
 
 /// The list of the readers of all files, in the order in which they are read.
-pub(crate) type FromZeroPage = (ZeroPages, FromExtension);
+pub(crate) type ReadersFromZeroPage = (ZeroPages, ReadersFromExtension);
 
 /// The readers from the E820 extension on.
-type FromExtension = (Extensions, FromCommandLine);
+type ReadersFromExtension = (Extensions, ReadersFromCommandLine);
 
 /// The readers from the command line on.
-type FromCommandLine = (CommandLines, FromSrat);
+type ReadersFromCommandLine = (CommandLines, ReadersFromSrat);
 
 /// The readers from the SRAT on.
-type FromSrat = (Srats, FromScript);
+type ReadersFromSrat = (Srats, ReadersFromScript);
 
 /// The readers from the script of early allocations on.
-type FromScript = (Scripts, FromPages);
+type ReadersFromScript = (Scripts, ReadersFromPages);
 
 /// The readers from the page script on.
-type FromPages = (PageScripts, FromSlit);
+type ReadersFromPages = (PageScripts, ReadersFromSlit);
 
 /// The readers from the SLIT on.
-type FromSlit = (Slits, FromEfi);
+type ReadersFromSlit = (Slits, ReadersFromEfi);
 
 /// The readers from the EFI memory map on.
-type FromEfi = (EfiMaps, ());
+type ReadersFromEfi = (EfiMaps, ());
 
 /// Reads all input files that have a name, in the order of [`Input`](crate::Input). Returns the
 /// inputs `begun` with the values of the files put in. Files without a name are skipped.
@@ -68,7 +68,7 @@ pub fn read_inputs<F: Files, N: Names>(
     ensures unnamed { ((input : AnyInput) → IsNone (N.named names.now input)) → IsOk result }
 {
     let mut inputs = begun;
-    match FromZeroPage::add_files::<F, N>(alloc, files, names, &mut inputs) {
+    match ReadersFromZeroPage::add_files::<F, N>(alloc, files, names, &mut inputs) {
         Ok(()) => Ok(inputs),
         Err(error) => Err(error),
     }

@@ -1,7 +1,7 @@
 //! Laws about what the input files mean, whatever bytes they have.
 
 ghost use Rattle.std.specs.Prelude.{◌≡◌, All, Ok, Err};
-ghost use Rattle.boot_inputs.specs.Faults.{IsOfBytes, FaultsAreOfBytes};
+ghost use Rattle.boot_inputs.specs.Faults.{HasErrorLine, FaultsHaveErrorLines};
 ghost use Rattle.boot_inputs.specs.Inputs.{FileNames, input_files, inputs_of};
 ghost use Rattle.program_end.specs.Program.{FileContents};
 ghost use Rattle.boot_inputs.specs.WithoutEfi.{HasMapWithoutEfi, IsBeforeFiles, LacksDescriptors, LacksEfiWord};
@@ -10,24 +10,24 @@ ghost use Rattle.boot_inputs.specs.declared.input.Input.{Input as AnyInput};
 ghost use Rattle.boot_model.specs.Boot.{InputsView};
 ghost use Rattle.program_end.specs.declared.failure.Reason.TheVariants as reasons;
 
-use crate::inputs::FromZeroPage;
+use crate::inputs::ReadersFromZeroPage;
 use crate::list::Readers;
 
 /// Law: "out of memory" is never a fault of an input file's contents. So no file is ever refused
 /// with that fault.
 pub fn exhaustion_is_no_file_fault()
-    ensures files { All FaultsAreOfBytes input_files }
+    ensures files { All FaultsHaveErrorLines input_files }
     ensures refused { (held : FileContents) (named : FileNames) (begun : InputsView)
         (input : AnyInput) (fault : AnyFault) →
-        inputs_of held named begun ≡ Err (reasons.Faulty input fault) → IsOfBytes fault }
+        inputs_of held named begun ≡ Err (reasons.Faulty input fault) → HasErrorLine fault }
 {
-    FromZeroPage::exhaustion_is_no_fault_of_any();
+    ReadersFromZeroPage::exhaustion_is_no_fault_of_any();
 }
 
 /// Law: the EFI memory map changes the boot's map only if a word of the command line has the name
 /// `add_efi_memmap` and the file has descriptors. Otherwise the map is that of the same inputs
 /// without the file (`do_add_efi_memmap`).
-pub fn efi_adds_what_is_asked()
+pub fn efi_map_needs_word_and_descriptors()
     ensures unasked { (held : FileContents) (named : FileNames) (begun given : InputsView)
         → IsBeforeFiles begun →
         inputs_of held named begun ≡ Ok given → LacksEfiWord held named

@@ -58,7 +58,7 @@ pub use fault::{Diagnostic, Fault, InputsReason, Misread, NoInputs};
 pub use fetching::{Names, add_file};
 pub use input::Input;
 pub use inputs::read_inputs;
-pub use laws::{efi_adds_what_is_asked, exhaustion_is_no_file_fault};
+pub use laws::{efi_map_needs_word_and_descriptors, exhaustion_is_no_file_fault};
 pub use list::Readers;
 pub use pages::exhaustion_is_no_page_script_fault;
 pub use reader::Reader;

@@ -3,7 +3,7 @@
 
 ghost use Rattle.std.specs.Prelude.{◌≡◌, All, IsTrue, List, [], ◌∷◌};
 ghost use Rattle.boot_model.specs.View.{inputs_view};
-ghost use Rattle.boot_inputs.specs.Faults.{FaultsAreOfBytes};
+ghost use Rattle.boot_inputs.specs.Faults.{FaultsHaveErrorLines};
 ghost use Rattle.boot_inputs.specs.File.{File};
 ghost use Rattle.boot_inputs.specs.Reading.{AreRead, are_in_reading_order};
 
@@ -38,7 +38,7 @@ pub trait Readers {
 
     /// Law: "out of memory" is never a fault of these files' contents.
     fn exhaustion_is_no_fault_of_any()
-        ensures { All FaultsAreOfBytes list };
+        ensures { All FaultsHaveErrorLines list };
 }
 
 impl Readers for () {

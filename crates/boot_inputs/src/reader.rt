@@ -3,10 +3,10 @@
 
 ghost use Rattle.std.specs.Prelude.{◌≡◌, ◌≤◌, length, IsErrOf, IsOk, IsTrue};
 ghost use Rattle.bm_base.specs.Answers.{Answers};
-ghost use Rattle.bm_base.specs.ResultSteps.{with_error};
+ghost use Rattle.bm_base.specs.ResultSteps.{map_error};
 ghost use Rattle.boot_model.specs.View.{inputs_view};
 ghost use Rattle.boot_inputs.specs.declared.fault.Misread.TheVariants as misreads;
-ghost use Rattle.boot_inputs.specs.Faults.{FaultsAreOfBytes};
+ghost use Rattle.boot_inputs.specs.Faults.{FaultsHaveErrorLines};
 ghost use Rattle.boot_inputs.specs.File.{File};
 
 use crate::fault::Misread;
@@ -37,12 +37,12 @@ pub trait Reader {
     fn read(alloc: Global, bytes: &[u8], inputs: &mut Inputs) -> Result<(), Misread>
         requires within { length bytes.now ≤ file.limit }
         ensures says { Answers misreads.Memory (λ done. inputs_view inputs.new) result
-            (with_error misreads.Fault (file.says bytes.now (inputs_view inputs.old))) }
+            (map_error misreads.Fault (file.says bytes.now (inputs_view inputs.old))) }
         ensures memory { IsErrOf result misreads.Memory →
             IsTrue (file.takes bytes.now) × IsOk (file.says bytes.now (inputs_view inputs.old)) };
 
     /// Law: "out of memory" is never a fault of this file's contents. So it doesn't matter what
     /// the definition gives for it.
     fn exhaustion_is_no_fault()
-        ensures { FaultsAreOfBytes file };
+        ensures { FaultsHaveErrorLines file };
 }

@@ -12,7 +12,7 @@ use crate::fault::{Diagnostic, Fault, Misread};
 use crate::input::Input;
 use crate::reader::Reader;
 use boot_model::Inputs;
-use early_script::scripts_place_once;
+use early_script::scripts_place_sections_once;
 use script_reader::{ScriptFault, read_script};
 use std::alloc::Global;
 
@@ -31,7 +31,7 @@ impl Reader for Scripts {
     }
 
     fn read(alloc: Global, bytes: &[u8], inputs: &mut Inputs) -> Result<(), Misread> {
-        scripts_place_once();
+        scripts_place_sections_once();
         match read_script(alloc, bytes) {
             Ok(lines) => {
                 inputs.lines = lines;

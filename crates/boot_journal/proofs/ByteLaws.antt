@@ -90,11 +90,11 @@ frame-agrees whole items first agree (suc k) y is lt =
     ])
 
 -- a trim keeps a frame whose ends agree
-pub kept-whole : (whole : Option LabelView) (items : List Item) (x : ℕ) → ItemsAgree whole items (x - x % 4096) items
+pub label_after_trim-agrees : (whole : Option LabelView) (items : List Item) (x : ℕ) → ItemsAgree whole items (x - x % 4096) items
     → label_after_trim whole items x
     ≡ label_after_items whole items (x - x % 4096)
 unfolding label_after_trim
-kept-whole whole items x agree =
+label_after_trim-agrees whole items x agree =
     let first : ℕ = x - x % 4096 in
     let one : (y : ℕ) → IsInFrame x y → label_after_items whole items y ≡ label_after_items whole items first =
     λ y in_frame. frame-agrees whole items first agree (y - first) y (omega arith) (omega arith) in
@@ -102,11 +102,11 @@ kept-whole whole items x agree =
     trim_frames-whole (label_after_items whole items) x (λ y in_frame. one y in_frame ∙ sym here) ∙ here
 
 -- a trim removes a frame with an end that differs
-pub kept-parts : (whole : Option LabelView) (items : List Item) (x e : ℕ) → EdgeDiffers whole items (x - x % 4096) e
+pub label_after_trim-differs : (whole : Option LabelView) (items : List Item) (x e : ℕ) → EdgeDiffers whole items (x - x % 4096) e
     → label_after_trim whole items x
     ≡ None
 unfolding label_after_trim
-kept-parts whole items x e differs =
+label_after_trim-differs whole items x e differs =
     let at_edge : IsInFrame x e = record { above = omega arith; below = omega arith } in
     let at_first : IsInFrame x (x - x % 4096) = record { above = omega arith; below = omega arith } in
     trim_frames-unlike (label_after_items whole items) x e (x - x % 4096) at_edge at_first differs.other
@@ -127,24 +127,24 @@ labels_after f (i ∷ is) y plain =
     ∙ ap (λ (l : Option LabelView). label_after_items l is y) (label_after-is f i y (plain 0 (omega arith)))
 
 -- memory in which all bytes have the same marks
-abbrev all_with : Option LabelView → Labels
-all_with carried x = carried
+abbrev same_marks_everywhere : Option LabelView → Labels
+same_marks_everywhere carried x = carried
 
 -- the marks of the byte after these items, starting from memory in which all bytes have the marks
 -- `whole`
 abbrev pub label_after_all : Option LabelView → List Item → ℕ → Option LabelView
-label_after_all whole items x = fold memory_after (all_with whole) items x
+label_after_all whole items x = fold memory_after (same_marks_everywhere whole) items x
 
 -- after a trim all bytes of the frame have the same marks, so one of them is enough
 trim_step : (whole : Option LabelView) (items rest : List Item) (x : ℕ) → Plain items
     → label_after_all whole (items ++ item.Trim ∷ rest) x ≡ label_after_all (label_after_trim whole items x) rest x
 unfolding label_after_trim
 trim_step whole items rest x plain =
-    let same : fold memory_after (all_with whole) items ≡ label_after_items whole items =
-    λ k y. labels_after (all_with whole) items y plain k in
-    ap (λ (f : Labels). f x) (fold-append memory_after (all_with whole) items (item.Trim ∷ rest))
+    let same : fold memory_after (same_marks_everywhere whole) items ≡ label_after_items whole items =
+    λ k y. labels_after (same_marks_everywhere whole) items y plain k in
+    ap (λ (f : Labels). f x) (fold-append memory_after (same_marks_everywhere whole) items (item.Trim ∷ rest))
     ∙ ap (λ (f : Labels). fold memory_after (trim_frames f) rest x) same
-    ∙ memory_fold-local (trim_frames (label_after_items whole items)) (all_with (label_after_trim whole items x)) rest x
+    ∙ memory_fold-local (trim_frames (label_after_items whole items)) (same_marks_everywhere (label_after_trim whole items x)) rest x
     (trim_frames-frame (label_after_items whole items) x) x (in_own_frame x)
 
 position_none : (items : List Item) → position is_trim items ≡ None → Plain items
@@ -170,6 +170,6 @@ turn whole items i x found =
     ap (λ (is : List Item). label_after_all whole is x) apart ∙ rw add-one (trim_step whole (take i items) (drop (suc i) items) x plain)
 
 -- the items after the last trim
-pub last_turn : (whole : Option LabelView) (items : List Item) (x : ℕ) → position is_trim items ≡ None → label_after_all whole items x
+pub items_after_last_trim : (whole : Option LabelView) (items : List Item) (x : ℕ) → position is_trim items ≡ None → label_after_all whole items x
     ≡ label_after_items whole items x
-last_turn whole items x none = labels_after (all_with whole) items x (position_none items none)
+items_after_last_trim whole items x none = labels_after (same_marks_everywhere whole) items x (position_none items none)

@@ -34,7 +34,7 @@ pub struct Journal {
 impl Model for Journal {
     ghost use Rattle.std.specs.Prelude.{◌≡◌, ◌+◌, ◌*◌, ◌^◌, ◌≤◌, length, vec_len, vec_capacity};
     ghost use Rattle.address_runs.specs.Runs.{IsRunsOf};
-    ghost use Rattle.address_runs.specs.Edits.{NothingFrom};
+    ghost use Rattle.address_runs.specs.Edits.{IsEmptyFrom};
     ghost use Rattle.memblock_model.specs.Items.{ItemsHaveBytes, owner_of};
     ghost use Rattle.boot_journal.specs.JournalView.{JournalView};
     ghost use Rattle.boot_journal.specs.Mirrors.{has_mirrors};
@@ -48,7 +48,7 @@ impl Model for Journal {
         (vec_len j.items + j.spare ≤ vec_capacity j.items) × ItemsHaveBytes j.items.items ×
         (length j.owners.items + 2 * j.spare ≤ j.owners.room) ×
         IsRunsOf (owner_of j.items.items) j.owners.items
-        × NothingFrom (2 ^ 64) (owner_of j.items.items) ×
+        × IsEmptyFrom (2 ^ 64) (owner_of j.items.items) ×
         (j.mirrors ≡ has_mirrors j.items.items) };
 }
 

@@ -6,24 +6,24 @@
 
 ghost use Rattle.std.specs.Prelude.{◌+◌, ◌^◌, ◌<◌, ◌≤◌, length};
 ghost use Rattle.address_runs.specs.Runs.{AreRuns, IsRunsOf, value_at};
-ghost use Rattle.address_runs.specs.Edits.{change_range, NothingFrom};
+ghost use Rattle.address_runs.specs.Edits.{change_range, IsEmptyFrom};
 ghost use Rattle.memblock_model.specs.Items.{ItemHasBytes, owners_after};
 ghost use Rattle.run_edits.specs.Records.{EndsNoRun};
 
 use crate::run_list::RunList;
 use bm_base::Range;
 use memblock_model::{Item, Owner};
-use run_edits::{Change, Replace, Uncover, amend};
+use run_edits::{Change, Replace, Uncover, edit_without_cover};
 
 /// Updates the runs for an item. A claim makes its owner the owner of all bytes in its range;
 /// after a release nobody owns them. There must be room for two more runs.
 pub fn update_owners(owners: &mut RunList, item: &Item)
     requires item { ItemHasBytes item.now }
     requires runs { AreRuns owners.old.items }
-    requires within { NothingFrom (2 ^ 64) (value_at owners.old.items) }
+    requires within { IsEmptyFrom (2 ^ 64) (value_at owners.old.items) }
     requires room { length owners.old.items + 2 ≤ owners.old.room }
     ensures runs { IsRunsOf (owners_after (value_at owners.old.items) item.now) owners.new.items }
-    ensures within { NothingFrom (2 ^ 64) (value_at owners.new.items) }
+    ensures within { IsEmptyFrom (2 ^ 64) (value_at owners.new.items) }
     ensures len { length owners.new.items ≤ length owners.old.items + 2 }
     ensures room { owners.old.room ≤ owners.new.room }
 {
@@ -39,14 +39,14 @@ pub fn update_owners(owners: &mut RunList, item: &Item)
 fn apply_change<C: Change<Owner>>(owners: &mut RunList, range: &Range, change: C)
     requires some { 0 < range.now.size }
     requires runs { AreRuns owners.old.items }
-    requires within { NothingFrom (2 ^ 64) (value_at owners.old.items) }
+    requires within { IsEmptyFrom (2 ^ 64) (value_at owners.old.items) }
     requires change { EndsNoRun (C.makes change) }
     requires room { length owners.old.items + 2 ≤ owners.old.room }
     ensures runs { IsRunsOf
         (change_range (C.makes change) range.now (value_at owners.old.items)) owners.new.items }
-    ensures within { NothingFrom (2 ^ 64) (value_at owners.new.items) }
+    ensures within { IsEmptyFrom (2 ^ 64) (value_at owners.new.items) }
     ensures len { length owners.new.items ≤ length owners.old.items + 2 }
     ensures room { owners.old.room ≤ owners.new.room }
 {
-    amend(owners, range, change);
+    edit_without_cover(owners, range, change);
 }

@@ -13,15 +13,15 @@ use Rattle.e820_model.specs.declared.entry.TheConstants.{E820_MAX_ENTRIES}
 use Rattle.bm_base.specs.Each.{each_in}
 use Rattle.bm_base.specs.Frames.{bytes_of_frame}
 use Rattle.bm_base.proofs.EachLaws.{each_in-same}
-use Rattle.e820_model.proofs.ClaimLaws.{tells_kinds}
-use Rattle.early_memory.specs.FirstItems.{first_items}
+use Rattle.e820_model.proofs.ClaimLaws.{same_kind_decides_equality}
+use Rattle.early_memory.specs.FirstItems.{early_items}
 use Rattle.e820_sanitise.specs.declared.stop.MapStop.{MapStop}
 use Rattle.e820_sanitise.specs.declared.stop.MapStop.TheVariants as reasons
 use Rattle.e820_sanitise.specs.Stop.{judge_frames}
 use Rattle.boot_model.specs.declared.stop.Cause.{Cause}
 use Rattle.script_reader.specs.declared.act.Line.{Line}
-use Rattle.early_script.specs.Lines.{script_after_lines, before_sections, lines_after_sections}
-use Rattle.boot_model.specs.Boot.{InputsView, BootSoFar, begin_boot, with_script_state, boot, claims, early_inputs, usable_frames_stage, memory_stage, map_size_stage, later_stages, lies_in_memory, judge_map, map_stages, reach, made_with_crash_area, result_with_nodes, made_with_sections, script_stage, script_state, types_in_reach, unless_stopped}
+use Rattle.early_script.specs.Lines.{script_after_lines, lines_before_sections, lines_after_sections}
+use Rattle.boot_model.specs.Boot.{InputsView, BootSoFar, begin_boot, with_script_state, boot, claims, early_inputs, usable_frames_stage, memory_stage, map_size_stage, later_stages, lies_in_memory, judge_map, map_stages, reach, made_with_crash_area, made_with_nodes, made_with_sections, script_stage, script_state, types_in_reach, made_or_stop}
 use Rattle.numa_nodes.specs.Assignment.{assign_nodes}
 use Rattle.crash_kernel.specs.Reservation.{reserve_crash_area}
 use Rattle.boot_model.specs.First.{items_with_growths}
@@ -32,7 +32,7 @@ use Rattle.boot_model.proofs.StageLaws.{AllKeep, Keeps, chain_keeps, goes_by, pa
 use Rattle.boot_model.specs.Stages.{run_each_stage}
 
 -- what is known if the stages end without a stop
-pub record GoesOn (given : InputsView) (made : BootSoFar) : Type 0 where
+pub record AcceptsMap (given : InputsView) (made : BootSoFar) : Type 0 where
   pub map : made.map ≡ map_of (claims given)
   pub fits : nat_lt E820_MAX_ENTRIES (length (map_of (claims given))) ≡ false
   pub judged : judge_frames (types_in_reach given) ≡ None
@@ -44,16 +44,16 @@ room_passed true cause before after ends = absurd (cc)
 room_passed false cause before after ends = (refl, cc)
 
 -- a stage that judges the frames leaves what was made as it is, unless it stops
-pub frames_passed : (reason : Option MapStop) (before after : BootSoFar) → unless_stopped reason before ≡ Ok after
+pub frames_passed : (reason : Option MapStop) (before after : BootSoFar) → made_or_stop reason before ≡ Ok after
     → (reason ≡ None) × (before ≡ after)
 frames_passed None before after ends = (refl, cc)
 frames_passed (Some reason) before after ends = absurd (cc)
 
 -- after them, what was made is what the boot began with
-pub judged_first : (given : InputsView) (made : BootSoFar) → judge_map given ≡ Ok made
+pub accepted_map_is_unchanged : (given : InputsView) (made : BootSoFar) → judge_map given ≡ Ok made
     → (made ≡ begin_boot given) × (judge_frames (types_in_reach given) ≡ None)
     × (nat_lt E820_MAX_ENTRIES (length (map_of (claims given))) ≡ false)
-judged_first given made ends =
+accepted_map_is_unchanged given made ends =
     let behind_room = passes map_size_stage (drop 1 (map_stages given)) (begin_boot given) made ends in
     let behind_frames = passes (usable_frames_stage given) (drop 2 (map_stages given)) behind_room.middle made behind_room.rest in
     let room = room_passed _ _ (begin_boot given) behind_room.middle behind_room.first in
@@ -74,21 +74,21 @@ pub later_keep : (given : InputsView) → AllKeep (λ (made : BootSoFar). made.m
 later_keep given =
     let map : BootSoFar → List (RunOf ℕ) = λ made. made.map in
     let memory : Keeps map (memory_stage given) = λ before after ends. steps_keep map cause_of_growth (λ done next. next)
-    (items_with_growths (first_items (early_inputs given) before.map)) (λ a m. refl) (λ last. refl) before after ends in
-    let nodes = steps_keep map cause_of_stage result_with_nodes (assign_nodes given.domains given.options.numa_off) (λ a m. refl) (λ before.
+    (items_with_growths (early_items (early_inputs given) before.map)) (λ a m. refl) (λ last. refl) before after ends in
+    let nodes = steps_keep map cause_of_stage made_with_nodes (assign_nodes given.domains given.options.numa_off) (λ a m. refl) (λ before.
     refl) in
     let crash = steps_keep map cause_of_growth made_with_crash_area (reserve_crash_area given.options.crash) (λ a m. refl) (λ before.
     refl) in
     let sections = steps_keep map cause_of_stage made_with_sections (place_present_sections given.width) (λ a m. refl) (λ before. refl) in
-    let before = lines_map given.kernel (before_sections given.lines) in
+    let before = lines_map given.kernel (lines_before_sections given.lines) in
     let behind = lines_map given.kernel (lines_after_sections given.lines) in
     (memory, (nodes, (crash, (before, (sections, (behind, tt))))))
 
-pub goes_on : (given : InputsView) (made : BootSoFar) → boot given ≡ Ok made → GoesOn given made
+pub goes_on : (given : InputsView) (made : BootSoFar) → boot given ≡ Ok made → AcceptsMap given made
 unfolding boot
 goes_on given made ends =
     let judged_map = goes_by (judge_map given) (λ m. run_each_stage (later_stages given) m) made ends in
-    let known = judged_first given judged_map.middle judged_map.first in
+    let known = accepted_map_is_unchanged given judged_map.middle judged_map.first in
     record {
       map = chain_keeps (λ (m : BootSoFar). m.map) (later_stages given) (later_keep given) judged_map.middle made judged_map.rest
           ∙ ap (λ (m : BootSoFar). m.map) known.0;
@@ -99,7 +99,7 @@ goes_on given made ends =
 -- the map has the type that the claims give to each address below 2^64
 pub map_between : (c : Claims) → IsRunsBetween (kinds c) 0 (2 ^ 64) (map_of c)
 unfolding map_of runs_of
-map_between c = from_runs same_kind tells_kinds (kinds c) (2 ^ 64) 0
+map_between c = from_runs same_kind same_kind_decides_equality (kinds c) (2 ^ 64) 0
 
 -- an address is memory if the list gives it a memory type
 pub memory_lies : (rs : List (RunOf ℕ)) (x : ℕ) → AreRuns rs → is_memory (value_at rs x) ≡ lies_in_memory rs x
@@ -128,9 +128,9 @@ usable_lies given made frame ends low =
     rw (low_x, (goes_on given made ends).map) told))
 
 -- each address below 2^64 has in the map the type that the claims give it
-pub types_told : (given : InputsView) (made : BootSoFar) (x : ℕ) → boot given ≡ Ok made → x < 2 ^ 64
+pub map_has_claimed_types : (given : InputsView) (made : BootSoFar) (x : ℕ) → boot given ≡ Ok made → x < 2 ^ 64
     → value_at made.map x ≡ kinds (claims given) x
-types_told given made x ends low = rw (goes_on given made ends).map ((map_between (claims given)).within x (omega arith) (omega arith))
+map_has_claimed_types given made x ends low = rw (goes_on given made ends).map ((map_between (claims given)).within x (omega arith) (omega arith))
 
 -- a number of frames for which no stop is due
 pub frames_within : (n : ℕ) → (if n == 0 then Some reasons.NoRam else (if nat_lt (2 ^ 32) n then Some (reasons.TooMuchRam n) else
@@ -139,10 +139,10 @@ pub frames_within : (n : ℕ) → (if n == 0 then Some reasons.NoRam else (if na
 frames_within n fine = grind (arith, nat_tests)
 
 -- a map that isn't refused has usable frames, at least one and at most 2^32
-pub frames_told : (given : InputsView) (made : BootSoFar) → boot given ≡ Ok made
+pub accepted_map_has_usable_frames : (given : InputsView) (made : BootSoFar) → boot given ≡ Ok made
     → (0 < usable_frames (types_in_reach given)) × (usable_frames (types_in_reach given) ≤ 2 ^ 32)
-frames_told given made ends = frames_within (usable_frames (types_in_reach given)) (goes_on given made ends).judged
+accepted_map_has_usable_frames given made ends = frames_within (usable_frames (types_in_reach given)) (goes_on given made ends).judged
 
 -- a map that isn't refused fits in the kernel's table
-pub room_told : (given : InputsView) (made : BootSoFar) → boot given ≡ Ok made → length made.map ≤ E820_MAX_ENTRIES
-room_told given made ends = let known = goes_on given made ends in rw known.map (grind (arith, nat_tests, known.fits))
+pub accepted_map_fits : (given : InputsView) (made : BootSoFar) → boot given ≡ Ok made → length made.map ≤ E820_MAX_ENTRIES
+accepted_map_fits given made ends = let known = goes_on given made ends in rw known.map (grind (arith, nat_tests, known.fits))

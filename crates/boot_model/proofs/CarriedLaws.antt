@@ -4,11 +4,11 @@ use Rattle.std.proofs.Common.{◌≡◌, List, [], ◌∷◌, ◌++◌, Option, 
 use Rattle.bm_base.specs.ResultSteps.{◌>>=◌}
 use Rattle.memblock_model.specs.declared.item.Item.{Item}
 use Rattle.growth_model.specs.Change.{ChangeEffect, RefusedGrowth, items_of_steps}
-use Rattle.growth_model.specs.Requests.{carry_out_items, change_for, unless_refused}
+use Rattle.growth_model.specs.Requests.{carry_out_items, change_writing_item, unless_refused}
 use Rattle.stage_steps.specs.Steps.{StepEffect, items_after_step, append_groups, continue_if_ok}
 use Rattle.stage_steps.specs.Requests.{fail_if_refused}
 use Rattle.stage_steps.proofs.DoingLaws.{append_groups-append, append_groups-joined}
-use Rattle.early_memory.specs.FirstItems.{first_items}
+use Rattle.early_memory.specs.FirstItems.{early_items}
 use Rattle.boot_model.specs.Boot.{InputsView, BootSoFar, early_inputs, memory_stage}
 use Rattle.boot_model.specs.First.{items_with_growths}
 use Rattle.boot_model.specs.Stop.{cause_of_growth}
@@ -33,16 +33,16 @@ pub carried_said : (is items : List Item) → carry_out_items is items ≡ items
 unfolding carry_out_items items_with_growths
 carried_said [] items = refl
 carried_said (i ∷ is) items =
-    let o : ChangeEffect = change_for i items in
+    let o : ChangeEffect = change_writing_item i items in
     step_said o.steps o.refused is items (carried_said is (append_groups items o.steps))
 
 -- the stage that makes memory ends after all of its items
 pub memory_carried : (given : InputsView) (made next : BootSoFar) → memory_stage given made ≡ Ok next
-    → carry_out_items (first_items (early_inputs given) made.map) made.items ≡ Ok next.items
+    → carry_out_items (early_items (early_inputs given) made.map) made.items ≡ Ok next.items
 memory_carried given made next ends =
     let told = steps_answered cause_of_growth (λ done last.
-    last) (items_with_growths (first_items (early_inputs given) made.map)) made next ends in
-    carried_said (first_items (early_inputs given) made.map) made.items
+    last) (items_with_growths (early_items (early_inputs given) made.map)) made next ends in
+    carried_said (early_items (early_inputs given) made.map) made.items
     ∙ rw told.answer (ap (λ (m : BootSoFar). Ok m.items) (sym told.same))
 
 items_are : (items last : List Item) (d : StepEffect RefusedGrowth (Unit {0})) (answer : Result (Unit {0}) RefusedGrowth)
@@ -52,9 +52,9 @@ items_are items last d (Ok done) is ends = let told = rw is at ends in (is, cc t
 items_are items last d (Err refused) is ends = let told = rw is at ends in absurd (cc told)
 
 pub memory_made_by : (given : InputsView) (made : BootSoFar) (items : List Item)
-    → carry_out_items (first_items (early_inputs given) made.map) made.items ≡ Ok items
+    → carry_out_items (early_items (early_inputs given) made.map) made.items ≡ Ok items
     → memory_stage given made ≡ Ok (record made { items = items })
 memory_made_by given made items ends =
-    let wanted : List Item = first_items (early_inputs given) made.map in
+    let wanted : List Item = early_items (early_inputs given) made.map in
     let told = items_are made.items items (items_with_growths wanted made.items) _ refl (sym (carried_said wanted made.items) ∙ ends) in
     rw (told.0, told.1) refl

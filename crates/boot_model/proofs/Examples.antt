@@ -5,13 +5,13 @@ use Rattle.std.proofs.lemmas.Bool.Decides.{nat_tests}
 use Rattle.bm_base.specs.Range.{RangeView}
 use Rattle.bm_base.specs.declared.width.Width.TheVariants.{Bits46, Bits52}
 use Rattle.address_runs.specs.Runs.{RunOf}
-use Rattle.address_runs.proofs.RunsLaws.{one_list}
+use Rattle.address_runs.proofs.RunsLaws.{runs_of_function_are_equal}
 use Rattle.e820_model.specs.declared.entry.Entry.{Entry}
-use Rattle.e820_model.specs.Claims.{Claims, claims_of_entries, type_of, settled_claims, with_claims, after_bios_trim}
+use Rattle.e820_model.specs.Claims.{Claims, claims_of_entries, type_of, settled_claims, union_of_claims, after_bios_trim}
 use Rattle.e820_model.specs.Map.{kinds, map_of}
 use Rattle.e820_model.specs.Usable.{is_memory, types_below, usable_frames}
 use Rattle.e820_model.proofs.ClaimLaws.{greatest_is, map_runs}
-use Rattle.e820_model.proofs.UsableLaws.{count_none, usable_but}
+use Rattle.e820_model.proofs.UsableLaws.{count_none, is_usable_frame-fails}
 use Rattle.memblock_model.specs.declared.item.Item.TheVariants as item
 use Rattle.boot_model.specs.declared.stop.Cause.TheVariants as causes
 use Rattle.script_reader.specs.declared.act.Act.TheVariants as acts
@@ -134,7 +134,7 @@ no_kind c nothing x = rw (no_type c nothing x) refl
 
 no_runs : (c : Claims) → Nothing c → map_of c ≡ []
 no_runs c nothing =
-    one_list (kinds c) (map_of c) [] (map_runs c (λ x far. no_kind c nothing x))
+    runs_of_function_are_equal (kinds c) (map_of c) [] (map_runs c (λ x far. no_kind c nothing x))
     (record { runs = tt; each = λ x. sym (no_kind c nothing x) })
 
 no_type_in_reach : (limit : ℕ) (c : Claims) → Nothing c → (x : ℕ) → is_memory (types_below limit (kinds c) x) ≡ false
@@ -144,7 +144,7 @@ no_frame : (limit : ℕ) (c : Claims) → Nothing c → usable_frames (types_bel
 unfolding usable_frames
 no_frame limit c nothing =
     count_none _ (2 ^ 52) (λ frame low.
-    usable_but (types_below limit (kinds c)) frame (4096 * frame) (omega arith) (omega arith)
+    is_usable_frame-fails (types_below limit (kinds c)) frame (4096 * frame) (omega arith) (omega arith)
     (no_type_in_reach limit c nothing (4096 * frame)))
 
 abbrev two_empty : InputsView
@@ -154,7 +154,7 @@ none_covers : Nothing (claims_of_entries (empty ∷ empty ∷ []))
 unfolding Nothing
 none_covers x k = grind (arith, nat_tests)
 
-nothing_added : (c : Claims) → Nothing c → Nothing (with_claims c (claims_of_entries []))
+nothing_added : (c : Claims) → Nothing c → Nothing (union_of_claims c (claims_of_entries []))
 unfolding Nothing
 nothing_added c nothing x k = rw (nothing x k) refl
 

@@ -19,14 +19,14 @@ use Rattle.growth_model.proofs.QuietLaws.{quiet-limit, quiet-memory}
 use Rattle.growth_model.specs.Bytes.{byte_from_history}
 use Rattle.early_memory.specs.EarlyInputs.{FrameRange}
 use Rattle.early_memory.specs.Memory.{is_mirrored, memory_end, mirrored_memory, usable_memory}
-use Rattle.early_memory.specs.FirstItems.{first_items}
+use Rattle.early_memory.specs.FirstItems.{early_items}
 use Rattle.early_memory.proofs.MemoryLaws.{first_limit, first_memory}
 use Rattle.early_memory.proofs.EndLaws.{memory_end-same}
 use Rattle.script_reader.specs.declared.act.Line.{Line}
 use Rattle.early_script.specs.Effects.{script_outcome_at_line, state_after_line}
-use Rattle.early_script.specs.Lines.{ScriptSoFar, script_after_line, script_after_lines, before_sections, lines_after_sections, line_effect}
+use Rattle.early_script.specs.Lines.{ScriptSoFar, script_after_line, script_after_lines, lines_before_sections, lines_after_sections, line_effect}
 use Rattle.early_script.proofs.QuietLaws.{acts-keep, act_effect-quiet}
-use Rattle.boot_model.specs.Boot.{InputsView, BootSoFar, Stage, boot, claims, early_inputs, crash_area_stage, memory_stage, nodes_stage, sections_stage, later_stages, judge_map, all_mirrors, made_with_crash_area, result_with_nodes, made_with_sections, reach, script_stage, script_state, types_in_reach}
+use Rattle.boot_model.specs.Boot.{InputsView, BootSoFar, Stage, boot, claims, early_inputs, crash_area_stage, memory_stage, nodes_stage, sections_stage, later_stages, judge_map, all_mirrors, made_with_crash_area, made_with_nodes, made_with_sections, reach, script_stage, script_state, types_in_reach}
 use Rattle.boot_model.specs.Sections.{place_present_sections}
 use Rattle.boot_model.specs.Stop.{cause_of_growth, cause_of_stage}
 use Rattle.numa_nodes.specs.Assignment.{assign_nodes}
@@ -38,7 +38,7 @@ use Rattle.stage_steps.proofs.QuietLaws.{quiet-appended_limit, quiet-appended_me
 use Rattle.sparse_sections.proofs.QuietLaws.{quiet-roots}
 use Rattle.section_maps.proofs.QuietLaws.{quiet-maps}
 use Rattle.boot_model.specs.Stages.{run_each_stage}
-use Rattle.boot_model.proofs.BootLaws.{judged_first, lines_passed, map_between}
+use Rattle.boot_model.proofs.BootLaws.{accepted_map_is_unchanged, lines_passed, map_between}
 use Rattle.boot_model.proofs.CarriedLaws.{memory_carried}
 use Rattle.boot_model.proofs.ReachLaws.{reach-small}
 use Rattle.boot_model.proofs.StageLaws.{AllKeep, Keeps, chain_keeps, goes_by, passes, steps_keep}
@@ -80,13 +80,13 @@ lines_bound kernel lines before last ends =
 -- the stage of nodes leaves which bytes are memory as it is
 nodes_hold : (given : InputsView) → Keeps held_by (nodes_stage given)
 nodes_hold given =
-    steps_keep held_by cause_of_stage result_with_nodes (assign_nodes given.domains given.options.numa_off) (λ a m. refl)
+    steps_keep held_by cause_of_stage made_with_nodes (assign_nodes given.domains given.options.numa_off) (λ a m. refl)
     (λ before. (λ i x. keeps-memory given.domains given.options.numa_off before.items x i))
 
 -- the stage of nodes leaves the limit as it is
 nodes_bound : (given : InputsView) → Keeps bound_by (nodes_stage given)
 nodes_bound given =
-    steps_keep bound_by cause_of_stage result_with_nodes (assign_nodes given.domains given.options.numa_off) (λ a m. refl)
+    steps_keep bound_by cause_of_stage made_with_nodes (assign_nodes given.domains given.options.numa_off) (λ a m. refl)
     (λ before. keeps-limit given.domains given.options.numa_off before.items)
 
 -- the stage of the crash area leaves the labels as they are
@@ -128,28 +128,28 @@ by_labels stage keeps before last ends = let held : Labels → ℕ → Bool = λ
 -- the stages after the nodes leave the labels as they are
 pub labels_keep : (given : InputsView) → AllKeep labels_by (drop 2 (later_stages given))
 labels_keep given =
-    let before = lines_labels given.kernel (before_sections given.lines) in
+    let before = lines_labels given.kernel (lines_before_sections given.lines) in
     let behind = lines_labels given.kernel (lines_after_sections given.lines) in
     (crash_labels given, (before, (section_labels given, (behind, tt))))
 
 -- the stages after memory is made leave which bytes are memory as it is
 memory_keep : (given : InputsView) → AllKeep held_by (drop 1 (later_stages given))
 memory_keep given =
-    let before = by_labels _ (lines_labels given.kernel (before_sections given.lines)) in
+    let before = by_labels _ (lines_labels given.kernel (lines_before_sections given.lines)) in
     let behind = by_labels _ (lines_labels given.kernel (lines_after_sections given.lines)) in
     (nodes_hold given, (by_labels _ (crash_labels given), (before, (by_labels _ (section_labels given), (behind, tt)))))
 
 -- the stages after memory is made leave the limit as it is
 limit_keep : (given : InputsView) → AllKeep bound_by (drop 1 (later_stages given))
 limit_keep given =
-    let before = lines_bound given.kernel (before_sections given.lines) in
+    let before = lines_bound given.kernel (lines_before_sections given.lines) in
     let behind = lines_bound given.kernel (lines_after_sections given.lines) in
     (nodes_bound given, (crash_bound given, (before, (section_bound given, (behind, tt)))))
 
 -- what is known once memory is made
 pub record HasMemory (given : InputsView) (made : BootSoFar) : Type 0 where
   pub first : BootSoFar
-  pub carried : carry_out_items (first_items (early_inputs given) (map_of (claims given))) [] ≡ Ok first.items
+  pub carried : carry_out_items (early_items (early_inputs given) (map_of (claims given))) [] ≡ Ok first.items
   pub memory : held_by made ≡ held_by first
   pub limit : limit_of made.items ≡ limit_of first.items
 
@@ -158,10 +158,10 @@ unfolding boot
 memory_made given made ends =
     let judged = goes_by (judge_map given) (λ m. run_each_stage (later_stages given) m) made ends in
     let behind = passes (memory_stage given) (drop 1 (later_stages given)) judged.middle made judged.rest in
-    let known = judged_first given judged.middle judged.first in
+    let known = accepted_map_is_unchanged given judged.middle judged.first in
     record {
       first = behind.middle;
-      carried = ap (λ (m : BootSoFar). carry_out_items (first_items (early_inputs given) m.map) m.items) (sym known.0)
+      carried = ap (λ (m : BootSoFar). carry_out_items (early_items (early_inputs given) m.map) m.items) (sym known.0)
           ∙ memory_carried given judged.middle behind.middle behind.first;
       memory = chain_keeps held_by (drop 1 (later_stages given)) (memory_keep given) behind.middle made behind.rest;
       limit = chain_keeps bound_by (drop 1 (later_stages given)) (limit_keep given) behind.middle made behind.rest;
@@ -193,9 +193,9 @@ mirrored_some : (mirrors : List FrameRange) (f : Labels) (x : ℕ) → is_some (
 mirrored_some mirrors f x = mapped_some (is_mirrored mirrors x) (f x)
 
 -- a byte is memory exactly if its frame is usable
-pub memory_told : (given : InputsView) (made : BootSoFar) (x : ℕ) → boot given ≡ Ok made
+pub booted_memory_is_usable : (given : InputsView) (made : BootSoFar) (x : ℕ) → boot given ≡ Ok made
     → is_some (memory_of made.items x) ≡ is_usable_frame (types_in_reach given) (x / 4096)
-memory_told given made x ends =
+booted_memory_is_usable given made x ends =
     let known : HasMemory given made = memory_made given made ends in
     let map : List (RunOf ℕ) = map_of (claims given) in
     let reached : TypeAt = types_below (reach given) (value_at map) in
@@ -206,9 +206,9 @@ memory_told given made x ends =
     ∙ ap (λ (t : TypeAt). is_usable_frame t (x / 4096)) (types_same given)
 
 -- the limit is the end of the last usable frame
-pub limit_told : (given : InputsView) (made : BootSoFar) → boot given ≡ Ok made
+pub limit_is_memory_end : (given : InputsView) (made : BootSoFar) → boot given ≡ Ok made
     → limit_of made.items ≡ memory_end (reach given) (kinds (claims given))
-limit_told given made ends =
+limit_is_memory_end given made ends =
     let known : HasMemory given made = memory_made given made ends in
     known.limit ∙ first_limit (early_inputs given) (map_of (claims given)) known.first.items known.carried
     ∙ memory_end-same (reach given) (value_at (map_of (claims given))) (kinds (claims given)) (types_same given)

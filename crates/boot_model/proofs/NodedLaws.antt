@@ -3,7 +3,7 @@
 use Rattle.std.proofs.Common.{◌≡◌, ℕ, ◌*◌, ◌/◌, ◌<◌, ◌≤◌, ◌^◌, ◌∙◌, false, Option, Some, None, List, [], ◌∷◌, drop, Ok, refl, ap, sym, inl, inr, arith}
 use Rattle.std.proofs.lemmas.Bool.{cases_lt, false_from_ne_true}
 use Rattle.address_runs.specs.Runs.{RunOf, value_at}
-use Rattle.address_runs.specs.Edits.{NothingFrom}
+use Rattle.address_runs.specs.Edits.{IsEmptyFrom}
 use Rattle.e820_model.specs.Map.{TypeAt, map_of}
 use Rattle.e820_model.specs.Usable.{is_usable_frame, types_below, usable_frames}
 use Rattle.e820_model.proofs.UsableLaws.{count_none}
@@ -13,18 +13,18 @@ use Rattle.memblock_model.specs.Items.{limit_of, memory_of}
 use Rattle.growth_model.specs.Requests.{carry_out_items}
 use Rattle.early_memory.specs.EarlyInputs.{FrameRange}
 use Rattle.early_memory.specs.Memory.{memory_end, mirrored_memory, usable_memory}
-use Rattle.early_memory.specs.FirstItems.{first_items}
+use Rattle.early_memory.specs.FirstItems.{early_items}
 use Rattle.early_memory.proofs.MemoryLaws.{first_limit, first_memory}
 use Rattle.early_memory.proofs.EndLaws.{end_reached, memory_below, memory_end-is, mirrored_below}
 use Rattle.early_memory.proofs.MirrorLaws.{mirrored-alike}
-use Rattle.stage_steps.specs.Nodes.{IsSameInFrames, HasNodes}
+use Rattle.stage_steps.specs.Nodes.{IsConstantInFrames, IsMemoryWithNodes}
 use Rattle.numa_nodes.specs.Assignment.{assign_nodes}
 use Rattle.numa_nodes.proofs.NodedLaws.{answer-noded}
-use Rattle.boot_model.specs.Boot.{InputsView, BootSoFar, Stage, boot, claims, early_inputs, memory_stage, nodes_stage, later_stages, judge_map, all_mirrors, result_with_nodes, reach}
+use Rattle.boot_model.specs.Boot.{InputsView, BootSoFar, Stage, boot, claims, early_inputs, memory_stage, nodes_stage, later_stages, judge_map, all_mirrors, made_with_nodes, reach}
 use Rattle.boot_model.specs.First.{IsFirstMemory}
 use Rattle.boot_model.specs.Stages.{run_each_stage}
 use Rattle.boot_model.specs.Stop.{cause_of_stage}
-use Rattle.boot_model.proofs.BootLaws.{frames_within, judged_first, map_between}
+use Rattle.boot_model.proofs.BootLaws.{frames_within, accepted_map_is_unchanged, map_between}
 use Rattle.boot_model.proofs.CarriedLaws.{memory_carried}
 use Rattle.boot_model.proofs.MemoryLaws.{labels_by, labels_keep, types_same}
 use Rattle.boot_model.proofs.ReachLaws.{reach-below}
@@ -37,13 +37,13 @@ none_from at f x None is below far = is
 none_from at f x (Some label) is below far = absurd (omega (arith, below label is))
 
 past_end : (limit : ℕ) (f : TypeAt) (mirrors : List FrameRange) (at : ℕ) → memory_end limit f ≤ at
-    → NothingFrom at (mirrored_memory mirrors (usable_memory limit f))
+    → IsEmptyFrom at (mirrored_memory mirrors (usable_memory limit f))
 past_end limit f mirrors at high x far =
     none_from at (mirrored_memory mirrors (usable_memory limit f)) x (mirrored_memory mirrors (usable_memory limit f) x) refl
     (λ label is. (let low : x < memory_end limit f = mirrored_below limit f mirrors x label is in omega arith)) far
 
 -- mirrored ranges of frames mirror the bytes of a frame alike
-mirrored_whole : (mirrors : List FrameRange) (f : Labels) → IsSameInFrames f → IsSameInFrames (mirrored_memory mirrors f)
+mirrored_whole : (mirrors : List FrameRange) (f : Labels) → IsConstantInFrames f → IsConstantInFrames (mirrored_memory mirrors f)
 mirrored_whole mirrors f whole x =
     let frame : x / 4096 ≡ (4096 * (x / 4096)) / 4096 = omega arith in
     mirrored-alike mirrors f x (4096 * (x / 4096)) frame (whole x)
@@ -66,12 +66,12 @@ end_some limit f some = elim (cases_lt 0 (memory_end limit f)) [
 
 -- memory after the map became memory, if the boot goes on with the map
 pub first_known : (given : InputsView) (made : BootSoFar) (items : List Item) → judge_map given ≡ Ok made
-    → carry_out_items (first_items (early_inputs given) made.map) made.items ≡ Ok items → IsFirstMemory (reach given) items
+    → carry_out_items (early_items (early_inputs given) made.map) made.items ≡ Ok items → IsFirstMemory (reach given) items
 first_known given made items ends carried =
-    let known = judged_first given made ends in
+    let known = accepted_map_is_unchanged given made ends in
     let map : List (RunOf ℕ) = map_of (claims given) in
-    let from : carry_out_items (first_items (early_inputs given) map) [] ≡ Ok items =
-    ap (λ (m : BootSoFar). carry_out_items (first_items (early_inputs given) m.map) m.items) (sym known.0) ∙ carried in
+    let from : carry_out_items (early_items (early_inputs given) map) [] ≡ Ok items =
+    ap (λ (m : BootSoFar). carry_out_items (early_items (early_inputs given) m.map) m.items) (sym known.0) ∙ carried in
     let memory : memory_of items ≡ mirrored_memory (all_mirrors given) (usable_memory (reach given) (value_at map)) = λ i x.
     first_memory (early_inputs given) map items (map_between (claims given)).runs from x i in
     let limit : limit_of items ≡ memory_end (reach given) (value_at map) =
@@ -79,7 +79,7 @@ first_known given made items ends carried =
     let below : memory_end (reach given) (value_at map) ≤ reach given =
     (end_reached (reach given) (value_at map) _ (memory_end-is (reach given) (value_at map))).0 in
     let some : 0 < usable_frames (types_below (reach given) (value_at map)) = rw (types_same given) (frames_within _ known.1).0 in
-    let whole : IsSameInFrames (usable_memory (reach given) (value_at map)) = λ x.
+    let whole : IsConstantInFrames (usable_memory (reach given) (value_at map)) = λ x.
     let same : (4096 * (x / 4096)) / 4096 ≡ x / 4096 = omega arith in rw same refl in
     record {
       frames = rw memory (mirrored_whole (all_mirrors given) (usable_memory (reach given) (value_at map)) whole);
@@ -91,23 +91,23 @@ first_known given made items ends carried =
 -- memory after its nodes
 pub nodes_known : (given : InputsView) (before last : BootSoFar) → IsFirstMemory (reach given) before.items
     → nodes_stage given before ≡ Ok last
-    → HasNodes (reach given) (labels_by last)
+    → IsMemoryWithNodes (reach given) (labels_by last)
 nodes_known given before last first ends =
-    let told = steps_answered cause_of_stage result_with_nodes (assign_nodes given.domains given.options.numa_off) before last ends in
+    let told = steps_answered cause_of_stage made_with_nodes (assign_nodes given.domains given.options.numa_off) before last ends in
     rw told.same (answer-noded (reach given) given.domains given.options.numa_off before.items told.value told.answer (reach-below given)
     first.frames first.within first.low)
 
 -- memory after any stages that leave the labels, as at the end of the boot
-pub noded_behind : (given : InputsView) (first made : BootSoFar) (rest : List Stage) → judge_map given ≡ Ok first → AllKeep labels_by rest
-    → run_each_stage (memory_stage given ∷ nodes_stage given ∷ rest) first ≡ Ok made → HasNodes (reach given) (memory_of made.items)
-noded_behind given first made rest judged keep ends =
+pub later_memory_has_nodes : (given : InputsView) (first made : BootSoFar) (rest : List Stage) → judge_map given ≡ Ok first → AllKeep labels_by rest
+    → run_each_stage (memory_stage given ∷ nodes_stage given ∷ rest) first ≡ Ok made → IsMemoryWithNodes (reach given) (memory_of made.items)
+later_memory_has_nodes given first made rest judged keep ends =
     let behind = passes (memory_stage given) (nodes_stage given ∷ rest) first made ends in
     let nodes = passes (nodes_stage given) rest behind.middle made behind.rest in
     let known = first_known given first behind.middle.items judged (memory_carried given first behind.middle behind.first) in
     rw (chain_keeps labels_by rest keep nodes.middle made nodes.rest) (nodes_known given behind.middle nodes.middle known nodes.first)
 
-pub noded_told : (given : InputsView) (made : BootSoFar) → boot given ≡ Ok made → HasNodes (reach given) (memory_of made.items)
+pub noded_told : (given : InputsView) (made : BootSoFar) → boot given ≡ Ok made → IsMemoryWithNodes (reach given) (memory_of made.items)
 unfolding boot
 noded_told given made ends =
     let judged = goes_by (judge_map given) (λ m. run_each_stage (later_stages given) m) made ends in
-    noded_behind given judged.middle made (drop 2 (later_stages given)) judged.first (labels_keep given) judged.rest
+    later_memory_has_nodes given judged.middle made (drop 2 (later_stages given)) judged.first (labels_keep given) judged.rest

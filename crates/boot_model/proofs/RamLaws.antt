@@ -7,14 +7,14 @@ use Rattle.e820_model.specs.Usable.{usable_frames}
 use Rattle.e820_model.specs.declared.entry.TheConstants.{E820_MAX_ENTRIES}
 use Rattle.e820_sanitise.specs.declared.stop.MapStop.TheVariants as reasons
 use Rattle.growth_model.specs.Change.{RefusedGrowth}
-use Rattle.early_memory.specs.FirstItems.{first_items}
+use Rattle.early_memory.specs.FirstItems.{early_items}
 use Rattle.stage_steps.specs.Causes.{StageCause, NoPlace, NoTablePlace}
 use Rattle.stage_steps.specs.Steps.{StageStep, items_after_step}
 use Rattle.numa_nodes.specs.Assignment.{assign_nodes}
 use Rattle.crash_kernel.specs.Reservation.{reserve_crash_area}
 use Rattle.boot_model.specs.declared.stop.Cause.{Cause}
 use Rattle.boot_model.specs.declared.stop.Cause.TheVariants as causes
-use Rattle.boot_model.specs.Boot.{InputsView, BootSoFar, Stage, begin_boot, boot, stage_of_steps, early_inputs, later_stages, judge_map, map_stages, made_with_crash_area, result_with_nodes, made_with_sections, types_in_reach, unless_stopped, finish_stage}
+use Rattle.boot_model.specs.Boot.{InputsView, BootSoFar, Stage, begin_boot, boot, stage_of_steps, early_inputs, later_stages, judge_map, map_stages, made_with_crash_area, made_with_nodes, made_with_sections, types_in_reach, made_or_stop, finish_stage}
 use Rattle.boot_model.specs.First.{items_with_growths}
 use Rattle.boot_model.specs.Sections.{place_present_sections}
 use Rattle.boot_model.specs.Stages.{run_each_stage}
@@ -46,7 +46,7 @@ room_errs frames true runs made = λ same. absurd (cc same)
 room_errs frames false runs made = tt
 
 frames_errs : (frames : ℕ) (none many : Bool) (made : BootSoFar) → (frames == 0) ≡ none
-    → IfErr (unless_stopped (if none then Some reasons.NoRam else (if many then Some (reasons.TooMuchRam frames) else None)) made)
+    → IfErr (made_or_stop (if none then Some reasons.NoRam else (if many then Some (reasons.TooMuchRam frames) else None)) made)
     (IsTold frames)
 frames_errs frames true many made is = λ same. grind (arith, nat_tests, is)
 frames_errs frames false true made is = λ same. absurd (cc same)
@@ -84,8 +84,8 @@ unfolding AllErr
 later_errs given =
     let frames : ℕ = usable_frames (types_in_reach given) in
     let memory = λ (made : BootSoFar). steps_errs frames cause_of_growth (λ done next. next)
-    (items_with_growths (first_items (early_inputs given) made.map)) (growth_told frames) made in
-    let nodes = steps_errs frames cause_of_stage result_with_nodes (assign_nodes given.domains given.options.numa_off)
+    (items_with_growths (early_items (early_inputs given) made.map)) (growth_told frames) made in
+    let nodes = steps_errs frames cause_of_stage made_with_nodes (assign_nodes given.domains given.options.numa_off)
     (stage_told frames) in
     let crash = steps_errs frames cause_of_growth made_with_crash_area (reserve_crash_area given.options.crash) (growth_told frames) in
     let sections = steps_errs frames cause_of_stage made_with_sections (place_present_sections given.width) (stage_told frames) in

@@ -1,15 +1,15 @@
 -- The greatest limit of physical addresses, and that it is whole frames.
 use Rattle.std.proofs.Common.{◌≡◌, ◌%◌, ◌^◌, ◌≤◌, refl, arith}
-use Rattle.bm_base.specs.Width.{reach_of}
+use Rattle.bm_base.specs.Width.{address_limit_of}
 use Rattle.bm_base.specs.declared.width.Width.{Width}
 use Rattle.bm_base.specs.declared.width.Width.TheVariants.{Bits46, Bits52}
 use Rattle.boot_model.specs.Boot.{InputsView, reach}
 
-width-small : (width : Width) → reach_of width ≤ 2 ^ 52
+width-small : (width : Width) → address_limit_of width ≤ 2 ^ 52
 width-small Bits46 = omega arith
 width-small Bits52 = omega arith
 
-width-whole : (width : Width) → reach_of width % 4096 ≡ 0
+width-whole : (width : Width) → address_limit_of width % 4096 ≡ 0
 width-whole Bits46 = refl
 width-whole Bits52 = refl
 

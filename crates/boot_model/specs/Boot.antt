@@ -2,7 +2,7 @@
 use Rattle.std.specs.Prelude.{ℕ, ◌==◌, Bool, false, ◌&&◌, ◌||◌, List, [], ◌∷◌, ◌++◌, length, nat_lt, if◌then◌else◌, Option, Some, None, Result, Ok, Err}
 use Rattle.std.specs.List.{list_any}
 use Rattle.bm_base.specs.Range.{RangeView}
-use Rattle.bm_base.specs.Width.{reach_of}
+use Rattle.bm_base.specs.Width.{address_limit_of}
 use Rattle.bm_base.specs.declared.width.Width.{Width}
 use Rattle.address_runs.specs.Runs.{RunOf, lies_in}
 use Rattle.e820_model.specs.declared.entry.TheConstants.{E820_TYPE_RAM, E820_TYPE_RESERVED_KERN, E820_MAX_ENTRIES}
@@ -18,13 +18,13 @@ use Rattle.memblock_model.specs.declared.item.Item.{Item}
 use Rattle.memblock_model.specs.declared.owner.Which.TheVariants as which
 use Rattle.memblock_ranges.specs.declared.region.Heads.{Heads}
 use Rattle.memblock_ranges.specs.Tables.{head_of}
-use Rattle.growth_model.specs.Bytes.{Fill, table_for}
+use Rattle.growth_model.specs.Bytes.{Fill, table_from_items}
 use Rattle.early_memory.specs.EarlyInputs.{EarlyInputs, FrameRange}
-use Rattle.early_memory.specs.FirstItems.{first_items}
+use Rattle.early_memory.specs.FirstItems.{early_items}
 use Rattle.script_reader.specs.declared.act.Line.{Line}
 use Rattle.early_script.specs.declared.outcome.Answer.{Answer}
 use Rattle.early_script.specs.LiveView.{LiveView}
-use Rattle.early_script.specs.Lines.{ScriptSoFar, script_after_lines, before_sections, lines_after_sections}
+use Rattle.early_script.specs.Lines.{ScriptSoFar, script_after_lines, lines_before_sections, lines_after_sections}
 use Rattle.bm_base.specs.ResultSteps.{◌>>=◌}
 use Rattle.memblock_model.specs.Items.{memory_of, owner_of}
 use Rattle.memblock_model.specs.Tables.{reserved_labels}
@@ -41,7 +41,7 @@ use Rattle.page_alloc.specs.declared.act.PageLine.{PageLine}
 use Rattle.page_alloc.specs.declared.outcome.PageAnswer.{PageAnswer}
 use Rattle.page_alloc.specs.Pages.{PageState, first_page_state}
 use Rattle.slit_zonelists.specs.SlitView.{SlitView}
-use Rattle.slit_zonelists.specs.Lists.{ListsView, zonelists_from_slit}
+use Rattle.slit_zonelists.specs.Lists.{ZoneListsView, zonelists_from_slit}
 use Rattle.slit_zonelists.specs.Near.{page_state_after, page_answers_of}
 use Rattle.zone_spans.specs.declared.span.Span.{Span}
 use Rattle.zone_spans.specs.Spans.{spans_of}
@@ -103,7 +103,7 @@ inputs_without_files width kernel = record {
 
 -- the limit of physical addresses, in bytes (`MAX_PHYSMEM_BITS`)
 abbrev pub reach : InputsView → ℕ
-reach given = reach_of given.width
+reach given = address_limit_of given.width
 
 -- the mirrored frames of the firmware's own map (`efi_find_mirror`)
 abbrev pub efi_mirrors : Option EfiMapView → List FrameRange
@@ -155,7 +155,7 @@ pub record BootedView : Type 0 where
   pub answers : List Answer
   pub spans : List Span
   pub free : Frames
-  pub lists : ListsView
+  pub lists : ZoneListsView
   pub page_answers : List PageAnswer
   pub after : PageState
 
@@ -183,8 +183,8 @@ claims given = final_claims given.entries given.extension given.options.edits (a
 -- the heads of memblock's two tables after these items
 abbrev pub heads_of : RangeView → List Item → Heads
 heads_of kernel items = record {
-  memory = head_of (table_for which.Memory kernel items);
-  reserved = head_of (table_for which.Reserved kernel items);
+  memory = head_of (table_from_items which.Memory kernel items);
+  reserved = head_of (table_from_items which.Reserved kernel items);
 }
 
 -- the frames that go to the buddy lists, each with the node of its memory: those in which all
@@ -198,11 +198,11 @@ spans_of_memory items = spans_of (node_of_frame (memory_of items))
 
 -- the limit of physical addresses, for a report
 abbrev pub booted_address_limit : BootedView → ℕ
-booted_address_limit finish_boot = reach_of finish_boot.width
+booted_address_limit finish_boot = address_limit_of finish_boot.width
 
 -- for each node, the zones with memory, in the order in which its requests look at them
 -- (`build_zonelists`)
-abbrev pub booted_zonelists : InputsView → BootSoFar → ListsView
+abbrev pub booted_zonelists : InputsView → BootSoFar → ZoneListsView
 booted_zonelists given made = zonelists_from_slit given.slit made.nodes.domains (spans_of_memory made.items)
 
 -- the report of what the boot made; the page script runs on a copy of the frames handed over, of
@@ -252,14 +252,14 @@ abbrev pub map_size_stage : Stage
 map_size_stage made = if nat_lt E820_MAX_ENTRIES (length made.map) then Err (causes.MapFull (length made.map)) else Ok made
 
 -- goes on with what was made, unless the map is refused for this reason
-abbrev pub unless_stopped : Option MapStop → Stage
-unless_stopped None made = Ok made
-unless_stopped (Some reason) made = Err (cause_of_map reason)
+abbrev pub made_or_stop : Option MapStop → Stage
+made_or_stop None made = Ok made
+made_or_stop (Some reason) made = Err (cause_of_map reason)
 
 -- the map has usable frames below the limit of physical addresses, and not too many
 -- (`e820__memblock_setup`)
 abbrev pub usable_frames_stage : InputsView → Stage
-usable_frames_stage given made = unless_stopped (judge_frames (types_in_reach given)) made
+usable_frames_stage given made = made_or_stop (judge_frames (types_in_reach given)) made
 
 -- the stages that accept the map or stop the boot
 abbrev pub map_stages : InputsView → List Stage
@@ -304,15 +304,15 @@ stage_of_steps cause put doing made = finish_steps cause put made (doing made.it
 -- (`early_reserve_memory`, `e820__memblock_setup`, `reserve_real_mode`)
 abbrev pub memory_stage : InputsView → Stage
 memory_stage given made =
-    stage_of_steps cause_of_growth (λ done next. next) (items_with_growths (first_items (early_inputs given) made.map)) made
+    stage_of_steps cause_of_growth (λ done next. next) (items_with_growths (early_items (early_inputs given) made.map)) made
 
 -- what the boot made, with these nodes
-abbrev pub result_with_nodes : NodesView → BootSoFar → BootSoFar
-result_with_nodes nodes made = record made { nodes = nodes }
+abbrev pub made_with_nodes : NodesView → BootSoFar → BootSoFar
+made_with_nodes nodes made = record made { nodes = nodes }
 
 -- memory gets its nodes, and each node its data (`initmem_init`)
 abbrev pub nodes_stage : InputsView → Stage
-nodes_stage given = stage_of_steps cause_of_stage result_with_nodes (assign_nodes given.domains given.options.numa_off)
+nodes_stage given = stage_of_steps cause_of_stage made_with_nodes (assign_nodes given.domains given.options.numa_off)
 
 -- what the boot made, with this crash area
 abbrev pub made_with_crash_area : Crash → BootSoFar → BootSoFar
@@ -334,7 +334,7 @@ sections_stage given = stage_of_steps cause_of_stage made_with_sections (place_p
 -- among them
 abbrev pub later_stages : InputsView → List Stage
 later_stages given =
-    memory_stage given ∷ nodes_stage given ∷ crash_area_stage given ∷ script_stage given.kernel (before_sections given.lines)
+    memory_stage given ∷ nodes_stage given ∷ crash_area_stage given ∷ script_stage given.kernel (lines_before_sections given.lines)
     ∷ sections_stage given
     ∷ script_stage given.kernel (lines_after_sections given.lines) ∷ []
 

@@ -3,7 +3,7 @@
 use Rattle.std.specs.Prelude.{◌≡◌, ◌*◌, ◌%◌, ◌≤◌, ◌==◌, Bool, ◌&&◌, nat_le}
 use Rattle.bm_base.specs.Range.{RangeView, end_of}
 use Rattle.bm_base.specs.declared.range.TheConstants.{FRAME_SIZE}
-use Rattle.bm_base.specs.Width.{reach_of}
+use Rattle.bm_base.specs.Width.{address_limit_of}
 use Rattle.bm_base.specs.declared.width.Width.{Width}
 
 -- The image lies above the first MiB, which real mode keeps. Memblock's two tables fit in its last
@@ -14,10 +14,10 @@ pub record IsKernel (width : Width) (image : RangeView) : Type 0 where
   pub long : 2 * FRAME_SIZE ≤ image.size
   pub at_frame : image.base % FRAME_SIZE ≡ 0
   pub of_frames : image.size % FRAME_SIZE ≡ 0
-  pub in_reach : end_of image ≤ reach_of width
+  pub in_reach : end_of image ≤ address_limit_of width
 
 -- `IsKernel` as a test
 abbrev pub is_kernel : Width → RangeView → Bool
 is_kernel width image =
     nat_le 0x100000 image.base && nat_le (2 * FRAME_SIZE) image.size && (image.base % FRAME_SIZE == 0) && (image.size % FRAME_SIZE == 0)
-    && nat_le (end_of image) (reach_of width)
+    && nat_le (end_of image) (address_limit_of width)

@@ -4,7 +4,7 @@ use Rattle.bm_base.specs.declared.width.Width.{Width}
 use Rattle.memblock_model.specs.Items.{memory_of}
 use Rattle.memblock_grow.specs.declared.stop.Section.{Section}
 use Rattle.stage_steps.specs.Causes.{StageCause}
-use Rattle.stage_steps.specs.Steps.{StageStep, ◌>>=◌, return_value, read_into_list}
+use Rattle.stage_steps.specs.Steps.{StageStep, ◌>>=◌, return_value, read_items_allocating}
 use Rattle.sparse_sections.specs.Present.{present}
 use Rattle.sparse_sections.specs.Roots.{RootsView, place_roots}
 use Rattle.section_maps.specs.declared.placed.Placed.{Placed}
@@ -29,5 +29,5 @@ place_sections width sections = do
 -- the sections that have memory are placed, in their order
 unfoldable pub place_present_sections : Width → StageStep StageCause SectionPlaces
 place_present_sections width = do
-  sections ← read_into_list (λ items. present (memory_of items))
+  sections ← read_items_allocating (λ items. present (memory_of items))
   place_sections width sections

@@ -9,7 +9,7 @@ use Rattle.numa_nodes.specs.Assignment.{nodes_view}
 use Rattle.sparse_sections.specs.Roots.{roots_view}
 use Rattle.sparse_sections.specs.declared.places.Roots.{Roots}
 use Rattle.section_maps.specs.declared.placed.Placed.{Placed}
-use Rattle.buddy_handover.specs.BuddyView.{buddy_frames}
+use Rattle.buddy_handover.specs.BuddyView.{node_of_free_frame}
 use Rattle.page_alloc.specs.PagesView.{page_state_of}
 use Rattle.slit_zonelists.specs.SlitView.{slit_view}
 use Rattle.boot_model.specs.declared.booted.Booted.{Booted}
@@ -57,7 +57,7 @@ booted_view b = record {
   sections = sections_view b.roots b.placed;
   answers = b.answers.items;
   spans = b.spans.items;
-  free = buddy_frames b.buddy;
+  free = node_of_free_frame b.buddy;
   lists = b.lists;
   page_answers = b.page_answers.items;
   after = page_state_of b.after;

@@ -89,10 +89,10 @@ impl From<Memory> for Stop {
 
 impl From<StageStop> for Stop {
     ghost use Rattle.std.specs.Prelude.{◌≡◌, Option};
-    ghost use Rattle.stage_steps.specs.Causes.{StageCause, stage_stop};
+    ghost use Rattle.stage_steps.specs.Causes.{StageCause, error_of_stage_cause};
     ghost use Rattle.boot_model.specs.Stop.{cause_of_stage, stop_of_error};
 
-    ghost from_gives = { λ stage stop. (why : Option StageCause) → stage ≡ stage_stop why
+    ghost from_gives = { λ stage stop. (why : Option StageCause) → stage ≡ error_of_stage_cause why
         → stop ≡ stop_of_error cause_of_stage why };
 
     fn from(stage: StageStop) -> Stop {

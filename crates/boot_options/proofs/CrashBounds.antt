@@ -7,7 +7,7 @@ use Rattle.std.specs.Str.{bytes_eq}
 use Rattle.bm_base.specs.OptionSteps.{◌>>=◌}
 use Rattle.text_words.specs.declared.separators.Separators.{Separators}
 use Rattle.text_words.specs.declared.separators.Separators.TheVariants.{Byte}
-use Rattle.text_words.specs.Parts.{split_once, parts_from, parts_in, quoted_after, separates, with_front}
+use Rattle.text_words.specs.Parts.{split_once, parts_from, parts_in, quoted_after, separates, prepend_byte}
 use Rattle.boot_options.specs.declared.crash.CrashRange.{CrashRange}
 use Rattle.boot_options.specs.MapOptions.{whole_size}
 use Rattle.boot_options.specs.Crash.{AreInOrder, CrashFormView, High, IsPlain, Low, Plain, comma, crash_range_of, crash_ranges_of, end_of_range, crash_form_of, range_if_in_order, is_above, text_and_base, ranges_form, simple_form, suffix_form, form_without_colon}
@@ -56,7 +56,7 @@ sound-ranges (text ∷ texts) = with_one (crash_range_of text) (sound-range text
     with_one (Some r) is (Some rs) are = (grind (arith, are.0), (is, are.1))
 
 -- a text has at least one part
-front-some : (b : ℕ) (parts : List (List ℕ)) → 0 < length (with_front b parts)
+front-some : (b : ℕ) (parts : List (List ℕ)) → 0 < length (prepend_byte b parts)
 front-some b [] = omega arith
 front-some b (p ∷ ps) = omega arith
 
@@ -64,7 +64,7 @@ parts-some : (s : Separators) (quoted : Bool) (text : List ℕ) → 0 < length (
 parts-some s quoted [] = omega arith
 parts-some s quoted (b ∷ bs) = by_test (separates s b && not quoted)
   where
-    by_test : (t : Bool) → 0 < length (if t then [] ∷ parts_from s quoted bs else with_front b (parts_from s (quoted_after s quoted b) bs))
+    by_test : (t : Bool) → 0 < length (if t then [] ∷ parts_from s quoted bs else prepend_byte b (parts_from s (quoted_after s quoted b) bs))
     by_test true = omega arith
     by_test false = front-some b (parts_from s (quoted_after s quoted b) bs)
 

@@ -14,8 +14,8 @@ use Rattle.boot_options.specs.declared.reading.UserMap.{UserMap}
 use Rattle.boot_options.specs.MapOptions.{whole_size, range_if_addressable, range_above, ram_above, map_option_of, mem_of}
 use Rattle.boot_options.specs.Crash.{crash_option_view, no_crash}
 use Rattle.boot_options.specs.Kept.{KeepsItems}
-use Rattle.boot_options.specs.Options.{raw_line, checked_line, command_line_of, WordMeaning, OfMap, NumaOff, AddEfi, memmap_of, one_map_option, word_meaning, name_value_of, option_words, word_meanings_from, all_map_options, edit_of, edits_of, count_adding, last_exact, OptionsView, options_view, check_user_map, options_with_user_map, options_of, HaveRanges, IsNumbered}
-use Rattle.boot_options.specs.Reading.{start_state, user_map_after_option, after_map_option, reading_after_word, after_words, after_meaning, at_line_end, IsReadTo, IsAtSome, ReadsAs}
+use Rattle.boot_options.specs.Options.{raw_line, checked_line, command_line_of, WordMeaning, OfMap, NumaOff, AddEfi, memmap_of, meaning_of_map_option, word_meaning, name_value_of, option_words, word_meanings_from, all_map_options, edit_of, edits_of, count_adding, last_exact, OptionsView, options_view, check_user_map, options_with_user_map, options_of, HaveRanges, IsNumbered}
+use Rattle.boot_options.specs.Reading.{start_state, user_map_after_option, after_map_option, reading_after_word, after_words, after_meaning, at_line_end, IsReadTo, IsInState, ReadsAs}
 
 abbrev range : ℕ → ℕ → RangeView
 range base size = record { base = base; size = size }
@@ -117,7 +117,7 @@ names : (name_value_of (codes "mem=\"4G\"") ≡ (codes "mem", Some (codes "4G"))
 names = (refl, refl, refl)
 
 -- the meaning of a word depends on its whole name; a fault has the number of the word
-said_words : (word_meaning 2 (codes "mem", Some (codes "nopentium")) ≡ Ok (one_map_option (Other None)))
+said_words : (word_meaning 2 (codes "mem", Some (codes "nopentium")) ≡ Ok (meaning_of_map_option (Other None)))
     × (word_meaning 2 (codes "numa", Some (codes "off")) ≡ Ok NumaOff)
     × (word_meaning 2 (codes "memory", Some (codes "4G")) ≡ Ok (OfMap []))
     × (word_meaning 2 (codes "mem", None) ≡ Err (faults.BadMem 2))
@@ -262,7 +262,7 @@ other_numa_off : (m : Memory) → IsReadTo (half_read m) (after_map_option 1 sta
 other_numa_off m has = let off = has.numa_off in cc off
 
 -- a reader that goes on has no fault, and the fault that it returns is the definition's
-no_state_with_a_fault : (m : Memory) → IsAtSome (half_read m) (Err (faults.BadMem 1)) → ⊥
+no_state_with_a_fault : (m : Memory) → IsInState (half_read m) (Err (faults.BadMem 1)) → ⊥
 no_state_with_a_fault m is = is
 
 same_fault : (m : Memory)

@@ -19,7 +19,7 @@ use Rattle.boot_options.specs.declared.fault.OptionFault.TheVariants as faults
 use Rattle.boot_options.specs.declared.options.TheConstants.{LONGEST_LINE}
 use Rattle.boot_options.specs.Crash.{crash_form_of}
 use Rattle.boot_options.specs.MapOptions.{mem_of}
-use Rattle.boot_options.specs.Options.{WordMeaning, OfMap, OfCrash, NumaOff, AddEfi, split_name_value, options_of_words, crash_of, is_closed, last_exact, all_map_options, command_line_of, map_options_of, memmap_of, name_value_of, numa_of, one_map_option, option_words, options_of, meaning_or_fault, raw_line, word_meaning, word_meanings_from, check_user_map, until_end, options_with_user_map}
+use Rattle.boot_options.specs.Options.{WordMeaning, OfMap, OfCrash, NumaOff, AddEfi, split_name_value, options_of_words, crash_of, is_closed, last_exact, all_map_options, command_line_of, map_options_of, memmap_of, name_value_of, numa_of, meaning_of_map_option, option_words, options_of, meaning_or_fault, raw_line, word_meaning, word_meanings_from, check_user_map, until_end, options_with_user_map}
 use Rattle.boot_options.specs.Spelling.{IsBadCrash, IsBadMem, IsBadMemmap, IsBadNuma, IsCrashValue, IsFirstWordFault, IsMalformed, IsMemValue, IsMemmapValue, IsNumaValue, IsSoundWord, OptionWords, a_word, line_end, no_value, other_value, two_dashes}
 use Rattle.boot_options.proofs.CrashSpellingLaws.{Lacks, split_once-mark, split_once-none}
 use Rattle.boot_options.proofs.SpelledCrashLaws.{split_once-spelled, form-exactly}
@@ -63,11 +63,11 @@ NoValue n None = Unit {0}
 NoValue n (Some value) = IsValue n value → ⊥
 
 -- the meaning of a value
-abbrev pub said_value : Name → Option (List ℕ) → Option WordMeaning
-said_value mem value = option_map one_map_option (option_and_then mem_of value)
-said_value memmap value = option_and_then memmap_of value
-said_value crash value = option_and_then crash_of value
-said_value numa value = option_and_then numa_of value
+abbrev pub value_meaning : Name → Option (List ℕ) → Option WordMeaning
+value_meaning mem value = option_map meaning_of_map_option (option_and_then mem_of value)
+value_meaning memmap value = option_and_then memmap_of value
+value_meaning crash value = option_and_then crash_of value
+value_meaning numa value = option_and_then numa_of value
 
 -- nothing is read exactly if nothing is spelled
 none-exactly : {A B : Type 0} (o : Option A) (f : A → B) (Spells : A → Type 0) → ((a : A) → o ≡ Some a ↔ Spells a)
@@ -75,9 +75,9 @@ none-exactly : {A B : Type 0} (o : Option A) (f : A → B) (Spells : A → Type 
 none-exactly None f Spells exact = (λ is spells. let read = (exact spells.0).1 spells.1 in cc read, λ none. refl)
 none-exactly (Some a) f Spells exact = (λ is. cc, λ none. absurd (none (a, (exact a).0 refl)))
 
-said_none : (n : Name) (value : Option (List ℕ)) → said_value n value ≡ None ↔ NoValue n value
+said_none : (n : Name) (value : Option (List ℕ)) → value_meaning n value ≡ None ↔ NoValue n value
 said_none mem None = (λ is. tt, λ none. refl)
-said_none mem (Some value) = none-exactly (mem_of value) one_map_option _ (mem-exactly value)
+said_none mem (Some value) = none-exactly (mem_of value) meaning_of_map_option _ (mem-exactly value)
 said_none memmap None = (λ is. tt, λ none. refl)
 said_none memmap (Some value) = none-exactly (map_options_of (parts_in (Byte 44) value)) OfMap _ (map_options-exactly value)
 said_none crash None = (λ is. tt, λ none. refl)
@@ -105,18 +105,18 @@ word_meaning-fault number word fault =
     by_tests (bytes_eq word.0 (codes "mem")) refl (bytes_eq word.0 (codes "memmap")) refl (bytes_eq word.0 (codes "crashkernel")) refl
     (bytes_eq word.0 (codes "numa")) refl (bytes_eq word.0 (codes "add_efi_memmap"))
   where
-    named : (n : Name) → bytes_eq word.0 (text_of n) ≡ true → meaning_or_fault (fault_at n number) (said_value n word.1) ≡ Err fault
+    named : (n : Name) → bytes_eq word.0 (text_of n) ≡ true → meaning_or_fault (fault_at n number) (value_meaning n word.1) ≡ Err fault
         → IsFaultOf number word fault
     named n test is =
-        let found = is_fault (fault_at n number) (said_value n word.1) fault is in
+        let found = is_fault (fault_at n number) (value_meaning n word.1) fault is in
         (n, (bytes_eq-Decides word.0 (text_of n)).0 test, (said_none n word.1).0 found.0, found.1)
 
     by_tests : (a : Bool) → bytes_eq word.0 (codes "mem") ≡ a → (b : Bool) → bytes_eq word.0 (codes "memmap") ≡ b → (c : Bool)
         → bytes_eq word.0 (codes "crashkernel") ≡ c → (d : Bool) → bytes_eq word.0 (codes "numa") ≡ d → (e : Bool)
-        → (if a then meaning_or_fault (faults.BadMem number) (said_value mem word.1) else
-        (if b then meaning_or_fault (faults.BadMemmap number) (said_value memmap word.1) else
-        (if c then meaning_or_fault (faults.BadCrash number) (said_value crash word.1) else
-        (if d then meaning_or_fault (faults.BadNuma number) (said_value numa word.1) else (if e then Ok AddEfi else Ok (OfMap []))))))
+        → (if a then meaning_or_fault (faults.BadMem number) (value_meaning mem word.1) else
+        (if b then meaning_or_fault (faults.BadMemmap number) (value_meaning memmap word.1) else
+        (if c then meaning_or_fault (faults.BadCrash number) (value_meaning crash word.1) else
+        (if d then meaning_or_fault (faults.BadNuma number) (value_meaning numa word.1) else (if e then Ok AddEfi else Ok (OfMap []))))))
         ≡ Err fault
         → IsFaultOf number word fault
     by_tests true a_is b b_is c c_is d d_is e is = named mem a_is is

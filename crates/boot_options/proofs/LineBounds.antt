@@ -18,7 +18,7 @@ use Rattle.boot_options.specs.declared.map_option.MapOption.TheVariants.{ExactMa
 use Rattle.boot_options.specs.MapOptions.{mem_of}
 use Rattle.boot_options.specs.declared.crash.CrashPlain.{CrashPlain}
 use Rattle.boot_options.specs.Crash.{High, IsPlain, Low, Plain, CrashPlainView, crash_form_of, crash_plain_view}
-use Rattle.boot_options.specs.Options.{WordMeaning, OfMap, OfCrash, NumaOff, AddEfi, OptionsView, options_view, crash_of, last_value, plain_crash_value, is_closed, command_line_of, raw_line, map_options_of, memmap_of, one_map_option, numa_of, meaning_or_fault, word_meaning, name_value_of, word_meanings_from, option_words, numbered_map_options, all_map_options, edit_of, edits_of, count_adding, last_exact_map, last_exact, options_of_words, check_user_map, options_with_user_map, options_of, HaveRanges, IsNumbered}
+use Rattle.boot_options.specs.Options.{WordMeaning, OfMap, OfCrash, NumaOff, AddEfi, OptionsView, options_view, crash_of, last_value, plain_crash_value, is_closed, command_line_of, raw_line, map_options_of, memmap_of, meaning_of_map_option, numa_of, meaning_or_fault, word_meaning, name_value_of, word_meanings_from, option_words, numbered_map_options, all_map_options, edit_of, edits_of, count_adding, last_exact_map, last_exact, options_of_words, check_user_map, options_with_user_map, options_of, HaveRanges, IsNumbered}
 use Rattle.boot_options.proofs.CrashBounds.{IsSoundForm, sound-form}
 use Rattle.boot_options.proofs.MapOptionBounds.{IsSound, IsSoundOption, AreSound, ifsome-and_then, ifsome-map, ifsome-if, sound-mem, sound-map_options}
 
@@ -49,25 +49,25 @@ IsLineFault (faults.BadNuma word) = 0 < word
 IsLineFault faults.Memory = ⊥
 
 -- the result of a step is sound, or is a fault that a line may have
-abbrev pub IsFit : {A : Type 0} → (A → Type 0) → Result A OptionFault → Type 0
-IsFit P (Ok a) = P a
-IsFit P (Err fault) = IsLineFault fault
+abbrev pub IsSoundOrFault : {A : Type 0} → (A → Type 0) → Result A OptionFault → Type 0
+IsSoundOrFault P (Ok a) = P a
+IsSoundOrFault P (Err fault) = IsLineFault fault
 
 pub fit-or_fault : (fault : OptionFault) (o : Option WordMeaning) → IsLineFault fault → IfSome o IsSoundWord
-    → IsFit IsSoundWord (meaning_or_fault fault o)
+    → IsSoundOrFault IsSoundWord (meaning_or_fault fault o)
 fit-or_fault fault None numbered_map_options is = numbered_map_options
 fit-or_fault fault (Some said) numbered_map_options is = is
 
-pub fit-if : {A : Type 0} (P : A → Type 0) (t : Bool) (x y : Result A OptionFault) → IsFit P x → IsFit P y → IsFit P (if t then x else y)
+pub fit-if : {A : Type 0} (P : A → Type 0) (t : Bool) (x y : Result A OptionFault) → IsSoundOrFault P x → IsSoundOrFault P y → IsSoundOrFault P (if t then x else y)
 fit-if P true x y a b = a
 fit-if P false x y a b = b
 
 -- the meaning of a word is sound, and its fault has the word's number
-pub fit-said_by : (number : ℕ) (word : List ℕ × Option (List ℕ)) → 0 < number → IsFit IsSoundWord (word_meaning number word)
+pub fit-said_by : (number : ℕ) (word : List ℕ × Option (List ℕ)) → 0 < number → IsSoundOrFault IsSoundWord (word_meaning number word)
 fit-said_by number word above =
     fit-if IsSoundWord (bytes_eq word.0 (codes "mem")) _ _
     (fit-or_fault (faults.BadMem number) _ above
-    (ifsome-map IsSoundOption IsSoundWord one_map_option (option_and_then mem_of word.1) (λ p is. (is, tt))
+    (ifsome-map IsSoundOption IsSoundWord meaning_of_map_option (option_and_then mem_of word.1) (λ p is. (is, tt))
     (ifsome-and_then IsSoundOption mem_of word.1 sound-mem)))
     (fit-if IsSoundWord (bytes_eq word.0 (codes "memmap")) _ _
     (fit-or_fault (faults.BadMemmap number) _ above
@@ -87,12 +87,12 @@ fit-said_by number word above =
 -- if one step's result is sound, and the next step's result is sound for each sound input, so is
 -- that of both
 pub fit-then : {A B : Type 0} (P : A → Type 0) (Q : B → Type 0) (r : Result A OptionFault) (f : A → Result B OptionFault)
-    → IsFit P r → ((a : A) → P a → IsFit Q (f a)) → IsFit Q (r >>= f)
+    → IsSoundOrFault P r → ((a : A) → P a → IsSoundOrFault Q (f a)) → IsSoundOrFault Q (r >>= f)
 fit-then P Q (Ok a) f is each = each a is
 fit-then P Q (Err fault) f is each = is
 
 -- the meanings of all words are sound
-pub fit-said_from : (number : ℕ) (words : List (List ℕ)) → 0 < number → IsFit AreSoundWords (word_meanings_from number words)
+pub fit-said_from : (number : ℕ) (words : List (List ℕ)) → 0 < number → IsSoundOrFault AreSoundWords (word_meanings_from number words)
 fit-said_from number [] above = tt
 fit-said_from number (word ∷ words) above =
     fit-then IsSoundWord AreSoundWords (word_meaning number (name_value_of word)) _ (fit-said_by number (name_value_of word) above)
@@ -152,34 +152,34 @@ numbered_map_options-last_exact ((number, p) ∷ ps) are = or_this (last_exact p
     or_this None (Other e) is = tt
 
 -- the options of the whole line are sound
-abbrev pub IsSoundChoice : OptionsView → Type 0
-IsSoundChoice c = HaveTypes c.edits × HaveRanges c.edits × IfSome c.crash.plain IsPlain
+abbrev pub AreSoundOptions : OptionsView → Type 0
+AreSoundOptions c = HaveTypes c.edits × HaveRanges c.edits × IfSome c.crash.plain IsPlain
 
-pub sound-chosen_by : (said : List (ℕ × WordMeaning)) → AreSoundWords said → IsSoundChoice (options_of_words said)
+pub sound-chosen_by : (said : List (ℕ × WordMeaning)) → AreSoundWords said → AreSoundOptions (options_of_words said)
 sound-chosen_by said are =
     let edits = types-edits (all_map_options said) (sound-all_map_options said are) in (edits.0, edits.1, sound-last_plain said are)
 
-pub fit-with_user_map : (said : List (ℕ × WordMeaning)) → AreSoundWords said → IsFit IsSoundChoice (options_with_user_map said)
+pub fit-with_user_map : (said : List (ℕ × WordMeaning)) → AreSoundWords said → IsSoundOrFault AreSoundOptions (options_with_user_map said)
 fit-with_user_map said are =
     by_exact (last_exact (all_map_options said)) (numbered_map_options-last_exact (all_map_options said) (sound-all_map_options said are))
   where
     by_exact : (found : Option (ℕ × ℕ)) → IfSome found (λ exact. 0 < exact.0)
-        → IsFit IsSoundChoice (check_user_map (options_of_words said) found)
+        → IsSoundOrFault AreSoundOptions (check_user_map (options_of_words said) found)
     by_exact None is = sound-chosen_by said are
-    by_exact (Some exact) is = fit-if IsSoundChoice (nat_lt exact.1 2) _ _ is (sound-chosen_by said are)
+    by_exact (Some exact) is = fit-if AreSoundOptions (nat_lt exact.1 2) _ _ is (sound-chosen_by said are)
 
 abbrev pub IsAnyLine : List ℕ → Type 0
 IsAnyLine line = Unit {0}
 
-pub fit-line : (bytes : List ℕ) → IsFit IsAnyLine (command_line_of bytes)
+pub fit-line : (bytes : List ℕ) → IsSoundOrFault IsAnyLine (command_line_of bytes)
 fit-line bytes =
     fit-if IsAnyLine (nat_lt 2047 (length (raw_line bytes))) _ _ tt (fit-if IsAnyLine (is_closed (raw_line bytes)) _ _ tt tt)
 
 -- the options of the bytes are sound, or their fault is one that a line may have
-pub fit-options : (bytes : List ℕ) → IsFit IsSoundChoice (options_of bytes)
+pub fit-options : (bytes : List ℕ) → IsSoundOrFault AreSoundOptions (options_of bytes)
 fit-options bytes =
-    fit-then IsAnyLine IsSoundChoice (command_line_of bytes) _ (fit-line bytes) (λ line _.
-    fit-then AreSoundWords IsSoundChoice (word_meanings_from 1 (option_words line)) options_with_user_map
+    fit-then IsAnyLine AreSoundOptions (command_line_of bytes) _ (fit-line bytes) (λ line _.
+    fit-then AreSoundWords AreSoundOptions (word_meanings_from 1 (option_words line)) options_with_user_map
     (fit-said_from 1 (option_words line) (omega arith)) fit-with_user_map)
 
 -- the options that a call returns have types above 0 and ranges that aren't empty
@@ -219,5 +219,5 @@ numbered_map_options-given bytes (Err fault) is = by_fault fault is
     by_fault faults.Memory is = tt
 
 -- "out of memory" is never a fault of the bytes
-pub options-remembered : (bytes : List ℕ) → options_of bytes ≢ Err faults.Memory
-options-remembered bytes is = rw is at (fit-options bytes)
+pub options_of-not_memory : (bytes : List ℕ) → options_of bytes ≢ Err faults.Memory
+options_of-not_memory bytes is = rw is at (fit-options bytes)

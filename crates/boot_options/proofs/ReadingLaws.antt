@@ -7,7 +7,7 @@ use Rattle.bm_base.specs.ResultSteps.{◌>>=◌}
 use Rattle.boot_options.specs.declared.fault.OptionFault.{OptionFault}
 use Rattle.boot_options.specs.Options.{WordMeaning, name_value_of, word_meaning, word_meanings_from, option_words}
 use Rattle.boot_options.specs.declared.reading.Reading.{Reading}
-use Rattle.boot_options.specs.Reading.{ReadingState, IsReadTo, IsAtSome, reading_after_word, after_meaning, after_meanings}
+use Rattle.boot_options.specs.Reading.{ReadingState, IsReadTo, IsInState, reading_after_word, after_meaning, after_meanings}
 
 -- the first word, if it isn't `--`, followed by the words after it; stated for the values that the
 -- reader compares
@@ -18,7 +18,7 @@ option_words-read line word behind bare dashes is unquotes marks test =
     rw unquotes (rw is (rw other refl))
 
 -- the state in which the reader is
-pub state_at : (r : Reading) (d : Result ReadingState OptionFault) → IsAtSome r d → (st : ReadingState) × IsReadTo r st × (d ≡ Ok st)
+pub state_at : (r : Reading) (d : Result ReadingState OptionFault) → IsInState r d → (st : ReadingState) × IsReadTo r st × (d ≡ Ok st)
 state_at r (Ok st) has = (st, has, refl)
 state_at r (Err fault) has = absurd has
 

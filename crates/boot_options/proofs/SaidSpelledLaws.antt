@@ -13,18 +13,18 @@ use Rattle.boot_options.specs.declared.fault.OptionFault.{OptionFault}
 use Rattle.boot_options.specs.declared.fault.OptionFault.TheVariants as faults
 use Rattle.boot_options.specs.Crash.{crash_form_of}
 use Rattle.boot_options.specs.MapOptions.{mem_of}
-use Rattle.boot_options.specs.Options.{WordMeaning, OfMap, OfCrash, NumaOff, AddEfi, split_name_value, command_line_of, map_options_of, name_value_of, one_map_option, option_words, meaning_or_fault, word_meaning, word_meanings_from, until_end}
+use Rattle.boot_options.specs.Options.{WordMeaning, OfMap, OfCrash, NumaOff, AddEfi, split_name_value, command_line_of, map_options_of, name_value_of, meaning_of_map_option, option_words, meaning_or_fault, word_meaning, word_meanings_from, until_end}
 use Rattle.boot_options.specs.Spelling.{HasName, SpellEach, SpellsLine, SpellsMeaning, alone, crash_word, efi_word, mem_word, memmap_word, numa_word, other_word, with_value}
 use Rattle.boot_options.proofs.CrashSpellingLaws.{Lacks, split_once-mark, split_once-none}
-use Rattle.boot_options.proofs.FaultLaws.{Name, crash, line-read, mem, memmap, numa, said_value, lacks_equals, text_of, OptionWords-until_end, until_end-words}
+use Rattle.boot_options.proofs.FaultLaws.{Name, crash, line-read, mem, memmap, numa, value_meaning, lacks_equals, text_of, OptionWords-until_end, until_end-words}
 use Rattle.boot_options.proofs.SpelledCrashLaws.{split_once-spelled, form-exactly}
 use Rattle.boot_options.proofs.SpelledLaws.{map-some, map_options-exactly, mem-exactly}
 
 -- the meaning of a value is spelled after the name of its word
-said-spelled : (n : Name) (raw : List ℕ) (said : WordMeaning) → said_value n (Some (unquote raw)) ≡ Some said
+said-spelled : (n : Name) (raw : List ℕ) (said : WordMeaning) → value_meaning n (Some (unquote raw)) ≡ Some said
     → SpellsMeaning (text_of n ++ (61 ∷ raw)) said
 said-spelled mem raw said is =
-    let found = map-some (mem_of (unquote raw)) one_map_option said is in
+    let found = map-some (mem_of (unquote raw)) meaning_of_map_option said is in
     rw (← found.2) (mem_word raw (unquote raw) found.0 ((unquoted_exactly raw (unquote raw)).0 refl)
     ((mem-exactly (unquote raw) found.0).0 found.1))
 said-spelled memmap raw said is =
@@ -60,16 +60,16 @@ name_is name word lacks alone = rw (split_once-none 61 name lacks) refl
 name_is name word lacks (with_value raw) = rw (split_once-mark 61 name raw lacks) refl
 
 valued : (n : Name) (word : List ℕ) (said : WordMeaning) → (name_value_of word).0 ≡ text_of n
-    → said_value n (name_value_of word).1 ≡ Some said
+    → value_meaning n (name_value_of word).1 ≡ Some said
     → SpellsMeaning word said
 valued n word said = by_cut (split_once 61 word) (split_once-spelled 61 word)
   where
-    none_said : (n : Name) → said_value n None ≡ None
+    none_said : (n : Name) → value_meaning n None ≡ None
     none_said mem = refl
     none_said n = refl
 
     by_cut : (o : Option (List ℕ × List ℕ)) → ((halves : List ℕ × List ℕ) → o ≡ Some halves → word ≡ halves.0 ++ (61 ∷ halves.1))
-        → (split_name_value word o).0 ≡ text_of n → said_value n (split_name_value word o).1 ≡ Some said → SpellsMeaning word said
+        → (split_name_value word o).0 ≡ text_of n → value_meaning n (split_name_value word o).1 ≡ Some said → SpellsMeaning word said
     by_cut None spelled is says = let none : None ≡ Some said = sym (none_said n) ∙ says in absurd (cc none)
     by_cut (Some halves) spelled is says =
         let whole : word ≡ text_of n ++ (61 ∷ halves.1) = spelled halves refl ∙ ap (λ (name : List ℕ). name ++ (61 ∷ halves.1)) is in
@@ -104,10 +104,10 @@ word-spelled number word said =
         → (c : Bool) → bytes_eq (name_value_of word).0 (codes "crashkernel") ≡ c
         → (d : Bool) → bytes_eq (name_value_of word).0 (codes "numa") ≡ d
         → (e : Bool) → bytes_eq (name_value_of word).0 (codes "add_efi_memmap") ≡ e
-        → (if a then meaning_or_fault (faults.BadMem number) (said_value mem (name_value_of word).1) else
-        (if b then meaning_or_fault (faults.BadMemmap number) (said_value memmap (name_value_of word).1) else
-        (if c then meaning_or_fault (faults.BadCrash number) (said_value crash (name_value_of word).1) else
-        (if d then meaning_or_fault (faults.BadNuma number) (said_value numa (name_value_of word).1) else
+        → (if a then meaning_or_fault (faults.BadMem number) (value_meaning mem (name_value_of word).1) else
+        (if b then meaning_or_fault (faults.BadMemmap number) (value_meaning memmap (name_value_of word).1) else
+        (if c then meaning_or_fault (faults.BadCrash number) (value_meaning crash (name_value_of word).1) else
+        (if d then meaning_or_fault (faults.BadNuma number) (value_meaning numa (name_value_of word).1) else
         (if e then Ok AddEfi else Ok (OfMap [])))))) ≡ Ok said → SpellsMeaning word said
     by_tests true a_is b b_is c c_is d d_is e e_is is = valued mem word said (is_name (codes "mem") a_is) (is_said _ _ said is)
     by_tests false a_is true b_is c c_is d d_is e e_is is = valued memmap word said (is_name (codes "memmap") b_is) (is_said _ _ said is)
@@ -129,12 +129,12 @@ word-spelled number word said =
         }))
 
 -- what is spelled is the meaning
-valued-read : (n : Name) (number : ℕ) (raw value : List ℕ) (said : WordMeaning) → Unquotes raw value → said_value n (Some value) ≡ Some said
+valued-read : (n : Name) (number : ℕ) (raw value : List ℕ) (said : WordMeaning) → Unquotes raw value → value_meaning n (Some value) ≡ Some said
     → word_meaning number (name_value_of (text_of n ++ (61 ∷ raw))) ≡ Ok said
 valued-read n number raw value said unquotes says =
     rw (split_once-mark 61 (text_of n) raw (lacks_equals n), (unquoted_exactly raw value).1 unquotes) (by_name n says)
   where
-    by_name : (n : Name) → said_value n (Some value) ≡ Some said → word_meaning number (text_of n, Some value) ≡ Ok said
+    by_name : (n : Name) → value_meaning n (Some value) ≡ Some said → word_meaning number (text_of n, Some value) ≡ Ok said
     by_name mem says = ap (meaning_or_fault (faults.BadMem number)) says
     by_name memmap says = ap (meaning_or_fault (faults.BadMemmap number)) says
     by_name crash says = ap (meaning_or_fault (faults.BadCrash number)) says
@@ -142,7 +142,7 @@ valued-read n number raw value said unquotes says =
 
 word-read : (number : ℕ) (word : List ℕ) (said : WordMeaning) → SpellsMeaning word said → word_meaning number (name_value_of word) ≡ Ok said
 word-read number word said (mem_word raw value option unquotes spells) =
-    valued-read mem number raw value (OfMap (option ∷ [])) unquotes (ap (option_map one_map_option) ((mem-exactly value option).1 spells))
+    valued-read mem number raw value (OfMap (option ∷ [])) unquotes (ap (option_map meaning_of_map_option) ((mem-exactly value option).1 spells))
 word-read number word said (memmap_word raw value options unquotes spells) =
     valued-read memmap number raw value (OfMap options) unquotes
     (ap (option_map (λ ps. OfMap ps)) ((map_options-exactly value options).1 spells))

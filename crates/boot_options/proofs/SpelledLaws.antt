@@ -19,7 +19,7 @@ use Rattle.text_words.specs.Parts.{parts_in}
 use Rattle.text_words.proofs.PartsLaws.{parts-one, parts-spelled}
 use Rattle.boot_options.specs.declared.map_option.MapOption.{MapOption}
 use Rattle.boot_options.specs.declared.map_option.MapOption.TheVariants.{ExactMap, Adding, Other}
-use Rattle.boot_options.specs.MapOptions.{NumberAndRest, number_and_rest, front_size, front_number, value_if_at_end, whole_size, range_if_addressable, unless_empty, ram_above, adding_option, small_kind, kind_after_mark, retype_option, percent_map_option, map_option_by_mark, sized_map_option, map_option_of, ram_up_to, mem_of}
+use Rattle.boot_options.specs.MapOptions.{NumberAndRest, number_and_rest, front_size, front_number, value_if_at_end, whole_size, range_if_addressable, unless_empty, ram_above, adding_option, type_if_fits, kind_after_mark, retype_option, percent_map_option, map_option_by_mark, sized_map_option, map_option_of, ram_up_to, mem_of}
 use Rattle.boot_options.specs.Options.{map_options_of}
 use Rattle.boot_options.specs.Spelling.{SpellsPlace, SpellsType, a_type, SpellsNoType, nothing, type_zero, SpellsMapOption, exactmap, ram, acpi, reserved, persistent, size_alone, every_type, one_type, new_type, other_type, SpellsMapOptions, last_option, next_option, SpellsMem, nopentium, end_of_ram, join_with_commas}
 use Rattle.boot_options.proofs.SpellingLaws.{IsKind, not_there, there, type-kind, no_type-kind, map_option-read, begins-other, begins_with_digit-size, whole_size-end, other_than_zero}
@@ -102,8 +102,8 @@ adding_option-spelled kind s a size option size_is is =
     (range.0, place-spelled s a size base.0 range.0 size_is (whole_size-spelled a base.0 base.1) range.1, cc range.2)
 
 -- a type after its mark, or no type
-small_kind-is : (found front : NumberAndRest) → small_kind found ≡ Some front → (found ≡ front) × (found.0 < 2 ^ 32)
-small_kind-is found front = by_test (nat_lt found.0 (2 ^ 32)) refl
+type_if_fits-is : (found front : NumberAndRest) → type_if_fits found ≡ Some front → (found ≡ front) × (found.0 < 2 ^ 32)
+type_if_fits-is found front = by_test (nat_lt found.0 (2 ^ 32)) refl
   where
     by_test : (t : Bool) → nat_lt found.0 (2 ^ 32) ≡ t → (if t then Some found else None) ≡ Some front
         → (found ≡ front) × (found.0 < 2 ^ 32)
@@ -118,12 +118,12 @@ kind_after_mark-spelled : (mark : ℕ) (text : List ℕ) (front : NumberAndRest)
 kind_after_mark-spelled mark [] front is = let same : (0, []) ≡ front = cc in subst (BeginsKind mark []) same ([], not_there, refl)
 kind_after_mark-spelled mark (b ∷ bs) front is = by_test (b == mark) refl is
   where
-    by_test : (t : Bool) → b == mark ≡ t → (if t then front_number bs >>= small_kind else Some (0, b ∷ bs)) ≡ Some front
+    by_test : (t : Bool) → b == mark ≡ t → (if t then front_number bs >>= type_if_fits else Some (0, b ∷ bs)) ≡ Some front
         → BeginsKind mark (b ∷ bs) front
     by_test false test is = let same : (0, b ∷ bs) ≡ front = cc in subst (BeginsKind mark (b ∷ bs)) same ([], not_there, refl)
     by_test true test is =
-        let both = then-both (front_number bs) small_kind front is in
-        let small = small_kind-is both.0 front both.2 in
+        let both = then-both (front_number bs) type_if_fits front is in
+        let small = type_if_fits-is both.0 front both.2 in
         let to = front_number-spelled bs both.0 both.1 in
         let whole : b ∷ bs ≡ mark ∷ (to.0 ++ both.0.1) = rw (eqb-true b mark test) (ap (λ (rest : List ℕ). mark ∷ rest) to.2) in
         subst (BeginsKind mark (b ∷ bs)) small.0 (mark ∷ to.0, there to.0 both.0.0 to.1 small.1, whole)

@@ -14,7 +14,7 @@ use Rattle.bm_base.proofs.SizeLaws.{size_of-mark, number_of-mark}
 use Rattle.e820_model.specs.declared.entry.Edit.TheVariants.{Add}
 use Rattle.bm_base.specs.OptionSteps.{◌>>=◌}
 use Rattle.boot_options.specs.declared.map_option.MapOption.TheVariants.{Adding, Other}
-use Rattle.boot_options.specs.MapOptions.{number_and_rest, front_size, front_number, value_if_at_end, whole_size, range_if_addressable, unless_empty, adding_option, small_kind, kind_after_mark, retype_option, map_option_by_mark, map_option_of, ram_above}
+use Rattle.boot_options.specs.MapOptions.{number_and_rest, front_size, front_number, value_if_at_end, whole_size, range_if_addressable, unless_empty, adding_option, type_if_fits, kind_after_mark, retype_option, map_option_by_mark, map_option_of, ram_above}
 use Rattle.boot_options.specs.declared.map_option.MapOption.{MapOption}
 use Rattle.boot_options.specs.Spelling.{SpellsPlace, SpellsType, a_type, SpellsNoType, nothing, type_zero, SpellsMapOption, exactmap, ram, acpi, reserved, persistent, size_alone, every_type, one_type, new_type, other_type}
 
@@ -97,8 +97,8 @@ map_option-adding s a range mark kind is means spell =
     map_option-mark s range.size mark a spell.size is ∙ means ∙ adding_option-spelled kind s a range spell
 
 -- a type below 2^32 is accepted
-pub small_kind-below : (n : ℕ) (rest : List ℕ) → n < 2 ^ 32 → small_kind (n, rest) ≡ Some (n, rest)
-small_kind-below n rest is = rw (lt-ltb n (2 ^ 32) is) refl
+pub type_if_fits-below : (n : ℕ) (rest : List ℕ) → n < 2 ^ 32 → type_if_fits (n, rest) ≡ Some (n, rest)
+type_if_fits-below n rest is = rw (lt-ltb n (2 ^ 32) is) refl
 
 -- the form `S`
 pub map_option-above : (s : List ℕ) (size : ℕ) → IsSize s size → map_option_of s ≡ Some (Other (ram_above size))
@@ -147,8 +147,8 @@ kind_after_mark-kind mark text kind rest not_there marked other = absent rest ot
     absent (b ∷ bs) other = rw other refl
 kind_after_mark-kind mark text kind rest (there number _ is small) marked other =
     rw (eq-eqb mark mark refl)
-    (then-some (front_number (number ++ rest)) small_kind (kind, rest) (front_number-marked number kind rest is marked)
-    ∙ small_kind-below kind rest small)
+    (then-some (front_number (number ++ rest)) type_if_fits (kind, rest) (front_number-marked number kind rest is marked)
+    ∙ type_if_fits-below kind rest small)
 
 kind-marked : (mark : ℕ) (text : List ℕ) (kind : ℕ) → is_digit mark 36 ≡ false → IsKind mark text kind → IsMarked text
 kind-marked mark text kind is not_there = tt

@@ -115,17 +115,17 @@ pub crash-start : (said : List (ℕ × WordMeaning)) → (after_words start_stat
 crash-start said = crash-all start_state said ∙ later-nothing (last_crash_values said)
 
 -- the user map after all these map options
-abbrev pub map_behind : List (ℕ × MapOption) → Option UserMap → Option UserMap
-map_behind [] m = m
-map_behind (p ∷ ps) m = map_behind ps (user_map_after_option p.0 p.1 m)
+abbrev pub user_map_after_options : List (ℕ × MapOption) → Option UserMap → Option UserMap
+user_map_after_options [] m = m
+user_map_after_options (p ∷ ps) m = user_map_after_options ps (user_map_after_option p.0 p.1 m)
 
 pub user_map-map_options : (number : ℕ) (st : ReadingState) (ps : List MapOption) (behind : List (ℕ × MapOption))
-    → map_behind behind (after_map_options number st ps).user_map ≡ map_behind (numbered_map_options number ps behind) st.user_map
+    → user_map_after_options behind (after_map_options number st ps).user_map ≡ user_map_after_options (numbered_map_options number ps behind) st.user_map
 user_map-map_options number st [] behind = refl
 user_map-map_options number st (p ∷ ps) behind = user_map-map_options number (after_map_option number st p) ps behind
 
 pub user_map-all : (st : ReadingState) (said : List (ℕ × WordMeaning))
-    → (after_words st said).user_map ≡ map_behind (all_map_options said) st.user_map
+    → (after_words st said).user_map ≡ user_map_after_options (all_map_options said) st.user_map
 user_map-all st [] = refl
 user_map-all st ((number, OfMap ps) ∷ said) =
     user_map-all (after_map_options number st ps) said ∙ user_map-map_options number st ps (all_map_options said)
@@ -144,13 +144,13 @@ wanted None n m = option_map (fewer n) m
 wanted (Some exact) n m = Some (record { word = exact.0; wanting = 2 - exact.1 })
 
 -- counting from the start of the line gives what counting from the last `exactmap` gives
-pub map_behind-wanted : (ps : List (ℕ × MapOption)) (m : Option UserMap) → map_behind ps m ≡ wanted (last_exact ps) (count_adding ps) m
-map_behind-wanted [] None = refl
-map_behind-wanted [] (Some m) =
+pub user_map_after_options-wanted : (ps : List (ℕ × MapOption)) (m : Option UserMap) → user_map_after_options ps m ≡ wanted (last_exact ps) (count_adding ps) m
+user_map_after_options-wanted [] None = refl
+user_map_after_options-wanted [] (Some m) =
     let same : m.wanting ≡ m.wanting - 0 = omega arith in
     ap (λ (w : ℕ). let map : UserMap = record { word = m.word; wanting = w } in Some map) same
-map_behind-wanted ((number, p) ∷ ps) m =
-    map_behind-wanted ps (user_map_after_option number p m) ∙ step (last_exact ps) p m
+user_map_after_options-wanted ((number, p) ∷ ps) m =
+    user_map_after_options-wanted ps (user_map_after_option number p m) ∙ step (last_exact ps) p m
   where
     fewer_still : (m : UserMap) (n : ℕ) → fewer n (user_map_less_one m) ≡ fewer (n + 1) m
     fewer_still m n =
@@ -175,7 +175,7 @@ at_line_end-with_user_map said =
       numa_off-all start_state said,
       add_efi-all start_state said,
       user_map-all start_state said,
-      map_behind-wanted (all_map_options said) None,
+      user_map_after_options-wanted (all_map_options said) None,
     )
     (by_exact (options_of_words said) (last_exact (all_map_options said)))
   where

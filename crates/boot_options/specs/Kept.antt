@@ -27,19 +27,19 @@ pub record KeepsPlain (kept : PlainRead) (form : CrashPlainView) : Type 0 where
   pub base : kept.base ≡ form.base
 
 -- the reader has the form that the definition gives for a value
-abbrev pub KeepsSame : CrashForm → CrashFormView → Type 0
-KeepsSame (forms.Plain kept) (Plain form) = KeepsPlain kept form
-KeepsSame (forms.Plain kept) (High size) = ⊥
-KeepsSame (forms.Plain kept) (Low size) = ⊥
-KeepsSame (forms.High kept) said = said ≡ High kept
-KeepsSame (forms.Low kept) said = said ≡ Low kept
+abbrev pub KeepsFormOf : CrashForm → CrashFormView → Type 0
+KeepsFormOf (forms.Plain kept) (Plain form) = KeepsPlain kept form
+KeepsFormOf (forms.Plain kept) (High size) = ⊥
+KeepsFormOf (forms.Plain kept) (Low size) = ⊥
+KeepsFormOf (forms.High kept) said = said ≡ High kept
+KeepsFormOf (forms.Low kept) said = said ≡ Low kept
 
 -- the reader has the form that the definition gives for a value, or both find the value malformed
 -- (None)
 abbrev pub KeepsForm : Option CrashForm → Option CrashFormView → Type 0
 KeepsForm None said = said ≡ None
 KeepsForm (Some kept) None = ⊥
-KeepsForm (Some kept) (Some form) = KeepsSame kept form
+KeepsForm (Some kept) (Some form) = KeepsFormOf kept form
 
 -- the reader has the last plain form that the definition gives, or neither has one
 abbrev pub KeepsLast : Option PlainRead → Option CrashPlainView → Type 0

@@ -93,14 +93,14 @@ adding_option kind size place = do
   Some (Adding (unless_empty range (Add range kind)))
 
 -- the number and the rest of the text, if the number is a type: at most 2^32 - 1
-abbrev pub small_kind : NumberAndRest → Option NumberAndRest
-small_kind front = if nat_lt front.0 (2 ^ 32) then Some front else None
+abbrev pub type_if_fits : NumberAndRest → Option NumberAndRest
+type_if_fits front = if nat_lt front.0 (2 ^ 32) then Some front else None
 
 -- the type after its mark, and the rest of the text; the type is 0 if the text doesn't begin with
 -- the mark
 abbrev pub kind_after_mark : ℕ → List ℕ → Option NumberAndRest
 kind_after_mark mark [] = Some (0, [])
-kind_after_mark mark (b ∷ bs) = if b == mark then front_number bs >>= small_kind else Some (0, b ∷ bs)
+kind_after_mark mark (b ∷ bs) = if b == mark then front_number bs >>= type_if_fits else Some (0, b ∷ bs)
 
 -- if no type `f` is given: type `t` is added, or without `t` all types are removed
 abbrev pub retype_every_type : RangeView → ℕ → Option MapOption

@@ -55,8 +55,8 @@ abbrev pub memmap_of : List ℕ → Option WordMeaning
 memmap_of value = option_map OfMap (map_options_of (parts_in (Byte 44) value))
 
 -- the meaning of a value of `mem=`, which is one map option
-abbrev pub one_map_option : MapOption → WordMeaning
-one_map_option p = OfMap (p ∷ [])
+abbrev pub meaning_of_map_option : MapOption → WordMeaning
+meaning_of_map_option p = OfMap (p ∷ [])
 
 -- the meaning of the value of `crashkernel=`, which has one form
 abbrev pub crash_of : List ℕ → Option WordMeaning
@@ -77,7 +77,7 @@ meaning_or_fault fault (Some said) = Ok said
 abbrev pub word_meaning : ℕ → List ℕ × Option (List ℕ) → Result WordMeaning OptionFault
 word_meaning number word =
     if bytes_eq word.0 (codes "mem") then meaning_or_fault (faults.BadMem number)
-    (option_map one_map_option (option_and_then mem_of word.1)) else
+    (option_map meaning_of_map_option (option_and_then mem_of word.1)) else
     (if bytes_eq word.0 (codes "memmap") then meaning_or_fault (faults.BadMemmap number) (option_and_then memmap_of word.1) else
     (if bytes_eq word.0 (codes "crashkernel") then meaning_or_fault (faults.BadCrash number) (option_and_then crash_of word.1) else
     (if bytes_eq word.0 (codes "numa") then meaning_or_fault (faults.BadNuma number) (option_and_then numa_of word.1) else

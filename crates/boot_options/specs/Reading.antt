@@ -124,13 +124,13 @@ pub record IsReadTo (r : Reading) (st : ReadingState) : Type 0 where
   pub user_map : r.user_map ≡ st.user_map
 
 -- the definition gives a state, and the reader is in it
-abbrev pub IsAtSome : Reading → Result ReadingState OptionFault → Type 0
-IsAtSome r (Ok st) = IsReadTo r st
-IsAtSome r (Err fault) = ⊥
+abbrev pub IsInState : Reading → Result ReadingState OptionFault → Type 0
+IsInState r (Ok st) = IsReadTo r st
+IsInState r (Err fault) = ⊥
 
 -- the result matches the definition: the reader is in its state, or returns its fault
 abbrev pub ReadsAs : {X : Type 0} → (X → Reading) → Result X OptionFault → Result ReadingState OptionFault → Type 0
-ReadsAs view (Ok x) definition = IsAtSome (view x) definition
+ReadsAs view (Ok x) definition = IsInState (view x) definition
 ReadsAs view (Err fault) definition = definition ≡ Err fault
 
 -- the program ran out of memory for the ranges of the last plain form

@@ -110,7 +110,7 @@ fn read_word(
         let Some(option) = value.and_then(read_mem) else {
             return Err(OptionFault::BadMem { word: number });
         };
-        take_map_option(&option, number, reading);
+        add_map_option(&option, number, reading);
     } else if name == b"memmap".as_slice() {
         let Some(value) = value else {
             return Err(OptionFault::BadMemmap { word: number });
@@ -159,7 +159,7 @@ fn read_memmap(value: &[u8], number: u32, reading: &mut Reading) -> Result<(), O
         let Some(option) = read_map_option(text) else {
             return Err(OptionFault::BadMemmap { word: number });
         };
-        take_map_option(&option, number, reading);
+        add_map_option(&option, number, reading);
         rest = behind;
     }
     Ok(())
@@ -191,7 +191,7 @@ fn read_crash(
 
 /// Adds one map option to `reading`: its edit, and what it means for the user map. The option is in
 /// the word `number`.
-fn take_map_option(option: &MapOption, number: u32, reading: &mut Reading)
+fn add_map_option(option: &MapOption, number: u32, reading: &mut Reading)
     ensures { (st : ReadingState) → IsReadTo reading.old st →
         IsReadTo reading.new (after_map_option number st option.now) }
 {

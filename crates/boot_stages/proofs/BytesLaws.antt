@@ -6,16 +6,16 @@ use Rattle.growth_model.specs.Bytes.{Fill, Follows, AreBytesFromHistory}
 use Rattle.growth_model.proofs.FillLaws.{holds-call}
 use Rattle.memblock_grow.specs.MemblockView.{MemblockView}
 use Rattle.memblock_grow.specs.Continues.{ContinuesMemblock}
-use Rattle.boot_stages.specs.Boots.{HoldsFills}
+use Rattle.boot_stages.specs.Boots.{HasBytesOfHistory}
 
 pub holds-on : (fills : List Fill) (old new : MemblockView) → new.kernel ≡ old.kernel
     → Follows old.kernel old.journal.items new.journal.items (byte_of old.tables.store) (byte_of new.tables.store)
-    → HoldsFills fills old → HoldsFills fills new
+    → HasBytesOfHistory fills old → HasBytesOfHistory fills new
 holds-on fills old new kernel follows holds =
     let At : RangeView → Type 0 = λ k. AreBytesFromHistory k new.journal.items fills (byte_of new.tables.store) in
     subst At (sym kernel)
     (holds-call old.kernel old.journal.items new.journal.items fills (byte_of old.tables.store) (byte_of new.tables.store) holds follows)
 
 -- the bytes hold after any memblock that `old` goes on to
-pub holds-behind : (fills : List Fill) (old new : MemblockView) → ContinuesMemblock old new → HoldsFills fills old → HoldsFills fills new
+pub holds-behind : (fills : List Fill) (old new : MemblockView) → ContinuesMemblock old new → HasBytesOfHistory fills old → HasBytesOfHistory fills new
 holds-behind fills old new goes holds = holds-on fills old new goes.kernel goes.bytes holds

@@ -10,7 +10,7 @@ use Rattle.stage_steps.specs.Causes.{refusal_for}
 use Rattle.stage_steps.specs.Steps.{EndsAsStage}
 use Rattle.early_memory.specs.EarlyInputs.{EarlyInputs}
 use Rattle.boot_model.specs.First.{items_with_growths}
-use Rattle.boot_stages.specs.Parts.{items_before_memory, limit_items, map_memory_items}
+use Rattle.boot_stages.specs.Parts.{items_before_memory, limit_items, items_for_memory_of_map}
 
 abbrev one_run : List (RunOf ℕ)
 one_run = record { base = 0x1000; size = 0x1000; value = 1 } ∷ []
@@ -26,7 +26,7 @@ early = record { limit = 0x2000; kernel = image; initrd = None; mirrors = record
 -- the items of the parts, if frames 1 and 2 are mirrored and searches go upward
 parts : (items_before_memory early ≡ item.Claim image owner.Kernel ∷ item.Claim (record { base = 0; size = 0x10000 }) owner.Low64K
     ∷ item.Limit 0x100000 ∷ item.Upward true ∷ [])
-    × (map_memory_items early one_run ≡ item.Mem (record { base = 0x1000; size = 0x1000 }) ∷ item.Trim
+    × (items_for_memory_of_map early one_run ≡ item.Mem (record { base = 0x1000; size = 0x1000 }) ∷ item.Trim
     ∷ item.Mirror (record { base = 0x1000; size = 0x2000 }) ∷ [])
     × (limit_items 0x4000 ≡ item.Limit 0x4000 ∷ item.Claim (record { base = 0; size = 0x100000 }) owner.Low1M ∷ [])
 parts = (refl, refl, refl)

@@ -1,7 +1,7 @@
 -- What both tables say of frames at the end of a boot.
 use Rattle.std.proofs.Common.{◌≡◌, ◌∙◌, ℕ, ◌*◌, ◌/◌, ◌^◌, List, refl, ap, sym, arith}
 use Rattle.address_runs.specs.Runs.{RunOf, value_at}
-use Rattle.address_runs.specs.Edits.{NothingFrom}
+use Rattle.address_runs.specs.Edits.{IsEmptyFrom}
 use Rattle.phys_store.specs.Bytes.{ExtentView}
 use Rattle.memblock_model.specs.declared.item.Item.{Item}
 use Rattle.memblock_model.specs.declared.owner.Which.{Which}
@@ -18,7 +18,7 @@ use Rattle.memblock_ranges.specs.declared.region.Heads.{Heads}
 use Rattle.memblock_ranges.specs.Tables.{TablesView, table_in, IsInStore, TableView, head_of, records_of_head}
 use Rattle.memblock_grow.specs.MemblockView.{MemblockView}
 use Rattle.sparse_sections.proofs.NodedLaws.{noded-told}
-use Rattle.stage_steps.specs.Nodes.{HasNodes}
+use Rattle.stage_steps.specs.Nodes.{IsMemoryWithNodes}
 use Rattle.memblock_frames.specs.Frames.{free_node_in, node_of_frame}
 use Rattle.memblock_frames.specs.HeadRecords.{AreWholeFrames, HasRecords}
 use Rattle.memblock_frames.proofs.StandLaws.{stands_ascending, stands_below, stands_free, stands_node, stands_whole}
@@ -26,15 +26,15 @@ use Rattle.zone_spans.specs.Spans.{spans_of}
 use Rattle.buddy_blocks.specs.Frames.{Frames}
 use Rattle.page_alloc.specs.declared.outcome.PageAnswer.{PageAnswer}
 use Rattle.page_alloc.specs.Pages.{PageState, first_page_state}
-use Rattle.slit_zonelists.specs.Lists.{ListsView, zonelists_from_slit}
+use Rattle.slit_zonelists.specs.Lists.{ZoneListsView, zonelists_from_slit}
 use Rattle.slit_zonelists.specs.Near.{page_state_after, page_answers_of}
 use Rattle.numa_nodes.specs.Assignment.{nodes_view}
 use Rattle.early_script.specs.LiveView.{LiveView}
-use Rattle.growth_model.specs.Bytes.{Fill, table_for}
+use Rattle.growth_model.specs.Bytes.{Fill, table_from_items}
 use Rattle.zone_spans.specs.declared.span.Span.{Span}
 use Rattle.boot_model.specs.Boot.{InputsView, handover_frames, heads_of, spans_of_memory, finish_boot}
 use Rattle.boot_model.specs.View.{sections_view}
-use Rattle.boot_stages.specs.declared.later.Later.{Later}
+use Rattle.boot_stages.specs.declared.later.LaterResults.{LaterResults}
 use Rattle.boot_stages.specs.Boots.{made_after_stages}
 
 -- two tables with the records of the items lie in the bytes, at the places of the heads
@@ -47,7 +47,7 @@ pub record Stand (items : List Item) (store : List ExtentView) (memory reserved 
   pub second_head : reserved ≡ head_of second
   pub first_says : value_at first.records ≡ memory_of items
   pub second_says : value_at second.records ≡ reserved_labels (owner_of items)
-  pub noded : HasNodes (2 ^ 52) (memory_of items)
+  pub noded : IsMemoryWithNodes (2 ^ 52) (memory_of items)
 
 module _ {items : List Item} {store : List ExtentView} {memory reserved : Head} (s : Stand items store memory reserved) where
   pub memory-records : HasRecords store memory 4503599627370496
@@ -81,16 +81,16 @@ module _ {items : List Item} {store : List ExtentView} {memory reserved : Head} 
 -- the tables of a memblock stand in its bytes
 pub stand-by : (m : MemblockView) (store : List ExtentView) (heads : Heads)
     → heads ≡ record { memory = head_of m.tables.memory; reserved = head_of m.tables.reserved }
-    → m.tables.memory ≡ table_for which.Memory m.kernel m.journal.items
-    → m.tables.reserved ≡ table_for which.Reserved m.kernel m.journal.items
-    → IsInStore (table_for which.Memory m.kernel m.journal.items) store
-    → IsInStore (table_for which.Reserved m.kernel m.journal.items) store
-    → HasNodes (2 ^ 52) (memory_of m.journal.items) → NothingFrom (2 ^ 64) (reserved_labels (owner_of m.journal.items))
+    → m.tables.memory ≡ table_from_items which.Memory m.kernel m.journal.items
+    → m.tables.reserved ≡ table_from_items which.Reserved m.kernel m.journal.items
+    → IsInStore (table_from_items which.Memory m.kernel m.journal.items) store
+    → IsInStore (table_from_items which.Reserved m.kernel m.journal.items) store
+    → IsMemoryWithNodes (2 ^ 52) (memory_of m.journal.items) → IsEmptyFrom (2 ^ 64) (reserved_labels (owner_of m.journal.items))
     → Stand m.journal.items store heads.memory heads.reserved
 unfolding records_of
 stand-by m store heads finish_boot first second first_stands second_stands noded within = record {
-  first = table_for which.Memory m.kernel m.journal.items;
-  second = table_for which.Reserved m.kernel m.journal.items;
+  first = table_from_items which.Memory m.kernel m.journal.items;
+  second = table_from_items which.Reserved m.kernel m.journal.items;
   first_stands = first_stands;
   second_stands = second_stands;
   first_head = ap (λ (h : Heads). h.memory) finish_boot ∙ ap head_of first;
@@ -102,9 +102,9 @@ stand-by m store heads finish_boot first second first_stands second_stands noded
 
 -- the report of what the boot made is that of what was handed over, and of what it made after the
 -- handover
-pub finish_boot-by : (given : InputsView) (map : List (RunOf ℕ)) (m : MemblockView) (later : Later) (ids : LiveView) (fills : List Fill)
+pub finish_boot-by : (given : InputsView) (map : List (RunOf ℕ)) (m : MemblockView) (later : LaterResults) (ids : LiveView) (fills : List Fill)
     (items : List Item)
-    (heads : Heads) (spans : List Span) (frames : Frames) (lists : ListsView) (answers : List PageAnswer) (after : PageState)
+    (heads : Heads) (spans : List Span) (frames : Frames) (lists : ZoneListsView) (answers : List PageAnswer) (after : PageState)
     → m.kernel ≡ given.kernel → items ≡ m.journal.items → heads ≡ heads_of m.kernel m.journal.items
     → spans ≡ spans_of_memory m.journal.items
     → frames ≡ handover_frames m.journal.items → lists ≡ zonelists_from_slit given.slit (nodes_view later.nodes).domains spans
@@ -133,6 +133,6 @@ finish_boot-by given map m later ids fills items heads spans frames lists answer
 -- the tables of a memblock are those of its items
 pub tables-kept : (w : Which) (kernel : RangeView) (items : List Item) (t : TablesView) (aim : AllocSettings)
     → TablesMatchItems kernel items t aim
-    → table_in w t ≡ table_for w kernel items
+    → table_in w t ≡ table_from_items w kernel items
 tables-kept which.Memory kernel items t aim kept = kept.memory
 tables-kept which.Reserved kernel items t aim kept = kept.reserved

@@ -11,9 +11,9 @@ use Rattle.growth_model.specs.declared.refusal.Refusal.{Refusal}
 use Rattle.growth_model.specs.declared.refusal.Refusal.TheVariants as refusal
 use Rattle.growth_model.specs.Change.{RefusedGrowth, ChangeEffect, Change, items_after_change, followed_by, items_of_steps, write_item}
 use Rattle.growth_model.specs.Growth.{claim_range, make_table_room, count_uncovered_pieces, reserved_growth}
-use Rattle.growth_model.specs.Tables.{HasBegun}
+use Rattle.growth_model.specs.Tables.{HasFirstItem}
 use Rattle.growth_model.specs.Ends.{EndsAsChange, StopsBeforeStep}
-use Rattle.growth_model.specs.Requests.{carry_out_items, change_for}
+use Rattle.growth_model.specs.Requests.{carry_out_items, change_writing_item}
 use Rattle.growth_model.proofs.EndLaws.{items_of_steps-append}
 use Rattle.stage_steps.specs.Causes.{refusal_for}
 use Rattle.stage_steps.specs.Steps.{StageStep, StepEffect, EndsAsStage, append_groups, continue_if_ok, fold_steps, ◌>>=◌}
@@ -58,7 +58,7 @@ pub carries-second : (r : Result (Unit {0}) Refusal) (is js old mid new : List I
 unfolding items_with_growths
 carries-second r is js old mid new first rest =
     subst (λ (f : StageStep RefusedGrowth (Unit {0})). EndsAsStage f refusal_for r old new)
-    (λ i items. sym (turn-append (λ done one. make_change (change_for one)) tt is js items) i)
+    (λ i items. sym (turn-append (λ done one. make_change (change_writing_item one)) tt is js items) i)
     (ends-second tt r refusal_for old mid new (items_with_growths is) (λ done. items_with_growths js) first rest)
 
 -- a `?` that returns the error of the first part ends the whole
@@ -68,7 +68,7 @@ pub carries-exit : (e : Refusal) (r : Result (Unit {0}) Refusal) (is js old new 
 unfolding items_with_growths
 carries-exit e r is js old new exits first =
     rw exits (subst (λ (f : StageStep RefusedGrowth (Unit {0})). EndsAsStage {A = Unit {0}} f refusal_for (Err e) old new)
-    (λ i items. sym (turn-append (λ done one. make_change (change_for one)) tt is js items) i)
+    (λ i items. sym (turn-append (λ done one. make_change (change_writing_item one)) tt is js items) i)
     (ends-first e refusal_for old new (items_with_growths is) (λ done. items_with_growths js) first))
 
 -- no items at all
@@ -77,15 +77,15 @@ unfolding items_with_growths
 carries-nothing items = (refl, refl)
 
 -- one item ends as its change does
-pub carries-change : (r : Result (Unit {0}) Refusal) (i : Item) (old new : List Item) → EndsAsChange r old new (change_for i)
+pub carries-change : (r : Result (Unit {0}) Refusal) (i : Item) (old new : List Item) → EndsAsChange r old new (change_writing_item i)
     → EndsAsStage (items_with_growths (i ∷ [])) refusal_for r old new
 unfolding items_with_growths
 carries-change (Ok done) i old new ends =
-    ends-second tt (Ok tt) refusal_for old new new (make_change (change_for i)) (λ u. items_with_growths [])
-    (ends-change (Ok tt) old new (change_for i) ends) (ends-returns tt refusal_for new)
+    ends-second tt (Ok tt) refusal_for old new new (make_change (change_writing_item i)) (λ u. items_with_growths [])
+    (ends-change (Ok tt) old new (change_writing_item i) ends) (ends-returns tt refusal_for new)
 carries-change (Err e) i old new ends =
-    ends-first e refusal_for old new (make_change (change_for i)) (λ u.
-    items_with_growths []) (ends-change (Err e) old new (change_for i) ends)
+    ends-first e refusal_for old new (make_change (change_writing_item i)) (λ u.
+    items_with_growths []) (ends-change (Err e) old new (change_writing_item i) ends)
 
 -- none of the steps that are still to come has been made
 pub split_once-none : (old new : List Item) (steps : List (List Item)) → new ≡ old → 0 < length steps → StopsBeforeStep old new steps
@@ -93,20 +93,20 @@ split_once-none old new steps stays some = record { count = 0; short = some; sta
 
 -- this program was out of memory before the first item
 pub carries-wanting : (r : Result (Unit {0}) Refusal) (i : Item) (js old new : List Item) → r ≡ Err refusal.Memory
-    → 0 < length (change_for i old).steps → new ≡ old → EndsAsStage (items_with_growths (i ∷ js)) refusal_for r old new
+    → 0 < length (change_writing_item i old).steps → new ≡ old → EndsAsStage (items_with_growths (i ∷ js)) refusal_for r old new
 carries-wanting r i js old new exits some stays =
     carries-exit refusal.Memory r (i ∷ []) js old new exits
-    (carries-change (Err refusal.Memory) i old new (split_once-none old new (change_for i old).steps stays some))
+    (carries-change (Err refusal.Memory) i old new (split_once-none old new (change_writing_item i old).steps stays some))
 
 -- the first item was carried out, and the rest ends so
-pub change_for-second : (r : Result (Unit {0}) Refusal) (i : Item) (js old mid new : List Item)
-    → EndsAsChange {T = Unit {0}} (Ok tt) old mid (change_for i) → EndsAsStage (items_with_growths js) refusal_for r mid new
+pub change_writing_item-second : (r : Result (Unit {0}) Refusal) (i : Item) (js old mid new : List Item)
+    → EndsAsChange {T = Unit {0}} (Ok tt) old mid (change_writing_item i) → EndsAsStage (items_with_growths js) refusal_for r mid new
     → EndsAsStage (items_with_growths (i ∷ js)) refusal_for r old new
-change_for-second r i js old mid new ends rest = carries-second r (i ∷ []) js old mid new (carries-change (Ok tt) i old mid ends) rest
+change_writing_item-second r i js old mid new ends rest = carries-second r (i ∷ []) js old mid new (carries-change (Ok tt) i old mid ends) rest
 
-pub change_for-exit : (e : Refusal) (r : Result (Unit {0}) Refusal) (i : Item) (js old new : List Item) → r ≡ Err e
-    → EndsAsChange {T = Unit {0}} (Err e) old new (change_for i) → EndsAsStage (items_with_growths (i ∷ js)) refusal_for r old new
-change_for-exit e r i js old new exits ends = carries-exit e r (i ∷ []) js old new exits (carries-change (Err e) i old new ends)
+pub change_writing_item-exit : (e : Refusal) (r : Result (Unit {0}) Refusal) (i : Item) (js old new : List Item) → r ≡ Err e
+    → EndsAsChange {T = Unit {0}} (Err e) old new (change_writing_item i) → EndsAsStage (items_with_growths (i ∷ js)) refusal_for r old new
+change_writing_item-exit e r i js old new exits ends = carries-exit e r (i ∷ []) js old new exits (carries-change (Err e) i old new ends)
 
 -- if all items were carried out, they are `carry_out_items` on the old ones
 pub carried-by : (is old new : List Item) → EndsAsStage {A = Unit {0}} (items_with_growths is) refusal_for (Ok tt) old new
@@ -133,22 +133,22 @@ on_ok (Ok x) P holds = holds
 on_ok (Err e) P holds = tt
 
 -- something has happened after a claim
-last_begun : (items : List Item) (i : Item) → HasBegun (items ++ i ∷ [])
+last_begun : (items : List Item) (i : Item) → HasFirstItem (items ++ i ∷ [])
 last_begun [] i = tt
 last_begun (j ∷ is) i = tt
 
 behind_begun : (first : ChangeEffect) (r : Option RefusedGrowth) (i : Item) (old new : List Item) → first.refused ≡ r
     → (followed_by first r (write_item i (items_after_change old first))).refused ≡ None
-    → new ≡ items_after_change old (followed_by first r (write_item i (items_after_change old first))) → HasBegun new
+    → new ≡ items_after_change old (followed_by first r (write_item i (items_after_change old first))) → HasFirstItem new
 behind_begun first None i old new is unrefused same =
     let last = same ∙ ap (λ (t : List Item). old ++ t) (items_of_steps-append first.steps ((i ∷ []) ∷ []))
     ∙ sym (append_assoc old (items_of_steps first.steps) (i ∷ [])) in
-    subst HasBegun (sym last) (last_begun (old ++ items_of_steps first.steps) i)
+    subst HasFirstItem (sym last) (last_begun (old ++ items_of_steps first.steps) i)
 behind_begun first (Some refused) i old new is unrefused same = let clash : Some refused ≡ None = sym is ∙ unrefused in absurd (cc)
 
 pub claim-begun : (x : Unit {0}) (old new : List Item) (range : RangeView) (who : Owner)
     → EndsAsChange (Ok x) old new (claim_range range who)
-    → HasBegun new
+    → HasFirstItem new
 unfolding claim_range
 claim-begun x old new range who ends =
     let growth : Change = make_table_room which.Reserved (count_uncovered_pieces which.Reserved range) (reserved_growth range) in

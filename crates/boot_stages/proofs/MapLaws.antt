@@ -3,7 +3,7 @@ use Rattle.std.proofs.Common.{◌≡◌, ◌≢◌, ℕ, Bool, true, false, nat_
 use Rattle.std.specs.Prelude.{IfOk}
 use Rattle.address_runs.specs.Runs.{RunOf, value_at, IsRunsOf}
 use Rattle.bm_base.specs.Answers.{Answers}
-use Rattle.bm_base.specs.ResultSteps.{◌>>=◌, with_error}
+use Rattle.bm_base.specs.ResultSteps.{◌>>=◌, map_error}
 use Rattle.e820_model.specs.declared.entry.TheConstants.{E820_MAX_ENTRIES}
 use Rattle.e820_model.specs.Claims.{Claims, final_claims}
 use Rattle.e820_model.specs.declared.entry.Entry.{Entry}
@@ -17,11 +17,11 @@ use Rattle.e820_sanitise.specs.Stop.{judge_frames}
 use Rattle.boot_model.specs.declared.stop.Cause.{Cause}
 use Rattle.boot_model.specs.declared.stop.Stop.{Stop}
 use Rattle.boot_model.specs.declared.stop.Stop.TheVariants as stops
-use Rattle.boot_model.specs.Boot.{InputsView, BootSoFar, added_entries, begin_boot, begin_with_map, boot, claims, usable_frames_stage, later_stages, judge_map, reach, BootedView, finish_boot, whole_boot, types_in_reach, unless_stopped}
+use Rattle.boot_model.specs.Boot.{InputsView, BootSoFar, added_entries, begin_boot, begin_with_map, boot, claims, usable_frames_stage, later_stages, judge_map, reach, BootedView, finish_boot, whole_boot, types_in_reach, made_or_stop}
 use Rattle.boot_model.specs.Stages.{run_each_stage}
 use Rattle.boot_model.specs.Stop.{stop_of}
 use Rattle.boot_stages.proofs.StagesLaws.{stopped}
-use Rattle.boot_stages.specs.Boots.{DecidesMapStages, MapAnswer, accept_map, map_unless_stopped}
+use Rattle.boot_stages.specs.Boots.{DecidesMapStages, TableMapResult, accept_map, map_or_stop}
 
 -- a last step that changes nothing
 answered : {A E : Type 0} (said : Result A E) → (said >>= λ x. Ok x) ≡ said
@@ -40,7 +40,7 @@ told_full : (full : Bool) (runs : ℕ) (map : List (RunOf ℕ)) (finish_boot : �
 told_full true runs map finish_boot is = (refl, cc)
 told_full false runs map finish_boot is = absurd (cc)
 
-pub decided : (given : InputsView) (answer : MapAnswer)
+pub decided : (given : InputsView) (answer : TableMapResult)
     → Answers faults.Memory (λ runs. runs.items) answer (map_if_room (map_of (claims given)))
     → DecidesMapStages given answer
 decided given (Ok runs) answers =
@@ -59,8 +59,8 @@ abbrev pub made_of : InputsView → Vec (RunOf ℕ) Global → BootSoFar
 made_of given runs = begin_with_map runs.items given.options
 
 judged_same : (given : InputsView) (reason : Option MapStop) (runs : Vec (RunOf ℕ) Global) (result : Result (Vec (RunOf ℕ) Global) Stop)
-    → Answers stops.Memory (λ map. map.items) result (map_unless_stopped reason runs.items)
-    → Answers stops.Memory (made_of given) result (with_error stop_of (unless_stopped reason (made_of given runs)))
+    → Answers stops.Memory (λ map. map.items) result (map_or_stop reason runs.items)
+    → Answers stops.Memory (made_of given) result (map_error stop_of (made_or_stop reason (made_of given runs)))
 judged_same given None runs (Ok map) answers =
     let same : runs.items ≡ map.items = cc in
     ap (λ (items : List (RunOf ℕ)). Ok (begin_with_map items given.options)) same
@@ -69,15 +69,15 @@ judged_same given (Some reason) runs (Ok map) answers = absurd (cc)
 judged_same given (Some reason) runs (Err stop) answers = λ other. cc (answers other)
 
 -- the table's answer, judged, ends the first stages
-pub map_answers : (given : InputsView) (answer : MapAnswer) → Answers faults.Memory (λ runs. runs.items) answer
+pub map_answers : (given : InputsView) (answer : TableMapResult) → Answers faults.Memory (λ runs. runs.items) answer
     (map_if_room (map_of (claims given)))
     → IfOk answer (λ runs. IsRunsOf (kinds (claims given)) runs.items) → (result : Result (Vec (RunOf ℕ) Global) Stop)
     → Answers stops.Memory (λ map. map.items) result (accept_map (reach given) answer)
-    → Answers stops.Memory (made_of given) result (with_error stop_of (judge_map given))
+    → Answers stops.Memory (made_of given) result (map_error stop_of (judge_map given))
 map_answers given (Ok runs) maps are result answers =
     let kinds_are : value_at runs.items ≡ kinds (claims given) = λ i x. are.each x i in
     let P : TypeAt → Type 0 = λ f. Answers stops.Memory (λ (map : Vec (RunOf ℕ) Global). map.items) result
-    (map_unless_stopped (judge_frames (types_below (reach given) f)) runs.items) in
+    (map_or_stop (judge_frames (types_below (reach given) f)) runs.items) in
     rw (decided given (Ok runs) maps) (judged_same given (judge_frames (types_in_reach given)) runs result (subst P kinds_are answers))
 map_answers given (Err (faults.MapFull runs)) maps are (Ok map) answers = absurd (cc)
 map_answers given (Err (faults.MapFull runs)) maps are (Err stop) answers =
@@ -86,29 +86,29 @@ map_answers given (Err faults.Memory) maps are (Ok map) answers = absurd (cc)
 map_answers given (Err faults.Memory) maps are (Err stop) answers = λ other. absurd (other (cc (answers other)))
 
 -- a value is unchanged if the result's error is replaced
-pub told_ok : {A E F : Type 0} (f : E → F) (said : Result A E) (a : A) → with_error f said ≡ Ok a → said ≡ Ok a
-told_ok f (Ok b) a is = let same : b ≡ a = cc in ap (λ (x : _). Ok x) same
-told_ok f (Err e) a is = absurd (cc)
+pub ok_without_error_change : {A E F : Type 0} (f : E → F) (said : Result A E) (a : A) → map_error f said ≡ Ok a → said ≡ Ok a
+ok_without_error_change f (Ok b) a is = let same : b ≡ a = cc in ap (λ (x : _). Ok x) same
+ok_without_error_change f (Err e) a is = absurd (cc)
 
 -- a stop of the boot is a stop of its report
-pub told_stops : {X : Type 0} (view : X → BootedView) (given : InputsView) (answer : Result X Stop) (stop : Stop) → answer ≡ Err stop
-    → (stop ≢ stops.Memory → with_error stop_of (boot given) ≡ Err stop)
-    → Answers stops.Memory view answer (with_error stop_of (whole_boot given))
-told_stops view given answer stop is stops_so =
+pub boot_stop_is_reported : {X : Type 0} (view : X → BootedView) (given : InputsView) (answer : Result X Stop) (stop : Stop) → answer ≡ Err stop
+    → (stop ≢ stops.Memory → map_error stop_of (boot given) ≡ Err stop)
+    → Answers stops.Memory view answer (map_error stop_of (whole_boot given))
+boot_stop_is_reported view given answer stop is stops_so =
     rw is (λ other. stopped (boot given) (λ made. Ok (finish_boot given made)) stop (stops_so other))
 
-pub boot_stops : (given : InputsView) (stop : Stop) → Answers stops.Memory (made_of given) (Err stop) (with_error stop_of (judge_map given))
-    → stop ≢ stops.Memory → with_error stop_of (boot given) ≡ Err stop
+pub boot_stops : (given : InputsView) (stop : Stop) → Answers stops.Memory (made_of given) (Err stop) (map_error stop_of (judge_map given))
+    → stop ≢ stops.Memory → map_error stop_of (boot given) ≡ Err stop
 unfolding boot
 boot_stops given stop answers other = stopped (judge_map given) (λ made. run_each_stage (later_stages given) made) stop (answers other)
 
 -- if the boot goes on with the map, the stages after it remain
-pub boot_left : (given : InputsView) (made : BootSoFar) → with_error stop_of (judge_map given) ≡ Ok made
+pub boot_is_later_stages : (given : InputsView) (made : BootSoFar) → map_error stop_of (judge_map given) ≡ Ok made
     → boot given ≡ run_each_stage (later_stages given) made
 unfolding boot
-boot_left given made judged =
+boot_is_later_stages given made judged =
     ap (λ (said : Result BootSoFar Cause). said >>= λ m.
-    run_each_stage (later_stages given) m) (told_ok stop_of (judge_map given) made judged)
+    run_each_stage (later_stages given) m) (ok_without_error_change stop_of (judge_map given) made judged)
 
 pub boot_told : (given : InputsView) (made : BootSoFar) → boot given ≡ Ok made → whole_boot given ≡ Ok (finish_boot given made)
 boot_told given made comes = ap (λ (said : Result BootSoFar Cause). said >>= λ m. Ok (finish_boot given m)) comes

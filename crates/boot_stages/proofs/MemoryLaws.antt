@@ -4,8 +4,8 @@ use Rattle.std.specs.List.{All}
 use Rattle.std.proofs.lemmas.Bool.Decides.{nat_tests}
 use Rattle.std.proofs.lemmas.List.{append_assoc, at_drop_more}
 use Rattle.bm_base.specs.Range.{RangeView}
-use Rattle.address_runs.specs.Runs.{RunOf, AreRuns, IsRunsOf, extent_of, run_end, value_at}
-use Rattle.address_runs.specs.Edits.{NothingFrom}
+use Rattle.address_runs.specs.Runs.{RunOf, AreRuns, IsRunsOf, range_of_run, run_end, value_at}
+use Rattle.address_runs.specs.Edits.{IsEmptyFrom}
 use Rattle.e820_model.specs.Usable.{is_memory}
 use Rattle.memblock_model.specs.declared.owner.Which.TheVariants as which
 use Rattle.memblock_model.specs.declared.owner.Owner.TheVariants as owner
@@ -20,16 +20,16 @@ use Rattle.growth_model.proofs.MemoryItemLaws.{memory_of-same}
 use Rattle.growth_model.proofs.CarriedLaws.{carried-memory}
 use Rattle.early_memory.specs.declared.low.TheConstants.{ISA_END_ADDRESS}
 use Rattle.early_memory.specs.EarlyInputs.{EarlyInputs, FrameRange, bytes_of_frames}
-use Rattle.early_memory.specs.Memory.{end_after_runs, end_of_runs, memory_end, mirrored_memory, usable_memory}
-use Rattle.early_memory.specs.FirstItems.{direction_items, early_claims, first_items, items_of_map, items_of_run, mirror_items, part_below}
+use Rattle.early_memory.specs.Memory.{last_run_end_or, end_of_last_run, memory_end, mirrored_memory, usable_memory}
+use Rattle.early_memory.specs.FirstItems.{direction_items, early_claims, early_items, items_of_map, items_of_run, mirror_items, part_below}
 use Rattle.early_memory.proofs.EndLaws.{runs_end_memory}
 use Rattle.early_memory.proofs.MemoryLaws.{mirrored-first}
 use Rattle.boot_model.specs.Mirrors.{IsMirror, frame_range_of}
 use Rattle.boot_model.proofs.MirrorLaws.{mirror-frames}
-use Rattle.boot_stages.specs.Parts.{items_before_memory, limit_items, map_memory_items}
+use Rattle.boot_stages.specs.Parts.{items_before_memory, limit_items, items_for_memory_of_map}
 
 -- the items of a run that firmware keeps for a driver: one claim
-pub soft_run : (limit : ℕ) (r : RunOf ℕ) → r.value ≡ 0xEFFFFFFF → items_of_run limit r ≡ item.Claim (extent_of r) owner.Soft ∷ []
+pub soft_run : (limit : ℕ) (r : RunOf ℕ) → r.value ≡ 0xEFFFFFFF → items_of_run limit r ≡ item.Claim (range_of_run r) owner.Soft ∷ []
 soft_run limit r is = grind (arith, nat_tests)
 
 pub memory_run : (limit : ℕ) (r : RunOf ℕ) → r.value ≢ 0xEFFFFFFF → is_memory (Some r.value) ≡ true → r.base < limit
@@ -44,11 +44,11 @@ high_run limit r kind high = grind (arith, nat_tests, kind)
 
 -- the end of a list's last run
 pub end_last : {X : Type 0} (at : ℕ) (r : RunOf X) (rs : List (RunOf X)) (d : RunOf X)
-    → end_after_runs at (r ∷ rs) ≡ run_end (get_or (r ∷ rs) (length rs) d)
+    → last_run_end_or at (r ∷ rs) ≡ run_end (get_or (r ∷ rs) (length rs) d)
 end_last at r [] d = refl
 end_last at r (s ∷ ss) d = end_last (run_end r) s ss d
 
-pub end_at : {X : Type 0} (rs : List (RunOf X)) (n : ℕ) (d : RunOf X) → length rs ≡ n + 1 → end_of_runs rs ≡ run_end (get_or rs n d)
+pub end_at : {X : Type 0} (rs : List (RunOf X)) (n : ℕ) (d : RunOf X) → length rs ≡ n + 1 → end_of_last_run rs ≡ run_end (get_or rs n d)
 end_at [] n d long = absurd (omega arith)
 end_at {X} (r ∷ rs) n d long =
     let same : length rs ≡ n = omega arith in
@@ -56,28 +56,28 @@ end_at {X} (r ∷ rs) n d long =
 
 -- the three parts of the items are all of them
 pub in_parts : (e : EarlyInputs) (map : List (RunOf ℕ))
-    → items_before_memory e ++ (map_memory_items e map ++ limit_items (memory_end e.limit (value_at map))) ≡ first_items e map
+    → items_before_memory e ++ (items_for_memory_of_map e map ++ limit_items (memory_end e.limit (value_at map))) ≡ early_items e map
 in_parts e map =
     let last : List Item = limit_items (memory_end e.limit (value_at map)) in
-    append_assoc (early_claims e.kernel e.initrd) (item.Limit ISA_END_ADDRESS ∷ direction_items e.upward) (map_memory_items e map ++ last)
+    append_assoc (early_claims e.kernel e.initrd) (item.Limit ISA_END_ADDRESS ∷ direction_items e.upward) (items_for_memory_of_map e map ++ last)
     ∙ ap (λ (t : List Item). early_claims e.kernel e.initrd ++ (item.Limit ISA_END_ADDRESS ∷ (direction_items e.upward ++ t)))
     (append_assoc (items_of_map e.limit map) (item.Trim ∷ mirror_items e.mirrors) last)
 
 -- after the first two parts memory is the usable frames, mirrored as asked, so its table gives its
 -- end
 pub mapped : (e : EarlyInputs) (map : List (RunOf ℕ)) (items : List Item) → AreRuns map
-    → carry_out_items (items_before_memory e ++ map_memory_items e map) [] ≡ Ok items
+    → carry_out_items (items_before_memory e ++ items_for_memory_of_map e map) [] ≡ Ok items
     → memory_of items ≡ mirrored_memory e.mirrors (usable_memory e.limit (value_at map))
 mapped e map items runs ends =
-    memory_of-same items (items_before_memory e ++ map_memory_items e map)
-    (carried-memory (items_before_memory e ++ map_memory_items e map) [] items ends)
+    memory_of-same items (items_before_memory e ++ items_for_memory_of_map e map)
+    (carried-memory (items_before_memory e ++ items_for_memory_of_map e map) [] items ends)
     ∙ ap memory_of
-    (append_assoc (early_claims e.kernel e.initrd) (item.Limit ISA_END_ADDRESS ∷ direction_items e.upward) (map_memory_items e map))
+    (append_assoc (early_claims e.kernel e.initrd) (item.Limit ISA_END_ADDRESS ∷ direction_items e.upward) (items_for_memory_of_map e map))
     ∙ (λ i x. mirrored-first e map runs x i)
 
 pub table_end : (e : EarlyInputs) (map : List (RunOf ℕ)) (items : List Item) → AreRuns map
-    → carry_out_items (items_before_memory e ++ map_memory_items e map) [] ≡ Ok items → NothingFrom (2 ^ 64) (memory_of items)
-    → end_of_runs (records_of which.Memory items) ≡ memory_end e.limit (value_at map)
+    → carry_out_items (items_before_memory e ++ items_for_memory_of_map e map) [] ≡ Ok items → IsEmptyFrom (2 ^ 64) (memory_of items)
+    → end_of_last_run (records_of which.Memory items) ≡ memory_end e.limit (value_at map)
 unfolding records_of
 table_end e map items runs ends within =
     let are : IsRunsOf (memory_of items) (records_for (memory_of items)) = records_for-runs (memory_of items) within in

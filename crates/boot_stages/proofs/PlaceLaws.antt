@@ -6,8 +6,8 @@ use Rattle.memblock_model.specs.Items.{memory_of}
 use Rattle.memblock_grow.specs.declared.stop.Section.{Section}
 use Rattle.memblock_grow.specs.declared.stop.StageStop.{StageStop}
 use Rattle.memblock_grow.specs.declared.stop.StageStop.TheVariants as stage
-use Rattle.stage_steps.specs.Causes.{StageCause, stage_stop}
-use Rattle.stage_steps.specs.Steps.{StageStep, EndsAsStage, ◌>>=◌, view_of_result, return_value, read_into_list}
+use Rattle.stage_steps.specs.Causes.{StageCause, error_of_stage_cause}
+use Rattle.stage_steps.specs.Steps.{StageStep, EndsAsStage, ◌>>=◌, view_of_result, return_value, read_items_allocating}
 use Rattle.stage_steps.proofs.DoingLaws.{ends-first, ends-listed, ends-second, ends-wanting}
 use Rattle.sparse_sections.specs.Present.{present}
 use Rattle.sparse_sections.specs.declared.places.Roots.{Roots}
@@ -34,44 +34,44 @@ sections_in items = present (memory_of items)
 module _ (width : Width) where
   -- the stage of all sections ends as that of the sections in memory
   from_present : (r : Result SectionPlaces StageStop) (old new : List Item) (sections : List Section) → sections ≡ sections_in old
-      → EndsAsStage (place_sections width sections) stage_stop r old new → EndsAsStage (place_present_sections width) stage_stop r old new
+      → EndsAsStage (place_sections width sections) error_of_stage_cause r old new → EndsAsStage (place_present_sections width) error_of_stage_cause r old new
   unfolding place_present_sections
   from_present r old new sections is ends =
-      ends-second (sections_in old) r stage_stop old old new (read_into_list sections_in) (place_sections width)
-      (ends-listed sections_in stage_stop old)
-      (subst (λ (ss : List Section). EndsAsStage (place_sections width ss) stage_stop r old new) is ends)
+      ends-second (sections_in old) r error_of_stage_cause old old new (read_items_allocating sections_in) (place_sections width)
+      (ends-listed sections_in error_of_stage_cause old)
+      (subst (λ (ss : List Section). EndsAsStage (place_sections width ss) error_of_stage_cause r old new) is ends)
 
   -- this program is out of memory for the list of the sections
   pub places-wanting : (r : Result (Roots × Vec Placed Global) StageStop) (old : List Item) → r ≡ Err stage.Memory
-      → EndsAsStage (place_present_sections width) stage_stop (places_view r) old old
+      → EndsAsStage (place_present_sections width) error_of_stage_cause (places_view r) old old
   unfolding place_present_sections
   places-wanting r old is =
-      rw is (ends-first stage.Memory stage_stop old old (read_into_list sections_in) (place_sections width)
-      (ends-wanting sections_in stage_stop old))
+      rw is (ends-first stage.Memory error_of_stage_cause old old (read_items_allocating sections_in) (place_sections width)
+      (ends-wanting sections_in error_of_stage_cause old))
 
   module _ (r : Result (Roots × Vec Placed Global) StageStop) (old new : List Item) (sections : List Section)
       (is : sections ≡ sections_in old) where
-    pub places-first : (e : StageStop) → r ≡ Err e → EndsAsStage {A = RootsView} (place_roots width sections) stage_stop (Err e) old new
-        → EndsAsStage (place_present_sections width) stage_stop (places_view r) old new
+    pub places-first : (e : StageStop) → r ≡ Err e → EndsAsStage {A = RootsView} (place_roots width sections) error_of_stage_cause (Err e) old new
+        → EndsAsStage (place_present_sections width) error_of_stage_cause (places_view r) old new
     places-first e exits ends =
         rw exits (from_present (Err e) old new sections is
-        (ends-first e stage_stop old new (place_roots width sections) (behind_roots sections) ends))
+        (ends-first e error_of_stage_cause old new (place_roots width sections) (behind_roots sections) ends))
 
     pub places-second : (e : StageStop) (mid : List Item) (table : RootsView) → r ≡ Err e
-        → EndsAsStage (place_roots width sections) stage_stop (Ok table) old mid
-        → EndsAsStage {A = List Placed} (place_maps sections) stage_stop (Err e) mid new
-        → EndsAsStage (place_present_sections width) stage_stop (places_view r) old new
+        → EndsAsStage (place_roots width sections) error_of_stage_cause (Ok table) old mid
+        → EndsAsStage {A = List Placed} (place_maps sections) error_of_stage_cause (Err e) mid new
+        → EndsAsStage (place_present_sections width) error_of_stage_cause (places_view r) old new
     places-second e mid table exits first ends =
         rw exits (from_present (Err e) old new sections is
-        (ends-second table (Err e) stage_stop old mid new (place_roots width sections) (behind_roots sections) first
-        (ends-first e stage_stop mid new (place_maps sections) (λ placed. return_value (placed_of table placed)) ends)))
+        (ends-second table (Err e) error_of_stage_cause old mid new (place_roots width sections) (behind_roots sections) first
+        (ends-first e error_of_stage_cause mid new (place_maps sections) (λ placed. return_value (placed_of table placed)) ends)))
 
   pub places-all : (old mid new : List Item) (sections : List Section) (table : RootsView) (placed : List Placed)
-      → sections ≡ sections_in old → EndsAsStage (place_roots width sections) stage_stop (Ok table) old mid
-      → EndsAsStage (place_maps sections) stage_stop (Ok placed) mid new
-      → EndsAsStage (place_present_sections width) stage_stop (Ok (placed_of table placed)) old new
+      → sections ≡ sections_in old → EndsAsStage (place_roots width sections) error_of_stage_cause (Ok table) old mid
+      → EndsAsStage (place_maps sections) error_of_stage_cause (Ok placed) mid new
+      → EndsAsStage (place_present_sections width) error_of_stage_cause (Ok (placed_of table placed)) old new
   places-all old mid new sections table placed present_is first ends =
       from_present (Ok (placed_of table placed)) old new sections present_is
-      (ends-second table (Ok (placed_of table placed)) stage_stop old mid new (place_roots width sections) (behind_roots sections) first
-      (ends-second placed (Ok (placed_of table placed)) stage_stop mid new new (place_maps sections)
+      (ends-second table (Ok (placed_of table placed)) error_of_stage_cause old mid new (place_roots width sections) (behind_roots sections) first
+      (ends-second placed (Ok (placed_of table placed)) error_of_stage_cause mid new new (place_maps sections)
       (λ p. return_value (placed_of table p)) ends (refl, refl)))

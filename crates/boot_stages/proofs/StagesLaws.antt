@@ -3,7 +3,7 @@ use Rattle.std.proofs.Common.{◌≡◌, ◌≢◌, ⊎_elim, ℕ, ◌≤◌, Li
 use Rattle.std.specs.Prelude.{IfErr, IsErrAnd}
 use Rattle.std.proofs.lemmas.Result.{err_from_is_err_and}
 use Rattle.bm_base.specs.Range.{RangeView}
-use Rattle.bm_base.specs.ResultSteps.{◌>>=◌, with_error}
+use Rattle.bm_base.specs.ResultSteps.{◌>>=◌, map_error}
 use Rattle.address_runs.specs.Runs.{RunOf}
 use Rattle.memblock_model.specs.declared.item.Item.{Item}
 use Rattle.memblock_model.specs.Labels.{Labels}
@@ -11,22 +11,22 @@ use Rattle.growth_model.specs.Bytes.{Fill}
 use Rattle.memblock_grow.specs.MemblockView.{MemblockView}
 use Rattle.script_reader.specs.declared.act.Line.{Line}
 use Rattle.stage_steps.specs.Steps.{StageStep, EndsAsStage}
-use Rattle.stage_steps.specs.Nodes.{HasNodes}
+use Rattle.stage_steps.specs.Nodes.{IsMemoryWithNodes}
 use Rattle.memblock_grow.specs.Continues.{ContinuesMemblock}
 use Rattle.early_script.specs.declared.outcome.Answer.{Answer}
 use Rattle.early_script.specs.LiveView.{LiveView}
-use Rattle.early_script.specs.Lines.{ScriptSoFar as Script, HasReached, script_after_lines, script_so_far}
+use Rattle.early_script.specs.Lines.{ScriptSoFar as Script, MatchesScriptSoFar, script_after_lines, script_so_far}
 use Rattle.boot_model.specs.declared.stop.Cause.{Cause}
 use Rattle.boot_model.specs.declared.stop.Stop.{Stop}
 use Rattle.boot_model.specs.declared.stop.Stop.TheVariants as stops
 use Rattle.boot_model.specs.Boot.{InputsView, BootSoFar, Stage, begin_with_map, with_script_state, stage_of_steps, script_stage}
 use Rattle.boot_model.specs.Stages.{run_each_stage}
 use Rattle.boot_model.specs.Stop.{stop_of_error, stop_of}
-use Rattle.boot_stages.specs.Boots.{HoldsFills, made_after_lines}
+use Rattle.boot_stages.specs.Boots.{HasBytesOfHistory, made_after_lines}
 use Rattle.boot_stages.proofs.BytesLaws.{holds-behind}
 
 -- memory with nodes within one limit has them within every greater limit
-pub noded-within : (near far : ℕ) (f : Labels) → HasNodes near f → near ≤ far → HasNodes far f
+pub noded-within : (near far : ℕ) (f : Labels) → IsMemoryWithNodes near f → near ≤ far → IsMemoryWithNodes far f
 noded-within near far f noded low = record {
   frames = noded.frames;
   nodes = noded.nodes;
@@ -35,7 +35,7 @@ noded-within near far f noded low = record {
 
 -- a stop in the first stages is a stop of the whole sequence
 pub stopped : {A : Type 0} (said : Result BootSoFar Cause) (later : BootSoFar → Result A Cause) (stop : Stop)
-    → with_error stop_of said ≡ Err stop → with_error stop_of (said >>= later) ≡ Err stop
+    → map_error stop_of said ≡ Err stop → map_error stop_of (said >>= later) ≡ Err stop
 stopped (Ok made) later stop is = absurd (cc)
 stopped (Err cause) later stop is = cc
 
@@ -60,7 +60,7 @@ module _ {E F A : Type 0} (cause : E → Cause) (put : A → BootSoFar → BootS
 
   pub steps-stop : (e : F) (stop : Stop) → EndsAsStage {A = A} doing error (Err e) made.items new
       → ((why : Option E) → e ≡ error why → stop ≡ stop_of_error cause why) → stop ≢ stops.Memory
-      → with_error stop_of (stage_of_steps cause put doing made) ≡ Err stop
+      → map_error stop_of (stage_of_steps cause put doing made) ≡ Err stop
   steps-stop e stop ends told other = ⊎_elim
       (λ stopped. rw stopped.1 (ap (λ (s : Stop). Err s) (sym (told (Some stopped.0) stopped.2))))
       (λ cut. absurd (other (told None cut.0))) ends
@@ -72,10 +72,10 @@ pub record Row (given : InputsView) (map : List (RunOf ℕ)) (stages : List Stag
   pub fills : List Fill
   pub come : run_each_stage stages (begin_with_map map given.options) ≡ Ok (made_after_lines base m ids fills answers)
   pub kernel : m.kernel ≡ given.kernel
-  pub holds : HoldsFills fills m
+  pub holds : HasBytesOfHistory fills m
 
 pub row-first : (given : InputsView) (map : List (RunOf ℕ)) (m : MemblockView) → m.journal.items ≡ [] → m.kernel ≡ given.kernel
-    → HoldsFills [] m
+    → HasBytesOfHistory [] m
     → Row given map [] (begin_with_map map given.options) m [] []
 row-first given map m none kernel holds = record {
   fills = [];
@@ -105,12 +105,12 @@ module _ {given : InputsView} {map : List (RunOf ℕ)} {stages : List Stage} {ba
   }
 
   -- the lines of a script have run
-  reached_is : (s : Script) (later : LiveView) (n : MemblockView) (told : List Answer) → HasReached s later n told
+  reached_is : (s : Script) (later : LiveView) (n : MemblockView) (told : List Answer) → MatchesScriptSoFar s later n told
       → with_script_state (made_after_lines base m ids row.fills answers) s ≡ made_after_lines base n later s.fills told
   reached_is s later n told reached = cc (reached.state, reached.answers_are)
 
   pub row-lines : (lines : List Line) (later : LiveView) (n : MemblockView) (told : List Answer) → n.kernel ≡ m.kernel
-      → HasReached (script_after_lines (script_so_far ids m row.fills answers) lines) later n told
+      → MatchesScriptSoFar (script_after_lines (script_so_far ids m row.fills answers) lines) later n told
       → Row given map (stages ++ script_stage given.kernel lines ∷ []) base n later told
   row-lines lines later n told same reached =
       let s : Script = script_after_lines (script_so_far ids m row.fills answers) lines in
@@ -125,10 +125,10 @@ module _ {given : InputsView} {map : List (RunOf ℕ)} {stages : List Stage} {ba
 
   -- a stage that stops stops the boot
   pub row-stops : (s : Stage) (rest : List Stage) (stop : Stop)
-      → with_error stop_of (s (made_after_lines base m ids row.fills answers)) ≡ Err stop
-      → with_error stop_of (run_each_stage (stages ++ s ∷ rest) (begin_with_map map given.options)) ≡ Err stop
+      → map_error stop_of (s (made_after_lines base m ids row.fills answers)) ≡ Err stop
+      → map_error stop_of (run_each_stage (stages ++ s ∷ rest) (begin_with_map map given.options)) ≡ Err stop
   row-stops s rest stop stops_so =
-      ap (with_error stop_of) (run_each_stage-append stages (s ∷ rest) (begin_with_map map given.options)
+      ap (map_error stop_of) (run_each_stage-append stages (s ∷ rest) (begin_with_map map given.options)
       ∙ ap (λ (said : Result BootSoFar Cause). said >>= λ n. run_each_stage (s ∷ rest) n) row.come)
       ∙ stopped (s (made_after_lines base m ids row.fills answers)) (λ n. run_each_stage rest n) stop stops_so
 

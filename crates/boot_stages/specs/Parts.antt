@@ -14,8 +14,8 @@ abbrev pub items_before_memory : EarlyInputs → List Item
 items_before_memory e = early_claims e.kernel e.initrd ++ (item.Limit ISA_END_ADDRESS ∷ direction_items e.upward)
 
 -- the map's runs become memory, which is trimmed to whole frames, and some of which is mirrored
-abbrev pub map_memory_items : EarlyInputs → List (RunOf ℕ) → List Item
-map_memory_items e map = items_of_map e.limit map ++ (item.Trim ∷ mirror_items e.mirrors)
+abbrev pub items_for_memory_of_map : EarlyInputs → List (RunOf ℕ) → List Item
+items_for_memory_of_map e map = items_of_map e.limit map ++ (item.Trim ∷ mirror_items e.mirrors)
 
 -- the limit at the end of memory, and the claim of the first MiB
 abbrev pub limit_items : ℕ → List Item

@@ -3,20 +3,20 @@
 //! free frames, so the frames that were handed over stay as they were.
 
 ghost use Rattle.std.specs.Prelude.{◌≡◌, ◌^◌, List, IfOk};
-ghost use Rattle.address_runs.specs.Edits.{NothingFrom};
+ghost use Rattle.address_runs.specs.Edits.{IsEmptyFrom};
 ghost use Rattle.memblock_model.specs.Items.{memory_of, owner_of};
 ghost use Rattle.memblock_model.specs.Tables.{reserved_labels};
 ghost use Rattle.memblock_model.specs.declared.owner.Which.{Which};
 ghost use Rattle.memblock_ranges.specs.Tables.{table_in};
 ghost use Rattle.memblock_model.specs.declared.owner.Which.TheVariants as which;
-ghost use Rattle.growth_model.specs.Bytes.{Fill, table_for};
+ghost use Rattle.growth_model.specs.Bytes.{Fill, table_from_items};
 ghost use Rattle.early_script.specs.LiveView.{LiveView};
-ghost use Rattle.stage_steps.specs.Nodes.{HasNodes};
+ghost use Rattle.stage_steps.specs.Nodes.{IsMemoryWithNodes};
 ghost use Rattle.boot_model.specs.Boot.{finish_boot};
 ghost use Rattle.boot_model.specs.View.{booted_view, inputs_view};
 ghost use Rattle.boot_stages.specs.Boots.{IsFreeByStore, IsStoredTable, made_after_stages};
 
-use crate::later::Later;
+use crate::later::LaterResults;
 use bm_base::Memory;
 use boot_model::{Booted, Inputs};
 use buddy_handover::hand_over;
@@ -40,13 +40,13 @@ pub fn hand_over_memory(
     memblock: Memblock,
     inputs: Inputs,
     map: Vec<Run>,
-    later: Later,
+    later: LaterResults,
 ) -> Result<Booted, Memory>
     requires kernel { memblock.kernel ≡ inputs.kernel }
-    requires noded { HasNodes (2 ^ 52) (memory_of memblock.journal.items) }
+    requires noded { IsMemoryWithNodes (2 ^ 52) (memory_of memblock.journal.items) }
     requires tables { (w : Which)
-        → table_in w memblock.tables ≡ table_for w memblock.kernel memblock.journal.items }
-    requires within { NothingFrom (2 ^ 64) (reserved_labels (owner_of memblock.journal.items)) }
+        → table_in w memblock.tables ≡ table_from_items w memblock.kernel memblock.journal.items }
+    requires within { IsEmptyFrom (2 ^ 64) (reserved_labels (owner_of memblock.journal.items)) }
     ensures told { IfOk result (λ booted. (ids : LiveView) (fills : List Fill) → booted_view booted
         ≡ finish_boot (inputs_view inputs)
         (made_after_stages (inputs_view inputs) map.items memblock later ids fills)) }

@@ -6,15 +6,15 @@
 ghost use Rattle.std.specs.Prelude.{◌≡◌, ◌^◌, [], Ok, IfOk, IfErr};
 ghost use Rattle.address_runs.specs.Runs.{AreRuns};
 ghost use Rattle.memblock_model.specs.Items.{memory_of};
-ghost use Rattle.growth_model.specs.Tables.{HasBegun};
-ghost use Rattle.stage_steps.specs.Causes.{stage_stop};
+ghost use Rattle.growth_model.specs.Tables.{HasFirstItem};
+ghost use Rattle.stage_steps.specs.Causes.{error_of_stage_cause};
 ghost use Rattle.stage_steps.specs.Steps.{EndsAsStage, view_of_result};
-ghost use Rattle.stage_steps.specs.Nodes.{HasNodes};
+ghost use Rattle.stage_steps.specs.Nodes.{IsMemoryWithNodes};
 ghost use Rattle.memblock_grow.specs.Continues.{ContinuesMemblock};
 ghost use Rattle.boot_model.specs.Boot.{begin_with_map, judge_map};
 ghost use Rattle.boot_model.specs.Sections.{place_present_sections};
 ghost use Rattle.boot_model.specs.View.{inputs_view, sections_view};
-ghost use Rattle.boot_stages.specs.Boots.{StagesEndWith, StagesStopWith, HoldsFills};
+ghost use Rattle.boot_stages.specs.Boots.{StagesEndWith, StagesStopWith, HasBytesOfHistory};
 
 use crate::memory::make_memory;
 use bm_base::Width;
@@ -31,7 +31,7 @@ use std::alloc::Global;
 
 /// The results of the stages after the map, except for what memblock itself holds.
 #[derive(Drop)]
-pub struct Later {
+pub struct LaterResults {
     /// The nodes, and whether the firmware's table of domains gave them.
     pub nodes: Nodes,
     /// The outcome for the crash area.
@@ -51,9 +51,9 @@ fn place_sections(
     memblock: &mut Memblock,
     width: Width,
 ) -> Result<(Roots, Vec<Placed>), StageStop>
-    requires begun { HasBegun memblock.old.journal.items }
-    requires noded { HasNodes (2 ^ 52) (memory_of memblock.old.journal.items) }
-    ensures ends { EndsAsStage (place_present_sections width) stage_stop
+    requires begun { HasFirstItem memblock.old.journal.items }
+    requires noded { IsMemoryWithNodes (2 ^ 52) (memory_of memblock.old.journal.items) }
+    ensures ends { EndsAsStage (place_present_sections width) error_of_stage_cause
         (view_of_result (λ places. sections_view places.0 places.1) result)
         memblock.old.journal.items memblock.new.journal.items }
     ensures goes_on { ContinuesMemblock memblock.old memblock.new }
@@ -76,10 +76,10 @@ pub fn run_stages(
     memblock: &mut Memblock,
     inputs: &Inputs,
     map: &[Run],
-) -> Result<Later, Stop>
+) -> Result<LaterResults, Stop>
     requires first { memblock.old.journal.items ≡ [] }
     requires kernel { memblock.old.kernel ≡ inputs.now.kernel }
-    requires bytes { HoldsFills [] memblock.old }
+    requires bytes { HasBytesOfHistory [] memblock.old }
     requires runs { AreRuns map.now }
     requires judged { judge_map (inputs_view inputs.now)
         ≡ Ok (begin_with_map map.now (inputs_view inputs.now).options) }
@@ -101,7 +101,7 @@ pub fn run_stages(
     run_script_lines(&mut live, memblock, before, &mut answers)?;
     let (roots, placed) = place_sections(alloc, memblock, inputs.width)?;
     run_script_lines(&mut live, memblock, behind, &mut answers)?;
-    Ok(Later {
+    Ok(LaterResults {
         nodes,
         crash,
         roots,

@@ -17,9 +17,10 @@
 //! A table that must grow and finds no place stops the boot.
 //!
 //! The layer above may rest on this: the result of [`boot`] is that of the definition, or the
-//! program is out of memory. The law [`map_is_judged`] says that the table's answer for its map
-//! decides how the first stages end. A law is an empty function whose contract is a proven fact.
-//! In contracts, a name means the definition in `specs/`, here or in a crate below.
+//! program is out of memory. The law [`table_result_decides_map_stages`] says that the table's
+//! answer for its map decides how the first stages end. A law is an empty function whose contract
+//! is a proven fact. In contracts, a name means the definition in `specs/`, here or in a crate
+//! below.
 #![tactic(auto)]
 
 mod handover;
@@ -29,5 +30,5 @@ mod map;
 mod memory;
 mod stages;
 
-pub use laws::map_is_judged;
+pub use laws::table_result_decides_map_stages;
 pub use stages::boot;

@@ -10,7 +10,7 @@ ghost use Rattle.e820_model.specs.Usable.{types_below};
 ghost use Rattle.e820_sanitise.specs.Stop.{judge_frames};
 ghost use Rattle.boot_model.specs.Boot.{added_entries};
 ghost use Rattle.boot_model.specs.View.{inputs_view};
-ghost use Rattle.boot_stages.specs.Boots.{accept_map, map_unless_stopped};
+ghost use Rattle.boot_stages.specs.Boots.{accept_map, map_or_stop};
 
 use bm_base::Memory;
 use boot_model::{Cause, Inputs, Stop};
@@ -114,7 +114,7 @@ pub fn accept_map(answer: Result<Vec<Run>, MapFault>, reach: u64) -> Result<Vec<
 fn check_map(map: Vec<Run>, reach: u64) -> Result<Vec<Run>, Stop>
     requires { AreRuns map.items }
     ensures answers { Answers Stop.Memory (λ runs. runs.items) result
-        (map_unless_stopped (judge_frames (types_below reach (value_at map.items))) map.items) }
+        (map_or_stop (judge_frames (types_below reach (value_at map.items))) map.items) }
     ensures always { ¬ IsErrOf result Stop.Memory }
     ensures runs { IfOk result (λ runs. AreRuns runs.items) }
 {

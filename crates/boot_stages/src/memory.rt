@@ -1,21 +1,21 @@
 //! Makes memory from the map: the first claims, the runs of memory, mirrored memory, and the first
-//! MiB. Each call carries out a part of the definition's list of items (`first_items`), in its
+//! MiB. Each call carries out a part of the definition's list of items (`early_items`), in its
 //! order. memblock may grow its tables between the items.
 
 ghost use Rattle.std.specs.Prelude.{◌≡◌, ◌-◌, ◌+◌, ◌<◌, [], min, map, IfSome, OnOk};
 ghost use Rattle.std.specs.List.{All};
 ghost use Rattle.address_runs.specs.Runs.{AreRuns};
-ghost use Rattle.growth_model.specs.Tables.{HasBegun};
+ghost use Rattle.growth_model.specs.Tables.{HasFirstItem};
 ghost use Rattle.stage_steps.specs.Causes.{refusal_for};
 ghost use Rattle.stage_steps.specs.Steps.{EndsAsStage};
 ghost use Rattle.memblock_grow.specs.Continues.{ContinuesMemblock};
-ghost use Rattle.early_memory.specs.Memory.{end_of_runs};
-ghost use Rattle.early_memory.specs.FirstItems.{direction_items, early_claims, first_items, items_of_map, items_of_run, mirror_items, range_up_to};
+ghost use Rattle.early_memory.specs.Memory.{end_of_last_run};
+ghost use Rattle.early_memory.specs.FirstItems.{direction_items, early_claims, early_items, items_of_map, items_of_run, mirror_items, range_up_to};
 ghost use Rattle.boot_model.specs.Boot.{early_inputs, all_mirrors};
 ghost use Rattle.boot_model.specs.First.{items_with_growths};
 ghost use Rattle.boot_model.specs.Mirrors.{IsMirror, frame_range_of};
 ghost use Rattle.boot_model.specs.View.{inputs_view};
-ghost use Rattle.boot_stages.specs.Parts.{items_before_memory, limit_items, map_memory_items};
+ghost use Rattle.boot_stages.specs.Parts.{items_before_memory, limit_items, items_for_memory_of_map};
 
 use bm_base::Range;
 use boot_journal::Owner;
@@ -29,7 +29,7 @@ use memblock_model::Which;
 use memblock_ranges::Tables;
 
 /// Returns the range of the addresses from 0 to below `at`.
-fn up_to(at: u64) -> Range
+fn range_below_address(at: u64) -> Range
     ensures { result ≡ range_up_to at }
 {
     Range { base: 0, size: at }
@@ -44,11 +44,11 @@ fn claim_early(memblock: &mut Memblock, kernel: Range, initrd: Option<Range>) ->
     requires initrd { IfSome initrd (λ range. 0 < range.size) }
     ensures ends { EndsAsStage (items_with_growths (early_claims kernel initrd)) refusal_for result
         memblock.old.journal.items memblock.new.journal.items }
-    ensures begun { OnOk result (HasBegun memblock.new.journal.items) }
+    ensures begun { OnOk result (HasFirstItem memblock.new.journal.items) }
     ensures goes_on { ContinuesMemblock memblock.old memblock.new }
 {
     memblock.claim(kernel, Owner::Kernel)?;
-    memblock.claim(up_to(LOW_END), Owner::Low64K)?;
+    memblock.claim(range_below_address(LOW_END), Owner::Low64K)?;
     match initrd {
         Some(range) => memblock.claim(range, Owner::Initrd),
         None => Ok(()),
@@ -60,10 +60,10 @@ fn claim_early(memblock: &mut Memblock, kernel: Range, initrd: Option<Range>) ->
 /// Ignores all other runs (`e820__memblock_setup`).
 fn add_run(memblock: &mut Memblock, run: &Run, reach: u64) -> Result<(), Refusal>
     requires some { 0 < run.now.size }
-    requires begun { HasBegun memblock.old.journal.items }
+    requires begun { HasFirstItem memblock.old.journal.items }
     ensures ends { EndsAsStage (items_with_growths (items_of_run reach run.now)) refusal_for result
         memblock.old.journal.items memblock.new.journal.items }
-    ensures begun { HasBegun memblock.new.journal.items }
+    ensures begun { HasFirstItem memblock.new.journal.items }
     ensures goes_on { ContinuesMemblock memblock.old memblock.new }
 {
     no_items_no_change(memblock);
@@ -96,10 +96,10 @@ fn below_limit(range: Range, reach: u64) -> Range
 /// Claims or adds each run of the map, as `add_run` does.
 fn add_map(memblock: &mut Memblock, map: &[Run], reach: u64) -> Result<(), Refusal>
     requires runs { AreRuns map.now }
-    requires begun { HasBegun memblock.old.journal.items }
+    requires begun { HasFirstItem memblock.old.journal.items }
     ensures ends { EndsAsStage (items_with_growths (items_of_map reach map.now)) refusal_for result
         memblock.old.journal.items memblock.new.journal.items }
-    ensures begun { HasBegun memblock.new.journal.items }
+    ensures begun { HasFirstItem memblock.new.journal.items }
     ensures goes_on { ContinuesMemblock memblock.old memblock.new }
 {
     no_items_no_change(memblock);
@@ -111,7 +111,7 @@ fn add_map(memblock: &mut Memblock, map: &[Run], reach: u64) -> Result<(), Refus
 
 /// Returns the end of the last record of memory, or 0 if there is none (`memblock_end_of_DRAM`).
 fn end_of_memory(tables: &Tables) -> u64
-    ensures { result ≡ end_of_runs tables.now.memory.records }
+    ensures { result ≡ end_of_last_run tables.now.memory.records }
 {
     let count = tables.head(Which::Memory).count;
     if count == 0 {
@@ -123,8 +123,8 @@ fn end_of_memory(tables: &Tables) -> u64
 
 /// Makes searches go from the lowest address up if `upward` is set (`memblock_set_bottom_up`).
 /// Changes nothing if it isn't.
-fn turn_upward(memblock: &mut Memblock, upward: bool) -> Result<(), Refusal>
-    requires { HasBegun memblock.old.journal.items }
+fn set_search_direction(memblock: &mut Memblock, upward: bool) -> Result<(), Refusal>
+    requires { HasFirstItem memblock.old.journal.items }
     ensures ends { EndsAsStage (items_with_growths (direction_items upward)) refusal_for result
         memblock.old.journal.items memblock.new.journal.items }
     ensures goes_on { ContinuesMemblock memblock.old memblock.new }
@@ -138,18 +138,18 @@ fn turn_upward(memblock: &mut Memblock, upward: bool) -> Result<(), Refusal>
 
 /// Makes the first claims, limits allocations to the first MiB until memory is known, and sets the
 /// direction of searches.
-fn begin_memory(memblock: &mut Memblock, inputs: &Inputs) -> Result<(), Refusal>
+fn claim_before_memory(memblock: &mut Memblock, inputs: &Inputs) -> Result<(), Refusal>
     requires first { memblock.old.journal.items ≡ [] }
     requires kernel { inputs.now.kernel ≡ memblock.old.kernel }
     ensures ends { EndsAsStage (items_with_growths
         (items_before_memory (early_inputs (inputs_view inputs.now)))) refusal_for result
         memblock.old.journal.items memblock.new.journal.items }
-    ensures begun { OnOk result (HasBegun memblock.new.journal.items) }
+    ensures begun { OnOk result (HasFirstItem memblock.new.journal.items) }
     ensures goes_on { ContinuesMemblock memblock.old memblock.new }
 {
     claim_early(memblock, inputs.kernel, inputs.zero.initrd)?;
     memblock.set_limit(ISA_END_ADDRESS)?;
-    turn_upward(memblock, inputs.upward)
+    set_search_direction(memblock, inputs.upward)
 }
 
 /// Marks the memory of each range as mirrored (`efi_find_mirror`). The ranges must be whole frames.
@@ -160,11 +160,11 @@ fn begin_memory(memblock: &mut Memblock, inputs: &Inputs) -> Result<(), Refusal>
 /// - `Memory`: the program ran out of memory. The ranges before stay marked.
 fn add_mirrors(memblock: &mut Memblock, mirrors: &[Range]) -> Result<(), Refusal>
     requires whole { All IsMirror mirrors.now }
-    requires begun { HasBegun memblock.old.journal.items }
+    requires begun { HasFirstItem memblock.old.journal.items }
     ensures ends { EndsAsStage
         (items_with_growths (mirror_items (map frame_range_of mirrors.now))) refusal_for result
         memblock.old.journal.items memblock.new.journal.items }
-    ensures begun { HasBegun memblock.new.journal.items }
+    ensures begun { HasFirstItem memblock.new.journal.items }
     ensures goes_on { ContinuesMemblock memblock.old memblock.new }
 {
     no_items_no_change(memblock);
@@ -177,11 +177,11 @@ fn add_mirrors(memblock: &mut Memblock, mirrors: &[Range]) -> Result<(), Refusal
 /// Marks the ranges that the command words name as mirrored, and then those of the firmware's own
 /// map.
 fn mirror_memory(memblock: &mut Memblock, inputs: &Inputs) -> Result<(), Refusal>
-    requires { HasBegun memblock.old.journal.items }
+    requires { HasFirstItem memblock.old.journal.items }
     ensures ends { EndsAsStage (items_with_growths
         (mirror_items (all_mirrors (inputs_view inputs.now)))) refusal_for result
         memblock.old.journal.items memblock.new.journal.items }
-    ensures begun { HasBegun memblock.new.journal.items }
+    ensures begun { HasFirstItem memblock.new.journal.items }
     ensures goes_on { ContinuesMemblock memblock.old memblock.new }
 {
     add_mirrors(memblock, &inputs.mirrors)?;
@@ -198,13 +198,14 @@ fn mirror_memory(memblock: &mut Memblock, inputs: &Inputs) -> Result<(), Refusal
 ///
 /// - `NoGapForTable`: memblock's table must grow and finds no place.
 /// - `Memory`: the program ran out of memory.
-fn map_memory(memblock: &mut Memblock, inputs: &Inputs, map: &[Run]) -> Result<(), Refusal>
-    requires begun { HasBegun memblock.old.journal.items }
+fn add_memory_of_map(memblock: &mut Memblock, inputs: &Inputs, map: &[Run]) -> Result<(), Refusal>
+    requires begun { HasFirstItem memblock.old.journal.items }
     requires runs { AreRuns map.now }
     ensures ends { EndsAsStage (items_with_growths
-        (map_memory_items (early_inputs (inputs_view inputs.now)) map.now)) refusal_for result
+        (items_for_memory_of_map (early_inputs (inputs_view inputs.now)) map.now)) refusal_for
+        result
         memblock.old.journal.items memblock.new.journal.items }
-    ensures begun { OnOk result (HasBegun memblock.new.journal.items) }
+    ensures begun { OnOk result (HasFirstItem memblock.new.journal.items) }
     ensures goes_on { ContinuesMemblock memblock.old memblock.new }
 {
     add_map(memblock, map, inputs.reach())?;
@@ -214,15 +215,15 @@ fn map_memory(memblock: &mut Memblock, inputs: &Inputs, map: &[Run]) -> Result<(
 
 /// Limits allocations to addresses below `end` (`memblock_set_current_limit`), and claims the
 /// first MiB (`reserve_real_mode`).
-fn limit_memory(memblock: &mut Memblock, end: u64) -> Result<(), Refusal>
-    requires { HasBegun memblock.old.journal.items }
+fn limit_and_claim_first_mib(memblock: &mut Memblock, end: u64) -> Result<(), Refusal>
+    requires { HasFirstItem memblock.old.journal.items }
     ensures ends { EndsAsStage (items_with_growths (limit_items end)) refusal_for result
         memblock.old.journal.items memblock.new.journal.items }
-    ensures begun { OnOk result (HasBegun memblock.new.journal.items) }
+    ensures begun { OnOk result (HasFirstItem memblock.new.journal.items) }
     ensures goes_on { ContinuesMemblock memblock.old memblock.new }
 {
     memblock.set_limit(end)?;
-    memblock.claim(up_to(ISA_END_ADDRESS), Owner::Low1M)
+    memblock.claim(range_below_address(ISA_END_ADDRESS), Owner::Low1M)
 }
 
 /// Makes memory from the map, below the limit of physical addresses, and makes the claims that come
@@ -237,13 +238,13 @@ pub fn make_memory(memblock: &mut Memblock, inputs: &Inputs, map: &[Run]) -> Res
     requires kernel { inputs.now.kernel ≡ memblock.old.kernel }
     requires runs { AreRuns map.now }
     ensures ends { EndsAsStage (items_with_growths
-        (first_items (early_inputs (inputs_view inputs.now)) map.now)) refusal_for result
+        (early_items (early_inputs (inputs_view inputs.now)) map.now)) refusal_for result
         memblock.old.journal.items memblock.new.journal.items }
-    ensures begun { OnOk result (HasBegun memblock.new.journal.items) }
+    ensures begun { OnOk result (HasFirstItem memblock.new.journal.items) }
     ensures goes_on { ContinuesMemblock memblock.old memblock.new }
 {
-    begin_memory(memblock, inputs)?;
-    map_memory(memblock, inputs, map)?;
+    claim_before_memory(memblock, inputs)?;
+    add_memory_of_map(memblock, inputs, map)?;
     let end = end_of_memory(memblock.tables());
-    limit_memory(memblock, end)
+    limit_and_claim_first_mib(memblock, end)
 }

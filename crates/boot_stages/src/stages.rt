@@ -9,7 +9,7 @@ ghost use Rattle.boot_model.specs.View.{booted_view, inputs_view};
 ghost use Rattle.conservation.specs.Headline.{AllTouchedOrInOneBlock, BlocksAreMaximal, BlocksAreWhole, NoOtherInABlock};
 ghost use Rattle.conservation.specs.FramePlacesAfterPages.{AllInOneBlockOrHeld, NoOtherInABlockOrHeld};
 ghost use Rattle.bm_base.specs.Answers.{Answers};
-ghost use Rattle.bm_base.specs.ResultSteps.{with_error};
+ghost use Rattle.bm_base.specs.ResultSteps.{map_error};
 ghost use Rattle.boot_model.specs.Stop.{stop_of};
 ghost use Rattle.memblock_model.specs.declared.owner.Which.TheVariants as which;
 ghost use Rattle.phys_store.specs.Bytes.{byte_of};
@@ -54,7 +54,7 @@ use std::alloc::Global;
 /// Out of memory may come in place of each of these, and of success.
 pub fn boot(alloc: Global, inputs: Inputs) -> Result<Booted, Stop>
     ensures boots { Answers Stop.Memory booted_view result
-        (with_error stop_of (whole_boot (inputs_view inputs))) }
+        (map_error stop_of (whole_boot (inputs_view inputs))) }
     ensures bytes { IfOk result (λ booted. (made : BootSoFar) → boot (inputs_view inputs) ≡ Ok made
         →
         (x : ℕ) →
@@ -76,7 +76,7 @@ pub fn boot(alloc: Global, inputs: Inputs) -> Result<Booted, Stop>
     ensures paged { IfOk result (λ booted. AllInOneBlockOrHeld (booted_view booted)) }
     ensures none_paged { IfOk result (λ booted. NoOtherInABlockOrHeld (booted_view booted)) }
 {
-    let map = settled_map(alloc, &inputs)?;
+    let map = accepted_map(alloc, &inputs)?;
     let mut memblock = Memblock::new(alloc, inputs.kernel)?;
     let later = run_stages(alloc, &mut memblock, &inputs, &map)?;
     Ok(hand_over_memory(alloc, memblock, inputs, map, later)?)
@@ -87,10 +87,10 @@ pub fn boot(alloc: Global, inputs: Inputs) -> Result<Booted, Stop>
 /// # Errors
 ///
 /// The stops of `accept_map`, and out of memory.
-fn settled_map(alloc: Global, inputs: &Inputs) -> Result<Vec<Run>, Stop>
+fn accepted_map(alloc: Global, inputs: &Inputs) -> Result<Vec<Run>, Stop>
     ensures answers { Answers Stop.Memory (λ map.
         begin_with_map map.items (inputs_view inputs.now).options) result
-        (with_error stop_of (judge_map (inputs_view inputs.now))) }
+        (map_error stop_of (judge_map (inputs_view inputs.now))) }
     ensures runs { IfOk result (λ map. AreRuns map.items) }
 {
     let table = finished_table(

@@ -1,7 +1,7 @@
 -- How a boot with the words and files of a call ends, by the outcome.
 use Rattle.std.proofs.Common.{◌≡◌, ◌≢◌, ℕ, List, Option, Some, None, Result, Ok, Err, refl, subst, arith}
 use Rattle.std.specs.Prelude.{IfErr}
-use Rattle.bm_base.specs.ResultSteps.{with_error}
+use Rattle.bm_base.specs.ResultSteps.{map_error}
 use Rattle.bm_io.specs.MemFiles.{MemFileView, file_bytes}
 use Rattle.boot_inputs.specs.Input.{input_place}
 use Rattle.boot_inputs.specs.Reason.{NoInputs, InputsReason}
@@ -15,17 +15,17 @@ use Rattle.boot_model.specs.Stop.{cause_of, stop_of}
 use Rattle.conservation.proofs.HeadlineLaws.{all_touched_or_in_one, blocks_maximal, blocks_whole, no_other_in_a_block}
 use Rattle.program_run.specs.Outcome.{read_boot_inputs, bootmem_outcome, reports_on_boot}
 use Rattle.program_run.specs.Bootmem.{bootmem}
-use Rattle.program_run.specs.Stops.{no_report, reason_by_cause}
+use Rattle.program_run.specs.Stops.{reason_by_stop, reason_by_cause}
 use Rattle.program_run.proofs.BootedLaws.{boot_stopped, told_is}
 use Rattle.program_run.proofs.RunLaws.{inputs_fit}
 use Rattle.program_args.specs.Args.{BootmemArgsView}
-use Rattle.bootmem_c.specs.Boots.{FailsAs, IsBoot}
+use Rattle.bootmem_c.specs.Boots.{HasOutcomeReason, IsBoot}
 use Rattle.bootmem_c.specs.Fetches.{LentFilesView, faults_at}
 use Rattle.bootmem_c.proofs.ExactLaws.{fails_as}
 
 -- the inputs and what they boot to are those of the call
 pub is_boot : (files lent : List MemFileView) (wanted : BootmemArgsView) (given : InputsView) (told : BootedView) → files ≡ lent
-    → read_boot_inputs (file_bytes files) wanted ≡ Ok given → with_error stop_of (whole_boot given) ≡ Ok told
+    → read_boot_inputs (file_bytes files) wanted ≡ Ok given → map_error stop_of (whole_boot given) ≡ Ok told
     → IsBoot (Some wanted) (file_bytes lent) told
 is_boot files lent wanted given told same inputs boots =
     let is : whole_boot given ≡ Ok told = told_is (whole_boot given) told boots in
@@ -46,7 +46,7 @@ pub inputs_failed : {X : Type 0} (r : Result X NoInputs) (error : NoInputs) (old
     (wanted : BootmemArgsView)
     → r ≡ Err error → old.files ≡ lent → FitsError input_place error (read_boot_inputs (file_bytes old.files) wanted)
     → IsFileError (faults_at old) (faults_at new) wanted.named error
-    → IfErr r (λ e. FailsAs e (bootmem_outcome (Some wanted) (file_bytes lent)))
+    → IfErr r (λ e. HasOutcomeReason e (bootmem_outcome (Some wanted) (file_bytes lent)))
 inputs_failed r error old new lent wanted is same fits cause =
     rw (is, ← same)
     (fails_as old new (Some wanted) error (of_words error cause) (inputs_fit (file_bytes old.files) wanted error fits))
@@ -57,16 +57,16 @@ inputs_failed r error old new lent wanted is same fits cause =
 
 -- a stop of the boot is that of the outcome
 stop_by : (cause : Option Cause) (said : Result (List ℕ) InputsReason) → FitsError input_place (reason_by_cause cause) said
-    → FailsAs (reason_by_cause cause) said
+    → HasOutcomeReason (reason_by_cause cause) said
 stop_by None said fits = tt
 stop_by (Some cause) said fits = fits
 
 pub boot_failed : (stop : Stop) (files lent : List MemFileView) (wanted : BootmemArgsView) (given : InputsView)
     → files ≡ lent → read_boot_inputs (file_bytes files) wanted ≡ Ok given
-    → (stop ≢ stops.Memory → with_error stop_of (whole_boot given) ≡ Err stop)
-    → FailsAs (no_report stop) (bootmem_outcome (Some wanted) (file_bytes lent))
+    → (stop ≢ stops.Memory → map_error stop_of (whole_boot given) ≡ Err stop)
+    → HasOutcomeReason (reason_by_stop stop) (bootmem_outcome (Some wanted) (file_bytes lent))
 boot_failed stop files lent wanted given same inputs stops_so =
-    let fails : FailsAs (no_report stop) (reports_on_boot wanted.reports given) =
+    let fails : HasOutcomeReason (reason_by_stop stop) (reports_on_boot wanted.reports given) =
     stop_by (cause_of stop) (reports_on_boot wanted.reports given) (boot_stopped stop given wanted.reports stops_so) in
     let after : read_boot_inputs (file_bytes lent) wanted ≡ Ok given =
     subst (λ (f : List MemFileView). read_boot_inputs (file_bytes f) wanted ≡ Ok given) same inputs in

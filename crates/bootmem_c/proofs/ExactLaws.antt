@@ -19,7 +19,7 @@ use Rattle.program_end.specs.Fetches.{FitsError, ReachesFile}
 use Rattle.program_run.specs.Bootmem.{bootmem}
 use Rattle.program_run.specs.Outcome.{bootmem_outcome, reports_on_boot, with_made_table}
 use Rattle.program_args.specs.Args.{BootmemArgsView}
-use Rattle.bootmem_c.specs.Boots.{FailsAs}
+use Rattle.bootmem_c.specs.Boots.{HasOutcomeReason}
 use Rattle.bootmem_c.specs.Fetches.{LentFilesView, faults_at}
 use Rattle.bootmem_c.proofs.FetchLaws.{rose_unheld}
 
@@ -115,7 +115,7 @@ unread_is_said old new (Some wanted) input rose reaches =
 pub fails_as : (old new : LentFilesView) (accepted : Option BootmemArgsView) (error : NoInputs)
     → ErrorHasCause bootmem (faults_at old) (faults_at new) accepted error
     → FitsError input_place error (bootmem_outcome accepted (file_bytes old.files))
-    → FailsAs error (bootmem_outcome accepted (file_bytes old.files))
+    → HasOutcomeReason error (bootmem_outcome accepted (file_bytes old.files))
 fails_as old new accepted (errors.Reason reasons.Usage) cause fits = fits
 fails_as old new accepted (errors.Reason (reasons.Unread input)) cause fits = unread_is_said old new accepted input cause fits
 fails_as old new accepted (errors.Reason (reasons.Faulty input fault)) cause fits = fits

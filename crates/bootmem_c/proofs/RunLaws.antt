@@ -27,11 +27,11 @@ use Rattle.program_end.specs.Status.{failure_status}
 use Rattle.program_run.specs.Bootmem.{bootmem}
 use Rattle.program_run.specs.Headline.{AppendsReports}
 use Rattle.program_run.specs.Line.{bootmem_failure_line}
-use Rattle.program_run.specs.Outcome.{read_boot_inputs, or_stopped, bootmem_outcome, reports_on_boot}
+use Rattle.program_run.specs.Outcome.{read_boot_inputs, value_or_stopped, bootmem_outcome, reports_on_boot}
 use Rattle.program_args.specs.Args.{BootmemArgsView, read_args, bytes_of_words}
 use Rattle.bootmem_c.specs.Call.{are_utf8, read_lent_args, outcome_line, outcome_status}
 use Rattle.bootmem_c.specs.Fetches.{LentFilesView, faults_at}
-use Rattle.bootmem_c.specs.Copies.{CopiesText, TextSinkView, wants_of}
+use Rattle.bootmem_c.specs.Copies.{CopiesText, TextSinkView, failed_writes_of}
 use Rattle.bootmem_c.specs.declared.crossing.Text.{Text}
 use Rattle.bootmem_c.specs.contracts.text_sink.TextSinkSink.TheImpl.{ghosts}
 use Rattle.bootmem_c.proofs.ExactLaws.{fails_as}
@@ -86,9 +86,9 @@ ran_status old new read_args P BootedView (suc n) unwritten written line =
 
 -- the text of the reports is that of the outcome
 told_text : (reports : List Report) (answer : Result BootedView Cause) (told : BootedView) (P : List ℕ → Type 0) → answer ≡ Ok told
-    → P (report_list_text reports told) → IsOkAnd (or_stopped answer >>= λ told. Ok (report_list_text reports told)) P
+    → P (report_list_text reports told) → IsOkAnd (value_or_stopped answer >>= λ told. Ok (report_list_text reports told)) P
 told_text reports answer told P is holds =
-    subst (λ (a : Result BootedView Cause). IsOkAnd (or_stopped a >>= λ told. Ok (report_list_text reports told)) P) (sym is) holds
+    subst (λ (a : Result BootedView Cause). IsOkAnd (value_or_stopped a >>= λ told. Ok (report_list_text reports told)) P) (sym is) holds
 
 given_text : (reports : List Report) (answer : Result InputsView InputsReason) (given : InputsView) (P : List ℕ → Type 0)
     → answer ≡ Ok given
@@ -110,7 +110,7 @@ pub ran_reported : (read_args : Option BootmemArgsView) (held : FileContents) (b
 ran_reported read_args held before now empty is = subst (λ (b : List ℕ). AppendsReports read_args held (Some b) (Some now)) empty is
 
 appended_text_is_line : (l0 l1 : TextSinkView) (line : List ℕ) → l1.is_short ≡ false → l0.text ≡ [] → l0.is_short ≡ false
-    → (l1.text ≡ l0.text ++ line) ⊎ Rose 0 0 ⊎ Rose (wants_of l0) (wants_of l1) → l1.text ≡ line
+    → (l1.text ≡ l0.text ++ line) ⊎ Rose 0 0 ⊎ Rose (failed_writes_of l0) (failed_writes_of l1) → l1.text ≡ line
 appended_text_is_line l0 l1 line short empty not_short (inl is) = rw empty at is
 appended_text_is_line l0 l1 line short empty not_short (inr (inl rose)) = absurd (no_rise rose)
 appended_text_is_line l0 l1 line short empty not_short (inr (inr rose)) = absurd (no_rise (rw (not_short, short) at rose))

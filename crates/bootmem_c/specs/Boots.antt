@@ -23,6 +23,6 @@ pub record IsBoot (accepted : Option BootmemArgsView) (held : FileContents) (tol
   pub maximal : BlocksAreMaximal given told
 
 -- the reason is that of the outcome `said`; out of memory fits every outcome
-abbrev pub FailsAs : NoInputs → Result (List ℕ) InputsReason → Type 0
-FailsAs (errors.Reason reason) said = said ≡ Err reason
-FailsAs errors.Memory said = Unit {0}
+abbrev pub HasOutcomeReason : NoInputs → Result (List ℕ) InputsReason → Type 0
+HasOutcomeReason (errors.Reason reason) said = said ≡ Err reason
+HasOutcomeReason errors.Memory said = Unit {0}

@@ -43,5 +43,5 @@ call_line words files =
     if are_utf8 (lent_words words) then outcome_line (read_lent_args (lent_words words)) (outcome_of words files) else []
 
 -- the line that says that the program ran out of memory
-abbrev pub memory_said : List ℕ
-memory_said = memory_line bootmem_name
+abbrev pub out_of_memory_line : List ℕ
+out_of_memory_line = memory_line bootmem_name

@@ -3,14 +3,14 @@ use Rattle.std.specs.Prelude.{◌≡◌, ℕ, ◌-◌, ◌^◌, ◌≤◌, ◌<�
 use Rattle.bootmem_c.specs.declared.crossing.Text.{Text}
 
 -- the buffer begins with the text, and the bytes after it are as they were
-abbrev pub IsFront : List ℕ → (old new : List ℕ) → Type 0
-IsFront text old new = new ≡ text ++ drop (length text) old
+abbrev pub BeginsWithText : List ℕ → (old new : List ℕ) → Type 0
+BeginsWithText text old new = new ≡ text ++ drop (length text) old
 
 -- `needed` is the length of the text; if the text fits, the buffer begins with it; otherwise the
 -- buffer is as it was
 pub record CopiesText (text : List ℕ) (old new : Text) : Type 0 where
   pub needed : new.needed ≡ length text
-  pub fits : length text ≤ length old.room.now → IsFront text old.room.now new.room.now
+  pub fits : length text ≤ length old.room.now → BeginsWithText text old.room.now new.room.now
   pub short : length old.room.now < length text → new.room.now ≡ old.room.now
 
 -- the text so far, and whether part of it is missing because memory ran out
@@ -19,5 +19,5 @@ pub record TextSinkView : Type 0 where
   pub is_short : Bool
 
 -- the counter of puts without memory: 0 until memory runs out, and from then on the greatest value
-abbrev pub wants_of : TextSinkView → ℕ
-wants_of written = if written.is_short then 2 ^ 64 - 1 else 0
+abbrev pub failed_writes_of : TextSinkView → ℕ
+failed_writes_of written = if written.is_short then 2 ^ 64 - 1 else 0

@@ -39,37 +39,37 @@ abbrev pub map_values : BootedView → List MapRun
 map_values told = map run_value told.map
 
 -- one part of the crash area; base and size are 0 if there is none
-abbrev pub part_value : Option RangeView → RangeView
-part_value None = record { base = 0; size = 0 }
-part_value (Some part) = part
+abbrev pub crash_part_value : Option RangeView → RangeView
+crash_part_value None = record { base = 0; size = 0 }
+crash_part_value (Some part) = part
 
 -- the crash area, from the number that says why there is or isn't one, its main part and its part
 -- below 4 GiB
-abbrev pub parts_value : ℕ → Option RangeView → Option RangeView → CrashArea
-parts_value state main low = record {
-  base = (part_value main).base;
-  size = (part_value main).size;
-  low_base = (part_value low).base;
-  low_size = (part_value low).size;
+abbrev pub crash_parts_value : ℕ → Option RangeView → Option RangeView → CrashArea
+crash_parts_value state main low = record {
+  base = (crash_part_value main).base;
+  size = (crash_part_value main).size;
+  low_base = (crash_part_value low).base;
+  low_size = (crash_part_value low).size;
   state = state;
 }
 
 -- the number that says why there is or isn't a crash area (`BOOTMEM_CRASH_..` in C): 1 if there is
 -- one
-abbrev pub state_value : Crash → ℕ
-state_value crash.Nothing = 0
-state_value (crash.At main low) = 1
-state_value crash.NoArea = 2
-state_value crash.InUse = 3
-state_value crash.LowFailed = 4
+abbrev pub crash_state_value : Crash → ℕ
+crash_state_value crash.Nothing = 0
+crash_state_value (crash.At main low) = 1
+crash_state_value crash.NoArea = 2
+crash_state_value crash.InUse = 3
+crash_state_value crash.LowFailed = 4
 
 -- the crash area of each outcome of the reservation; only `At` has one
-abbrev pub area_value : Crash → CrashArea
-area_value crash.Nothing = parts_value (state_value crash.Nothing) None None
-area_value (crash.At main low) = parts_value (state_value (crash.At main low)) (Some main) low
-area_value crash.NoArea = parts_value (state_value crash.NoArea) None None
-area_value crash.InUse = parts_value (state_value crash.InUse) None None
-area_value crash.LowFailed = parts_value (state_value crash.LowFailed) None None
+abbrev pub crash_outcome_value : Crash → CrashArea
+crash_outcome_value crash.Nothing = crash_parts_value (crash_state_value crash.Nothing) None None
+crash_outcome_value (crash.At main low) = crash_parts_value (crash_state_value (crash.At main low)) (Some main) low
+crash_outcome_value crash.NoArea = crash_parts_value (crash_state_value crash.NoArea) None None
+crash_outcome_value crash.InUse = crash_parts_value (crash_state_value crash.InUse) None None
+crash_outcome_value crash.LowFailed = crash_parts_value (crash_state_value crash.LowFailed) None None
 
 -- the number of a zone (`enum zone_type`)
 abbrev pub zone_number : Zone → ℕ

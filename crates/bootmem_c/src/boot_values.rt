@@ -7,12 +7,12 @@
 ghost use Rattle.std.specs.Prelude.{◌≡◌, ◌≢◌, ◌⊎◌, [], None, IfOk, IfErr};
 ghost use Rattle.bm_io.specs.MemFiles.{file_bytes};
 ghost use Rattle.boot_model.specs.Boot.{BootedView};
-ghost use Rattle.bootmem_c.specs.Boots.{FailsAs, IsBoot};
+ghost use Rattle.bootmem_c.specs.Boots.{HasOutcomeReason, IsBoot};
 ghost use Rattle.bootmem_c.specs.Call.{read_lent_args, outcome_of, outcome_status};
 ghost use Rattle.bootmem_c.specs.Lent.{lent_files, lent_words};
-ghost use Rattle.bootmem_c.specs.Values.{CopiesValues, area_value, block_values, map_values, memory_values, node_values, parts_value, zone_values};
+ghost use Rattle.bootmem_c.specs.Values.{CopiesValues, crash_outcome_value, block_values, map_values, memory_values, node_values, crash_parts_value, zone_values};
 
-use crate::boots::boot_lent;
+use crate::boots::boot_lent_files;
 use crate::crossing::{Bytes, File};
 use crate::values::{
     CrashArea, FreeBlock, FreeBlocks, MapRun, MapRuns, MemoryNode, MemoryNodes, MemoryRange,
@@ -38,7 +38,7 @@ pub extern "C" fn bootmem_map(
         × CopiesValues (map_values told) out.old.room.now out.new.room.now out.new.count }
     ensures none { result ≢ 0 → CopiesValues [] out.old.room.now out.new.room.now out.new.count }
 {
-    match map_lent(alloc, words, files) {
+    match boot_for_map(alloc, words, files) {
         Ok(runs) => {
             out.count = copy_values(&runs, out.room);
             0
@@ -65,10 +65,10 @@ pub extern "C" fn bootmem_crash(
     ensures status { (result ≡ outcome_status (outcome_of words.now files.now)) ⊎ (result ≡ 7) }
     ensures area { result ≡ 0 → (told : BootedView)
         × IsBoot (read_lent_args (lent_words words.now)) (file_bytes (lent_files files.now)) told
-        × (out.new ≡ area_value told.crash) }
-    ensures none { result ≢ 0 → out.new ≡ parts_value 0 None None }
+        × (out.new ≡ crash_outcome_value told.crash) }
+    ensures none { result ≢ 0 → out.new ≡ crash_parts_value 0 None None }
 {
-    match boot_lent(alloc, words, files) {
+    match boot_lent_files(alloc, words, files) {
         Ok(booted) => {
             *out = CrashArea::crash_area_value(&booted.crash);
             0
@@ -97,7 +97,7 @@ pub extern "C" fn bootmem_blocks(
         × CopiesValues (block_values told) out.old.room.now out.new.room.now out.new.count }
     ensures none { result ≢ 0 → CopiesValues [] out.old.room.now out.new.room.now out.new.count }
 {
-    match blocks_lent(alloc, words, files) {
+    match boot_for_blocks(alloc, words, files) {
         Ok(blocks) => {
             out.count = copy_values(&blocks, out.room);
             0
@@ -126,7 +126,7 @@ pub extern "C" fn bootmem_zones(
         × CopiesValues (zone_values told) out.old.room.now out.new.room.now out.new.count }
     ensures none { result ≢ 0 → CopiesValues [] out.old.room.now out.new.room.now out.new.count }
 {
-    match zones_lent(alloc, words, files) {
+    match boot_for_zones(alloc, words, files) {
         Ok(zones) => {
             out.count = copy_values(&zones, out.room);
             0
@@ -154,7 +154,7 @@ pub extern "C" fn bootmem_memory(
         × CopiesValues (memory_values told) out.old.room.now out.new.room.now out.new.count }
     ensures none { result ≢ 0 → CopiesValues [] out.old.room.now out.new.room.now out.new.count }
 {
-    match memory_lent(alloc, words, files) {
+    match boot_for_memory(alloc, words, files) {
         Ok(ranges) => {
             out.count = copy_values(&ranges, out.room);
             0
@@ -182,7 +182,7 @@ pub extern "C" fn bootmem_nodes(
         × CopiesValues (node_values told) out.old.room.now out.new.room.now out.new.count }
     ensures none { result ≢ 0 → CopiesValues [] out.old.room.now out.new.room.now out.new.count }
 {
-    match nodes_lent(alloc, words, files) {
+    match boot_for_nodes(alloc, words, files) {
         Ok(nodes) => {
             out.count = copy_values(&nodes, out.room);
             0
@@ -195,20 +195,21 @@ pub extern "C" fn bootmem_nodes(
 }
 
 /// Returns the runs of the map of the boot with these words and files. Errors are those of
-/// [`boot_lent`].
-fn map_lent(alloc: Global, words: &[Bytes<'_>], files: &[File<'_>]) -> Result<Vec<MapRun>, NoReport>
+/// [`boot_lent_files`].
+fn boot_for_map(alloc: Global, words: &[Bytes<'_>], files: &[File<'_>]) -> Result<Vec<MapRun>, NoReport>
     ensures runs { IfOk result (λ runs. (told : BootedView)
         × IsBoot (read_lent_args (lent_words words.now)) (file_bytes (lent_files files.now)) told
         × (runs.items ≡ map_values told)) }
-    ensures fails { IfErr result (λ failure. FailsAs failure (outcome_of words.now files.now)) }
+    ensures fails { IfErr result (λ failure. HasOutcomeReason failure (outcome_of words.now
+        files.now)) }
 {
-    let booted = boot_lent(alloc, words, files)?;
+    let booted = boot_lent_files(alloc, words, files)?;
     Ok(map_values(alloc, &booted.map)?)
 }
 
 /// Returns the free blocks of the boot with these words and files. Errors are those of
-/// [`boot_lent`].
-fn blocks_lent(
+/// [`boot_lent_files`].
+fn boot_for_blocks(
     alloc: Global,
     words: &[Bytes<'_>],
     files: &[File<'_>],
@@ -216,15 +217,17 @@ fn blocks_lent(
     ensures blocks { IfOk result (λ blocks. (told : BootedView)
         × IsBoot (read_lent_args (lent_words words.now)) (file_bytes (lent_files files.now)) told
         × (blocks.items ≡ block_values told)) }
-    ensures fails { IfErr result (λ failure. FailsAs failure (outcome_of words.now files.now)) }
+    ensures fails { IfErr result (λ failure. HasOutcomeReason failure (outcome_of words.now
+        files.now)) }
 {
-    let booted = boot_lent(alloc, words, files)?;
+    let booted = boot_lent_files(alloc, words, files)?;
     let blocks = booted.buddy.blocks()?;
     Ok(block_values(alloc, &blocks)?)
 }
 
-/// Returns the zones of the boot with these words and files. Errors are those of [`boot_lent`].
-fn zones_lent(
+/// Returns the zones of the boot with these words and files. Errors are those of
+/// [`boot_lent_files`].
+fn boot_for_zones(
     alloc: Global,
     words: &[Bytes<'_>],
     files: &[File<'_>],
@@ -232,15 +235,16 @@ fn zones_lent(
     ensures zones { IfOk result (λ zones. (told : BootedView)
         × IsBoot (read_lent_args (lent_words words.now)) (file_bytes (lent_files files.now)) told
         × (zones.items ≡ zone_values told)) }
-    ensures fails { IfErr result (λ failure. FailsAs failure (outcome_of words.now files.now)) }
+    ensures fails { IfErr result (λ failure. HasOutcomeReason failure (outcome_of words.now
+        files.now)) }
 {
-    let booted = boot_lent(alloc, words, files)?;
+    let booted = boot_lent_files(alloc, words, files)?;
     Ok(zone_values(alloc, &booted.spans)?)
 }
 
 /// Returns the nodes with memory of the boot with these words and files. Errors are those of
-/// [`boot_lent`].
-fn nodes_lent(
+/// [`boot_lent_files`].
+fn boot_for_nodes(
     alloc: Global,
     words: &[Bytes<'_>],
     files: &[File<'_>],
@@ -248,15 +252,16 @@ fn nodes_lent(
     ensures nodes { IfOk result (λ nodes. (told : BootedView)
         × IsBoot (read_lent_args (lent_words words.now)) (file_bytes (lent_files files.now)) told
         × (nodes.items ≡ node_values told)) }
-    ensures fails { IfErr result (λ failure. FailsAs failure (outcome_of words.now files.now)) }
+    ensures fails { IfErr result (λ failure. HasOutcomeReason failure (outcome_of words.now
+        files.now)) }
 {
-    let booted = boot_lent(alloc, words, files)?;
+    let booted = boot_lent_files(alloc, words, files)?;
     Ok(node_values(alloc, &booted.nodes)?)
 }
 
 /// Returns the records of memory of the boot with these words and files. Errors are those of
-/// [`boot_lent`].
-fn memory_lent(
+/// [`boot_lent_files`].
+fn boot_for_memory(
     alloc: Global,
     words: &[Bytes<'_>],
     files: &[File<'_>],
@@ -264,8 +269,9 @@ fn memory_lent(
     ensures memory { IfOk result (λ ranges. (told : BootedView)
         × IsBoot (read_lent_args (lent_words words.now)) (file_bytes (lent_files files.now)) told
         × (ranges.items ≡ memory_values told)) }
-    ensures fails { IfErr result (λ failure. FailsAs failure (outcome_of words.now files.now)) }
+    ensures fails { IfErr result (λ failure. HasOutcomeReason failure (outcome_of words.now
+        files.now)) }
 {
-    let booted = boot_lent(alloc, words, files)?;
+    let booted = boot_lent_files(alloc, words, files)?;
     Ok(memory_values(alloc, &booted.store, &booted.heads.memory)?)
 }

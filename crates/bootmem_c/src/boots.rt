@@ -8,17 +8,17 @@ ghost use Rattle.memblock_model.specs.declared.owner.Which.TheVariants as which;
 ghost use Rattle.program_run.specs.Outcome.{bootmem_outcome};
 ghost use Rattle.program_args.specs.View.{bootmem_args_view};
 ghost use Rattle.program_args.specs.Args.{read_args, bytes_of_words};
-ghost use Rattle.bootmem_c.specs.Boots.{FailsAs, IsBoot};
+ghost use Rattle.bootmem_c.specs.Boots.{HasOutcomeReason, IsBoot};
 ghost use Rattle.bootmem_c.specs.Call.{read_lent_args, outcome_of};
 ghost use Rattle.bootmem_c.specs.Lent.{lent_files, lent_words};
 
 use crate::crossing::{Bytes, File};
 use crate::lent_files::LentFiles;
-use crate::words::{NoStrings, strings_of_words};
+use crate::words::{StringsError, strings_of_words};
 use boot_model::Booted;
 use boot_stages::boot;
 use program_args::{ArgsError, BootmemArgs, read_args};
-use program_run::{InputsReason, NoReport, no_report, read_boot_inputs};
+use program_run::{InputsReason, NoReport, reason_by_stop, read_boot_inputs};
 use std::alloc::Global;
 
 /// Returns what the boot with these words and files made.
@@ -28,23 +28,24 @@ use std::alloc::Global;
 /// - A reason exactly as the outcome has it: the words aren't UTF-8 or aren't accepted, a file
 ///   isn't lent or has a fault, or the boot stops.
 /// - `Memory` if this program is out of memory.
-pub fn boot_lent(alloc: Global, words: &[Bytes<'_>], files: &[File<'_>]) -> Result<Booted, NoReport>
+pub fn boot_lent_files(alloc: Global, words: &[Bytes<'_>], files: &[File<'_>]) -> Result<Booted, NoReport>
     ensures boots { IfOk result (λ booted.
         IsBoot (read_lent_args (lent_words words.now)) (file_bytes (lent_files files.now))
         (booted_view booted)) }
     ensures memory { IfOk result (λ booted.
         IsStoredTable which.Memory booted.journal.items booted.store booted.heads.memory) }
-    ensures fails { IfErr result (λ failure. FailsAs failure (outcome_of words.now files.now)) }
+    ensures fails { IfErr result (λ failure. HasOutcomeReason failure (outcome_of words.now
+        files.now)) }
 {
     match strings_of_words(alloc, words) {
         Ok(texts) => boot_with_strings(alloc, &texts, files),
-        Err(NoStrings::NotUtf8) => Err(NoReport::Reason(InputsReason::Usage)),
-        Err(NoStrings::Memory) => Err(NoReport::Memory),
+        Err(StringsError::NotUtf8) => Err(NoReport::Reason(InputsReason::Usage)),
+        Err(StringsError::Memory) => Err(NoReport::Memory),
     }
 }
 
 /// Returns what the boot with these words, which are UTF-8, and these files made. Errors are those
-/// of [`boot_lent`].
+/// of [`boot_lent_files`].
 fn boot_with_strings(
     alloc: Global,
     words: &[String],
@@ -56,7 +57,7 @@ fn boot_with_strings(
     ensures memory { IfOk result (λ booted.
         IsStoredTable which.Memory booted.journal.items booted.store booted.heads.memory) }
     ensures fails { IfErr result (λ failure.
-        FailsAs failure (bootmem_outcome (read_args (bytes_of_words words.now))
+        HasOutcomeReason failure (bootmem_outcome (read_args (bytes_of_words words.now))
         (file_bytes (lent_files files.now)))) }
 {
     match read_args(alloc, words) {
@@ -67,7 +68,7 @@ fn boot_with_strings(
 }
 
 /// Returns what the boot with these accepted words and these files made. Errors are those of
-/// [`boot_lent`].
+/// [`boot_lent_files`].
 fn boot_with_args(
     alloc: Global,
     wanted: &BootmemArgs<'_>,
@@ -79,12 +80,12 @@ fn boot_with_args(
     ensures memory { IfOk result (λ booted.
         IsStoredTable which.Memory booted.journal.items booted.store booted.heads.memory) }
     ensures fails { IfErr result (λ failure.
-        FailsAs failure (bootmem_outcome (Some (bootmem_args_view wanted.now))
+        HasOutcomeReason failure (bootmem_outcome (Some (bootmem_args_view wanted.now))
         (file_bytes (lent_files files.now)))) }
 {
     let inputs = read_boot_inputs(alloc, wanted, &mut LentFiles::new(files))?;
     match boot(alloc, inputs) {
         Ok(booted) => Ok(booted),
-        Err(stop) => Err(no_report(stop)),
+        Err(stop) => Err(reason_by_stop(stop)),
     }
 }

@@ -2,7 +2,7 @@
 //! pointer and a length.
 
 ghost use Rattle.std.specs.Prelude.{◌≤◌, length};
-ghost use Rattle.bootmem_c.specs.Copies.{IsFront, CopiesText};
+ghost use Rattle.bootmem_c.specs.Copies.{BeginsWithText, CopiesText};
 
 /// The bytes of a word that the caller passes.
 #[repr(C)]
@@ -35,14 +35,14 @@ pub fn copy_text(text: &[u8], out: &mut Text<'_>)
 {
     out.needed = text.len();
     if text.len() <= out.room.len() {
-        put_front(text, out.room);
+        copy_to_front(text, out.room);
     }
 }
 
 /// Copies the text to the beginning of the buffer. It must fit.
-fn put_front(text: &[u8], room: &mut [u8])
+fn copy_to_front(text: &[u8], room: &mut [u8])
     requires { length text.now ≤ length room.old }
-    ensures { IsFront text.now room.old room.new }
+    ensures { BeginsWithText text.now room.old room.new }
 {
     room[..text.len()].copy_from_slice(text);
 }

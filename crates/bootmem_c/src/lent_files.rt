@@ -68,7 +68,7 @@ impl<'a> Files for LentFiles<'a> {
         ensures misses { self.new.misses ≡ self.old.misses + misses_of result }
         ensures few { self.new.misses < 2 ^ 32 }
     {
-        let Some(bytes) = bytes_named(self.files, name) else {
+        let Some(bytes) = bytes_of_named_file(self.files, name) else {
             let Some(misses) = self.misses.checked_add(1) else {
                 return Err(Fetch::Memory);
             };
@@ -87,7 +87,7 @@ impl<'a> Files for LentFiles<'a> {
 }
 
 /// Returns the bytes of the first file with this name, if there is one.
-fn bytes_named<'a>(files: &'a [File<'a>], name: &str) -> Option<&'a [u8]>
+fn bytes_of_named_file<'a>(files: &'a [File<'a>], name: &str) -> Option<&'a [u8]>
     ensures { option_copied result ≡ file_bytes (lent_files files.now) name.now }
 {
     Some(file_named(files, name)?.bytes)

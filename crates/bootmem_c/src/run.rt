@@ -4,13 +4,13 @@ ghost use Rattle.std.specs.Prelude.{◌≡◌, ◌≢◌, ◌⊎◌, ℕ, IsOkAn
 ghost use Rattle.bm_io.specs.MemFiles.{file_bytes};
 ghost use Rattle.program_run.specs.Headline.{AppendsReports};
 ghost use Rattle.bootmem_c.specs.Lent.{lent_files, lent_words};
-ghost use Rattle.bootmem_c.specs.Call.{read_lent_args, call_line, memory_said, outcome_of, outcome_status};
+ghost use Rattle.bootmem_c.specs.Call.{read_lent_args, call_line, out_of_memory_line, outcome_of, outcome_status};
 ghost use Rattle.bootmem_c.specs.Copies.{CopiesText};
 
 use crate::crossing::{Bytes, File, Text, copy_text};
 use crate::lent_files::LentFiles;
 use crate::text_sink::TextSink;
-use crate::words::{NoStrings, strings_of_words};
+use crate::words::{StringsError, strings_of_words};
 use program_run::run;
 use std::alloc::Global;
 
@@ -43,20 +43,20 @@ pub extern "C" fn bootmem_run(
     ensures silent { result ≡ 0 → CopiesText [] err.old err.new }
     ensures line { result ≢ 0 → result ≢ 7
         → CopiesText (call_line words.now files.now) err.old err.new }
-    ensures memory { result ≡ 7 → CopiesText memory_said err.old err.new }
+    ensures memory { result ≡ 7 → CopiesText out_of_memory_line err.old err.new }
 {
     let mut report = TextSink::new(alloc);
     let mut line = TextSink::new(alloc);
-    let ran = run_lent(alloc, words, files, &mut report, &mut line);
-    let status = status_with(ran, &line);
-    copy_text(text_after(status, &report), out);
-    copy_text(line_after(status, &line), err);
+    let ran = run_lent_files(alloc, words, files, &mut report, &mut line);
+    let status = status_after_line(ran, &line);
+    copy_text(report_text_for_status(status, &report), out);
+    copy_text(error_text_for_status(status, &line), err);
     status
 }
 
 /// Runs the program over these words and files, with empty outputs. Returns the exit status. If
 /// memory ran out for the error line, `line.is_short` returns true afterwards.
-fn run_lent(
+fn run_lent_files(
     alloc: Global,
     words: &[Bytes<'_>],
     files: &[File<'_>],
@@ -77,14 +77,14 @@ fn run_lent(
 {
     match strings_of_words(alloc, words) {
         Ok(texts) => run(alloc, &texts, &mut LentFiles::new(files), report, line),
-        Err(NoStrings::NotUtf8) => 2,
-        Err(NoStrings::Memory) => 7,
+        Err(StringsError::NotUtf8) => 2,
+        Err(StringsError::Memory) => 7,
     }
 }
 
 /// Returns the status of a run that wrote this error line: 7 if memory ran out for the line, else
 /// `ran`.
-fn status_with(ran: u8, line: &TextSink) -> u8
+fn status_after_line(ran: u8, line: &TextSink) -> u8
     ensures whole { line.now.is_short ≡ false → result ≡ ran }
     ensures short { line.now.is_short ≡ true → result ≡ 7 }
 {
@@ -92,7 +92,7 @@ fn status_with(ran: u8, line: &TextSink) -> u8
 }
 
 /// Returns the reports if the status is 0, else the empty text.
-fn text_after(status: u8, report: &TextSink) -> &[u8]
+fn report_text_for_status(status: u8, report: &TextSink) -> &[u8]
     ensures written { status ≡ 0 → result.now ≡ report.now.text }
     ensures unwritten { status ≢ 0 → result.now ≡ [] }
 {
@@ -104,9 +104,9 @@ fn text_after(status: u8, report: &TextSink) -> &[u8]
 
 /// Returns the text for `err`: empty with status 0, the line that says out of memory with 7, and
 /// else the error line that the run wrote.
-fn line_after(status: u8, line: &TextSink) -> &[u8]
+fn error_text_for_status(status: u8, line: &TextSink) -> &[u8]
     ensures silent { status ≡ 0 → result.now ≡ [] }
-    ensures memory { status ≡ 7 → result.now ≡ memory_said }
+    ensures memory { status ≡ 7 → result.now ≡ out_of_memory_line }
     ensures line { status ≢ 0 → status ≢ 7 → result.now ≡ line.now.text }
 {
     match status {

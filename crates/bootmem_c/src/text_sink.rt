@@ -1,7 +1,7 @@
 //! A text in memory that the program writes.
 
 ghost use Rattle.std.specs.Prelude.{◌≡◌, true, false, [], ◌++◌, Some, OnOk, OnErr, IsErrOf};
-ghost use Rattle.bootmem_c.specs.Copies.{wants_of};
+ghost use Rattle.bootmem_c.specs.Copies.{failed_writes_of};
 
 use bm_io::{Put, Sink};
 use std::alloc::Global;
@@ -56,7 +56,7 @@ impl Sink for TextSink {
 
     // The counter of puts without memory: 0 until memory runs out, and from then on the greatest
     // value.
-    ghost wants = { λ s. wants_of s };
+    ghost wants = { λ s. failed_writes_of s };
 
     fn put(&mut self, chunk: &[u8]) -> Result<(), Put>
         ensures whole { OnOk result (self.new.text ≡ self.old.text ++ chunk.now) }

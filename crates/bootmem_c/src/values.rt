@@ -2,7 +2,7 @@
 
 ghost use Rattle.std.specs.Prelude.{◌≡◌, ◌+◌, ◌*◌, ◌^◌, ◌<◌, IfOk, None, map};
 ghost use Rattle.phys_store.specs.Bytes.{byte_of};
-ghost use Rattle.bootmem_c.specs.Values.{CopiesValues, area_value, block_value, node_value, parts_value, region_value, regions_at, run_value, span_value, state_value, zone_number};
+ghost use Rattle.bootmem_c.specs.Values.{CopiesValues, crash_outcome_value, block_value, node_value, crash_parts_value, region_value, regions_at, run_value, span_value, crash_state_value, zone_number};
 
 use bm_base::{Memory, Range, Zone};
 use buddy_handover::Block;
@@ -151,7 +151,7 @@ impl MapRun {
 impl CrashArea {
     /// Returns the value for no crash area. `state` says why there is none.
     pub fn none(state: u32) -> CrashArea
-        ensures { result ≡ parts_value state None None }
+        ensures { result ≡ crash_parts_value state None None }
     {
         CrashArea {
             base: 0,
@@ -163,7 +163,7 @@ impl CrashArea {
     }
 
     pub fn crash_area_value(crash: &Crash) -> CrashArea
-        ensures { result ≡ area_value crash.now }
+        ensures { result ≡ crash_outcome_value crash.now }
     {
         let Crash::At { main, low } = crash else {
             return CrashArea::none(crash_state(crash));
@@ -181,7 +181,7 @@ impl CrashArea {
 
 /// Returns the number that says in C why there is or isn't a crash area (`BOOTMEM_CRASH_..`).
 fn crash_state(crash: &Crash) -> u32
-    ensures { result ≡ state_value crash.now }
+    ensures { result ≡ crash_state_value crash.now }
 {
     match crash {
         Crash::Nothing => 0,

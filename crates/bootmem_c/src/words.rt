@@ -9,32 +9,32 @@ use std::alloc::{AllocError, AllocFailed, Global};
 
 /// Why reading the words failed.
 #[derive(Clone, Copy, Debug, PartialEq, Eq)]
-pub enum NoStrings {
+pub enum StringsError {
     /// One of them isn't UTF-8.
     NotUtf8,
     /// This program is out of memory.
     Memory,
 }
 
-impl From<AllocError> for NoStrings {
+impl From<AllocError> for StringsError {
     ghost use Rattle.std.specs.Prelude.{◌≡◌};
-    ghost use Rattle.bootmem_c.specs.declared.words.NoStrings.TheVariants as errors;
+    ghost use Rattle.bootmem_c.specs.declared.words.StringsError.TheVariants as errors;
 
     ghost from_gives = { λ _ error. error ≡ errors.Memory };
 
-    fn from(_error: AllocError) -> NoStrings {
-        NoStrings::Memory
+    fn from(_error: AllocError) -> StringsError {
+        StringsError::Memory
     }
 }
 
-impl<T: Drop> From<AllocFailed<T>> for NoStrings {
+impl<T: Drop> From<AllocFailed<T>> for StringsError {
     ghost use Rattle.std.specs.Prelude.{◌≡◌};
-    ghost use Rattle.bootmem_c.specs.declared.words.NoStrings.TheVariants as errors;
+    ghost use Rattle.bootmem_c.specs.declared.words.StringsError.TheVariants as errors;
 
     ghost from_gives = { λ _ error. error ≡ errors.Memory };
 
-    fn from(_error: AllocFailed<T>) -> NoStrings {
-        NoStrings::Memory
+    fn from(_error: AllocFailed<T>) -> StringsError {
+        StringsError::Memory
     }
 }
 
@@ -42,12 +42,12 @@ impl<T: Drop> From<AllocFailed<T>> for NoStrings {
 ///
 /// # Errors
 ///
-/// - [`NoStrings::NotUtf8`] only if a word isn't UTF-8.
-/// - [`NoStrings::Memory`] if this program is out of memory.
-pub fn strings_of_words(alloc: Global, words: &[Bytes<'_>]) -> Result<Vec<String>, NoStrings>
+/// - [`StringsError::NotUtf8`] only if a word isn't UTF-8.
+/// - [`StringsError::Memory`] if this program is out of memory.
+pub fn strings_of_words(alloc: Global, words: &[Bytes<'_>]) -> Result<Vec<String>, StringsError>
     ensures texts { IfOk result (λ texts. map string_bytes texts.items ≡ lent_words words.now) }
     ensures utf8 { IfOk result (λ texts. All IsUtf8 (lent_words words.now)) }
-    ensures other { IsErrOf result NoStrings.NotUtf8 → ¬ All IsUtf8 (lent_words words.now) }
+    ensures other { IsErrOf result StringsError.NotUtf8 → ¬ All IsUtf8 (lent_words words.now) }
 {
     let mut texts = Vec::new(alloc);
     for word in words {
@@ -57,13 +57,13 @@ pub fn strings_of_words(alloc: Global, words: &[Bytes<'_>]) -> Result<Vec<String
 }
 
 /// Returns the word as a string. Errors are those of [`strings_of_words`].
-fn string_of_word(alloc: Global, word: &[u8]) -> Result<String, NoStrings>
+fn string_of_word(alloc: Global, word: &[u8]) -> Result<String, StringsError>
     ensures text { IfOk result (λ text. string_bytes text ≡ word.now) }
     ensures utf8 { IfOk result (λ text. IsUtf8 word.now) }
-    ensures other { IsErrOf result NoStrings.NotUtf8 → ¬ IsUtf8 word.now }
+    ensures other { IsErrOf result StringsError.NotUtf8 → ¬ IsUtf8 word.now }
 {
     let Ok(text) = str::from_utf8(word) else {
-        return Err(NoStrings::NotUtf8);
+        return Err(StringsError::NotUtf8);
     };
     Ok(String::from_str(alloc, text)?)
 }

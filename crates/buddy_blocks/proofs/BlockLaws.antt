@@ -3,10 +3,10 @@ use Rattle.std.proofs.Common.{◌≡◌, ◌⊎◌, ℕ, zero, suc, ◌+◌, ◌
 use Rattle.std.proofs.lemmas.Bool.{cases_lt, cond_both, eqb-true, eq-eqb}
 use Rattle.std.proofs.lemmas.Nat.{pow_pos}
 use Rattle.bm_base.specs.Zones.{zone_of}
-use Rattle.address_runs.specs.Edits.{NothingFrom}
+use Rattle.address_runs.specs.Edits.{IsEmptyFrom}
 use Rattle.buddy_blocks.specs.declared.block.Block.{Block}
 use Rattle.buddy_blocks.specs.declared.run.TheConstants.{MAX_FRAMES}
-use Rattle.buddy_blocks.specs.Frames.{Frames, AreFree, IsGood, IsBlock, IsInBlock}
+use Rattle.buddy_blocks.specs.Frames.{Frames, AreFree, IsFreeInOneZone, IsBlock, IsInBlock}
 use Rattle.buddy_blocks.specs.BlockList.{greatest_free_order, block_around, block_for, block_of, prepend_block_at, blocks_from, blocks_of, ListsBlock, AscendFrom}
 use Rattle.buddy_blocks.proofs.SetLaws.{base_is, base_whole, in_set, wider, one_zone}
 use Rattle.buddy_blocks.proofs.GoodLaws.{up_small, up_free, up_most, up_is}
@@ -57,7 +57,7 @@ found_block f x b block same =
     let wide : x / 2 ^ (o + 1) ≡ a / 2 ^ (o + 1) = wider o (o + 1) x a (omega arith) same in
     let next : suc o ≡ o + 1 = omega arith in
     let more_free : AreFree f (o + 1) x n = subst (λ (p : ℕ). AreFree f p x n) next more in
-    let good : IsGood f (o + 1) a n b.zone = λ y other.
+    let good : IsFreeInOneZone f (o + 1) a n b.zone = λ y other.
     (more_free y (other ∙ sym wide), one_zone (o + 1) a y (omega (arith, less)) other ∙ zone_is) in
     block.whole less good) in
     let first : x - x % 2 ^ o ≡ a =
@@ -120,7 +120,7 @@ from_complete f b x (suc n) made above below =
           (lists_first x b (blocks_from f (x + 1) n) here)
     ]
 
-pub listed_complete : (f : Frames) (b : Block) → NothingFrom MAX_FRAMES f → IsBlock f b → ListsBlock (blocks_of f) b
+pub listed_complete : (f : Frames) (b : Block) → IsEmptyFrom MAX_FRAMES f → IsBlock f b → ListsBlock (blocks_of f) b
 unfolding blocks_of
 listed_complete f b none block =
     let most : ℕ = MAX_FRAMES in

@@ -10,13 +10,13 @@ use Rattle.bm_base.specs.declared.zone.Zone.{Zone}
 use Rattle.bm_base.specs.declared.zone.Zone.TheVariants as zone
 use Rattle.bm_base.specs.Zones.{zone_of}
 use Rattle.address_runs.specs.Runs.{RunOf, run_end, value_at, AreRuns}
-use Rattle.address_runs.specs.Edits.{NothingFrom}
+use Rattle.address_runs.specs.Edits.{IsEmptyFrom}
 use Rattle.buddy_blocks.specs.declared.block.Block.{Block}
 use Rattle.buddy_blocks.specs.Frames.{Frames}
 use Rattle.buddy_blocks.specs.BlockList.{block_of, block_for, prepend_block_at, blocks_from, blocks_of, greatest_free_order, is_same_zone, is_block_of, count_blocks}
 use Rattle.buddy_blocks.specs.declared.run.TheConstants.{MAX_FRAMES}
 use Rattle.buddy_blocks.specs.Rows.{row_from}
-use Rattle.buddy_blocks.specs.Sets.{IsNodeRun, SetFits, IsGreatest, IsStart}
+use Rattle.buddy_blocks.specs.Sets.{IsWholeNodeRun, SetFits, IsGreatestFittingOrder, FittingSetsBeginAt}
 use Rattle.buddy_blocks.proofs.ListLaws.{from-few}
 use Rattle.buddy_blocks.proofs.RunLaws.{start_next, start_at_ten}
 use Rattle.buddy_blocks.proofs.RowLaws.{row_more}
@@ -64,9 +64,9 @@ row_count (suc k) n o at order z wanted =
     ∙ ap (λ a. a + count_by p (row_from o (at + 2 ^ o) n z k)) (one_block n o at order z wanted b refl)
     ∙ ap (λ a. v + a) (row_count k n o (at + 2 ^ o) order z wanted) ∙ total
 
-pub alike_more : (f : Frames) (first end n o s at k order : ℕ) (wanted : Zone) → IsNodeRun f first end n → first ≤ at → 0 < k
+pub alike_more : (f : Frames) (first end n o s at k order : ℕ) (wanted : Zone) → IsWholeNodeRun f first end n → first ≤ at → 0 < k
     → at + k * s ≤ end
-    → o ≤ 10 → s ≡ 2 ^ o → at % s ≡ 0 → SetFits first end at s → IsGreatest first end at o → ((o ≡ 10) ⊎ (k ≡ 1))
+    → o ≤ 10 → s ≡ 2 ^ o → at % s ≡ 0 → SetFits first end at s → IsGreatestFittingOrder first end at o → ((o ≡ 10) ⊎ (k ≡ 1))
     → ((i : ℕ) → i < k → zone_of (at + i * s) ≡ zone_of at)
     → count_by (is_block_of n wanted order) (blocks_from f first (at + k * s - first))
     ≡ count_by (is_block_of n wanted order) (blocks_from f first (at - first)) + k * if_alike o (zone_of at) order wanted
@@ -99,7 +99,7 @@ other_node f n node order wanted x (suc m) other free =
     ∙ other_node f n node order wanted (x + 1) m other (λ y above below. free y (omega arith) (omega arith))
 
 -- the count over all runs, and its largest value
-pub count_all : (rs : List (RunOf ℕ)) (node order : ℕ) (wanted : Zone) → AreRuns rs → NothingFrom MAX_FRAMES (value_at rs)
+pub count_all : (rs : List (RunOf ℕ)) (node order : ℕ) (wanted : Zone) → AreRuns rs → IsEmptyFrom MAX_FRAMES (value_at rs)
     → (count_by (is_block_of node wanted order) (listed (value_at rs) rs) ≡ count_blocks (value_at rs) node wanted order)
     × (count_blocks (value_at rs) node wanted order ≤ MAX_FRAMES)
 unfolding count_blocks blocks_of
@@ -147,7 +147,7 @@ pub no_count : (f : Frames) (rs : List (RunOf ℕ)) (i : ℕ) (p : Block → Boo
 no_count f rs i p all = ap (λ (bs : List Block). count_by p bs) (listed_none f rs i all)
 
 -- a run of another node adds nothing
-pub other_run : (f : Frames) (r : RunOf ℕ) (node order : ℕ) (wanted : Zone) → IsNodeRun f r.base (run_end r) r.value → r.value ≢ node
+pub other_run : (f : Frames) (r : RunOf ℕ) (node order : ℕ) (wanted : Zone) → IsWholeNodeRun f r.base (run_end r) r.value → r.value ≢ node
     → count_by (is_block_of node wanted order) (blocks_from f r.base (run_end r - r.base)) ≡ 0
 other_run f r node order wanted run other =
     other_node f r.value node order wanted r.base (run_end r - r.base) (ne_eqb r.value node other)
@@ -165,11 +165,11 @@ pub mul_one_most : (k v : ℕ) → v ≤ 1 → k * v ≤ k
 mul_one_most k v one = let h = mul-le-mul_left k one in omega (arith, h)
 
 -- the next block begins where consecutive blocks end
-pub next_start : (first end at o s k : ℕ) → at % s ≡ 0 → o ≤ 10 → s ≡ 2 ^ o → IsGreatest first end at o → ((o ≡ 10) ⊎ (k ≡ 1))
-    → IsStart first end (at + k * s)
+pub next_start : (first end at o s k : ℕ) → at % s ≡ 0 → o ≤ 10 → s ≡ 2 ^ o → IsGreatestFittingOrder first end at o → ((o ≡ 10) ⊎ (k ≡ 1))
+    → FittingSetsBeginAt first end (at + k * s)
 next_start first end at o s k whole small size greatest (inr one) =
     let here : at + s ≡ at + k * s = sym (ap (λ j. at + j * s) one ∙ omega arith) in
-    subst (λ (y : ℕ). IsStart first end y) here (start_next first end at o s whole small size greatest)
+    subst (λ (y : ℕ). FittingSetsBeginAt first end y) here (start_next first end at o s whole small size greatest)
 next_start first end at o s k whole small size greatest (inl ten) =
     let s_is : s ≡ 2 ^ 10 = size ∙ ap (λ p. 2 ^ p) ten in
     start_at_ten first end (at + k * s) (ap (λ t. (at + k * s) % t) (sym s_is) ∙ add-mul-mod_self_right at k s ∙ whole)

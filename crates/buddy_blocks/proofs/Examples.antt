@@ -4,20 +4,20 @@ use Rattle.std.proofs.lemmas.Bool.Decides.{nat_tests}
 use Rattle.std.proofs.Math.Nat.{div-one}
 use Rattle.std.proofs.lemmas.Option.{cond_some}
 use Rattle.std.specs.Option.{option_map}
-use Rattle.address_runs.specs.Edits.{NothingFrom}
+use Rattle.address_runs.specs.Edits.{IsEmptyFrom}
 use Rattle.bm_base.specs.Each.{each_from, each_in}
 use Rattle.bm_base.specs.declared.zone.Zone.TheVariants as zone
 use Rattle.bm_base.specs.Zones.{zone_of}
 use Rattle.buddy_blocks.specs.declared.block.Block.{Block}
 use Rattle.buddy_blocks.specs.declared.block.TheConstants.{MAX_ORDER}
 use Rattle.buddy_blocks.specs.declared.block.BlockRow.{BlockRow}
-use Rattle.buddy_blocks.specs.Frames.{Frames, IsInSet, IsGood, IsBlock}
+use Rattle.buddy_blocks.specs.Frames.{Frames, IsInSet, IsFreeInOneZone, IsBlock}
 use Rattle.buddy_blocks.specs.BlockList.{are_free, greatest_free_order, block_around, AscendFrom}
-use Rattle.buddy_blocks.specs.Rows.{AreJoinableRows, AreRows}
-use Rattle.buddy_blocks.specs.Sets.{IsNodeRun, SetFits, LastRowFulfils, EndsFree}
+use Rattle.buddy_blocks.specs.Rows.{AreJoinableRows, AreCanonicalRows}
+use Rattle.buddy_blocks.specs.Sets.{IsWholeNodeRun, SetFits, LastRowFulfils, LastFrameIsFree}
 use Rattle.buddy_blocks.specs.declared.run.TheConstants.{MAX_FRAMES}
 use Rattle.buddy_blocks.specs.Buddies.{without_set, with_set, RemovesFrameSet, buddy_first, buddy_of, IsBuddy}
-use Rattle.buddy_blocks.specs.PickedBlock.{Serves, IsPicked, NoneServes, picked_block, picked_first_frame}
+use Rattle.buddy_blocks.specs.PickedBlock.{CanServe, IsPicked, NoneServes, picked_block, picked_first_frame}
 use Rattle.buddy_blocks.proofs.BuddyLaws.{one_at, without_is}
 use Rattle.buddy_blocks.proofs.PickLaws.{picked_is, picked_none}
 
@@ -58,14 +58,14 @@ lone_is_block = record {
 }
 
 -- the larger set around it isn't good
-not_good : IsGood lone 1 5 7 zone.Dma → ⊥
+not_good : IsFreeInOneZone lone 1 5 7 zone.Dma → ⊥
 not_good good = let none : None ≡ Some 7 = (good 4 refl).0 in cc none
 
 ascend_examples : AscendFrom 0 (block_around 0 5 7 ∷ (block_around 1 9 7 ∷ [])) × (AscendFrom 6 (block_around 0 5 7 ∷ []) → ⊥)
 ascend_examples = ((omega arith, (omega arith, tt)), λ ascend. absurd (omega (arith, ascend.0)))
 
 -- the pair is a run, and only the set of order 1 fits
-pair_is_run : IsNodeRun pair 4 6 7
+pair_is_run : IsWholeNodeRun pair 4 6 7
 pair_is_run = record {
   inside = λ x above below. let on : (nat_le 4 x && nat_lt x 6) ≡ true = grind (arith, nat_tests) in rw on refl;
   before = λ x next same.
@@ -90,8 +90,8 @@ one_row_examples = (
   λ goes. let touch = goes.touch in absurd (omega (arith, touch)),
 )
 
-row_examples : AreRows (great_row 0 2 0 ∷ (great_row 2048 1 1 ∷ [])) × (AreRows (great_row 0 2 0 ∷ (great_row 2048 1 0 ∷ [])) → ⊥)
-    × (AreRows (great_row 0 0 0 ∷ []) → ⊥) × (AreRows (record { order = 1; first = 2; count = 2; node = 0; zone = zone.Dma } ∷ []) → ⊥)
+row_examples : AreCanonicalRows (great_row 0 2 0 ∷ (great_row 2048 1 1 ∷ [])) × (AreCanonicalRows (great_row 0 2 0 ∷ (great_row 2048 1 0 ∷ [])) → ⊥)
+    × (AreCanonicalRows (great_row 0 0 0 ∷ []) → ⊥) × (AreCanonicalRows (record { order = 1; first = 2; count = 2; node = 0; zone = zone.Dma } ∷ []) → ⊥)
 row_examples = (
   (omega arith, inl refl, one_row_examples.1, (omega arith, inl refl, tt, tt)),
   λ are. are.2 one_row_examples.0,
@@ -103,16 +103,16 @@ row_examples = (
 )
 
 -- the last frame of the last row
-last_examples : LastRowFulfils (EndsFree pair)
+last_examples : LastRowFulfils (LastFrameIsFree pair)
     (great_row 0 1 0 ∷ (record { order = 1; first = 4; count = 1; node = 7; zone = zone.Dma } ∷ []))
-    × (LastRowFulfils (EndsFree pair) (great_row 0 1 0 ∷ []) → ⊥)
+    × (LastRowFulfils (LastFrameIsFree pair) (great_row 0 1 0 ∷ []) → ⊥)
 last_examples = ((omega arith, refl), λ ends. let none : None ≡ Some 0 = ends.1 in cc none)
 
 -- the lone frame is picked for one frame; for two frames, or in another zone, nothing is picked
 lone_at : (x n : ℕ) → lone x ≡ Some n → x ≡ 5
 lone_at x n is = let on = cond_some (nat_le 5 x && nat_lt x 6) 7 n is in grind (arith, nat_tests, on.0)
 
-serve_examples : Serves 7 zone.Dma 0 one_block × (Serves 7 zone.Dma 1 one_block → ⊥)
+serve_examples : CanServe 7 zone.Dma 0 one_block × (CanServe 7 zone.Dma 1 one_block → ⊥)
 unfolding one_block
 serve_examples = (record { node = refl; zone = refl; enough = omega arith }, λ serves. let h = serves.enough in absurd (omega (arith, h)))
 
@@ -129,11 +129,11 @@ lone_is_picked = record {
       inr (ap (λ (b : Block). b.order) same, let first = ap (λ (b : Block). b.first) same in omega (arith, first));
 }
 
-lone_low : NothingFrom MAX_FRAMES lone
+lone_low : IsEmptyFrom MAX_FRAMES lone
 lone_low x high = let off : (nat_le 5 x && nat_lt x 6) ≡ false = grind (arith, nat_tests) in rw off refl
 
 none_of_two : NoneServes lone 7 zone.Dma 1
-none_of_two b block serves = serve_examples.1 (subst (λ (c : Block). Serves 7 zone.Dma 1 c) (sym (lone_alone b block)) serves)
+none_of_two b block serves = serve_examples.1 (subst (λ (c : Block). CanServe 7 zone.Dma 1 c) (sym (lone_alone b block)) serves)
 
 pick_examples : (picked_block lone 7 zone.Dma 0 ≡ Some one_block) × (picked_block lone 7 zone.Dma 1 ≡ None)
     × (picked_first_frame lone 7 zone.Dma 0 ≡ Some 5) × (picked_first_frame lone 7 zone.Dma 1 ≡ None)

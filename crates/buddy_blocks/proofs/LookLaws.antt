@@ -6,13 +6,13 @@ use Rattle.std.proofs.lemmas.List.{at_drop_all, at_drop_more}
 use Rattle.bm_base.specs.Zones.{zone_of}
 use Rattle.address_runs.specs.Runs.{RunOf, run_end, value_at, AreRuns}
 use Rattle.address_runs.specs.Sweep.{StartAtOrPast, FirstEndsPast, IsRestFrom}
-use Rattle.address_runs.specs.Edits.{NothingFrom}
-use Rattle.address_runs.proofs.RunsLaws.{inside, behind, none_below, rest_from, other_behind, start_zero}
+use Rattle.address_runs.specs.Edits.{IsEmptyFrom}
+use Rattle.address_runs.proofs.RunsLaws.{inside, behind, none_below, rest_from, another_value_at_run_end, start_zero}
 use Rattle.buddy_blocks.specs.declared.block.Block.{Block}
 use Rattle.buddy_blocks.specs.Frames.{Frames}
 use Rattle.buddy_blocks.specs.BlockList.{block_of, block_for, block_around, blocks_from, blocks_of}
 use Rattle.buddy_blocks.specs.declared.run.TheConstants.{MAX_FRAMES}
-use Rattle.buddy_blocks.specs.Sets.{IsNodeRun, SetFits, IsGreatest}
+use Rattle.buddy_blocks.specs.Sets.{IsWholeNodeRun, SetFits, IsGreatestFittingOrder}
 use Rattle.buddy_blocks.proofs.ListLaws.{from-append, from-none, not_first-bare}
 use Rattle.buddy_blocks.proofs.RunLaws.{found}
 
@@ -36,16 +36,16 @@ all_start at (r ∷ rs) (suc i) d runs start few =
 
 -- each run of the list is a whole run of the list's values
 pub run_of_list : (rs : List (RunOf ℕ)) (i : ℕ) (d : RunOf ℕ) → AreRuns rs → i < length rs
-    → IsNodeRun (value_at rs) (get_or rs i d).base (run_end (get_or rs i d)) (get_or rs i d).value
+    → IsWholeNodeRun (value_at rs) (get_or rs i d).base (run_end (get_or rs i d)) (get_or rs i d).value
 run_of_list [] i d runs few = absurd (omega arith)
 run_of_list (r ∷ rs) zero d runs few = record {
   inside = λ x above below. value_inside r rs x above below;
   before = λ x next same. absurd (cc (sym same ∙ none_below r.base x (r ∷ rs) runs (omega arith) (omega arith)));
-  behind = λ same. other_behind r rs runs (sym (value_behind r rs (run_end r) (omega arith)) ∙ same);
+  behind = λ same. another_value_at_run_end r rs runs (sym (value_behind r rs (run_end r) (omega arith)) ∙ same);
 }
 run_of_list (q ∷ rs) (suc i) d runs few =
     let r : RunOf ℕ = get_or rs i d in
-    let rest : IsNodeRun (value_at rs) r.base (run_end r) r.value = run_of_list rs i d runs.2 (omega arith) in
+    let rest : IsWholeNodeRun (value_at rs) r.base (run_end r) r.value = run_of_list rs i d runs.2 (omega arith) in
     let some : 0 < r.size = some_size rs i d runs.2 (omega arith) in
     let after : run_end q ≤ r.base = all_start (run_end q) rs i d runs.2 (rest_from q rs runs) (omega arith) in
     record {
@@ -55,7 +55,7 @@ run_of_list (q ∷ rs) (suc i) d runs few =
             let touch : run_end q ≡ r.base = omega arith in
             let first : value_at rs r.base ≡ Some r.value = rest.inside r.base (omega arith) (omega arith) in
             let last : value_at (q ∷ rs) x ≡ Some q.value = value_inside q rs x (omega (arith, runs.0)) lt in
-            other_behind q rs runs (ap (value_at rs) touch ∙ first ∙ sym same ∙ last)
+            another_value_at_run_end q rs runs (ap (value_at rs) touch ∙ first ∙ sym same ∙ last)
         | inr ge ↦ rest.before x next (sym (value_behind q rs x ge) ∙ same)
       ];
       behind = λ same. rest.behind (sym (value_behind q rs (run_end r) (omega arith)) ∙ same);
@@ -78,11 +78,11 @@ begins_later rs i x d few rest later =
 
 pub found_block : (rs : List (RunOf ℕ)) (i x o s : ℕ) (d : RunOf ℕ) → AreRuns rs → i < length rs → (get_or rs i d).base ≤ x
     → x < run_end (get_or rs i d) → o ≤ 10 → s ≡ 2 ^ o → SetFits (get_or rs i d).base (run_end (get_or rs i d)) x s
-    → IsGreatest (get_or rs i d).base (run_end (get_or rs i d)) x o
+    → IsGreatestFittingOrder (get_or rs i d).base (run_end (get_or rs i d)) x o
     → Some (record { order = o; first = x - x % s; node = (get_or rs i d).value; zone = zone_of (x - x % s) }) ≡ block_of (value_at rs) x
 found_block rs i x o s d runs few above below small size fits greatest =
     let r : RunOf ℕ = get_or rs i d in
-    let run : IsNodeRun (value_at rs) r.base (run_end r) r.value = run_of_list rs i d runs few in
+    let run : IsWholeNodeRun (value_at rs) r.base (run_end r) r.value = run_of_list rs i d runs few in
     let is : value_at rs x ≡ Some r.value = run.inside x above below in
     let order = found (value_at rs) r.base (run_end r) r.value o x run above below small
     (subst (λ (t : ℕ). SetFits r.base (run_end r) x t) size fits) greatest in
@@ -95,8 +95,8 @@ pub listed : Frames → List (RunOf ℕ) → List Block
 listed f [] = []
 listed f (r ∷ rs) = blocks_from f r.base r.size ++ listed f rs
 
-nothing_behind : (b : ℕ) (r : RunOf ℕ) (rs : List (RunOf ℕ)) → AreRuns (r ∷ rs) → NothingFrom b (value_at (r ∷ rs))
-    → (run_end r ≤ b) × NothingFrom b (value_at rs)
+nothing_behind : (b : ℕ) (r : RunOf ℕ) (rs : List (RunOf ℕ)) → AreRuns (r ∷ rs) → IsEmptyFrom b (value_at (r ∷ rs))
+    → (run_end r ≤ b) × IsEmptyFrom b (value_at rs)
 nothing_behind b r rs runs none =
     let some : 0 < r.size = runs.0 in
     let low : run_end r ≤ b = le_of_suc-le-suc (lt_of_not-le (λ lt.
@@ -104,7 +104,7 @@ nothing_behind b r rs runs none =
     cc (sym last ∙ none (run_end r - 1) (omega arith)))) in (low, λ x high. sym (value_behind r rs x (omega arith)) ∙ none x high)
 
 -- they are the blocks of all frames
-listed_from : (f : Frames) (b at : ℕ) (rs : List (RunOf ℕ)) → AreRuns rs → StartAtOrPast at rs → NothingFrom b (value_at rs) → at ≤ b
+listed_from : (f : Frames) (b at : ℕ) (rs : List (RunOf ℕ)) → AreRuns rs → StartAtOrPast at rs → IsEmptyFrom b (value_at rs) → at ≤ b
     → ((x : ℕ) → at ≤ x → f x ≡ value_at rs x) → blocks_from f at (b - at) ≡ listed f rs
 unfolding listed
 listed_from f b at [] runs start none low same =
@@ -126,7 +126,7 @@ listed_from f b at (r ∷ rs) runs start none low same =
     ∙ ap (λ y. blocks_from f y (r.size + left)) there ∙ from-append f r.base r.size left
     ∙ ap (λ (bs : List Block). blocks_from f r.base r.size ++ bs) rest
 
-pub listed_all : (rs : List (RunOf ℕ)) → AreRuns rs → NothingFrom MAX_FRAMES (value_at rs)
+pub listed_all : (rs : List (RunOf ℕ)) → AreRuns rs → IsEmptyFrom MAX_FRAMES (value_at rs)
     → listed (value_at rs) rs ≡ blocks_of (value_at rs)
 unfolding blocks_of
 listed_all rs runs none =
@@ -146,7 +146,7 @@ listed_none f rs i all = at_drop_all (listed f) rs i all
 
 -- the block of a frame is found in the run that the code has looked up
 pub found_at : (rs : List (RunOf ℕ)) (i x o s : ℕ) (d r : RunOf ℕ) → r ≡ get_or rs i d → AreRuns rs → i < length rs → r.base ≤ x
-    → IsRestFrom (value_at rs) x (drop i rs) → o ≤ 10 → s ≡ 2 ^ o → SetFits r.base (run_end r) x s → IsGreatest r.base (run_end r) x o
+    → IsRestFrom (value_at rs) x (drop i rs) → o ≤ 10 → s ≡ 2 ^ o → SetFits r.base (run_end r) x s → IsGreatestFittingOrder r.base (run_end r) x o
     → Some (record { order = o; first = x - x % s; node = r.value; zone = zone_of (x - x % s) }) ≡ block_of (value_at rs) x
 found_at rs i x o s d r is runs few above rest small size fits greatest =
     rw is (found_block rs i x o s d runs few (rw is at above) (looked_up rs i x d few rest) small size (rw is at fits) (rw is at greatest))
@@ -156,7 +156,7 @@ pub begins_later_at : (rs : List (RunOf ℕ)) (i x : ℕ) (d r : RunOf ℕ) → 
 begins_later_at rs i x d r is few rest later = begins_later rs i x d few rest (subst (λ (q : RunOf ℕ). x < q.base) is later)
 
 pub run_at : (rs : List (RunOf ℕ)) (i : ℕ) (d r : RunOf ℕ) → r ≡ get_or rs i d → AreRuns rs → i < length rs
-    → IsNodeRun (value_at rs) r.base (run_end r) r.value
+    → IsWholeNodeRun (value_at rs) r.base (run_end r) r.value
 run_at rs i d r is runs few = rw is (run_of_list rs i d runs few)
 
 pub listed_more_at : (f : Frames) (rs : List (RunOf ℕ)) (i : ℕ) (d r : RunOf ℕ) (bs : List Block) → r ≡ get_or rs i d → i < length rs

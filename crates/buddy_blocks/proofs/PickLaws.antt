@@ -5,12 +5,12 @@ use Rattle.std.proofs.lemmas.Bool.{and_parts, cases_lt, cases_Bool, eqb-true, eq
 use Rattle.std.proofs.lemmas.Option.{same_Some}
 use Rattle.std.specs.List.{find}
 use Rattle.bm_base.specs.declared.zone.Zone.{Zone}
-use Rattle.address_runs.specs.Edits.{NothingFrom}
+use Rattle.address_runs.specs.Edits.{IsEmptyFrom}
 use Rattle.buddy_blocks.specs.declared.block.Block.{Block}
 use Rattle.buddy_blocks.specs.declared.run.TheConstants.{MAX_FRAMES}
 use Rattle.buddy_blocks.specs.Frames.{Frames}
 use Rattle.buddy_blocks.specs.BlockList.{blocks_of, is_same_zone, is_block_of, ListsBlock, AscendFrom}
-use Rattle.buddy_blocks.specs.PickedBlock.{Serves, IsPicked, NoneServes, picked_block_from, picked_block}
+use Rattle.buddy_blocks.specs.PickedBlock.{CanServe, IsPicked, NoneServes, picked_block_from, picked_block}
 use Rattle.buddy_blocks.proofs.BlockLaws.{listed_sound, listed_complete, listed_ascends}
 use Rattle.buddy_blocks.proofs.BuddyLaws.{found_or_none, one_at}
 use Rattle.buddy_blocks.proofs.CountLaws.{zone_is, zone_self}
@@ -96,9 +96,9 @@ none_up f n z order (suc k) c is has node_is zone_is from until =
 -- what is found by going up: a block of the least order that has one
 record IsFoundUp (f : Frames) (n : ℕ) (z : Zone) (order k : ℕ) (b : Block) : Type 0 where
   pub has : ListsBlock (blocks_of f) b
-  pub serves : Serves n z order b
+  pub serves : CanServe n z order b
   pub below : b.order < order + k
-  pub least : (c : Block) → ListsBlock (blocks_of f) c → Serves n z order c
+  pub least : (c : Block) → ListsBlock (blocks_of f) c → CanServe n z order c
       → (b.order < c.order) ⊎ ((b.order ≡ c.order) × (b.first ≤ c.first))
 
 found_up : (f : Frames) (n : ℕ) (z : Zone) (order k : ℕ) (b : Block) → picked_block_from f n z order k ≡ Some b → IsFoundUp f n z order k b
@@ -139,7 +139,7 @@ found_up f n z order (suc k) b is =
     ]
 
 -- what the function gives is the block of the definition
-pub picked_tells : (f : Frames) (n : ℕ) (z : Zone) (order : ℕ) (b : Block) → NothingFrom MAX_FRAMES f → picked_block f n z order ≡ Some b
+pub picked_tells : (f : Frames) (n : ℕ) (z : Zone) (order : ℕ) (b : Block) → IsEmptyFrom MAX_FRAMES f → picked_block f n z order ≡ Some b
     → IsPicked f n z order b
 unfolding picked_block
 picked_tells f n z order b low is =
@@ -150,7 +150,7 @@ picked_tells f n z order b low is =
       least = λ c block serves. it.least c (listed_complete f c low block) serves;
     }
 
-pub none_tells : (f : Frames) (n : ℕ) (z : Zone) (order : ℕ) → NothingFrom MAX_FRAMES f → picked_block f n z order ≡ None
+pub none_tells : (f : Frames) (n : ℕ) (z : Zone) (order : ℕ) → IsEmptyFrom MAX_FRAMES f → picked_block f n z order ≡ None
     → NoneServes f n z order
 unfolding picked_block
 none_tells f n z order low is b block serves =
@@ -162,7 +162,7 @@ both_least : (o p x y : ℕ) → (o < p) ⊎ ((o ≡ p) × (x ≤ y)) → (p < o
 both_least o p x y one other = grind arith
 
 -- the block of the definition is what the function gives: there is at most one
-pub picked_is : (f : Frames) (n : ℕ) (z : Zone) (order : ℕ) (b : Block) → NothingFrom MAX_FRAMES f → IsPicked f n z order b
+pub picked_is : (f : Frames) (n : ℕ) (z : Zone) (order : ℕ) (b : Block) → IsEmptyFrom MAX_FRAMES f → IsPicked f n z order b
     → picked_block f n z order ≡ Some b
 picked_is f n z order b low is =
     elim (found_or_none (picked_block f n z order)) as (λ _. picked_block f n z order ≡ Some b) [
@@ -174,7 +174,7 @@ picked_is f n z order b low is =
           some.1 ∙ ap (λ (d : Block). Some d) (one_at f some.0 b it.block is.block same_first)
     ]
 
-pub picked_none : (f : Frames) (n : ℕ) (z : Zone) (order : ℕ) → NothingFrom MAX_FRAMES f → NoneServes f n z order
+pub picked_none : (f : Frames) (n : ℕ) (z : Zone) (order : ℕ) → IsEmptyFrom MAX_FRAMES f → NoneServes f n z order
     → picked_block f n z order ≡ None
 picked_none f n z order low none =
     elim (found_or_none (picked_block f n z order)) as (λ _. picked_block f n z order ≡ None) [

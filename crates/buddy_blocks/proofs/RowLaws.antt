@@ -10,7 +10,7 @@ use Rattle.buddy_blocks.specs.declared.block.BlockRow.{BlockRow}
 use Rattle.buddy_blocks.specs.Frames.{Frames}
 use Rattle.buddy_blocks.specs.BlockList.{blocks_from, greatest_free_order}
 use Rattle.buddy_blocks.specs.Rows.{row_from, blocks_of_row, blocks_of_rows}
-use Rattle.buddy_blocks.specs.Sets.{IsNodeRun, SetFits, IsGreatest}
+use Rattle.buddy_blocks.specs.Sets.{IsWholeNodeRun, SetFits, IsGreatestFittingOrder}
 use Rattle.buddy_blocks.proofs.GoodLaws.{up_is}
 use Rattle.buddy_blocks.proofs.ListLaws.{from-append, from-block}
 use Rattle.buddy_blocks.proofs.RunLaws.{found, free_inside}
@@ -47,8 +47,8 @@ row_is (suc k) f n o s at z small size whole free found zones =
 
 -- the blocks of a row lie in the run: the first by the largest set that fits, the others since
 -- they are of the largest order
-in_a_row : (f : Frames) (first end n o s at k : ℕ) → IsNodeRun f first end n → first ≤ at → 0 < k → at + k * s ≤ end → o ≤ 10 → s ≡ 2 ^ o
-    → at % s ≡ 0 → SetFits first end at s → IsGreatest first end at o → ((o ≡ 10) ⊎ (k ≡ 1)) → (i : ℕ) → i < k
+in_a_row : (f : Frames) (first end n o s at k : ℕ) → IsWholeNodeRun f first end n → first ≤ at → 0 < k → at + k * s ≤ end → o ≤ 10 → s ≡ 2 ^ o
+    → at % s ≡ 0 → SetFits first end at s → IsGreatestFittingOrder first end at o → ((o ≡ 10) ⊎ (k ≡ 1)) → (i : ℕ) → i < k
     → (f (at + i * s) ≡ Some n) × (greatest_free_order f (at + i * s) n 10 ≡ o)
 in_a_row f first end n o s at k run above some room small size whole fits greatest (inr one) i lt =
     let start : at + i * s ≡ at = let zeroth : i ≡ 0 = omega arith in ap (λ j. at + j * s) zeroth ∙ omega arith in
@@ -72,8 +72,8 @@ in_a_row f first end n o s at k run above some room small size whole fits greate
       up_is f x n 10 10 is (omega arith) (free_inside f first end n 10 x run fits_ten) (λ less free. absurd (omega arith)) ∙ sym ten,
     )
 
-pub row_more : (f : Frames) (first end n o s at k : ℕ) → IsNodeRun f first end n → first ≤ at → 0 < k → at + k * s ≤ end
-    → o ≤ 10 → s ≡ 2 ^ o → at % s ≡ 0 → SetFits first end at s → IsGreatest first end at o → ((o ≡ 10) ⊎ (k ≡ 1))
+pub row_more : (f : Frames) (first end n o s at k : ℕ) → IsWholeNodeRun f first end n → first ≤ at → 0 < k → at + k * s ≤ end
+    → o ≤ 10 → s ≡ 2 ^ o → at % s ≡ 0 → SetFits first end at s → IsGreatestFittingOrder first end at o → ((o ≡ 10) ⊎ (k ≡ 1))
     → ((i : ℕ) → i < k → zone_of (at + i * s) ≡ zone_of at)
     → blocks_from f first (at + k * s - first) ≡ blocks_from f first (at - first) ++ row_from o at n (zone_of at) k
 row_more f first end n o s at k run above some room small size whole fits greatest single zones =

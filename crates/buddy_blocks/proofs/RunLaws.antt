@@ -8,19 +8,19 @@ use Rattle.bm_base.specs.Zones.{zone_of}
 use Rattle.buddy_blocks.specs.declared.block.Block.{Block}
 use Rattle.buddy_blocks.specs.Frames.{Frames, AreFree}
 use Rattle.buddy_blocks.specs.BlockList.{greatest_free_order, blocks_from}
-use Rattle.buddy_blocks.specs.Sets.{IsNodeRun, SetFits, IsGreatest, IsStart}
+use Rattle.buddy_blocks.specs.Sets.{IsWholeNodeRun, SetFits, IsGreatestFittingOrder, FittingSetsBeginAt}
 use Rattle.buddy_blocks.proofs.SetLaws.{base_is, base_whole, in_set, set_from, set_until, multiple, apart}
 use Rattle.buddy_blocks.proofs.GoodLaws.{up_is}
 use Rattle.buddy_blocks.proofs.ListLaws.{from-append, from-none, from-block}
 
 -- a set in a run is free
-pub free_inside : (f : Frames) (first end n o x : ℕ) → IsNodeRun f first end n → SetFits first end x (2 ^ o) → AreFree f o x n
+pub free_inside : (f : Frames) (first end n o x : ℕ) → IsWholeNodeRun f first end n → SetFits first end x (2 ^ o) → AreFree f o x n
 free_inside f first end n o x run fits y same =
     run.inside y (omega (arith, set_from (2 ^ o) x y same, fits.above))
     (omega (arith, set_until (2 ^ o) x y (pow_pos o) same, fits.below))
 
 -- a free set around a frame of the run lies in the run
-pub inside_free : (f : Frames) (first end n o x : ℕ) → IsNodeRun f first end n → first ≤ x → x < end → AreFree f o x n
+pub inside_free : (f : Frames) (first end n o x : ℕ) → IsWholeNodeRun f first end n → first ≤ x → x < end → AreFree f o x n
     → SetFits first end x (2 ^ o)
 inside_free f first end n o x run above below free =
     let small : x % 2 ^ o < 2 ^ o = mod-lt x (pow_pos o) in
@@ -32,15 +32,15 @@ inside_free f first end n o x run above below free =
     }
 
 -- the largest set that fits is the block that is found
-pub found : (f : Frames) (first end n o x : ℕ) → IsNodeRun f first end n → first ≤ x → x < end → o ≤ 10 → SetFits first end x (2 ^ o)
-    → IsGreatest first end x o → greatest_free_order f x n 10 ≡ o
+pub found : (f : Frames) (first end n o x : ℕ) → IsWholeNodeRun f first end n → first ≤ x → x < end → o ≤ 10 → SetFits first end x (2 ^ o)
+    → IsGreatestFittingOrder first end x o → greatest_free_order f x n 10 ≡ o
 found f first end n o x run above below small fits greatest =
     up_is f x n 10 o (run.inside x above below) small (free_inside f first end n o x run fits)
     (λ less free. greatest (suc o) (omega arith) (omega arith) (inside_free f first end n (suc o) x run above below free))
 
 -- the blocks up to here, and the one that begins here
-pub one_more : (f : Frames) (first end n o at s : ℕ) → IsNodeRun f first end n → first ≤ at → at < end → o ≤ 10 → s ≡ 2 ^ o
-    → SetFits first end at s → IsGreatest first end at o → at % s ≡ 0
+pub one_more : (f : Frames) (first end n o at s : ℕ) → IsWholeNodeRun f first end n → first ≤ at → at < end → o ≤ 10 → s ≡ 2 ^ o
+    → SetFits first end at s → IsGreatestFittingOrder first end at o → at % s ≡ 0
     → blocks_from f first (at + s - first) ≡ blocks_from f first
     (at - first) ++ record { order = o; first = at; node = n; zone = zone_of at } ∷ []
 one_more f first end n o at s run above below small size fits greatest whole =
@@ -54,16 +54,16 @@ one_more f first end n o at s run above below small size fits greatest whole =
     ∙ ap (λ (bs : List Block). blocks_from f first (at - first) ++ bs) (from-block f o at n small (run.inside at above below) is start)
 
 -- no set that fits begins before the first frame of a run
-pub start_first : (first end : ℕ) → IsStart first end first
+pub start_first : (first end : ℕ) → FittingSetsBeginAt first end first
 start_first first end o small fits = omega (arith, fits.above)
 
 -- the largest set that fits begins at the frame if the block does
-pub start_whole : (first end at o s : ℕ) → IsStart first end at → o ≤ 10 → s ≡ 2 ^ o → SetFits first end at s → at % s ≡ 0
+pub start_whole : (first end at o s : ℕ) → FittingSetsBeginAt first end at → o ≤ 10 → s ≡ 2 ^ o → SetFits first end at s → at % s ≡ 0
 start_whole first end at o s start small size fits =
     subst (λ (t : ℕ). at % t ≡ 0) (sym size) (start o small (subst (λ (t : ℕ). SetFits first end at t) size fits))
 
 -- the next block begins after it
-pub start_next : (first end at o s : ℕ) → at % s ≡ 0 → o ≤ 10 → s ≡ 2 ^ o → IsGreatest first end at o → IsStart first end (at + s)
+pub start_next : (first end at o s : ℕ) → at % s ≡ 0 → o ≤ 10 → s ≡ 2 ^ o → IsGreatestFittingOrder first end at o → FittingSetsBeginAt first end (at + s)
 start_next first end at o s whole few size greatest p small fits =
     let there : (at + s) % 2 ^ o ≡ 0 =
     ap (λ t. (at + t) % 2 ^ o) size ∙ add-mod_right at (2 ^ o) ∙ subst (λ (t : ℕ). at % t ≡ 0) size whole in
@@ -86,8 +86,8 @@ start_next first end at o s whole few size greatest p small fits =
     ]
 
 -- a set that doesn't fit has more than one frame, and no set of its size or larger fits
-pub step_down : (first end x o s : ℕ) → s ≡ 2 ^ o → first ≤ x → x < end → (SetFits first end x s → ⊥) → IsGreatest first end x o
-    → (0 < o) × (s / 2 ≡ 2 ^ (o - 1)) × IsGreatest first end x (o - 1)
+pub step_down : (first end x o s : ℕ) → s ≡ 2 ^ o → first ≤ x → x < end → (SetFits first end x s → ⊥) → IsGreatestFittingOrder first end x o
+    → (0 < o) × (s / 2 ≡ 2 ^ (o - 1)) × IsGreatestFittingOrder first end x (o - 1)
 step_down first end x zero s size above below fails greatest =
     let whole : x % s ≡ 0 = ap (λ t. x % t) size ∙ mod-one x in
     absurd (fails (record { above = omega (arith, whole); below = omega (arith, whole, size) }))
@@ -106,7 +106,7 @@ step_down first end x (suc o) s size above below fails greatest =
     )
 
 -- at a multiple of the largest size each set begins
-pub start_at_ten : (first end at : ℕ) → at % 2 ^ 10 ≡ 0 → IsStart first end at
+pub start_at_ten : (first end at : ℕ) → at % 2 ^ 10 ≡ 0 → FittingSetsBeginAt first end at
 start_at_ten first end at whole o small fits = multiple o 10 at small whole
 
 -- no frames, no blocks

@@ -19,16 +19,16 @@ abbrev pub AreFree : Frames → ℕ → ℕ → ℕ → Type 0
 AreFree free order first node = (frame : ℕ) → IsInSet order first frame → free frame ≡ Some node
 
 -- each frame of that set is free, on the node, and in the zone
-abbrev pub IsGood : Frames → ℕ → ℕ → ℕ → Zone → Type 0
-IsGood free order first node zone = (frame : ℕ) → IsInSet order first frame → (free frame ≡ Some node) × (zone_of frame ≡ zone)
+abbrev pub IsFreeInOneZone : Frames → ℕ → ℕ → ℕ → Zone → Type 0
+IsFreeInOneZone free order first node zone = (frame : ℕ) → IsInSet order first frame → (free frame ≡ Some node) × (zone_of frame ≡ zone)
 
 -- a block: a good aligned set of an order up to 10, such that the set of the next order around it
 -- isn't good
 pub record IsBlock (free : Frames) (b : Block) : Type 0 where
   pub small : b.order ≤ 10
   pub aligned : b.first % 2 ^ b.order ≡ 0
-  pub good : IsGood free b.order b.first b.node b.zone
-  pub whole : b.order < 10 → IsGood free (b.order + 1) b.first b.node b.zone → ⊥
+  pub good : IsFreeInOneZone free b.order b.first b.node b.zone
+  pub whole : b.order < 10 → IsFreeInOneZone free (b.order + 1) b.first b.node b.zone → ⊥
 
 -- the frame is in the block
 abbrev pub IsInBlock : Block → ℕ → Type 0

@@ -9,7 +9,7 @@ use Rattle.buddy_blocks.specs.Frames.{Frames, IsBlock}
 use Rattle.buddy_blocks.specs.BlockList.{blocks_of, is_block_of}
 
 -- the block is on the node, in the zone, and of this order or a larger one
-pub record Serves (n : ℕ) (z : Zone) (order : ℕ) (b : Block) : Type 0 where
+pub record CanServe (n : ℕ) (z : Zone) (order : ℕ) (b : Block) : Type 0 where
   pub node : b.node ≡ n
   pub zone : b.zone ≡ z
   pub enough : order ≤ b.order
@@ -18,12 +18,12 @@ pub record Serves (n : ℕ) (z : Zone) (order : ℕ) (b : Block) : Type 0 where
 -- or the same order and a higher first frame
 pub record IsPicked (f : Frames) (node : ℕ) (zone : Zone) (order : ℕ) (b : Block) : Type 0 where
   pub block : IsBlock f b
-  pub serves : Serves node zone order b
-  pub least : (c : Block) → IsBlock f c → Serves node zone order c → (b.order < c.order) ⊎ ((b.order ≡ c.order) × (b.first ≤ c.first))
+  pub serves : CanServe node zone order b
+  pub least : (c : Block) → IsBlock f c → CanServe node zone order c → (b.order < c.order) ⊎ ((b.order ≡ c.order) × (b.first ≤ c.first))
 
 -- no block serves the request
 abbrev pub NoneServes : Frames → ℕ → Zone → ℕ → Type 0
-NoneServes f node zone order = (b : Block) → IsBlock f b → Serves node zone order b → ⊥
+NoneServes f node zone order = (b : Block) → IsBlock f b → CanServe node zone order b → ⊥
 
 -- the block from which the request is served, as a function: of the k orders from `order` on, the
 -- first one that has a block there, and the lowest block of that order

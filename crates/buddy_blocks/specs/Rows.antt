@@ -33,12 +33,12 @@ pub record AreJoinableRows (r q : BlockRow) : Type 0 where
   pub touch : q.first ≡ row_end r
 
 -- the row and the next one in the list can't be joined
-abbrev pub EndsRow : BlockRow → List BlockRow → Type 0
-EndsRow r [] = Unit {0}
-EndsRow r (q ∷ qs) = AreJoinableRows r q → ⊥
+abbrev pub CannotJoinNextRow : BlockRow → List BlockRow → Type 0
+CannotJoinNextRow r [] = Unit {0}
+CannotJoinNextRow r (q ∷ qs) = AreJoinableRows r q → ⊥
 
 -- the list of rows is canonical: no row is empty, each block below the largest order is a row of
 -- its own, and no two rows of the largest order can be joined
-abbrev pub AreRows : List BlockRow → Type 0
-AreRows [] = Unit {0}
-AreRows (r ∷ rs) = (0 < r.count) × ((r.order ≡ 10) ⊎ (r.count ≡ 1)) × EndsRow r rs × AreRows rs
+abbrev pub AreCanonicalRows : List BlockRow → Type 0
+AreCanonicalRows [] = Unit {0}
+AreCanonicalRows (r ∷ rs) = (0 < r.count) × ((r.order ≡ 10) ⊎ (r.count ≡ 1)) × CannotJoinNextRow r rs × AreCanonicalRows rs

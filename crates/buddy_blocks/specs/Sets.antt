@@ -7,7 +7,7 @@ use Rattle.buddy_blocks.specs.Rows.{row_end}
 
 -- the frames from `first` to below `end` are a whole run of the node: all are free on it, and
 -- neither neighbour is
-pub record IsNodeRun (f : Frames) (first end n : ℕ) : Type 0 where
+pub record IsWholeNodeRun (f : Frames) (first end n : ℕ) : Type 0 where
   pub inside : (x : ℕ) → first ≤ x → x < end → f x ≡ Some n
   pub before : (x : ℕ) → suc x ≡ first → f x ≢ Some n
   pub behind : f end ≢ Some n
@@ -19,12 +19,12 @@ pub record SetFits (first end frame s : ℕ) : Type 0 where
 
 -- no aligned set around the frame of an order above `order`, up to 10, lies between `first` and
 -- `end`
-abbrev pub IsGreatest : ℕ → ℕ → ℕ → ℕ → Type 0
-IsGreatest first end frame order = (o : ℕ) → order < o → o ≤ 10 → SetFits first end frame (2 ^ o) → ⊥
+abbrev pub IsGreatestFittingOrder : ℕ → ℕ → ℕ → ℕ → Type 0
+IsGreatestFittingOrder first end frame order = (o : ℕ) → order < o → o ≤ 10 → SetFits first end frame (2 ^ o) → ⊥
 
 -- each aligned set around the frame that fits begins at the frame
-abbrev pub IsStart : ℕ → ℕ → ℕ → Type 0
-IsStart first end at = (o : ℕ) → o ≤ 10 → SetFits first end at (2 ^ o) → at % 2 ^ o ≡ 0
+abbrev pub FittingSetsBeginAt : ℕ → ℕ → ℕ → Type 0
+FittingSetsBeginAt first end at = (o : ℕ) → o ≤ 10 → SetFits first end at (2 ^ o) → at % 2 ^ o ≡ 0
 
 -- the last row of the list, if there is one, fulfils P
 abbrev pub LastRowFulfils : (BlockRow → Type 0) → List BlockRow → Type 0
@@ -33,5 +33,5 @@ LastRowFulfils P (r ∷ []) = P r
 LastRowFulfils P (r ∷ (q ∷ qs)) = LastRowFulfils P (q ∷ qs)
 
 -- the last frame of the row is free, on the row's node
-abbrev pub EndsFree : Frames → BlockRow → Type 0
-EndsFree f r = (0 < row_end r) × (f (row_end r - 1) ≡ Some r.node)
+abbrev pub LastFrameIsFree : Frames → BlockRow → Type 0
+LastFrameIsFree f r = (0 < row_end r) × (f (row_end r - 1) ≡ Some r.node)

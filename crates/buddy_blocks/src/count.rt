@@ -4,14 +4,14 @@
 ghost use Rattle.std.specs.Prelude.{◌≡◌, ◌≢◌, ◌⊎◌, ◌↔◌, ℕ, IsTrue, ◌+◌, ◌-◌, ◌*◌, ◌%◌, ◌<◌, ◌≤◌, count_by};
 ghost use Rattle.bm_base.specs.Zones.{zone_of};
 ghost use Rattle.address_runs.specs.Runs.{AreRuns, value_at};
-ghost use Rattle.address_runs.specs.Edits.{NothingFrom};
+ghost use Rattle.address_runs.specs.Edits.{IsEmptyFrom};
 ghost use Rattle.buddy_blocks.specs.Frames.{Frames};
 ghost use Rattle.buddy_blocks.specs.BlockList.{blocks_from, is_block_of, count_blocks};
-ghost use Rattle.buddy_blocks.specs.Sets.{IsNodeRun};
+ghost use Rattle.buddy_blocks.specs.Sets.{IsWholeNodeRun};
 
 use crate::block::MAX_ORDER;
 use crate::run::{FrameRun, MAX_FRAMES};
-use crate::set::{MAX_SIZE, Set, set_within, zone_until};
+use crate::set::{MAX_BLOCK_FRAMES, AlignedSet, set_within, zone_until};
 use bm_base::{Zone, zone_of};
 
 /// Returns the number of blocks on this node, in this zone and of this order. Allocates nothing.
@@ -19,13 +19,13 @@ use bm_base::{Zone, zone_of};
 /// below [`MAX_FRAMES`].
 pub fn count_blocks(runs: &[FrameRun], node: u32, zone: Zone, order: u32) -> u64
     requires runs { AreRuns runs.now }
-    requires low { NothingFrom MAX_FRAMES (value_at runs.now) }
+    requires low { IsEmptyFrom MAX_FRAMES (value_at runs.now) }
     ensures { result ≡ count_blocks (value_at runs.now) node zone order }
 {
     let mut total = 0;
     for run in runs {
         if run.node == node {
-            total += count_in_run(run.first, run.first + run.count, zone, order);
+            total += count_blocks_in_run(run.first, run.first + run.count, zone, order);
         }
     }
     total
@@ -33,18 +33,18 @@ pub fn count_blocks(runs: &[FrameRun], node: u32, zone: Zone, order: u32) -> u64
 
 /// Returns the number of blocks in this zone and of this order, of the run from frame `first` to
 /// below `end`.
-fn count_in_run(first: u64, end: u64, zone: Zone, order: u32) -> u64
+fn count_blocks_in_run(first: u64, end: u64, zone: Zone, order: u32) -> u64
     requires { first ≤ end }
     ensures few { result ≤ end - first }
-    ensures count { (f : Frames) (n : ℕ) → IsNodeRun f first end n →
+    ensures count { (f : Frames) (n : ℕ) → IsWholeNodeRun f first end n →
         result ≡ count_by (is_block_of n zone order) (blocks_from f first (end - first)) }
 {
     let mut total = 0;
     let mut at = first;
     while at < end {
         let set = set_within(first, end, at);
-        let blocks = count_blocks_alike(at, end, set);
-        if is_alike(set, at, zone, order) {
+        let blocks = count_equal_blocks(at, end, set);
+        if has_order_and_zone(set, at, zone, order) {
             total += blocks;
         }
         at += blocks * set.size;
@@ -54,7 +54,7 @@ fn count_in_run(first: u64, end: u64, zone: Zone, order: u32) -> u64
 
 /// Tests whether a block of the set's order that begins at frame `at` has the order `order` and is
 /// in the zone `zone`.
-fn is_alike(set: Set, at: u64, zone: Zone, order: u32) -> bool
+fn has_order_and_zone(set: AlignedSet, at: u64, zone: Zone, order: u32) -> bool
     ensures { IsTrue result ↔ (set.order ≡ order) × (zone_of at ≡ zone) }
 {
     set.order == order && zone_of(at) == zone
@@ -63,7 +63,7 @@ fn is_alike(set: Set, at: u64, zone: Zone, order: u32) -> bool
 /// Returns how many blocks of the set's order follow each other from frame `at` on, all in its zone
 /// and below frame `end`. For the largest order that is as many as fit before the zone or the
 /// frames end. For any other order it is 1.
-pub fn count_blocks_alike(at: u64, end: u64, set: Set) -> u64
+pub fn count_equal_blocks(at: u64, end: u64, set: AlignedSet) -> u64
     requires small { set.order ≤ 10 }
     requires size { set.order ≡ 10 → set.size ≡ 1024 }
     requires start { set.order ≡ 10 → at % 1024 ≡ 0 }
@@ -78,5 +78,5 @@ pub fn count_blocks_alike(at: u64, end: u64, set: Set) -> u64
     if set.order < MAX_ORDER {
         return 1;
     }
-    (zone_until(at, end) - at) / MAX_SIZE
+    (zone_until(at, end) - at) / MAX_BLOCK_FRAMES
 }

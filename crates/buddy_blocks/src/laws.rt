@@ -9,7 +9,7 @@ ghost use Rattle.buddy_blocks.specs.Frames.{Frames, IsInSet, IsBlock, IsInBlock}
 ghost use Rattle.buddy_blocks.specs.BlockList.{block_of, blocks_of, ListsBlock, AscendFrom};
 ghost use Rattle.buddy_blocks.specs.PickedBlock.{IsPicked, NoneServes, picked_block};
 ghost use Rattle.buddy_blocks.specs.Buddies.{RemovesFrameSet, IsBuddy, without_set, with_set};
-ghost use Rattle.address_runs.specs.Edits.{NothingFrom};
+ghost use Rattle.address_runs.specs.Edits.{IsEmptyFrom};
 
 use crate::run::MAX_FRAMES;
 
@@ -29,7 +29,7 @@ pub fn listed_blocks_are_blocks()
         → block_of f x ≡ Some b }
     ensures none { (f : Frames) (x : ℕ) → block_of f x ≡ None → f x ≡ None }
     ensures sound { (f : Frames) (b : AnyBlock) → ListsBlock (blocks_of f) b → IsBlock f b }
-    ensures complete { (f : Frames) (b : AnyBlock) → NothingFrom MAX_FRAMES f → IsBlock f b
+    ensures complete { (f : Frames) (b : AnyBlock) → IsEmptyFrom MAX_FRAMES f → IsBlock f b
         → ListsBlock (blocks_of f) b }
     ensures ascending { (f : Frames) → AscendFrom 0 (blocks_of f) }
 {}
@@ -40,9 +40,9 @@ pub fn listed_blocks_are_blocks()
 /// [`crate::MAX_FRAMES`].
 pub fn picked_block_is_least()
     ensures picked { (f : Frames) (n : ℕ) (z : AnyZone) (order : ℕ) (b : AnyBlock)
-        → NothingFrom MAX_FRAMES f →
+        → IsEmptyFrom MAX_FRAMES f →
         (picked_block f n z order ≡ Some b) ↔ IsPicked f n z order b }
-    ensures none { (f : Frames) (n : ℕ) (z : AnyZone) (order : ℕ) → NothingFrom MAX_FRAMES f →
+    ensures none { (f : Frames) (n : ℕ) (z : AnyZone) (order : ℕ) → IsEmptyFrom MAX_FRAMES f →
         (picked_block f n z order ≡ None) ↔ NoneServes f n z order }
 {}
 

@@ -3,14 +3,14 @@
 
 ghost use Rattle.std.specs.Prelude.{◌≡◌, ◌-◌, ◌≤◌, ◌++◌, OnOk, IfOk};
 ghost use Rattle.address_runs.specs.Runs.{AreRuns, value_at};
-ghost use Rattle.address_runs.specs.Edits.{NothingFrom};
+ghost use Rattle.address_runs.specs.Edits.{IsEmptyFrom};
 ghost use Rattle.buddy_blocks.specs.Frames.{Frames};
 ghost use Rattle.buddy_blocks.specs.BlockList.{block_of, blocks_from, blocks_of};
-ghost use Rattle.buddy_blocks.specs.Rows.{blocks_of_rows, AreRows};
-ghost use Rattle.buddy_blocks.specs.Sets.{IsNodeRun, LastRowFulfils, EndsFree};
+ghost use Rattle.buddy_blocks.specs.Rows.{blocks_of_rows, AreCanonicalRows};
+ghost use Rattle.buddy_blocks.specs.Sets.{IsWholeNodeRun, LastRowFulfils, LastFrameIsFree};
 
 use crate::block::{Block, BlockRow};
-use crate::count::count_blocks_alike;
+use crate::count::count_equal_blocks;
 use crate::run::{FrameRun, MAX_FRAMES};
 use crate::set::set_within;
 use bm_base::{Memory, zone_of};
@@ -25,7 +25,7 @@ use std::alloc::Global;
 /// - `Memory`: the program ran out of memory.
 pub fn blocks_of(alloc: Global, runs: &[FrameRun]) -> Result<Vec<Block>, Memory>
     requires runs { AreRuns runs.now }
-    requires low { NothingFrom MAX_FRAMES (value_at runs.now) }
+    requires low { IsEmptyFrom MAX_FRAMES (value_at runs.now) }
     ensures { IfOk result (λ blocks. blocks.items ≡ blocks_of (value_at runs.now)) }
 {
     let mut blocks = Vec::new(alloc);
@@ -43,7 +43,7 @@ pub fn blocks_of(alloc: Global, runs: &[FrameRun]) -> Result<Vec<Block>, Memory>
 /// - `Memory`: the program ran out of memory.
 fn push_blocks(blocks: &mut Vec<Block>, first: u64, end: u64, node: u32) -> Result<(), Memory>
     requires { first ≤ end }
-    ensures { OnOk result ((f : Frames) → IsNodeRun f first end node →
+    ensures { OnOk result ((f : Frames) → IsWholeNodeRun f first end node →
         blocks.new.items ≡ blocks.old.items ++ blocks_from f first (end - first)) }
 {
     let mut at = first;
@@ -70,10 +70,10 @@ fn push_blocks(blocks: &mut Vec<Block>, first: u64, end: u64, node: u32) -> Resu
 /// - `Memory`: the program ran out of memory.
 pub fn block_rows(alloc: Global, runs: &[FrameRun]) -> Result<Vec<BlockRow>, Memory>
     requires runs { AreRuns runs.now }
-    requires low { NothingFrom MAX_FRAMES (value_at runs.now) }
+    requires low { IsEmptyFrom MAX_FRAMES (value_at runs.now) }
     ensures blocks { IfOk result (λ rows.
         blocks_of_rows rows.items ≡ blocks_of (value_at runs.now)) }
-    ensures longest { IfOk result (λ rows. AreRows rows.items) }
+    ensures longest { IfOk result (λ rows. AreCanonicalRows rows.items) }
 {
     let mut rows = Vec::new(alloc);
     for run in runs {
@@ -82,26 +82,26 @@ pub fn block_rows(alloc: Global, runs: &[FrameRun]) -> Result<Vec<BlockRow>, Mem
     Ok(rows)
 }
 
-/// Appends the blocks of one run, row by row. The list stays canonical (`AreRows`) if it was so,
-/// and if the last frame of its last row is free.
+/// Appends the blocks of one run, row by row. The list stays canonical (`AreCanonicalRows`) if it
+/// was so, and if the last frame of its last row is free.
 ///
 /// # Errors
 ///
 /// - `Memory`: the program ran out of memory.
 fn push_rows(rows: &mut Vec<BlockRow>, first: u64, end: u64, node: u32) -> Result<(), Memory>
     requires { first ≤ end }
-    ensures blocks { OnOk result ((f : Frames) → IsNodeRun f first end node →
+    ensures blocks { OnOk result ((f : Frames) → IsWholeNodeRun f first end node →
         blocks_of_rows rows.new.items ≡ blocks_of_rows rows.old.items
         ++ blocks_from f first (end - first)) }
-    ensures longest { OnOk result ((f : Frames) → IsNodeRun f first end node
-        → LastRowFulfils (EndsFree f) rows.old.items →
-        AreRows rows.old.items → LastRowFulfils (EndsFree f) rows.new.items
-        × AreRows rows.new.items) }
+    ensures longest { OnOk result ((f : Frames) → IsWholeNodeRun f first end node
+        → LastRowFulfils (LastFrameIsFree f) rows.old.items →
+        AreCanonicalRows rows.old.items → LastRowFulfils (LastFrameIsFree f) rows.new.items
+        × AreCanonicalRows rows.new.items) }
 {
     let mut at = first;
     while at < end {
         let set = set_within(first, end, at);
-        let count = count_blocks_alike(at, end, set);
+        let count = count_equal_blocks(at, end, set);
         let zone = zone_of(at);
         rows.push(BlockRow {
             order: set.order,

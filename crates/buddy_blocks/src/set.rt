@@ -2,18 +2,18 @@
 //! block of the frame, since an aligned set is good exactly if it lies in one run.
 
 ghost use Rattle.std.specs.Prelude.{◌≡◌, ◌^◌, ◌<◌, ◌≤◌, ◌↔◌, IsTrue, ◌≢◌, ◌⊎◌, ℕ, ◌+◌, ◌%◌};
-ghost use Rattle.buddy_blocks.specs.Sets.{SetFits, IsGreatest};
+ghost use Rattle.buddy_blocks.specs.Sets.{SetFits, IsGreatestFittingOrder};
 ghost use Rattle.bm_base.specs.Zones.{zone_of};
 
 use crate::block::MAX_ORDER;
 use bm_base::{MAX_DMA_FRAME, MAX_DMA32_FRAME};
 
 /// The number of frames in a block of the largest order.
-pub const MAX_SIZE: u64 = 1 << MAX_ORDER;
+pub const MAX_BLOCK_FRAMES: u64 = 1 << MAX_ORDER;
 
 /// An aligned set of frames.
 #[derive(Clone, Copy)]
-pub struct Set {
+pub struct AlignedSet {
     pub order: u32,
     /// The number of frames: `2^order`.
     pub size: u64,
@@ -32,21 +32,21 @@ fn set_lies_within(first: u64, end: u64, frame: u64, size: u64) -> bool
 
 /// Returns the largest aligned set that has this frame and lies between `first` and `end`; `end`
 /// is excluded. Its order is at most [`MAX_ORDER`]. A set of one frame always fits.
-pub fn set_within(first: u64, end: u64, frame: u64) -> Set
+pub fn set_within(first: u64, end: u64, frame: u64) -> AlignedSet
     requires above { first ≤ frame }
     requires below { frame < end }
     ensures small { result.order ≤ 10 }
     ensures size { result.size ≡ 2 ^ result.order }
     ensures fits { SetFits first end frame result.size }
-    ensures greatest { IsGreatest first end frame result.order }
+    ensures greatest { IsGreatestFittingOrder first end frame result.order }
 {
     let mut order = MAX_ORDER;
-    let mut size = MAX_SIZE;
+    let mut size = MAX_BLOCK_FRAMES;
     while !set_lies_within(first, end, frame, size) {
         order -= 1;
         size /= 2;
     }
-    Set { order, size }
+    AlignedSet { order, size }
 }
 
 /// Returns the first frame after the zone of `frame`, or `end` if that is lower. `frame` must be

@@ -3,13 +3,13 @@ use Rattle.std.proofs.Common.{◌≡◌, Some, None, [], ◌∷◌, refl}
 use Rattle.memblock_model.specs.Labels.{Labels}
 use Rattle.buddy_blocks.specs.Frames.{Frames}
 use Rattle.memblock_frames.proofs.ClaimLaws.{unclaimed_bare}
-use Rattle.buddy_handover.specs.BuddyView.{BuddyView, buddy_frames}
+use Rattle.buddy_handover.specs.BuddyView.{BuddyView, node_of_free_frame}
 use Rattle.buddy_handover.specs.Handover.{free_unclaimed_frames, unclaimed_frames}
 
 abbrev some_frames : BuddyView
 some_frames = record { runs = record { base = 4; size = 2; value = 7 } ∷ []; spare = 0 }
 
-free_examples : (buddy_frames some_frames 5 ≡ Some 7) × (buddy_frames some_frames 6 ≡ None)
+free_examples : (node_of_free_frame some_frames 5 ≡ Some 7) × (node_of_free_frame some_frames 6 ≡ None)
 free_examples = (refl, refl)
 
 -- this and the next: no label, and no free frame

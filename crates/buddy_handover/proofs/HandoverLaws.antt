@@ -6,7 +6,7 @@ use Rattle.address_runs.specs.Runs.{RunOf, value_at}
 use Rattle.memblock_model.specs.Labels.{LabelView, Labels}
 use Rattle.buddy_blocks.specs.Frames.{Frames}
 use Rattle.memblock_frames.specs.Frames.{free_node_in, frames_of_record}
-use Rattle.memblock_frames.specs.HeadRecords.{AscendBelow, AreWholeFrames}
+use Rattle.memblock_frames.specs.HeadRecords.{AreAscendingBelow, AreWholeFrames}
 use Rattle.memblock_frames.proofs.RecordLaws.{taken_none}
 use Rattle.memblock_frames.proofs.WholeLaws.{whole_at, free_by_first}
 use Rattle.memblock_frames.proofs.TakeLaws.{node_more}
@@ -14,7 +14,7 @@ use Rattle.buddy_handover.specs.Handover.{free_unclaimed_frames, unclaimed_frame
 
 -- one more record of memory with a node frees its unclaimed frames
 pub record_freed : (b : ℕ) (ms : List (RunOf LabelView)) (reserved : Labels) (i n : ℕ) (d : RunOf LabelView) (f g : Frames)
-    → AscendBelow b ms
+    → AreAscendingBelow b ms
     → AreWholeFrames ms → i < length ms → (frames_of_record (get_or ms i d)).node ≡ Some n
     → ((x : ℕ) → f x ≡ unclaimed_frames (value_at (take i ms)) reserved x)
     → ((x : ℕ) → g x ≡ free_unclaimed_frames (frames_of_record (get_or ms i d)).first (frames_of_record (get_or ms i d)).end n reserved f x)
@@ -24,7 +24,7 @@ record_freed b ms reserved i n d f g ascend whole few is known put x =
     grind (arith, nat_tests, more, is, was, now)
 
 -- one more record of memory without a node frees nothing
-pub record_left : (b : ℕ) (ms : List (RunOf LabelView)) (reserved : Labels) (i : ℕ) (d : RunOf LabelView) (f : Frames) → AscendBelow b ms
+pub record_left : (b : ℕ) (ms : List (RunOf LabelView)) (reserved : Labels) (i : ℕ) (d : RunOf LabelView) (f : Frames) → AreAscendingBelow b ms
     → AreWholeFrames ms → i < length ms → (frames_of_record (get_or ms i d)).node ≡ None
     → ((x : ℕ) → f x ≡ unclaimed_frames (value_at (take i ms)) reserved x)
     → (x : ℕ) → f x ≡ unclaimed_frames (value_at (take (i + 1) ms)) reserved x

@@ -6,7 +6,7 @@ use Rattle.std.specs.List.{find, filter}
 use Rattle.std.specs.Option.{option_map}
 use Rattle.bm_base.specs.declared.zone.Zone.{Zone}
 use Rattle.address_runs.specs.Runs.{RunOf, value_at, IsRunsOf}
-use Rattle.address_runs.specs.Edits.{NothingFrom}
+use Rattle.address_runs.specs.Edits.{IsEmptyFrom}
 use Rattle.buddy_blocks.specs.declared.block.Block.{Block}
 use Rattle.buddy_blocks.specs.declared.run.TheConstants.{MAX_FRAMES}
 use Rattle.buddy_blocks.specs.Frames.{Frames, IsInSet, AreFree, IsBlock, IsInBlock}
@@ -19,12 +19,12 @@ use Rattle.buddy_blocks.proofs.BuddyLaws.{set_covers, without_is, with_is}
 use Rattle.buddy_blocks.proofs.PickLaws.{picked_is, picked_none}
 
 -- the block that the index returns is the one that is picked
-pub first_is : (f : Frames) (n : ℕ) (z : Zone) (o : ℕ) (b : Block) → NothingFrom MAX_FRAMES f → IsPicked f n z o b
+pub first_is : (f : Frames) (n : ℕ) (z : Zone) (o : ℕ) (b : Block) → IsEmptyFrom MAX_FRAMES f → IsPicked f n z o b
     → picked_first_frame f n z o ≡ Some b.first
 first_is f n z o b low is = ap (option_map (λ (c : Block). c.first)) (picked_is f n z o b low is)
 
 -- if no block serves, none is picked
-pub first_none : (f : Frames) (n : ℕ) (z : Zone) (o : ℕ) → NothingFrom MAX_FRAMES f → NoneServes f n z o → picked_first_frame f n z o ≡ None
+pub first_none : (f : Frames) (n : ℕ) (z : Zone) (o : ℕ) → IsEmptyFrom MAX_FRAMES f → NoneServes f n z o → picked_first_frame f n z o ≡ None
 first_none f n z o low none = ap (option_map (λ (c : Block). c.first)) (picked_none f n z o low none)
 
 -- without a block of an order, none is found there

@@ -10,5 +10,5 @@ pub record BuddyView : Type 0 where
   pub spare : ℕ
 
 -- the node of each free frame, or `None`
-abbrev pub buddy_frames : BuddyView → Frames
-buddy_frames b = value_at b.runs
+abbrev pub node_of_free_frame : BuddyView → Frames
+node_of_free_frame b = value_at b.runs

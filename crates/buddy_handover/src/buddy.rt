@@ -8,14 +8,14 @@
 
 ghost use Rattle.std.specs.Prelude.{◌≡◌, ℕ, ◌+◌, ◌-◌, ◌%◌, ◌^◌, ◌<◌, ◌≤◌, max, is_some, Some, None, IsSome, [], IsOk, OnOk, OnErr, IfOk, IfErr, vec_len, vec_capacity};
 ghost use Rattle.address_runs.specs.Runs.{IsRunsOf};
-ghost use Rattle.address_runs.specs.Edits.{replace_in_range, NothingFrom};
+ghost use Rattle.address_runs.specs.Edits.{replace_in_range, IsEmptyFrom};
 ghost use Rattle.buddy_blocks.specs.BlockList.{block_of, blocks_of, count_blocks};
-ghost use Rattle.buddy_blocks.specs.Rows.{blocks_of_rows, AreRows};
+ghost use Rattle.buddy_blocks.specs.Rows.{blocks_of_rows, AreCanonicalRows};
 ghost use Rattle.buddy_blocks.specs.Frames.{IsInSet};
 ghost use Rattle.buddy_blocks.specs.PickedBlock.{picked_first_frame};
 ghost use Rattle.buddy_blocks.specs.Buddies.{without_set, with_set};
 ghost use Rattle.free_areas.specs.Areas.{IndexesFreeBlocks};
-ghost use Rattle.buddy_handover.specs.BuddyView.{buddy_frames};
+ghost use Rattle.buddy_handover.specs.BuddyView.{node_of_free_frame};
 
 use crate::cache::{index_after_alloc, index_after_free};
 use crate::runs::{insert_frames, remove_frames, set_around};
@@ -46,7 +46,7 @@ impl From<Memory> for Take {
 }
 
 /// The greatest number of entries that one call adds to the list of runs.
-const ENTRIES: u64 = 2;
+const MAX_NEW_ENTRIES: u64 = 2;
 
 /// The free frames, each with its node. Contracts see their runs, ascending, and `spare`, the
 /// number of further entries of that list that there is room for.
@@ -60,7 +60,7 @@ pub struct Buddy {
 impl Model for Buddy {
     ghost use Rattle.std.specs.Prelude.{◌+◌, ◌≤◌, vec_len, vec_capacity, IfSome};
     ghost use Rattle.address_runs.specs.Runs.{AreRuns, value_at};
-    ghost use Rattle.address_runs.specs.Edits.{NothingFrom};
+    ghost use Rattle.address_runs.specs.Edits.{IsEmptyFrom};
     ghost use Rattle.buddy_blocks.specs.declared.run.TheConstants.{MAX_FRAMES};
     ghost use Rattle.free_areas.specs.Areas.{IndexesFreeBlocks};
     ghost use Rattle.buddy_handover.specs.BuddyView.{BuddyView};
@@ -71,7 +71,7 @@ impl Model for Buddy {
 
     ghost invariant = { λ b.
         (vec_len b.runs + b.spare ≤ vec_capacity b.runs) × AreRuns b.runs.items
-        × NothingFrom MAX_FRAMES (value_at b.runs.items)
+        × IsEmptyFrom MAX_FRAMES (value_at b.runs.items)
         × IfSome b.areas (λ areas. IndexesFreeBlocks (value_at b.runs.items) areas) };
 }
 
@@ -104,7 +104,7 @@ impl Buddy {
 
     /// Law: no frame at or above [`MAX_FRAMES`] is free.
     pub fn free_frames_are_below_limit(&self)
-        ensures { NothingFrom MAX_FRAMES (buddy_frames self.now) }
+        ensures { IsEmptyFrom MAX_FRAMES (node_of_free_frame self.now) }
     {
         let _ = &self.runs; // the invariant says so
     }
@@ -138,10 +138,11 @@ impl Buddy {
     /// Out of memory, never if `spare` was 32 or more. Nothing has changed then.
     pub fn free_frames(&mut self, first: u64, count: u64, node: u32) -> Result<(), Memory>
         requires low { first + count ≤ MAX_FRAMES }
-        requires held { (x : ℕ) → first ≤ x → x < first + count → buddy_frames self.old x ≡ None }
+        requires held { (x : ℕ) → first ≤ x → x < first + count → node_of_free_frame self.old x ≡
+            None }
         ensures runs { OnOk result
             (IsRunsOf (replace_in_range (record { base = first; size = count }) node
-            (buddy_frames self.old)) self.new.runs) }
+            (node_of_free_frame self.old)) self.new.runs) }
         ensures enough { 32 ≤ self.old.spare → IsOk result }
         ensures spare { OnOk result (self.new.spare ≡ max self.old.spare 2 - 2) }
         ensures err { OnErr result (self.new ≡ self.old) }
@@ -160,19 +161,19 @@ impl Buddy {
         requires low { first + count ≤ MAX_FRAMES }
         ensures runs { OnOk result
             (IsRunsOf (replace_in_range (record { base = first; size = count }) node
-            (buddy_frames self.old)) self.new.runs) }
+            (node_of_free_frame self.old)) self.new.runs) }
         ensures memory { OnErr result (self.old.spare < 2) }
         ensures spare { OnOk result (self.new.spare ≡ max self.old.spare 2 - 2) }
         ensures err { OnErr result (self.new ≡ self.old) }
     {
-        self.ready(ENTRIES)?;
+        self.ready(MAX_NEW_ENTRIES)?;
         let frames = Range {
             base: first,
             size: count,
         };
         self.areas = None;
         insert_frames(&mut self.runs, &frames, node);
-        self.spare -= ENTRIES;
+        self.spare -= MAX_NEW_ENTRIES;
         Ok(())
     }
 
@@ -189,13 +190,13 @@ impl Buddy {
     pub fn take(&mut self, node: u32, zone: Zone, order: u32) -> Result<u64, Take>
         requires { order ≤ 10 }
         ensures first { IfOk result (λ first.
-            picked_first_frame (buddy_frames self.old) node zone order ≡ Some first) }
+            picked_first_frame (node_of_free_frame self.old) node zone order ≡ Some first) }
         ensures runs { IfOk result (λ first.
-            IsRunsOf (without_set order first (buddy_frames self.old)) self.new.runs) }
+            IsRunsOf (without_set order first (node_of_free_frame self.old)) self.new.runs) }
         ensures none { IfErr result (λ refusal. refusal ≡ Take.NoBlock
-            → picked_first_frame (buddy_frames self.old) node zone order ≡ None) }
+            → picked_first_frame (node_of_free_frame self.old) node zone order ≡ None) }
         ensures memory { IfErr result (λ refusal. refusal ≡ Take.Memory
-            → IsSome (picked_first_frame (buddy_frames self.old) node zone order)) }
+            → IsSome (picked_first_frame (node_of_free_frame self.old) node zone order)) }
         ensures err { OnErr result (self.new ≡ self.old) }
     {
         let Ok(areas) = self.take_or_make_index() else {
@@ -209,11 +210,11 @@ impl Buddy {
             self.areas = Some(areas);
             return Err(Take::NoBlock);
         };
-        self.ready(ENTRIES)?;
+        self.ready(MAX_NEW_ENTRIES)?;
         let behind = self.block_of(set_around(block.order, block.first).end());
         let rest = index_after_alloc(areas, &block, behind, order);
         remove_frames(&mut self.runs, &set_around(order, block.first));
-        self.spare -= ENTRIES;
+        self.spare -= MAX_NEW_ENTRIES;
         self.areas = rest;
         Ok(block.first)
     }
@@ -223,7 +224,8 @@ impl Buddy {
     /// out of memory and must still say whether there was such a block.
     pub fn has_block(&self, node: u32, zone: Zone, order: u32) -> bool
         requires { order ≤ 10 }
-        ensures { result ≡ is_some (picked_first_frame (buddy_frames self.now) node zone order) }
+        ensures { result ≡ is_some (picked_first_frame (node_of_free_frame self.now) node zone
+            order) }
     {
         for at in order..MAX_ORDER + 1 {
             if self.count(node, zone, at) > 0 {
@@ -244,15 +246,15 @@ impl Buddy {
         requires small { order ≤ 10 }
         requires aligned { first % 2 ^ order ≡ 0 }
         requires low { first + 2 ^ order ≤ MAX_FRAMES }
-        requires held { (x : ℕ) → IsInSet order first x → buddy_frames self.old x ≡ None }
+        requires held { (x : ℕ) → IsInSet order first x → node_of_free_frame self.old x ≡ None }
         ensures runs { OnOk result
-            (IsRunsOf (with_set order first node (buddy_frames self.old)) self.new.runs) }
+            (IsRunsOf (with_set order first node (node_of_free_frame self.old)) self.new.runs) }
         ensures err { OnErr result (self.new ≡ self.old) }
     {
-        self.ready(ENTRIES)?;
+        self.ready(MAX_NEW_ENTRIES)?;
         let areas = self.areas.take();
         insert_frames(&mut self.runs, &set_around(order, first), node);
-        self.spare -= ENTRIES;
+        self.spare -= MAX_NEW_ENTRIES;
         let block = buddy_blocks::block_of(&self.runs, first);
         self.areas = index_after_free(areas, block, order, first);
         Ok(())
@@ -260,7 +262,8 @@ impl Buddy {
 
     /// Moves the index out of the cache and returns it. Makes one if the cache is empty.
     fn take_or_make_index(&mut self) -> Result<Areas, Memory>
-        ensures areas { IfOk result (λ areas. IndexesFreeBlocks (buddy_frames self.old) areas) }
+        ensures areas { IfOk result (λ areas. IndexesFreeBlocks (node_of_free_frame self.old)
+            areas) }
         ensures stays { self.new ≡ self.old }
     {
         match self.areas.take() {
@@ -276,8 +279,9 @@ impl Buddy {
     ///
     /// Out of memory.
     pub fn blocks(&self) -> Result<Vec<Block>, Memory>
-        ensures list { IfOk result (λ blocks. blocks.items ≡ blocks_of (buddy_frames self.now)) }
-        ensures low { NothingFrom MAX_FRAMES (buddy_frames self.now) }
+        ensures list { IfOk result (λ blocks. blocks.items ≡ blocks_of (node_of_free_frame
+            self.now)) }
+        ensures low { IsEmptyFrom MAX_FRAMES (node_of_free_frame self.now) }
     {
         buddy_blocks::blocks_of(*self.runs.allocator(), &self.runs)
     }
@@ -291,8 +295,8 @@ impl Buddy {
     /// Out of memory.
     pub fn block_rows(&self) -> Result<Vec<BlockRow>, Memory>
         ensures blocks { IfOk result (λ rows.
-            blocks_of_rows rows.items ≡ blocks_of (buddy_frames self.now)) }
-        ensures longest { IfOk result (λ rows. AreRows rows.items) }
+            blocks_of_rows rows.items ≡ blocks_of (node_of_free_frame self.now)) }
+        ensures longest { IfOk result (λ rows. AreCanonicalRows rows.items) }
     {
         buddy_blocks::block_rows(*self.runs.allocator(), &self.runs)
     }
@@ -300,14 +304,14 @@ impl Buddy {
     /// Returns the number of blocks of the node, the zone and the order (`nr_free` of `struct
     /// free_area`). Allocates nothing.
     pub fn count(&self, node: u32, zone: Zone, order: u32) -> u64
-        ensures { result ≡ count_blocks (buddy_frames self.now) node zone order }
+        ensures { result ≡ count_blocks (node_of_free_frame self.now) node zone order }
     {
         buddy_blocks::count_blocks(&self.runs, node, zone, order)
     }
 
     /// Returns the block that has the frame, or `None` if the frame isn't free. Allocates nothing.
     pub fn block_of(&self, frame: u64) -> Option<Block>
-        ensures { result ≡ block_of (buddy_frames self.now) frame }
+        ensures { result ≡ block_of (node_of_free_frame self.now) frame }
     {
         buddy_blocks::block_of(&self.runs, frame)
     }

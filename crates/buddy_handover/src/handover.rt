@@ -6,9 +6,9 @@
 ghost use Rattle.std.specs.Prelude.{◌≡◌, ℕ, ◌+◌, ◌*◌, ◌^◌, ◌<◌, ◌≤◌, IfOk};
 ghost use Rattle.address_runs.specs.Runs.{value_at};
 ghost use Rattle.memblock_ranges.specs.Tables.{records_of_head};
-ghost use Rattle.memblock_frames.specs.Frames.{free_node_in, IsPassed};
+ghost use Rattle.memblock_frames.specs.Frames.{free_node_in, OverlapOnlyBelow};
 ghost use Rattle.memblock_frames.specs.HeadRecords.{HasRecords, AreWholeFrames};
-ghost use Rattle.buddy_handover.specs.BuddyView.{buddy_frames};
+ghost use Rattle.buddy_handover.specs.BuddyView.{node_of_free_frame};
 ghost use Rattle.buddy_handover.specs.Handover.{free_unclaimed_frames};
 
 use crate::buddy::Buddy;
@@ -30,7 +30,7 @@ pub fn hand_over(alloc: Global, store: &Store, heads: &Heads) -> Result<Buddy, M
     requires memory { HasRecords store.now heads.now.memory (FRAME_SIZE * MAX_FRAMES) }
     requires whole { AreWholeFrames (records_of_head store.now heads.now.memory) }
     requires reserved { HasRecords store.now heads.now.reserved (2 ^ 64) }
-    ensures { IfOk result (λ buddy. (frame : ℕ) → buddy_frames buddy frame ≡
+    ensures { IfOk result (λ buddy. (frame : ℕ) → node_of_free_frame buddy frame ≡
         free_node_in (value_at (records_of_head store.now heads.now.memory))
         (value_at (records_of_head store.now heads.now.reserved)) frame) }
 {
@@ -70,15 +70,15 @@ fn free_unclaimed(
 ) -> Result<u64, Memory>
     requires table { HasRecords store.now reserved.now (2 ^ 64) }
     requires index { index ≤ reserved.now.count }
-    requires passed { IsPassed (records_of_head store.now reserved.now) index first }
+    requires passed { OverlapOnlyBelow (records_of_head store.now reserved.now) index first }
     requires order { first ≤ end }
     requires low { end ≤ MAX_FRAMES }
     ensures free { IfOk result (λ next. (x : ℕ) →
-        buddy_frames buddy.new x ≡ free_unclaimed_frames first end node
-        (value_at (records_of_head store.now reserved.now)) (buddy_frames buddy.old) x) }
+        node_of_free_frame buddy.new x ≡ free_unclaimed_frames first end node
+        (value_at (records_of_head store.now reserved.now)) (node_of_free_frame buddy.old) x) }
     ensures index { IfOk result (λ next. next ≤ reserved.now.count) }
     ensures passed { IfOk result (λ next.
-        IsPassed (records_of_head store.now reserved.now) next end) }
+        OverlapOnlyBelow (records_of_head store.now reserved.now) next end) }
 {
     let mut next = index;
     let mut at = first;

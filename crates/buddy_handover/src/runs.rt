@@ -6,30 +6,30 @@
 
 ghost use Rattle.std.specs.Prelude.{◌≡◌, ◌+◌, ◌^◌, ◌<◌, ◌≤◌, vec_len, vec_capacity};
 ghost use Rattle.address_runs.specs.Runs.{AreRuns, IsRunsOf, value_at};
-ghost use Rattle.address_runs.specs.Edits.{replace_in_range, uncover_range, NothingFrom};
+ghost use Rattle.address_runs.specs.Edits.{replace_in_range, uncover_range, IsEmptyFrom};
 ghost use Rattle.buddy_blocks.specs.BlockList.{set_around};
 
 use bm_base::Range;
 use buddy_blocks::{FrameRun, MAX_FRAMES};
-use run_edits::{Replace, Uncover, amend};
+use run_edits::{Replace, Uncover, edit_without_cover};
 
 /// Makes the frames of the range free, for node `node`, whatever they were. An empty range changes
 /// nothing. Allocates nothing, and looks only at runs that meet or touch the range.
 pub fn insert_frames(runs: &mut Vec<FrameRun>, frames: &Range, node: u32)
     requires low { frames.now.base + frames.now.size ≤ MAX_FRAMES }
     requires runs { AreRuns runs.old.items }
-    requires within { NothingFrom MAX_FRAMES (value_at runs.old.items) }
+    requires within { IsEmptyFrom MAX_FRAMES (value_at runs.old.items) }
     requires room { vec_len runs.old + 2 ≤ vec_capacity runs.old }
     ensures runs { IsRunsOf
         (replace_in_range frames.now node (value_at runs.old.items)) runs.new.items }
-    ensures within { NothingFrom MAX_FRAMES (value_at runs.new.items) }
+    ensures within { IsEmptyFrom MAX_FRAMES (value_at runs.new.items) }
     ensures len { vec_len runs.new ≤ vec_len runs.old + 2 }
     ensures capacity { vec_capacity runs.old ≤ vec_capacity runs.new }
 {
     if frames.size == 0 {
         return;
     }
-    amend(runs, frames, Replace(node));
+    edit_without_cover(runs, frames, Replace(node));
 }
 
 /// Makes the frames of the range not free. The range must not be empty. Allocates nothing, and
@@ -37,14 +37,14 @@ pub fn insert_frames(runs: &mut Vec<FrameRun>, frames: &Range, node: u32)
 pub fn remove_frames(runs: &mut Vec<FrameRun>, frames: &Range)
     requires some { 0 < frames.now.size }
     requires runs { AreRuns runs.old.items }
-    requires within { NothingFrom MAX_FRAMES (value_at runs.old.items) }
+    requires within { IsEmptyFrom MAX_FRAMES (value_at runs.old.items) }
     requires room { vec_len runs.old + 2 ≤ vec_capacity runs.old }
     ensures runs { IsRunsOf (uncover_range frames.now (value_at runs.old.items)) runs.new.items }
-    ensures within { NothingFrom MAX_FRAMES (value_at runs.new.items) }
+    ensures within { IsEmptyFrom MAX_FRAMES (value_at runs.new.items) }
     ensures len { vec_len runs.new ≤ vec_len runs.old + 2 }
     ensures capacity { vec_capacity runs.old ≤ vec_capacity runs.new }
 {
-    amend(runs, frames, Uncover);
+    edit_without_cover(runs, frames, Uncover);
 }
 
 /// Returns the aligned set of `2^order` frames that has `frame`.

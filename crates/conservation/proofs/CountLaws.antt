@@ -3,7 +3,7 @@ use Rattle.std.proofs.Common.{◌≡◌, ℕ, ◌+◌, ◌-◌, ◌%◌, ◌^◌
 use Rattle.std.proofs.lemmas.Bool.{false_from_ne_true}
 use Rattle.std.proofs.lemmas.Nat.{pow_pos}
 use Rattle.std.proofs.lemmas.List.Sums.{sum_by-cons}
-use Rattle.address_runs.specs.Edits.{NothingFrom}
+use Rattle.address_runs.specs.Edits.{IsEmptyFrom}
 use Rattle.buddy_blocks.specs.declared.block.Block.{Block}
 use Rattle.buddy_blocks.specs.declared.run.TheConstants.{MAX_FRAMES}
 use Rattle.buddy_blocks.specs.Frames.{Frames, IsBlock, IsInBlock, IsInSet}
@@ -70,7 +70,7 @@ no_block_with f frame none = none_counted (λ b. has_frame b frame) (blocks_of f
     false_from_ne_true (has_frame b frame) (λ inside. cc (sym none ∙ free_inside f b frame listed inside)))
 
 -- a free frame is in exactly one block
-pub one_block_with : (f : Frames) (frame node : ℕ) → NothingFrom MAX_FRAMES f → f frame ≡ Some node
+pub one_block_with : (f : Frames) (frame node : ℕ) → IsEmptyFrom MAX_FRAMES f → f frame ≡ Some node
     → count_blocks_with (blocks_of f) frame ≡ 1
 one_block_with f frame node none free =
     let b : Block = block_around (greatest_free_order f frame node 10) frame node in

@@ -6,7 +6,7 @@ use Rattle.bm_base.specs.Range.{RangeView, covers}
 use Rattle.bm_base.specs.Zones.{zone_of}
 use Rattle.bm_base.specs.declared.zone.Zone.TheVariants as zone
 use Rattle.address_runs.specs.Runs.{RunOf}
-use Rattle.address_runs.specs.Edits.{NothingFrom}
+use Rattle.address_runs.specs.Edits.{IsEmptyFrom}
 use Rattle.memblock_model.specs.declared.owner.Owner.TheVariants as owner
 use Rattle.memblock_model.specs.declared.item.Item.{Item}
 use Rattle.memblock_model.specs.declared.item.Item.TheVariants as item
@@ -124,7 +124,7 @@ pair_of_node_one =
 abbrev five : ℕ → Frames
 five node frame = if frame == 5 then Some node else None
 
-five_alone : (node : ℕ) → NothingFrom MAX_FRAMES (five node)
+five_alone : (node : ℕ) → IsEmptyFrom MAX_FRAMES (five node)
 five_alone node frame far = let other : (frame == 5) ≡ false = grind (arith, nat_tests) in rw other refl
 
 -- a boot is refused if a usable frame is untouched and in no block

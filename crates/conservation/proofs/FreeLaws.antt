@@ -8,13 +8,13 @@ use Rattle.bm_base.specs.Each.{each_in}
 use Rattle.bm_base.specs.Zones.{zone_of}
 use Rattle.bm_base.specs.Frames.{bytes_of_frame}
 use Rattle.bm_base.proofs.EachLaws.{each_in-all, each_in-each}
-use Rattle.address_runs.specs.Edits.{NothingFrom}
+use Rattle.address_runs.specs.Edits.{IsEmptyFrom}
 use Rattle.e820_model.specs.Usable.{is_usable_frame}
 use Rattle.memblock_model.specs.Labels.{LabelView, tag_for, node_of_tag}
 use Rattle.memblock_model.specs.Items.{memory_of, owner_of}
 use Rattle.memblock_model.specs.Tables.{reserved_labels, without_owner}
 use Rattle.memblock_model.specs.declared.owner.Owner.{Owner}
-use Rattle.stage_steps.specs.Nodes.{HasNodes}
+use Rattle.stage_steps.specs.Nodes.{IsMemoryWithNodes}
 use Rattle.memblock_frames.specs.Frames.{free_node_in, valid_node, node_of_frame, node_of_label}
 use Rattle.memblock_frames.specs.declared.frames.TheConstants.{MAX_NODES}
 use Rattle.buddy_blocks.specs.declared.run.TheConstants.{MAX_FRAMES}
@@ -30,9 +30,9 @@ use Rattle.conservation.proofs.ClaimedLaws.{covers_frame, frame_covers}
 
 -- what is known of a report: the bytes of memory are those of the usable frames, and each has a
 -- node
-pub record IsTold (given : InputsView) (t : BootedView) : Type 0 where
+pub record HasUsableMemory (given : InputsView) (t : BootedView) : Type 0 where
   pub memory : (x : ℕ) → is_some (memory_of t.items x) ≡ is_usable_frame (types_in_reach given) (x / 4096)
-  pub noded : HasNodes (reach given) (memory_of t.items)
+  pub noded : IsMemoryWithNodes (reach given) (memory_of t.items)
   pub free : t.free ≡ handover_frames t.items
   pub after : t.after ≡ page_state_after t.lists (first_page_state t.free) given.page_lines
 
@@ -60,7 +60,7 @@ some_label (Some label) is = (label, refl)
 abbrev pub alone : ℕ → ℕ → Block
 alone frame node = record { order = 0; first = frame; node = node; zone = zone_of frame }
 
-module _ (given : InputsView) (t : BootedView) (known : IsTold given t) where
+module _ (given : InputsView) (t : BootedView) (known : HasUsableMemory given t) where
   -- the bytes of a usable frame are memory
   held : (frame x : ℕ) → IsUsable given frame → covers (bytes_of_frame frame) x ≡ true → is_some (memory_of t.items x) ≡ true
   held frame x usable inside =
@@ -79,9 +79,9 @@ module _ (given : InputsView) (t : BootedView) (known : IsTold given t) where
       ap valid_node one.1 ∙ rw low (sym one.1)
 
   -- a frame that is reported as free is usable, and no claim touches it
-  pub told_is_free : (b : Block) (frame : ℕ) → t.free frame ≡ Some b.node → zone_of frame ≡ b.zone → IsFreeFor given t.items b frame
+  pub reported_frame_is_free : (b : Block) (frame : ℕ) → t.free frame ≡ Some b.node → zone_of frame ≡ b.zone → IsFreeFor given t.items b frame
   unfolding free_node_in
-  told_is_free b frame told zone =
+  reported_frame_is_free b frame told zone =
       let both : ℕ → Bool = λ x. is_some (memory_of t.items x) && is_none (reserved_labels (owner_of t.items) x) in
       let parts = if_some (each_in (bytes_of_frame frame) both) (node_of_frame (memory_of t.items) frame) b.node
       (ap (λ (f : Frames). f frame) (sym known.free) ∙ told) in
@@ -99,9 +99,9 @@ module _ (given : InputsView) (t : BootedView) (known : IsTold given t) where
       }
 
   -- a frame that is usable and untouched is reported as free
-  pub free_is_told : (b : Block) (frame : ℕ) → IsFreeFor given t.items b frame → t.free frame ≡ Some b.node
+  pub free_frame_is_reported : (b : Block) (frame : ℕ) → IsFreeFor given t.items b frame → t.free frame ≡ Some b.node
   unfolding free_node_in
-  free_is_told b frame free =
+  free_frame_is_reported b frame free =
       let both : ℕ → Bool = λ x. is_some (memory_of t.items x) && is_none (reserved_labels (owner_of t.items) x) in
       let each = each_in-all (bytes_of_frame frame) both (λ x above below.
       (let inside = frame_covers frame x above below in
@@ -116,7 +116,7 @@ module _ (given : InputsView) (t : BootedView) (known : IsTold given t) where
       let there = some_label (memory_of t.items (4096 * frame)) (held frame (4096 * frame) usable (first_byte frame)) in
       let one = known.noded.nodes (4096 * frame) there.0 there.1 in (
         one.0,
-        free_is_told (alone frame one.0) frame (record {
+        free_frame_is_reported (alone frame one.0) frame (record {
           usable = usable;
           untouched = untouched;
           node = λ x inside. ap (λ o. node_of_tag (tag_for o)) (same_labels frame x inside ∙ there.1) ∙ one.1;
@@ -125,7 +125,7 @@ module _ (given : InputsView) (t : BootedView) (known : IsTold given t) where
       )
 
   -- no frame at or above the greatest number that a list of frames may have is reported as free
-  pub told_below : NothingFrom MAX_FRAMES t.free
+  pub told_below : IsEmptyFrom MAX_FRAMES t.free
   unfolding free_node_in
   told_below frame far =
       let small = reach-small given in

@@ -1,40 +1,40 @@
 -- The four facts: what a boot that isn't stopped makes of each frame.
 use Rattle.std.proofs.Common.{◌≡◌, ℕ, Option, Some, None, Ok, refl, subst, inl, inr}
-use Rattle.address_runs.specs.Edits.{NothingFrom}
+use Rattle.address_runs.specs.Edits.{IsEmptyFrom}
 use Rattle.buddy_blocks.specs.declared.run.TheConstants.{MAX_FRAMES}
 use Rattle.buddy_blocks.proofs.BlockLaws.{listed_sound}
 use Rattle.boot_model.specs.Boot.{InputsView, BootedView, whole_boot}
-use Rattle.boot_model.proofs.MemoryLaws.{memory_told}
+use Rattle.boot_model.proofs.MemoryLaws.{booted_memory_is_usable}
 use Rattle.boot_model.proofs.NodedLaws.{noded_told}
 use Rattle.conservation.specs.RecordedClaims.{IsTouched}
 use Rattle.conservation.specs.Headline.{BlocksAreMaximal, AllTouchedOrInOneBlock, BlocksAreWhole, IsTouchedOrInOneBlock, NoOtherInABlock, block_with_buddy}
 use Rattle.conservation.proofs.ClaimedLaws.{touched_apart, touched_or_not}
 use Rattle.conservation.proofs.CountLaws.{in_block, in_buddies, no_block_with, one_block_with, free_with_block}
 use Rattle.conservation.proofs.ToldLaws.{is_told_of}
-use Rattle.conservation.proofs.FreeLaws.{IsTold, alone, free_is_told, free_of_some, told_below, told_is_free}
+use Rattle.conservation.proofs.FreeLaws.{HasUsableMemory, alone, free_frame_is_reported, free_of_some, told_below, reported_frame_is_free}
 
-pub is_told : (given : InputsView) (t : BootedView) → whole_boot given ≡ Ok t → IsTold given t
+pub is_told : (given : InputsView) (t : BootedView) → whole_boot given ≡ Ok t → HasUsableMemory given t
 is_told given t ends =
     let of = is_told_of given t ends in
-    subst (λ (u : BootedView). IsTold given u) of.tells (record {
-      memory = λ x. memory_told given of.made x of.boots;
+    subst (λ (u : BootedView). HasUsableMemory given u) of.tells (record {
+      memory = λ x. booted_memory_is_usable given of.made x of.boots;
       noded = noded_told given of.made of.boots;
       free = refl;
       after = refl;
     })
 
 module _ (given : InputsView) (t : BootedView) (ends : whole_boot given ≡ Ok t) where
-  known : IsTold given t
+  known : HasUsableMemory given t
   known = is_told given t ends
 
-  pub below : NothingFrom MAX_FRAMES t.free
+  pub below : IsEmptyFrom MAX_FRAMES t.free
   below = told_below given t known
 
   -- a touched frame isn't free
   not_free : (frame : ℕ) (o : Option ℕ) → IsTouched t.items frame → t.free frame ≡ o → t.free frame ≡ None
   not_free frame None touched is = is
   not_free frame (Some node) touched is =
-      absurd (touched_apart t.items frame touched (told_is_free given t known (alone frame node) frame is refl).untouched)
+      absurd (touched_apart t.items frame touched (reported_frame_is_free given t known (alone frame node) frame is refl).untouched)
 
   pub all_touched_or_in_one : AllTouchedOrInOneBlock given t
   all_touched_or_in_one frame usable = elim (touched_or_not t.items frame) as (λ _. IsTouchedOrInOneBlock t frame) [
@@ -47,7 +47,7 @@ module _ (given : InputsView) (t : BootedView) (ends : whole_boot given ≡ Ok t
   pub no_other_in_a_block : NoOtherInABlock given t
   no_other_in_a_block frame some =
       let free = free_with_block t.free frame some in
-      let is = told_is_free given t known (alone frame free.0) frame free.1 refl in
+      let is = reported_frame_is_free given t known (alone frame free.0) frame free.1 refl in
       (is.usable, is.untouched)
 
   pub blocks_whole : BlocksAreWhole given t
@@ -58,11 +58,11 @@ module _ (given : InputsView) (t : BootedView) (ends : whole_boot given ≡ Ok t
         aligned = block.aligned;
         frames = λ frame inside.
             (let good = block.good frame (in_block b frame block.aligned inside) in
-            told_is_free given t known b frame good.0 good.1);
+            reported_frame_is_free given t known b frame good.0 good.1);
       }
 
   pub blocks_maximal : BlocksAreMaximal given t
   blocks_maximal b listed less all =
       (listed_sound t.free b listed).whole less (λ frame same.
       (let is = all frame (in_buddies b frame same) in
-      (free_is_told given t known (block_with_buddy b) frame is, is.zone)))
+      (free_frame_is_reported given t known (block_with_buddy b) frame is, is.zone)))

@@ -5,7 +5,7 @@ use Rattle.bm_base.specs.Frames.{bytes_of_frame}
 use Rattle.bm_base.proofs.EachLaws.{each_in-all, each_in-each}
 use Rattle.e820_model.specs.Map.{kinds}
 use Rattle.boot_model.specs.Boot.{InputsView, BootedView, claims, lies_in_memory, reach, booted_address_limit, whole_boot, types_in_reach}
-use Rattle.e820_model.proofs.UsableLaws.{memory_reached, usable_each}
+use Rattle.e820_model.proofs.UsableLaws.{memory_reached, is_usable_frame-each}
 use Rattle.boot_model.proofs.BootLaws.{usable_lies}
 use Rattle.conservation.specs.ByMap.{IsUsableByMap}
 use Rattle.conservation.specs.Headline.{IsUsable}
@@ -16,7 +16,7 @@ use Rattle.conservation.proofs.ToldLaws.{is_told_of}
 in_reach : (given : InputsView) (frame : ℕ) → IsUsable given frame → 4096 * frame + 4096 ≤ reach given
 in_reach given frame usable =
     let x : ℕ = 4096 * frame + 4095 in
-    let last = usable_each (types_in_reach given) frame usable x (omega arith) (omega arith) in
+    let last = is_usable_frame-each (types_in_reach given) frame usable x (omega arith) (omega arith) in
     let both = sym (memory_reached (reach given) (kinds (claims given)) x) ∙ last in
     grind (arith, nat_tests, both)
 

@@ -5,7 +5,7 @@ use Rattle.std.proofs.lemmas.Option.{same_Some}
 use Rattle.bm_base.specs.Range.{RangeView, covers}
 use Rattle.bm_base.specs.Each.{each_from, each_in}
 use Rattle.address_runs.specs.Runs.{RunOf, value_at, AreRuns}
-use Rattle.address_runs.specs.Edits.{NothingFrom}
+use Rattle.address_runs.specs.Edits.{IsEmptyFrom}
 use Rattle.address_runs.proofs.RunsLaws.{behind}
 use Rattle.memblock_model.specs.declared.item.Item.{Item}
 use Rattle.memblock_model.specs.declared.item.Item.TheVariants as item
@@ -43,7 +43,7 @@ are_runs = (
   ),
 )
 
-nothing_behind : NothingFrom (2 ^ 64) (value_at two_nodes)
+nothing_behind : IsEmptyFrom (2 ^ 64) (value_at two_nodes)
 nothing_behind x le =
     rw (
       behind (record { base = 0x1000; size = 0x9F000; value = plain_label }) x (omega arith),

@@ -4,7 +4,7 @@ use Rattle.std.proofs.lemmas.Bool.{cases_Bool, cases_lt}
 use Rattle.std.proofs.lemmas.Bool.Decides.{nat_tests}
 use Rattle.std.proofs.lemmas.List.Sums.{sum_by-cons}
 use Rattle.address_runs.specs.Runs.{RunOf, run_end, lies_in, value_at, AreRuns}
-use Rattle.address_runs.specs.Edits.{NothingFrom}
+use Rattle.address_runs.specs.Edits.{IsEmptyFrom}
 use Rattle.address_runs.specs.Sweep.{StartAtOrPast}
 use Rattle.address_runs.proofs.RunsLaws.{inside, behind, none_below, rest_from, start_zero}
 use Rattle.e820_model.specs.Usable.{count_below}
@@ -35,7 +35,7 @@ module _ {X : Type 0} where
   sizes-before i rs d runs lt = let from = sizes_below 0 i rs d (start_zero rs) runs lt in omega (arith, from)
 
   -- runs below an address end there at most
-  ends_by : (n : ℕ) (r : RunOf X) (rs : List (RunOf X)) → 0 < r.size → NothingFrom n (value_at (r ∷ rs)) → run_end r ≤ n
+  ends_by : (n : ℕ) (r : RunOf X) (rs : List (RunOf X)) → 0 < r.size → IsEmptyFrom n (value_at (r ∷ rs)) → run_end r ≤ n
   ends_by n r rs some none = elim (cases_lt n (run_end r)) as (λ _. run_end r ≤ n) [
     | inl past ↦
         let last : ℕ = run_end r - 1 in
@@ -44,7 +44,7 @@ module _ {X : Type 0} where
     | inr within ↦ within
   ]
 
-  rest_by : (n : ℕ) (r : RunOf X) (rs : List (RunOf X)) → run_end r ≤ n → NothingFrom n (value_at (r ∷ rs)) → NothingFrom n (value_at rs)
+  rest_by : (n : ℕ) (r : RunOf X) (rs : List (RunOf X)) → run_end r ≤ n → IsEmptyFrom n (value_at (r ∷ rs)) → IsEmptyFrom n (value_at rs)
   rest_by n r rs ends none x le = rw (behind r x (omega arith)) at (none x le)
 
   -- an address in the first run is in no other
@@ -59,7 +59,7 @@ module _ {X : Type 0} where
       [ inl here ↦ rw here refl | inr other ↦ rw other refl ]
 
   -- so the number of addresses with a value is the sum of the sizes
-  pub sizes-count : (n : ℕ) (rs : List (RunOf X)) → AreRuns rs → NothingFrom n (value_at rs)
+  pub sizes-count : (n : ℕ) (rs : List (RunOf X)) → AreRuns rs → IsEmptyFrom n (value_at rs)
       → count_below (λ x. is_some (value_at rs x)) n ≡ sizes rs
   sizes-count n [] runs none = count_none (λ x. false) n (λ i lt. refl)
   sizes-count n (r ∷ rs) runs none =
@@ -70,12 +70,12 @@ module _ {X : Type 0} where
       ∙ count_either (lies_in r) (λ x. is_some (value_at rs x)) n (λ i lt lies. first_alone r rs i runs lies)
       ∙ omega (arith, rest, first, ends, sum_by-cons (λ (s : RunOf X). s.size) r rs)
 
-pub runs-bytes : (rs : List (RunOf LabelView)) → AreRuns rs → NothingFrom (2 ^ 64) (value_at rs) → memory_bytes (value_at rs) ≡ sizes rs
+pub runs-bytes : (rs : List (RunOf LabelView)) → AreRuns rs → IsEmptyFrom (2 ^ 64) (value_at rs) → memory_bytes (value_at rs) ≡ sizes rs
 unfolding memory_bytes
 runs-bytes rs runs none = sizes-count (2 ^ 64) rs runs none
 
 -- the records of the memory table give each address what the items give it
-pub records-bytes : (items : List Item) (rs : List (RunOf LabelView)) → NothingFrom (2 ^ 64) (memory_of items)
+pub records-bytes : (items : List Item) (rs : List (RunOf LabelView)) → IsEmptyFrom (2 ^ 64) (memory_of items)
     → rs ≡ records_of which.Memory items → memory_bytes (value_at rs) ≡ memory_bytes (memory_of items)
 unfolding records_of
 records-bytes items rs none is =

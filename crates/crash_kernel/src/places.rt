@@ -3,7 +3,7 @@
 //! allocates, so it can't run out of memory.
 
 ghost use Rattle.std.specs.Prelude.{◌≡◌, ℕ, ◌+◌, ◌^◌, ◌<◌, ◌≤◌, IfSome};
-ghost use Rattle.growth_model.specs.Tables.{HasBegun, TouchesNoTable};
+ghost use Rattle.growth_model.specs.Tables.{HasFirstItem, OverlapsNoTable};
 ghost use Rattle.crash_kernel.specs.Places.{best_range, fixed_range, low_range, main_range, needs_low_part, search_failure};
 
 use crate::crash::Crash;
@@ -27,13 +27,13 @@ const CRASH_ADDR_HIGH_MAX: u64 = 1 << 46;
 /// Returns the range for the crash area, or `None` if no free range fits the request.
 #[tactic(auto, unfolding(crate::specs::Places::main_range))]
 pub fn main_range(memblock: &Memblock, area: &AreaRequest) -> Option<Range>
-    requires begun { HasBegun memblock.now.journal.items }
+    requires begun { HasFirstItem memblock.now.journal.items }
     requires some { 0 < area.now.size }
     ensures range { result
         ≡ main_range area.now.size area.now.placement memblock.now.journal.items }
     ensures some { IfSome result (λ range. 0 < range.size) }
     ensures away { IfSome result (λ range.
-        TouchesNoTable memblock.now.kernel range memblock.now.journal.items) }
+        OverlapsNoTable memblock.now.kernel range memblock.now.journal.items) }
 {
     let size = area.size;
     match area.placement {
@@ -66,7 +66,7 @@ pub fn needs_low_part(main: &Range, low: u64) -> bool
 /// Returns the range for the low part, or `None` if no free range below 4 GiB fits.
 #[tactic(auto, unfolding(crate::specs::Places::low_range))]
 pub fn low_range(memblock: &Memblock, size: u64) -> Option<Range>
-    requires begun { HasBegun memblock.now.journal.items }
+    requires begun { HasFirstItem memblock.now.journal.items }
     requires some { 0 < size }
     ensures range { result ≡ low_range size memblock.now.journal.items }
     ensures some { IfSome result (λ range. 0 < range.size) }
@@ -77,12 +77,12 @@ pub fn low_range(memblock: &Memblock, size: u64) -> Option<Range>
 /// Returns the free range of `size` bytes that memblock picks between the addresses `lo` and `hi`,
 /// on any node and aligned to 16 MiB, or `None` if no free range fits.
 fn best_range(memblock: &Memblock, size: u64, lo: u64, hi: u64) -> Option<Range>
-    requires begun { HasBegun memblock.now.journal.items }
+    requires begun { HasFirstItem memblock.now.journal.items }
     requires some { 0 < size }
     ensures range { result ≡ best_range size lo hi memblock.now.journal.items }
     ensures some { IfSome result (λ range. 0 < range.size) }
     ensures away { IfSome result (λ range.
-        TouchesNoTable memblock.now.kernel range memblock.now.journal.items) }
+        OverlapsNoTable memblock.now.kernel range memblock.now.journal.items) }
 {
     let query = Query {
         lo,
@@ -98,12 +98,12 @@ fn best_range(memblock: &Memblock, size: u64, lo: u64, hi: u64) -> Option<Range>
 /// Returns the range of `size` bytes at `base`, or `None` if `base` isn't a multiple of 1 MiB or
 /// the range isn't free.
 fn fixed_range(memblock: &Memblock, base: u64, size: u64) -> Option<Range>
-    requires begun { HasBegun memblock.now.journal.items }
+    requires begun { HasFirstItem memblock.now.journal.items }
     requires some { 0 < size }
     ensures range { result ≡ fixed_range base size memblock.now.journal.items }
     ensures some { IfSome result (λ range. 0 < range.size) }
     ensures away { IfSome result (λ range.
-        TouchesNoTable memblock.now.kernel range memblock.now.journal.items) }
+        OverlapsNoTable memblock.now.kernel range memblock.now.journal.items) }
 {
     if base % SZ_1M != 0 {
         return None;

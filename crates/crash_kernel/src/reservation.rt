@@ -1,7 +1,7 @@
 //! Claims the crash area and its low part, or frees the area again if the low part doesn't fit.
 
 ghost use Rattle.std.specs.Prelude.{◌≡◌, ◌≢◌, ◌<◌, IfErr, Ok};
-ghost use Rattle.growth_model.specs.Tables.{HasBegun, TouchesNoTable};
+ghost use Rattle.growth_model.specs.Tables.{HasFirstItem, OverlapsNoTable};
 ghost use Rattle.growth_model.specs.declared.refusal.Refusal.TheVariants as refusals;
 ghost use Rattle.stage_steps.specs.Causes.{refusal_for};
 ghost use Rattle.stage_steps.specs.Steps.{EndsAsStage, return_value};
@@ -35,7 +35,7 @@ const DEFAULT_LOW_SIZE: u64 = 1 << 28;
 /// - `NoGapForTable` if a table has to grow for a claim or a free and finds no place.
 /// - `Memory` if this program is out of memory.
 pub fn reserve(memblock: &mut Memblock, option: &CrashOption) -> Result<Crash, Refusal>
-    requires begun { HasBegun memblock.old.journal.items }
+    requires begun { HasFirstItem memblock.old.journal.items }
     ensures ends { EndsAsStage
         (reserve_crash_area (crash_option_view option.now)) refusal_for result
         memblock.old.journal.items memblock.new.journal.items }
@@ -64,9 +64,9 @@ pub fn reserve(memblock: &mut Memblock, option: &CrashOption) -> Result<Crash, R
 /// Reserves a low part of `size` bytes for the area `main`, which is claimed already. If no low
 /// part fits, frees the area again (`reserve_crashkernel_low`).
 fn reserve_low_part(memblock: &mut Memblock, main: Range, size: u64) -> Result<Crash, Refusal>
-    requires begun { HasBegun memblock.old.journal.items }
+    requires begun { HasFirstItem memblock.old.journal.items }
     requires main { 0 < main.size }
-    requires away { TouchesNoTable memblock.old.kernel main memblock.old.journal.items }
+    requires away { OverlapsNoTable memblock.old.kernel main memblock.old.journal.items }
     requires some { 0 < size }
     ensures ends { EndsAsStage (reserve_low_part main size) refusal_for result
         memblock.old.journal.items memblock.new.journal.items }

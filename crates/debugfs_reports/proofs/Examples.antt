@@ -11,7 +11,7 @@ use Rattle.crash_kernel.specs.declared.crash.Crash.TheVariants as crash
 use Rattle.buddy_blocks.specs.Frames.{Frames}
 use Rattle.bm_base.specs.declared.width.Width.TheVariants.{Bits46}
 use Rattle.page_alloc.specs.Pages.{first_page_state}
-use Rattle.slit_zonelists.specs.Lists.{ListsView, zonelists_from_slit}
+use Rattle.slit_zonelists.specs.Lists.{ZoneListsView, zonelists_from_slit}
 use Rattle.boot_model.specs.Boot.{BootedView, no_nodes}
 use Rattle.boot_model.specs.Sections.{no_sections}
 use Rattle.debugfs_reports.specs.declared.report.Report.TheVariants as reports
@@ -32,7 +32,7 @@ abbrev no_frames : Frames
 no_frames frame = None
 
 -- no table of distances, and no zones
-abbrev no_lists : ListsView
+abbrev no_lists : ZoneListsView
 no_lists = zonelists_from_slit None [] []
 
 nothing : BootedView

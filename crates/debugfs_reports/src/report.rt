@@ -110,7 +110,7 @@ const REPORTS: [Report; 18] = [
 ];
 
 /// Tests whether this is the name of the report.
-fn is_named(report: Report, name: &[u8]) -> bool
+fn report_has_name(report: Report, name: &[u8]) -> bool
     ensures { result ≡ bytes_eq name.now (report_name report) }
 {
     name == report.name().as_bytes()
@@ -122,7 +122,7 @@ pub fn report_named(name: &[u8]) -> Option<Report>
 {
     let mut rest: &[Report] = &REPORTS;
     while let [report, others @ ..] = rest {
-        if is_named(*report, name) {
+        if report_has_name(*report, name) {
             return Some(*report);
         }
         rest = others;

@@ -1,7 +1,7 @@
 -- Worked examples: small maps, from their entries.
 use Rattle.std.proofs.Common.{◌≡◌, ℕ, ◌^◌, ◌<◌, ◌+◌, ◌==◌, Bool, true, false, ◌&&◌, ◌||◌, nat_lt, List, [], ◌∷◌, refl, arith}
 use Rattle.std.proofs.lemmas.Bool.Decides.{nat_tests}
-use Rattle.e820_model.specs.Claims.{Claims, no_claims, is_covered_by, EntriesFit, type_of, settled_claims, with_claims, claims_of_entries, after_edit, HasTypes, after_edits, after_bios_trim, zero_page_claims, with_extension, final_claims}
+use Rattle.e820_model.specs.Claims.{Claims, no_claims, is_covered_by, EntriesFit, type_of, settled_claims, union_of_claims, claims_of_entries, after_edit, HasTypes, after_edits, after_bios_trim, zero_page_claims, with_extension, final_claims}
 use Rattle.e820_model.specs.declared.entry.Entry.{Entry}
 use Rattle.e820_model.specs.declared.entry.Edit.{Edit}
 use Rattle.e820_model.specs.declared.entry.Edit.TheVariants as edit
@@ -12,7 +12,8 @@ use Rattle.e820_model.proofs.ClaimLaws.{greatest_is}
 abbrev ram_and_acpi : List Entry
 ram_and_acpi = record { addr = 0x100000; size = 0x80000; kind = 3 } ∷ (record { addr = 0; size = 0x200000; kind = 1 } ∷ [])
 
--- an entry covers its first and last byte but not the next; an entry may end at 2^64 - 1 but not above
+-- an entry covers its first and last byte but not the next; an entry may end at 2^64 - 1 but not
+-- above
 covered_examples : (is_covered_by (record { addr = 0x1000; size = 0x1000; kind = 1 }) 0x1000 ≡ true)
     × (is_covered_by (record { addr = 0x1000; size = 0x1000; kind = 1 }) 0x1FFF ≡ true)
     × (is_covered_by (record { addr = 0x1000; size = 0x1000; kind = 1 }) 0xFFF ≡ false)
@@ -23,7 +24,8 @@ ends_at_the_end : EntriesFit (record { addr = 0xFFFFFFFFFFFFF000; size = 0xFFF; 
     × (¬ EntriesFit (record { addr = 0xFFFFFFFFFFFFF000; size = 0x1000; kind = 2 } ∷ []))
 ends_at_the_end = ((omega arith, tt), λ ends. let small : 0xFFFFFFFFFFFFF000 + 0x1000 < 2 ^ 64 = ends.0 in absurd (omega arith))
 
--- both entries claim address 1 MiB, neither claims 2 MiB; an empty entry and an entry of type 0 claim nothing
+-- both entries claim address 1 MiB, neither claims 2 MiB; an empty entry and an entry of type 0
+-- claim nothing
 claims_examples : (claims_of_entries ram_and_acpi 0x100000 1 ≡ true) × (claims_of_entries ram_and_acpi 0x100000 3 ≡ true)
     × (claims_of_entries ram_and_acpi 0x200000 1 ≡ false)
     × (claims_of_entries (record { addr = 0x1000; size = 0; kind = 1 } ∷ []) 0x1000 1 ≡ false)
@@ -82,15 +84,17 @@ change_examples : (after_edit (edit.Change (record { base = 0; size = 0x200000 }
     × (after_edit (edit.Change (record { base = 0; size = 0x200000 }) 1 4) (claims_of_entries ram_and_acpi) 0x100000 3 ≡ true)
 change_examples = (refl, refl, refl)
 
--- the trim reserves the first page but not the second, and removes RAM from 640 KiB up but not below
+-- the trim reserves the first page but not the second, and removes RAM from 640 KiB up but not
+-- below
 trim_examples : (after_bios_trim (claims_of_entries ram_and_acpi) 0xFFF 2 ≡ true)
     × (after_bios_trim (claims_of_entries ram_and_acpi) 0x1000 1 ≡ true)
     × (after_bios_trim (claims_of_entries ram_and_acpi) 0xA0000 1 ≡ false)
     × (after_bios_trim (claims_of_entries ram_and_acpi) 0x9FFFF 1 ≡ true)
 trim_examples = (refl, refl, refl, refl)
 
--- all steps: RAM below 2 MiB with ACPI data in it; an extension with a page of ACPI NVS at 1.5 MiB; `memmap=516K$1M`, which reserves the
--- ACPI data and one more page; and an EFI map with RAM below 2 MiB and ACPI data in the page at 0x190000
+-- all steps: RAM below 2 MiB with ACPI data in it; an extension with a page of ACPI NVS at 1.5 MiB;
+-- `memmap=516K$1M`, which reserves the ACPI data and one more page; and an EFI map with RAM below 2
+-- MiB and ACPI data in the page at 0x190000
 abbrev extension : List Entry
 extension = record { addr = 0x180000; size = 0x1000; kind = 4 } ∷ []
 
@@ -113,15 +117,15 @@ alone t k = nat_lt 0 k && k == t
 extended : (x t u : ℕ) → type_of (claims_of_entries ram_and_acpi) x ≡ t → u < 2 ^ 32
     → (0 < u → (alone t u || claims_of_entries extension x u) ≡ true)
     → ((k : ℕ) → u < k → k < 2 ^ 32 → (alone t k || claims_of_entries extension x k) ≡ false)
-    → type_of (with_claims first_claims (claims_of_entries extension)) x ≡ u
+    → type_of (union_of_claims first_claims (claims_of_entries extension)) x ≡ u
 extended x t u known small is_in none =
-    greatest_is (with_claims first_claims (claims_of_entries extension) x) u small (λ some. rw known (is_in some))
+    greatest_is (union_of_claims first_claims (claims_of_entries extension) x) u small (λ some. rw known (is_in some))
     (λ k higher below. rw known (none k higher below))
 
 abbrev third_claims : Claims
-third_claims = with_claims (after_edits edits second_claims) (claims_of_entries efi)
+third_claims = union_of_claims (after_edits edits second_claims) (claims_of_entries efi)
 
-changed : (x t u : ℕ) → type_of (with_claims first_claims (claims_of_entries extension)) x ≡ t → u < 2 ^ 32
+changed : (x t u : ℕ) → type_of (union_of_claims first_claims (claims_of_entries extension)) x ≡ t → u < 2 ^ 32
     → (0 < u → (after_edit (edit.Add (record { base = 0x100000; size = 0x81000 }) 2) (λ y. alone t) x u || claims_of_entries efi x u)
     ≡ true)
     → ((k : ℕ) → u < k → k < 2 ^ 32
@@ -131,7 +135,7 @@ changed x t u known small is_in none =
     greatest_is (third_claims x) u small (λ some. rw known (is_in some)) (λ k higher below. rw known (none k higher below))
 
 -- at 1.5 MiB the extension's type is greater than RAM, and then greater than the option's
-nvs_with_extension : type_of (with_claims first_claims (claims_of_entries extension)) 0x180000 ≡ 4
+nvs_with_extension : type_of (union_of_claims first_claims (claims_of_entries extension)) 0x180000 ≡ 4
 nvs_with_extension =
     let ram : type_of (claims_of_entries ram_and_acpi) 0x180000 ≡ 1 =
     greatest_is (claims_of_entries ram_and_acpi 0x180000) 1 (omega arith) (λ some. refl) (λ k higher small. grind (arith, nat_tests)) in
@@ -147,7 +151,7 @@ nvs_in_the_map : final_claims ram_and_acpi extension edits efi 0x180000 4 ≡ tr
 nvs_in_the_map = rw nvs_stays refl
 
 -- what the EFI map calls ACPI data was RAM before
-ram_before : type_of (with_claims first_claims (claims_of_entries extension)) 0x190000 ≡ 1
+ram_before : type_of (union_of_claims first_claims (claims_of_entries extension)) 0x190000 ≡ 1
 ram_before =
     let ram : type_of (claims_of_entries ram_and_acpi) 0x190000 ≡ 1 =
     greatest_is (claims_of_entries ram_and_acpi 0x190000) 1 (omega arith) (λ some. refl) (λ k higher small. grind (arith, nat_tests)) in
@@ -160,21 +164,23 @@ efi_wins =
     changed 0x190000 1 3 ram_before (omega arith) (λ some. refl) (λ k higher small. grind (arith, nat_tests)) in
     (rw acpi refl, rw acpi refl)
 
--- the EFI map is added after the edits: `memmap=exactmap` clears the firmware's table, but not the EFI map
+-- the EFI map is added after the edits: `memmap=exactmap` clears the firmware's table, but not the
+-- EFI map
 behind_the_edits : (entries more : List Entry) → final_claims entries more (edit.Clear ∷ []) efi 0x190000 3 ≡ true
 behind_the_edits entries more =
-    let acpi : type_of (with_claims no_claims (claims_of_entries efi)) 0x190000 ≡ 3 =
-    greatest_is (with_claims no_claims (claims_of_entries efi) 0x190000) 3 (omega arith) (λ some. refl)
+    let acpi : type_of (union_of_claims no_claims (claims_of_entries efi)) 0x190000 ≡ 3 =
+    greatest_is (union_of_claims no_claims (claims_of_entries efi) 0x190000) 3 (omega arith) (λ some. refl)
     (λ k higher small. grind (arith, nat_tests)) in
     rw acpi refl
 
--- before the trim the first byte and 640 KiB are RAM; after it the first byte is reserved and 640 KiB is nothing
+-- before the trim the first byte and 640 KiB are RAM; after it the first byte is reserved and 640
+-- KiB is nothing
 ram_until_the_trim : (x : ℕ) → x < 0x100000 → type_of third_claims x ≡ 1
 ram_until_the_trim x low =
     let ram : type_of (claims_of_entries ram_and_acpi) x ≡ 1 =
     greatest_is (claims_of_entries ram_and_acpi x) 1 (omega arith) (λ some. grind (arith, nat_tests))
     (λ k higher small. grind (arith, nat_tests)) in
-    let still : type_of (with_claims first_claims (claims_of_entries extension)) x ≡ 1 =
+    let still : type_of (union_of_claims first_claims (claims_of_entries extension)) x ≡ 1 =
     extended x 1 1 ram (omega arith) (λ some. grind (arith, nat_tests)) (λ k higher small. grind (arith, nat_tests)) in
     changed x 1 1 still (omega arith) (λ some. grind (arith, nat_tests)) (λ k higher small. grind (arith, nat_tests))
 

@@ -5,9 +5,9 @@ use Rattle.std.proofs.lemmas.Bool.Decides.{nat_tests}
 use Rattle.std.proofs.lemmas.Bool.{cases_lt, cases_Bool}
 use Rattle.std.proofs.Math.Bool.{or_assoc}
 use Rattle.address_runs.specs.Runs.{RunOf, DecidesEquality, run_end, lies_in, value_at, AreRuns, IsRunsOf}
-use Rattle.address_runs.proofs.RunsLaws.{inside, behind, none_below, rest_from, by_address, one_list}
-use Rattle.e820_model.specs.Claims.{Types, Claims, greatest_below, greatest_type, type_of, settled_claims, with_claims, claims_of_entries, after_edits, zero_page_claims, with_extension, after_bios_trim, final_claims}
-use Rattle.e820_model.specs.Map.{some_kind, kinds, same_kind, map_of, claims_of, AreClaims}
+use Rattle.address_runs.proofs.RunsLaws.{inside, behind, none_below, rest_from, runs_of_are_runs, runs_of_function_are_equal}
+use Rattle.e820_model.specs.Claims.{Types, Claims, greatest_below, greatest_type, type_of, settled_claims, union_of_claims, claims_of_entries, after_edits, zero_page_claims, with_extension, after_bios_trim, final_claims}
+use Rattle.e820_model.specs.Map.{type_unless_zero, kinds, same_kind, map_of, claims_of, AreValidClaims}
 use Rattle.e820_model.specs.declared.entry.Entry.{Entry}
 use Rattle.e820_model.specs.declared.entry.Edit.{Edit}
 
@@ -121,7 +121,7 @@ bios_trimmed_one c x j k one at_j at_k =
 pub finished_one : (entries extension : List Entry) (edits : List Edit) (added : List Entry) (x j k : ℕ)
     → final_claims entries extension edits added x j ≡ true → final_claims entries extension edits added x k ≡ true → j ≡ k
 finished_one entries extension edits added x j k at_j at_k =
-    let before : Claims = with_claims (after_edits edits (with_extension extension (zero_page_claims entries))) (claims_of_entries added) in
+    let before : Claims = union_of_claims (after_edits edits (with_extension extension (zero_page_claims entries))) (claims_of_entries added) in
     bios_trimmed_one (settled_claims before) x j k (settled_one before x) at_j at_k
 
 -- if no entries are added, the claims are those of the edits
@@ -130,7 +130,7 @@ pub none_added : (entries extension : List Entry) (edits : List Edit)
     ≡ after_bios_trim (settled_claims (after_edits edits (with_extension extension (zero_page_claims entries))))
 none_added entries extension edits =
     let before : Claims = after_edits edits (with_extension extension (zero_page_claims entries)) in
-    let same : with_claims before (claims_of_entries []) ≡ before = λ i x k. or-false (before x k) i in
+    let same : union_of_claims before (claims_of_entries []) ≡ before = λ i x k. or-false (before x k) i in
     ap (λ (c : Claims). after_bios_trim (settled_claims c)) same
 
 -- lists of runs read as claims
@@ -163,7 +163,7 @@ top [] x = 0
 top (r ∷ rs) x = max (if lies_in r x then r.value else 0) (top rs x)
 
 -- the type of an address is the greatest type of the runs that contain it
-top_small : (rs : List (RunOf ℕ)) (x : ℕ) → AreClaims rs → top rs x < 2 ^ 32
+top_small : (rs : List (RunOf ℕ)) (x : ℕ) → AreValidClaims rs → top rs x < 2 ^ 32
 top_small [] x claims = omega arith
 top_small (r ∷ rs) x claims =
     let rest : top rs x < 2 ^ 32 = top_small rs x claims.4 in
@@ -182,43 +182,43 @@ top_above (r ∷ rs) x k higher =
     let rest : claims_of rs x k ≡ false = top_above rs x k (omega arith) in
     rw rest (above_step (lies_in r x) r.value (top rs x) k higher)
 
-pub type_top : (rs : List (RunOf ℕ)) (x : ℕ) → AreClaims rs → type_of (claims_of rs) x ≡ top rs x
+pub type_top : (rs : List (RunOf ℕ)) (x : ℕ) → AreValidClaims rs → type_of (claims_of rs) x ≡ top rs x
 type_top rs x claims =
     greatest_is (claims_of rs x) (top rs x) (top_small rs x claims) (top_among rs x) (λ k higher small. top_above rs x k higher)
 
 -- the same at every address
-pub claims_append : (rs ss : List (RunOf ℕ)) → claims_of (rs ++ ss) ≡ with_claims (claims_of rs) (claims_of ss)
+pub claims_append : (rs ss : List (RunOf ℕ)) → claims_of (rs ++ ss) ≡ union_of_claims (claims_of rs) (claims_of ss)
 claims_append rs ss = λ i x k. claims_append_at rs ss x k i
 
-pub are_append : (rs ss : List (RunOf ℕ)) → AreClaims rs → AreClaims ss → AreClaims (rs ++ ss)
+pub are_append : (rs ss : List (RunOf ℕ)) → AreValidClaims rs → AreValidClaims ss → AreValidClaims (rs ++ ss)
 are_append [] ss first second = second
 are_append (r ∷ rs) ss first second = (first.0, first.1, first.2, first.3, are_append rs ss first.4 second)
 
 -- no run reaches 2^64 - 1, so nothing claims an address at or above it
-pub top_past : (rs : List (RunOf ℕ)) (x : ℕ) → AreClaims rs → 2 ^ 64 - 1 ≤ x → top rs x ≡ 0
+pub top_past : (rs : List (RunOf ℕ)) (x : ℕ) → AreValidClaims rs → 2 ^ 64 - 1 ≤ x → top rs x ≡ 0
 top_past [] x claims far = refl
 top_past (r ∷ rs) x claims far =
     let past : lies_in r x ≡ false = behind r x (omega arith) in
     rw (past, top_past rs x claims.4 far) (omega arith)
 
-pub none_past : (rs : List (RunOf ℕ)) (x : ℕ) → AreClaims rs → 2 ^ 64 - 1 ≤ x → kinds (claims_of rs) x ≡ None
+pub none_past : (rs : List (RunOf ℕ)) (x : ℕ) → AreValidClaims rs → 2 ^ 64 - 1 ≤ x → kinds (claims_of rs) x ≡ None
 none_past rs x claims far =
     let none : type_of (claims_of rs) x ≡ 0 = type_top rs x claims ∙ top_past rs x claims far in
     rw none refl
 
 -- the test of equal types decides equality
-pub tells_kinds : DecidesEquality same_kind
-tells_kinds = record { true_is_equal = λ a b h. grind (arith, nat_tests); equal_is_true = λ a b h. grind (arith, nat_tests) }
+pub same_kind_decides_equality : DecidesEquality same_kind
+same_kind_decides_equality = record { true_is_equal = λ a b h. grind (arith, nat_tests); equal_is_true = λ a b h. grind (arith, nat_tests) }
 
 -- claims that end below 2^64 have the runs of their types as their map
 pub map_runs : (c : Claims) → ((x : ℕ) → 2 ^ 64 ≤ x → kinds c x ≡ None) → IsRunsOf (kinds c) (map_of c)
 unfolding map_of
-map_runs c none = by_address same_kind tells_kinds (kinds c) none
+map_runs c none = runs_of_are_runs same_kind same_kind_decides_equality (kinds c) none
 
 -- and every list of these runs is that map
-pub map_unique : (rs runs : List (RunOf ℕ)) → AreClaims rs → IsRunsOf (kinds (claims_of rs)) runs → runs ≡ map_of (claims_of rs)
+pub map_unique : (rs runs : List (RunOf ℕ)) → AreValidClaims rs → IsRunsOf (kinds (claims_of rs)) runs → runs ≡ map_of (claims_of rs)
 map_unique rs runs claims known =
-    one_list (kinds (claims_of rs)) runs (map_of (claims_of rs)) known
+    runs_of_function_are_equal (kinds (claims_of rs)) runs (map_of (claims_of rs)) known
     (map_runs (claims_of rs) (λ x far. none_past rs x claims (omega arith)))
 
 -- canonical lists as claims
@@ -240,9 +240,9 @@ claims_value (r ∷ rs) x k runs =
       | inr not_here ↦ rw (not_here, rest) refl
     ]
 
-is_value_kind : (t k : ℕ) → is_value (some_kind t) k ≡ (nat_lt 0 k && k == t)
+is_value_kind : (t k : ℕ) → is_value (type_unless_zero t) k ≡ (nat_lt 0 k && k == t)
 is_value_kind t k =
-    elim (cases_Bool (t == 0)) as (λ _. is_value (some_kind t) k ≡ (nat_lt 0 k && k == t)) [
+    elim (cases_Bool (t == 0)) as (λ _. is_value (type_unless_zero t) k ≡ (nat_lt 0 k && k == t)) [
       | inl none ↦ rw none (grind (arith, nat_tests))
       | inr some ↦ rw some (grind (arith, nat_tests))
     ]
@@ -250,12 +250,12 @@ is_value_kind t k =
 settled_at : (c : Claims) (rs : List (RunOf ℕ)) (x k : ℕ) → IsRunsOf (kinds c) rs → claims_of rs x k ≡ settled_claims c x k
 settled_at c rs x k known = claims_value rs x k known.runs ∙ ap (λ v. is_value v k) (known.each x) ∙ is_value_kind (type_of c x) k
 
-kind_of : (t k : ℕ) → some_kind t ≡ Some k → t < 2 ^ 32 → (0 < k) × (k < 2 ^ 32)
+kind_of : (t k : ℕ) → type_unless_zero t ≡ Some k → t < 2 ^ 32 → (0 < k) × (k < 2 ^ 32)
 kind_of t k found small =
     elim (cases_Bool (t == 0)) as (λ _. (0 < k) × (k < 2 ^ 32)) [
-      | inl none ↦ let nothing : some_kind t ≡ None = rw none refl in absurd (cc (nothing, found))
+      | inl none ↦ let nothing : type_unless_zero t ≡ None = rw none refl in absurd (cc (nothing, found))
       | inr some ↦
-          let is : some_kind t ≡ Some t = rw some refl in
+          let is : type_unless_zero t ≡ Some t = rw some refl in
           let same : t ≡ k = cc (is, found) in
           let above : 0 < t = grind (arith, nat_tests) in
           (omega arith, omega arith)
@@ -281,7 +281,7 @@ kind_small c x k found =
 
 -- canonical lists whose values are types at addresses below 2^64 - 1
 types_claims : (rs : List (RunOf ℕ)) → AreRuns rs → ((x k : ℕ) → value_at rs x ≡ Some k → (x < 2 ^ 64 - 1) × (0 < k) × (k < 2 ^ 32))
-    → AreClaims rs
+    → AreValidClaims rs
 types_claims [] runs types = tt
 types_claims (r ∷ rs) runs types =
     let lies : lies_in r (r.base + r.size - 1) ≡ true = inside r (r.base + r.size - 1) (omega arith) (omega arith) in
@@ -292,7 +292,7 @@ types_claims (r ∷ rs) runs types =
     (runs.0, omega arith, known.1, known.2, types_claims rs runs.2 rest)
 
 -- the runs of a map that ends below 2^64 are claims again
-pub runs_claims : (c : Claims) (rs : List (RunOf ℕ)) → IsRunsOf (kinds c) rs → ((x : ℕ) → 2 ^ 64 - 1 ≤ x → kinds c x ≡ None) → AreClaims rs
+pub runs_claims : (c : Claims) (rs : List (RunOf ℕ)) → IsRunsOf (kinds c) rs → ((x : ℕ) → 2 ^ 64 - 1 ≤ x → kinds c x ≡ None) → AreValidClaims rs
 runs_claims c rs known none =
     types_claims rs known.runs (λ x k found.
     let here : kinds c x ≡ Some k = sym (known.each x) ∙ found in

@@ -3,7 +3,7 @@ use Rattle.std.proofs.Common.{◌≡◌, ℕ, ◌^◌, ◌+◌, ◌<◌, Some, N
 use Rattle.std.proofs.lemmas.Bool.Decides.{nat_tests}
 use Rattle.address_runs.specs.Runs.{RunOf, value_at}
 use Rattle.e820_model.specs.Claims.{type_of}
-use Rattle.e820_model.specs.Map.{kinds, map_of, claims_of, AreClaims}
+use Rattle.e820_model.specs.Map.{kinds, map_of, claims_of, AreValidClaims}
 use Rattle.e820_model.proofs.ClaimLaws.{top, type_top, map_unique}
 
 run : ℕ → ℕ → ℕ → RunOf ℕ
@@ -13,11 +13,11 @@ run base size kind = record { base = base; size = size; value = kind }
 abbrev ram_and_acpi : List (RunOf ℕ)
 ram_and_acpi = run 0 0x200000 1 ∷ (run 0x100000 0x80000 3 ∷ [])
 
-are_claims : AreClaims ram_and_acpi
+are_claims : AreValidClaims ram_and_acpi
 unfolding run
 are_claims = (omega arith, omega arith, omega arith, omega arith, (omega arith, omega arith, omega arith, omega arith, tt))
 
-past_the_end : ¬ AreClaims (run 0xFFFFFFFFFFFFF000 0x1000 1 ∷ [])
+past_the_end : ¬ AreValidClaims (run 0xFFFFFFFFFFFFF000 0x1000 1 ∷ [])
 unfolding run
 past_the_end claims = let small : 0xFFFFFFFFFFFFF000 + 0x1000 < 2 ^ 64 = claims.1 in absurd (omega arith)
 

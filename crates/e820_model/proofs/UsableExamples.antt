@@ -12,7 +12,8 @@ memory_examples : (is_memory (Some 1) ≡ true) × (is_memory (Some 128) ≡ tru
     × (is_memory (Some 0xEFFFFFFF) ≡ false) × (is_memory None ≡ false)
 memory_examples = (refl, refl, refl, refl, refl)
 
--- RAM from 0x800 to 0x3800, from 0x1800 to 0x2800 the kernel's: frames 1 and 2 are whole, 0 and 3 aren't
+-- RAM from 0x800 to 0x3800, from 0x1800 to 0x2800 the kernel's: frames 1 and 2 are whole, 0 and 3
+-- aren't
 kernel_inside : TypeAt
 kernel_inside =
     value_at (record { base = 0x800; size = 0x1000; value = 1 } ∷ record { base = 0x1800; size = 0x1000; value = 128 }
@@ -44,7 +45,8 @@ reach_examples : (types_below 0x1000 one_byte_reserved 0xFFF ≡ Some 1) × (typ
 unfolding one_byte_reserved kernel_inside each_from each_in is_usable_frame
 reach_examples = (refl, refl, refl, refl)
 
--- the whole frames of a run of RAM: two of 12 KiB that begin and end inside a frame, and the highest frame of all
+-- the whole frames of a run of RAM: two of 12 KiB that begin and end inside a frame, and the
+-- highest frame of all
 ram : ℕ → ℕ → TypeAt
 ram base size = value_at (record { base = base; size = size; value = 1 } ∷ [])
 

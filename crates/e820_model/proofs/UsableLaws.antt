@@ -64,15 +64,16 @@ abbrev pub all_bytes : (ℕ → Bool) → ℕ → Bool
 all_bytes p frame = each_in (bytes_of_frame frame) p
 
 -- a frame with a byte that fails
-pub frame_but : (p : ℕ → Bool) (frame x : ℕ) → 4096 * frame ≤ x → x < 4096 * frame + 4096 → p x ≡ false → all_bytes p frame ≡ false
-frame_but p frame x low high fails = each_in-fails (bytes_of_frame frame) p x low high fails
+pub all_bytes-fails : (p : ℕ → Bool) (frame x : ℕ) → 4096 * frame ≤ x → x < 4096 * frame + 4096 → p x ≡ false → all_bytes p frame ≡ false
+all_bytes-fails p frame x low high fails = each_in-fails (bytes_of_frame frame) p x low high fails
 
 -- each byte of a whole frame passes
-pub frame_each : (p : ℕ → Bool) (frame : ℕ) → all_bytes p frame ≡ true
+pub all_bytes-each : (p : ℕ → Bool) (frame : ℕ) → all_bytes p frame ≡ true
     → (x : ℕ) → 4096 * frame ≤ x → x < 4096 * frame + 4096 → p x ≡ true
-frame_each p frame all x low high = each_in-each (bytes_of_frame frame) p all x low high
+all_bytes-each p frame all x low high = each_in-each (bytes_of_frame frame) p all x low high
 
--- a frame lies between two addresses if it begins at or above the first and ends at or below the second
+-- a frame lies between two addresses if it begins at or above the first and ends at or below the
+-- second
 pub interval_frame : (from until frame : ℕ)
     → all_bytes (λ x. nat_le from x && nat_lt x until) frame ≡ (nat_le ((from + 4095) / 4096) frame && nat_lt frame (until / 4096))
 interval_frame from until frame =
@@ -81,12 +82,12 @@ interval_frame from until frame =
     elim (cases_lt (4096 * frame) from) as (λ _. goal) [
       | inl early ↦
           (let fails : inside (4096 * frame) ≡ false = grind (arith, nat_tests) in
-          let none : all_bytes inside frame ≡ false = frame_but inside frame (4096 * frame) (omega arith) (omega arith) fails in
+          let none : all_bytes inside frame ≡ false = all_bytes-fails inside frame (4096 * frame) (omega arith) (omega arith) fails in
           none ∙ grind (arith, nat_tests))
       | inr begun ↦ (elim (cases_lt until (4096 * frame + 4096)) as (λ _. goal) [
         | inl late ↦
             (let fails : inside (4096 * frame + 4095) ≡ false = grind (arith, nat_tests) in
-            let none : all_bytes inside frame ≡ false = frame_but inside frame (4096 * frame + 4095) (omega arith) (omega arith) fails in
+            let none : all_bytes inside frame ≡ false = all_bytes-fails inside frame (4096 * frame + 4095) (omega arith) (omega arith) fails in
             none ∙ grind (arith, nat_tests))
         | inr ends ↦
             (let each : (x : ℕ) → 4096 * frame ≤ x → x < 4096 * frame + 4096 → inside x ≡ true = λ x low high. grind (arith, nat_tests) in
@@ -119,22 +120,22 @@ split_frame p q gap frame apart =
           (let each : (x : ℕ) → 4096 * frame ≤ x → x < 4096 * frame + 4096 → either x ≡ q x =
           λ x low high. (let none : p x ≡ false = apart.below x (omega arith) in rw none refl) in
           let none : all_bytes p frame ≡ false =
-          frame_but p frame (4096 * frame) (omega arith) (omega arith) (apart.below (4096 * frame) (omega arith)) in
+          all_bytes-fails p frame (4096 * frame) (omega arith) (omega arith) (apart.below (4096 * frame) (omega arith)) in
           rw none (each_in-same (bytes_of_frame frame) either q each))
       | inr before ↦ (elim (cases_lt gap (4096 * frame + 4096)) as (λ _. goal) [
         | inl inside ↦
             (let no_first : p gap ≡ false = apart.below gap (omega arith) in
             let no_second : q gap ≡ false = apart.above gap (omega arith) in
             let no_either : either gap ≡ false = rw (no_first, no_second) refl in
-            let first : all_bytes p frame ≡ false = frame_but p frame gap before inside no_first in
-            let second : all_bytes q frame ≡ false = frame_but q frame gap before inside no_second in
-            let both : all_bytes either frame ≡ false = frame_but either frame gap before inside no_either in
+            let first : all_bytes p frame ≡ false = all_bytes-fails p frame gap before inside no_first in
+            let second : all_bytes q frame ≡ false = all_bytes-fails q frame gap before inside no_second in
+            let both : all_bytes either frame ≡ false = all_bytes-fails either frame gap before inside no_either in
             rw (first, second) both)
         | inr ahead ↦
             (let each : (x : ℕ) → 4096 * frame ≤ x → x < 4096 * frame + 4096 → either x ≡ p x =
             λ x low high. (let none : q x ≡ false = apart.above x (omega arith) in grind (arith, none)) in
             let none : all_bytes q frame ≡ false =
-            frame_but q frame (4096 * frame) (omega arith) (omega arith) (apart.above (4096 * frame) (omega arith)) in
+            all_bytes-fails q frame (4096 * frame) (omega arith) (omega arith) (apart.above (4096 * frame) (omega arith)) in
             let same : all_bytes either frame ≡ all_bytes p frame = each_in-same (bytes_of_frame frame) either p each in
             grind (arith, none, same))
       ])
@@ -146,9 +147,9 @@ pub count_split : (p q : ℕ → Bool) (gap n : ℕ) → IsGap p q gap
 count_split p q gap n apart =
     count_same _ (λ frame. all_bytes p frame || all_bytes q frame) n (λ frame lt. split_frame p q gap frame apart)
     ∙ count_either (all_bytes p) (all_bytes q) n (λ frame lt whole.
-    let first : p (4096 * frame) ≡ true = frame_each p frame whole (4096 * frame) (omega arith) (omega arith) in
+    let first : p (4096 * frame) ≡ true = all_bytes-each p frame whole (4096 * frame) (omega arith) (omega arith) in
     elim (cases_lt (4096 * frame) gap) as (λ _. all_bytes q frame ≡ false) [
-      | inl before ↦ frame_but q frame (4096 * frame) (omega arith) (omega arith) (apart.above (4096 * frame) (omega arith))
+      | inl before ↦ all_bytes-fails q frame (4096 * frame) (omega arith) (omega arith) (apart.above (4096 * frame) (omega arith))
       | inr behind ↦ absurd (both_ways (p (4096 * frame)) (apart.below (4096 * frame) behind) first)
     ])
 
@@ -160,14 +161,14 @@ unfolding is_usable_frame
 usable_whole f frame = refl
 
 -- each byte of a usable frame is memory
-pub usable_each : (f : TypeAt) (frame : ℕ) → is_usable_frame f frame ≡ true
+pub is_usable_frame-each : (f : TypeAt) (frame : ℕ) → is_usable_frame f frame ≡ true
     → (x : ℕ) → 4096 * frame ≤ x → x < 4096 * frame + 4096 → is_memory (f x) ≡ true
-usable_each f frame usable = frame_each (λ x. is_memory (f x)) frame (sym (usable_whole f frame) ∙ usable)
+is_usable_frame-each f frame usable = all_bytes-each (λ x. is_memory (f x)) frame (sym (usable_whole f frame) ∙ usable)
 
 -- a frame with a byte that isn't memory isn't usable
-pub usable_but : (f : TypeAt) (frame x : ℕ) → 4096 * frame ≤ x → x < 4096 * frame + 4096 → is_memory (f x) ≡ false
+pub is_usable_frame-fails : (f : TypeAt) (frame x : ℕ) → 4096 * frame ≤ x → x < 4096 * frame + 4096 → is_memory (f x) ≡ false
     → is_usable_frame f frame ≡ false
-usable_but f frame x low high fails = usable_whole f frame ∙ frame_but (λ x. is_memory (f x)) frame x low high fails
+is_usable_frame-fails f frame x low high fails = usable_whole f frame ∙ all_bytes-fails (λ x. is_memory (f x)) frame x low high fails
 
 -- the usable frames are the frames that are whole in memory
 pub usable_count : (f : TypeAt) → usable_frames f ≡ count_below (all_bytes (λ x. is_memory (f x))) (2 ^ 52)

@@ -52,8 +52,8 @@ abbrev pub settled_claims : Claims → Claims
 settled_claims c x k = nat_lt 0 k && k == type_of c x
 
 -- the union: an address has the claims of both arguments
-abbrev pub with_claims : Claims → Claims → Claims
-with_claims c d x k = c x k || d x k
+abbrev pub union_of_claims : Claims → Claims → Claims
+union_of_claims c d x k = c x k || d x k
 
 -- the claims after an edit (`parse_memmap_one`: `e820__range_add`, `e820__range_remove` with and
 -- without a type, `e820__range_update`, and the cleared table of `exactmap`)
@@ -104,13 +104,13 @@ zero_page_claims entries = settled_claims (claims_of_entries entries)
 -- step 2: the extension's entries are added, and the table is settled
 -- (`e820__memory_setup_extended`)
 abbrev pub with_extension : List Entry → Claims → Claims
-with_extension extension c = settled_claims (with_claims c (claims_of_entries extension))
+with_extension extension c = settled_claims (union_of_claims c (claims_of_entries extension))
 
 -- steps 3 to 5: the options' edits are applied in order, the entries of the firmware's EFI map are
 -- added if an option asks for them (`do_add_efi_memmap`), and the table is settled
 -- (`e820__finish_early_params`)
 abbrev pub with_options : List Edit → List Entry → Claims → Claims
-with_options edits added c = settled_claims (with_claims (after_edits edits c) (claims_of_entries added))
+with_options edits added c = settled_claims (union_of_claims (after_edits edits c) (claims_of_entries added))
 
 -- the claims of the final map: steps 1 to 5, then the BIOS ranges are trimmed. `added` is empty
 -- unless there is an EFI map and an option asks for it

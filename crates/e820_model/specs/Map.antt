@@ -8,12 +8,12 @@ abbrev pub TypeAt : Type 0
 TypeAt = ℕ → Option ℕ
 
 -- the type as an option: 0 is no type
-abbrev pub some_kind : ℕ → Option ℕ
-some_kind k = if k == 0 then None else Some k
+abbrev pub type_unless_zero : ℕ → Option ℕ
+type_unless_zero k = if k == 0 then None else Some k
 
 -- the type of each address, from its claims: the greatest one
 abbrev pub kinds : Claims → TypeAt
-kinds c x = some_kind (type_of c x)
+kinds c x = type_unless_zero (type_of c x)
 
 -- the two types are equal
 abbrev pub same_kind : ℕ → ℕ → Bool
@@ -29,6 +29,6 @@ claims_of [] x k = false
 claims_of (r ∷ rs) x k = (lies_in r x && k == r.value) || claims_of rs x k
 
 -- no range is empty, each ends below 2^64, and each type is a u32 above 0
-abbrev pub AreClaims : List (RunOf ℕ) → Type 0
-AreClaims [] = Unit {0}
-AreClaims (r ∷ rs) = (0 < r.size) × (r.base + r.size < 2 ^ 64) × (0 < r.value) × (r.value < 2 ^ 32) × AreClaims rs
+abbrev pub AreValidClaims : List (RunOf ℕ) → Type 0
+AreValidClaims [] = Unit {0}
+AreValidClaims (r ∷ rs) = (0 < r.size) × (r.base + r.size < 2 ^ 64) × (0 < r.value) × (r.value < 2 ^ 32) × AreValidClaims rs

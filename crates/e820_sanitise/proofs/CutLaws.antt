@@ -5,12 +5,12 @@ use Rattle.std.proofs.lemmas.Bool.Decides.{nat_tests}
 use Rattle.std.proofs.lemmas.Bool.{cases_Bool}
 use Rattle.bm_base.specs.Range.{RangeView, end_of, covers}
 use Rattle.address_runs.specs.Runs.{RunOf, run_end, lies_in}
-use Rattle.e820_model.specs.Claims.{is_covered_by, claims_of_entries, with_claims, after_edit}
-use Rattle.e820_model.specs.Map.{claims_of, AreClaims}
+use Rattle.e820_model.specs.Claims.{is_covered_by, claims_of_entries, union_of_claims, after_edit}
+use Rattle.e820_model.specs.Map.{claims_of, AreValidClaims}
 use Rattle.e820_model.specs.declared.entry.Entry.{Entry}
 use Rattle.e820_model.specs.declared.entry.Edit.TheVariants as edit
 use Rattle.e820_model.proofs.ClaimLaws.{is_value, claims_append_at, claims_append, are_append}
-use Rattle.e820_sanitise.specs.Cuts.{claim_between, claim_between_if_typed, parts_of_claim, is_type_to_cut, type_inside, cut_out, type_claim_of_entry}
+use Rattle.e820_sanitise.specs.Cuts.{claim_between, claim_between_if_typed, parts_of_claim, is_type_to_cut, type_inside, cut_out, claim_of_entry}
 
 -- the claim on the addresses of one part
 between_test : (from until kind x k : ℕ) → claims_of (claim_between from until kind) x k ≡ (nat_le from x && nat_lt x until && k == kind)
@@ -101,28 +101,28 @@ add_same range kind rs =
     ∙ ap (λ b. claims_of rs x k || b) (between_test range.base (end_of range) kind x k))
 
 -- the claims of entries
-claim_test : (e : Entry) (x k : ℕ) → claims_of (type_claim_of_entry e) x k ≡ (is_covered_by e x && nat_lt 0 k && k == e.kind)
+claim_test : (e : Entry) (x k : ℕ) → claims_of (claim_of_entry e) x k ≡ (is_covered_by e x && nat_lt 0 k && k == e.kind)
 claim_test e x k =
-    elim (cases_Bool (nat_lt 0 e.kind)) as (λ _. claims_of (type_claim_of_entry e) x k ≡ (is_covered_by e x && nat_lt 0 k && k == e.kind)) [
+    elim (cases_Bool (nat_lt 0 e.kind)) as (λ _. claims_of (claim_of_entry e) x k ≡ (is_covered_by e x && nat_lt 0 k && k == e.kind)) [
       | inl some ↦ rw some (between_test e.addr (e.addr + e.size) e.kind x k ∙ grind (arith, nat_tests))
       | inr none ↦ rw none (grind (arith, nat_tests))
     ]
 
-entries_test : (es : List Entry) (x k : ℕ) → claims_of (flat_map type_claim_of_entry es) x k ≡ claims_of_entries es x k
+entries_test : (es : List Entry) (x k : ℕ) → claims_of (flat_map claim_of_entry es) x k ≡ claims_of_entries es x k
 entries_test [] x k = refl
 entries_test (e ∷ es) x k =
-    claims_append_at (type_claim_of_entry e) (flat_map type_claim_of_entry es) x k ∙ rw (claim_test e x k, entries_test es x k) refl
+    claims_append_at (claim_of_entry e) (flat_map claim_of_entry es) x k ∙ rw (claim_test e x k, entries_test es x k) refl
 
 pub entries_same : (rs : List (RunOf ℕ)) (es : List Entry)
-    → claims_of (rs ++ flat_map type_claim_of_entry es) ≡ with_claims (claims_of rs) (claims_of_entries es)
+    → claims_of (rs ++ flat_map claim_of_entry es) ≡ union_of_claims (claims_of rs) (claims_of_entries es)
 entries_same rs es =
-    claims_append rs (flat_map type_claim_of_entry es) ∙ (λ i x k. claims_of rs x k || entries_test es x k i)
+    claims_append rs (flat_map claim_of_entry es) ∙ (λ i x k. claims_of rs x k || entries_test es x k i)
 
 -- the parts of valid claims are valid claims: they aren't empty, end below 2^64, and have types
 -- above 0
-pub are_between : (from until kind : ℕ) → until < 2 ^ 64 → 0 < kind → kind < 2 ^ 32 → AreClaims (claim_between from until kind)
-are_between from until kind space some small =
-    elim (cases_Bool (nat_lt from until)) as (λ _. AreClaims (claim_between from until kind)) [
+pub AreClaims-claim_between : (from until kind : ℕ) → until < 2 ^ 64 → 0 < kind → kind < 2 ^ 32 → AreValidClaims (claim_between from until kind)
+AreClaims-claim_between from until kind space some small =
+    elim (cases_Bool (nat_lt from until)) as (λ _. AreValidClaims (claim_between from until kind)) [
       | inl above ↦
           let lt : from < until = grind (arith, nat_tests) in rw above (omega arith, omega arith, some, small, tt)
       | inr none ↦ rw none tt
@@ -133,9 +133,9 @@ abbrev pub IsType : Option ℕ → Type 0
 IsType None = Unit {0}
 IsType (Some kind) = (0 < kind) × (kind < 2 ^ 32)
 
-are_between_if : (from until : ℕ) (kind : Option ℕ) → until < 2 ^ 64 → IsType kind → AreClaims (claim_between_if_typed from until kind)
-are_between_if from until None space type = tt
-are_between_if from until (Some kind) space type = are_between from until kind space type.0 type.1
+AreClaims-claim_between_if : (from until : ℕ) (kind : Option ℕ) → until < 2 ^ 64 → IsType kind → AreValidClaims (claim_between_if_typed from until kind)
+AreClaims-claim_between_if from until None space type = tt
+AreClaims-claim_between_if from until (Some kind) space type = AreClaims-claim_between from until kind space type.0 type.1
 
 inside_is_type : (meant instead : Option ℕ) (kind : ℕ) → IsType instead → 0 < kind → kind < 2 ^ 32 → IsType (type_inside meant instead kind)
 inside_is_type meant instead kind type some small =
@@ -144,18 +144,18 @@ inside_is_type meant instead kind type some small =
       | inr other ↦ rw other (some, small)
     ]
 
-pub are_cut : (range : RangeView) (meant instead : Option ℕ) (rs : List (RunOf ℕ)) → IsType instead → AreClaims rs
-    → AreClaims (cut_out range meant instead rs)
-are_cut range meant instead [] type claims = tt
-are_cut range meant instead (r ∷ rs) type claims =
-    are_append _ _ (are_append _ _ (are_append _ _ (are_between r.base (min range.base (run_end r)) r.value (omega arith) claims.2 claims.3)
-    (are_between_if (max range.base r.base) (min (end_of range) (run_end r)) (type_inside meant instead r.value) (omega arith)
+pub AreClaims-cut_out : (range : RangeView) (meant instead : Option ℕ) (rs : List (RunOf ℕ)) → IsType instead → AreValidClaims rs
+    → AreValidClaims (cut_out range meant instead rs)
+AreClaims-cut_out range meant instead [] type claims = tt
+AreClaims-cut_out range meant instead (r ∷ rs) type claims =
+    are_append _ _ (are_append _ _ (are_append _ _ (AreClaims-claim_between r.base (min range.base (run_end r)) r.value (omega arith) claims.2 claims.3)
+    (AreClaims-claim_between_if (max range.base r.base) (min (end_of range) (run_end r)) (type_inside meant instead r.value) (omega arith)
     (inside_is_type meant instead r.value type claims.2 claims.3)))
-    (are_between (max (end_of range) r.base) (run_end r) r.value (omega arith) claims.2 claims.3))
-    (are_cut range meant instead rs type claims.4)
+    (AreClaims-claim_between (max (end_of range) r.base) (run_end r) r.value (omega arith) claims.2 claims.3))
+    (AreClaims-cut_out range meant instead rs type claims.4)
 
 -- a list of claims that changed as intended, or is unchanged, is a list of valid claims
-pub are_either : {T E : Type 0} (r : Result T E) (new changed old : List (RunOf ℕ)) → OnOk r (new ≡ changed) → OnErr r (new ≡ old)
-    → AreClaims changed → AreClaims old → AreClaims new
-are_either (Ok x) new changed old ok err after before = rw ok after
-are_either (Err e) new changed old ok err after before = rw err before
+pub AreClaims-edited : {T E : Type 0} (r : Result T E) (new changed old : List (RunOf ℕ)) → OnOk r (new ≡ changed) → OnErr r (new ≡ old)
+    → AreValidClaims changed → AreValidClaims old → AreValidClaims new
+AreClaims-edited (Ok x) new changed old ok err after before = rw ok after
+AreClaims-edited (Err e) new changed old ok err after before = rw err before

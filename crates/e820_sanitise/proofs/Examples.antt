@@ -3,7 +3,7 @@ use Rattle.std.proofs.Common.{◌≡◌, ℕ, true, false, Some, None, List, [],
 use Rattle.bm_base.specs.Range.{RangeView}
 use Rattle.address_runs.specs.Runs.{RunOf}
 use Rattle.e820_sanitise.specs.declared.table.MapFault.TheVariants as faults
-use Rattle.e820_sanitise.specs.Cuts.{claim_between, claim_between_if_typed, parts_of_claim, is_type_to_cut, type_inside, cut_out, type_claim_of_entry}
+use Rattle.e820_sanitise.specs.Cuts.{claim_between, claim_between_if_typed, parts_of_claim, is_type_to_cut, type_inside, cut_out, claim_of_entry}
 use Rattle.e820_sanitise.specs.Room.{map_if_room}
 
 abbrev range : ℕ → ℕ → RangeView
@@ -45,9 +45,9 @@ all_removed : cut_out (range 0 10) None None (run 0 10 1 ∷ run 2 3 2 ∷ []) �
 all_removed = refl
 
 -- an empty entry and one of type 0 have no claim
-claims_of_one_entry : (type_claim_of_entry (record { addr = 4; size = 2; kind = 1 }) ≡ run 4 2 1 ∷ [])
-    × (type_claim_of_entry (record { addr = 4; size = 0; kind = 1 }) ≡ [])
-    × (type_claim_of_entry (record { addr = 4; size = 2; kind = 0 }) ≡ [])
+claims_of_one_entry : (claim_of_entry (record { addr = 4; size = 2; kind = 1 }) ≡ run 4 2 1 ∷ [])
+    × (claim_of_entry (record { addr = 4; size = 0; kind = 1 }) ≡ [])
+    × (claim_of_entry (record { addr = 4; size = 2; kind = 0 }) ≡ [])
 claims_of_one_entry = (refl, refl, refl)
 
 -- a map of 3,201 runs is too long, and the fault states that number; one of 3,200 runs isn't

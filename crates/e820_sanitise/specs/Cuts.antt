@@ -38,5 +38,5 @@ abbrev pub cut_out : RangeView → Option ℕ → Option ℕ → List (RunOf ℕ
 cut_out range meant instead rs = flat_map (λ r. parts_of_claim range (type_inside meant instead r.value) r) rs
 
 -- the claim of an entry; none if it is empty or has type 0
-abbrev pub type_claim_of_entry : Entry → List (RunOf ℕ)
-type_claim_of_entry e = if nat_lt 0 e.kind then claim_between e.addr (e.addr + e.size) e.kind else []
+abbrev pub claim_of_entry : Entry → List (RunOf ℕ)
+claim_of_entry e = if nat_lt 0 e.kind then claim_between e.addr (e.addr + e.size) e.kind else []

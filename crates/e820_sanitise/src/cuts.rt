@@ -8,10 +8,10 @@
 //! claims on an address don't depend on the order.
 
 ghost use Rattle.std.specs.Prelude.{◌≡◌, ℕ, ◌+◌, ◌^◌, ◌<◌, Option, [], ◌∷◌, ◌++◌, OnOk, OnErr, IfOk, IsOk, IsTrue};
-ghost use Rattle.e820_model.specs.Claims.{EntriesFit, HasTypes, with_claims, claims_of_entries, after_edit, after_bios_trim};
+ghost use Rattle.e820_model.specs.Claims.{EntriesFit, HasTypes, union_of_claims, claims_of_entries, after_edit, after_bios_trim};
 ghost use Rattle.e820_model.specs.declared.entry.Edit.TheVariants as edits;
-ghost use Rattle.e820_model.specs.Map.{AreClaims, claims_of};
-ghost use Rattle.e820_sanitise.specs.Cuts.{claim_between, claim_between_if_typed, type_claim_of_entry, cut_out, type_inside, parts_of_claim};
+ghost use Rattle.e820_model.specs.Map.{AreValidClaims, claims_of};
+ghost use Rattle.e820_sanitise.specs.Cuts.{claim_between, claim_between_if_typed, claim_of_entry, cut_out, type_inside, parts_of_claim};
 
 use bm_base::{FRAME_SIZE, Memory, Range};
 use e820_model::{E820_TYPE_RAM, E820_TYPE_RESERVED, Edit, Entry, Run};
@@ -26,7 +26,7 @@ use std::alloc::Global;
 fn push_between(claims: &mut Vec<Run>, from: u64, until: u64, kind: u32) -> Result<(), Memory>
     ensures added { OnOk result (claims.new.items
         ≡ claims.old.items ++ claim_between from until kind) }
-    ensures claims { 0 < kind → AreClaims claims.old.items → AreClaims claims.new.items }
+    ensures claims { 0 < kind → AreValidClaims claims.old.items → AreValidClaims claims.new.items }
     ensures err { OnErr result (claims.new.items ≡ claims.old.items) }
 {
     if let Some(range) = Range::between(from, until) {
@@ -136,8 +136,9 @@ fn type_inside(meant: Option<u32>, instead: Option<u32>, kind: u32) -> Option<u3
 fn push_entry(claims: &mut Vec<Run>, entry: &Entry) -> Result<(), Memory>
     requires { entry.now.addr + entry.now.size < 2 ^ 64 }
     ensures added { OnOk result (claims.new.items
-        ≡ claims.old.items ++ type_claim_of_entry entry.now) }
-    ensures claims { OnOk result (AreClaims claims.old.items → AreClaims claims.new.items) }
+        ≡ claims.old.items ++ claim_of_entry entry.now) }
+    ensures claims { OnOk result (AreValidClaims claims.old.items → AreValidClaims
+        claims.new.items) }
 {
     if entry.kind == 0 {
         return Ok(());
@@ -152,11 +153,11 @@ fn push_entry(claims: &mut Vec<Run>, entry: &Entry) -> Result<(), Memory>
 ///
 /// - `Memory`: the program ran out of memory.
 pub fn with_entries(alloc: Global, claims: &[Run], entries: &[Entry]) -> Result<Vec<Run>, Memory>
-    requires claims { AreClaims claims.now }
+    requires claims { AreValidClaims claims.now }
     requires space { EntriesFit entries.now }
     ensures same { IfOk result (λ all. claims_of all.items
-        ≡ with_claims (claims_of claims.now) (claims_of_entries entries.now)) }
-    ensures claims { IfOk result (λ all. AreClaims all.items) }
+        ≡ union_of_claims (claims_of claims.now) (claims_of_entries entries.now)) }
+    ensures claims { IfOk result (λ all. AreValidClaims all.items) }
 {
     let mut all = Vec::from_slice(alloc, claims)?;
     for entry in entries {
@@ -171,11 +172,11 @@ pub fn with_entries(alloc: Global, claims: &[Run], entries: &[Entry]) -> Result<
 ///
 /// - `Memory`: the program ran out of memory; the claims are unchanged. `Clear` never fails.
 pub fn edit_claims(claims: &mut Vec<Run>, edit: &Edit) -> Result<(), Memory>
-    requires claims { AreClaims claims.old.items }
+    requires claims { AreValidClaims claims.old.items }
     requires types { HasTypes edit.now }
     ensures same { OnOk result (claims_of claims.new.items
         ≡ after_edit edit.now (claims_of claims.old.items)) }
-    ensures claims { AreClaims claims.new.items }
+    ensures claims { AreValidClaims claims.new.items }
     ensures err { OnErr result (claims.new.items ≡ claims.old.items) }
     ensures clear { edit.now ≡ edits.Clear → IsOk result }
 {
@@ -218,10 +219,10 @@ fn replace_with_cut(
 ///
 /// - `Memory`: the program ran out of memory.
 pub fn trim_bios_claims(alloc: Global, claims: &[Run]) -> Result<Vec<Run>, Memory>
-    requires { AreClaims claims.now }
+    requires { AreValidClaims claims.now }
     ensures same { IfOk result (λ left.
         claims_of left.items ≡ after_bios_trim (claims_of claims.now)) }
-    ensures claims { IfOk result (λ left. AreClaims left.items) }
+    ensures claims { IfOk result (λ left. AreValidClaims left.items) }
 {
     let first_page = Range {
         base: 0,

@@ -4,7 +4,7 @@
 
 ghost use Rattle.std.specs.Prelude.{◌≡◌, ◌≢◌, IfErr, IfOk, IsOk, OnErr, OnOk};
 ghost use Rattle.address_runs.specs.Runs.{IsRunsOf};
-ghost use Rattle.e820_model.specs.Claims.{EntriesFit, HasTypes, with_claims, claims_of_entries, after_edit, no_claims, settled_claims, after_bios_trim, type_of};
+ghost use Rattle.e820_model.specs.Claims.{EntriesFit, HasTypes, union_of_claims, claims_of_entries, after_edit, no_claims, settled_claims, after_bios_trim, type_of};
 ghost use Rattle.e820_model.specs.declared.entry.Edit.TheVariants as edits;
 ghost use Rattle.e820_model.specs.Map.{claims_of, kinds, map_of};
 ghost use Rattle.bm_base.specs.Answers.{Answers};
@@ -47,13 +47,13 @@ pub struct Table {
 impl Model for Table {
     ghost use Rattle.std.specs.Prelude.{ℕ, List};
     ghost use Rattle.address_runs.specs.Runs.{RunOf};
-    ghost use Rattle.e820_model.specs.Map.{AreClaims};
+    ghost use Rattle.e820_model.specs.Map.{AreValidClaims};
 
     ghost Value = { List (RunOf ℕ) };
 
     ghost view = { λ table. table.claims.items };
 
-    ghost invariant = { λ table. AreClaims table.claims.items };
+    ghost invariant = { λ table. AreValidClaims table.claims.items };
 }
 
 impl Table {
@@ -76,7 +76,7 @@ impl Table {
     pub fn append(&mut self, entries: &[Entry]) -> Result<(), Memory>
         requires { EntriesFit entries.now }
         ensures ok { OnOk result (claims_of self.new
-            ≡ with_claims (claims_of self.old) (claims_of_entries entries.now)) }
+            ≡ union_of_claims (claims_of self.old) (claims_of_entries entries.now)) }
         ensures err { OnErr result (self.new ≡ self.old) }
     {
         let alloc = *self.claims.allocator();

@@ -7,9 +7,9 @@ use Rattle.e820_model.specs.Claims.{EntriesFit}
 use Rattle.e820_table.specs.Entries.{nth_entry, first_entries, is_entry_too_far, far_entry_from, first_far_entry}
 
 -- appending an entry that isn't too far keeps all ends in the address space
-pub space_push : (es : List Entry) (e : Entry) → EntriesFit es → e.addr + e.size < 2 ^ 64 → EntriesFit (es ++ e ∷ [])
-space_push [] e rest ends = (ends, tt)
-space_push (f ∷ es) e rest ends = (rest.0, space_push es e rest.1 ends)
+pub EntriesFit-push : (es : List Entry) (e : Entry) → EntriesFit es → e.addr + e.size < 2 ^ 64 → EntriesFit (es ++ e ∷ [])
+EntriesFit-push [] e rest ends = (ends, tt)
+EntriesFit-push (f ∷ es) e rest ends = (rest.0, EntriesFit-push es e rest.1 ends)
 
 -- if the entry at index `i` isn't too far, the search goes on with the next
 pub far_later : (start i n : ℕ) (bytes : List ℕ) → is_entry_too_far (nth_entry start i bytes) ≡ false
@@ -36,16 +36,16 @@ none_far start i (suc n) k bytes none from below =
     (λ none_behind from_next below_end. none_far start (i + 1) n k bytes none_behind from_next below_end)
 
 -- if none of the first n entries is too far, all of them end in the address space
-space_first : (start n : ℕ) (bytes : List ℕ) → ((k : ℕ) → k < n → is_entry_too_far (nth_entry start k bytes) ≡ false)
+EntriesFit-first_entries : (start n : ℕ) (bytes : List ℕ) → ((k : ℕ) → k < n → is_entry_too_far (nth_entry start k bytes) ≡ false)
     → EntriesFit (first_entries start n bytes)
-space_first start zero bytes near = tt
-space_first start (suc n) bytes near =
+EntriesFit-first_entries start zero bytes near = tt
+EntriesFit-first_entries start (suc n) bytes near =
     let ends : (nth_entry start n bytes).addr + (nth_entry start n bytes).size < 2 ^ 64 = grind (arith, nat_tests, near n) in
-    space_push (first_entries start n bytes) (nth_entry start n bytes)
-    (space_first start n bytes (λ k below. near k (omega arith))) ends
+    EntriesFit-push (first_entries start n bytes) (nth_entry start n bytes)
+    (EntriesFit-first_entries start n bytes (λ k below. near k (omega arith))) ends
 
 pub space_of_none : (start n : ℕ) (bytes : List ℕ) → first_far_entry start n bytes ≡ None → EntriesFit (first_entries start n bytes)
-space_of_none start n bytes none = space_first start n bytes (λ k below. none_far start 0 n k bytes none (omega arith) (omega arith))
+space_of_none start n bytes none = EntriesFit-first_entries start n bytes (λ k below. none_far start 0 n k bytes none (omega arith) (omega arith))
 
 -- the first n entries are n entries
 pub count_first : (start n : ℕ) (bytes : List ℕ) → length (first_entries start n bytes) ≡ n

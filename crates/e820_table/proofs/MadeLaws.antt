@@ -6,17 +6,17 @@ use Rattle.std.proofs.lemmas.List.{append-nil, drop_all, take_all}
 use Rattle.std.proofs.Math.Seq.{drop_at, take_at}
 use Rattle.e820_model.specs.declared.entry.Entry.{Entry}
 use Rattle.e820_model.specs.Claims.{EntriesFit}
-use Rattle.e820_table.proofs.EntryLaws.{space_push}
-use Rattle.e820_table.specs.Made.{made_entries_from, made_entry, next_generator_state}
+use Rattle.e820_table.proofs.EntryLaws.{EntriesFit-push}
+use Rattle.e820_table.specs.Made.{generated_entries_from, generated_entry, next_generator_state}
 
 -- if at least one entry is left, the first is the one made now, and the others come after it
-pub one_more : (n left index base x y : ℕ) (e : Entry) → n ≡ suc left → y ≡ next_generator_state x → e ≡ made_entry index base y
-    → made_entries_from n index base x ≡ e ∷ made_entries_from left (index + 1) (base + e.size) y
-unfolding made_entries_from
+pub one_more : (n left index base x y : ℕ) (e : Entry) → n ≡ suc left → y ≡ next_generator_state x → e ≡ generated_entry index base y
+    → generated_entries_from n index base x ≡ e ∷ generated_entries_from left (index + 1) (base + e.size) y
+unfolding generated_entries_from
 one_more n left index base x y e some next is = rw (some, is, next) refl
 
-pub none_more : (n index base x : ℕ) → n ≡ 0 → made_entries_from n index base x ≡ []
-unfolding made_entries_from
+pub none_more : (n index base x : ℕ) → n ≡ 0 → generated_entries_from n index base x ≡ []
+unfolding generated_entries_from
 none_more n index base x none = rw none refl
 
 -- a list of at most n members, followed by others only if it has n: the first n members of both
@@ -50,7 +50,7 @@ split_more page others all page_new others_new e split room full ends =
       whole = append-nil (page ++ e ∷ []) ∙ ap (λ (es : List Entry). es ++ e ∷ []) (sym (append-nil page) ∙ rw none at split.whole);
       fits = simp length-append (omega arith);
       alone = λ more. refl;
-      page_space = space_push page e split.page_space ends;
+      page_space = EntriesFit-push page e split.page_space ends;
       others_space = tt;
     })))
     (λ at_end. (let new = full (omega arith) in
@@ -59,6 +59,6 @@ split_more page others all page_new others_new e split room full ends =
       fits = split.fits;
       alone = λ more. absurd (omega arith);
       page_space = split.page_space;
-      others_space = space_push others e split.others_space ends;
+      others_space = EntriesFit-push others e split.others_space ends;
     })))
     (cases_lt (length page) 128)

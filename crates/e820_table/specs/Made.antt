@@ -28,8 +28,8 @@ abbrev pub third_entry_start : ℕ
 third_entry_start = high_ram.addr + high_ram.size
 
 -- the entry with this index, from 2 on, at address `base`, made with the generator's number `x`
-abbrev pub made_entry : ℕ → ℕ → ℕ → Entry
-made_entry index base x = record {
+abbrev pub generated_entry : ℕ → ℕ → ℕ → Entry
+generated_entry index base x = record {
   addr = base;
   size = FRAME_SIZE * frames_of_entry x;
   kind = if index % 2 == 0 then E820_TYPE_RESERVED else E820_TYPE_RAM;
@@ -37,12 +37,12 @@ made_entry index base x = record {
 
 -- the next n entries, from this index and this address on; `x` is the generator's number of the
 -- entry before them
-unfoldable pub made_entries_from : ℕ → ℕ → ℕ → ℕ → List Entry
-made_entries_from zero index base x = []
-made_entries_from (suc n) index base x =
-    made_entry index base (next_generator_state x)
-    ∷ made_entries_from n (index + 1) (base + FRAME_SIZE * frames_of_entry (next_generator_state x)) (next_generator_state x)
+unfoldable pub generated_entries_from : ℕ → ℕ → ℕ → ℕ → List Entry
+generated_entries_from zero index base x = []
+generated_entries_from (suc n) index base x =
+    generated_entry index base (next_generator_state x)
+    ∷ generated_entries_from n (index + 1) (base + FRAME_SIZE * frames_of_entry (next_generator_state x)) (next_generator_state x)
 
 -- all entries of the made table of `count` entries; the generator is seeded with `count`
-abbrev pub made_entries : ℕ → List Entry
-made_entries count = low_ram ∷ high_ram ∷ made_entries_from (count - 2) 2 third_entry_start count
+abbrev pub generated_entries : ℕ → List Entry
+generated_entries count = low_ram ∷ high_ram ∷ generated_entries_from (count - 2) 2 third_entry_start count

@@ -3,7 +3,7 @@
 
 ghost use Rattle.std.specs.Prelude.{◌≡◌, ℕ, ◌+◌, ◌*◌, ◌^◌, ◌<◌, ◌≤◌, [], ◌∷◌, ◌++◌, length, take, drop, None, IfOk, IsErr, OnOk};
 ghost use Rattle.e820_model.specs.Claims.{EntriesFit};
-ghost use Rattle.e820_table.specs.Made.{made_entries, made_entry, next_generator_state};
+ghost use Rattle.e820_table.specs.Made.{generated_entries, generated_entry, next_generator_state};
 
 use crate::made_input::Made;
 use crate::zero_page::{ZERO_PAGE_ENTRIES, ZeroPage};
@@ -35,8 +35,8 @@ const HIGH_RAM: Entry = Entry {
 pub fn made(alloc: Global, n: u32) -> Result<Made, Memory>
     requires some { 2 ≤ n }
     requires few { n ≤ 3000 }
-    ensures page { IfOk result (λ made. made.zero.entries.items ≡ take 128 (made_entries n)) }
-    ensures extension { IfOk result (λ made. made.ext.items ≡ drop 128 (made_entries n)) }
+    ensures page { IfOk result (λ made. made.zero.entries.items ≡ take 128 (generated_entries n)) }
+    ensures extension { IfOk result (λ made. made.ext.items ≡ drop 128 (generated_entries n)) }
     ensures initrd { IfOk result (λ made. made.zero.initrd ≡ None) }
     ensures page_space { IfOk result (λ made. EntriesFit made.zero.entries.items) }
     ensures extension_space { IfOk result (λ made. EntriesFit made.ext.items) }
@@ -50,7 +50,7 @@ pub fn made(alloc: Global, n: u32) -> Result<Made, Memory>
     let mut number = n;
     for index in 2..n {
         number = next_generator_state(number);
-        let entry = made_entry(index, base, number);
+        let entry = generated_entry(index, base, number);
         put_entry(entry, &mut page, &mut ext)?;
         base += entry.size;
     }
@@ -90,8 +90,8 @@ fn put_entry(
 
 /// Returns the entry with this index, from 2 on, at address `base`. The generator's `number`
 /// determines its size, and the index its type.
-fn made_entry(index: u32, base: u64, number: u32) -> Entry
-    ensures { result ≡ made_entry index base number }
+fn generated_entry(index: u32, base: u64, number: u32) -> Entry
+    ensures { result ≡ generated_entry index base number }
 {
     Entry {
         addr: base,

@@ -8,18 +8,18 @@ use Rattle.address_runs.specs.Sweep.{StartAtOrPast}
 use Rattle.address_runs.proofs.RunsLaws.{inside, behind, rest_from, start_zero}
 use Rattle.e820_model.specs.Map.{TypeAt}
 use Rattle.e820_model.specs.Usable.{is_usable_frame, types_below}
-use Rattle.e820_model.proofs.UsableLaws.{memory_reached, usable_each}
+use Rattle.e820_model.proofs.UsableLaws.{memory_reached, is_usable_frame-each}
 use Rattle.memblock_model.specs.Labels.{LabelView}
 use Rattle.memblock_model.specs.Search.{last_below}
 use Rattle.memblock_model.proofs.SearchLaws.{last_below-is, last_below-none}
 use Rattle.early_memory.specs.EarlyInputs.{FrameRange}
-use Rattle.early_memory.specs.Memory.{end_of_last_frame, end_after_runs, end_of_runs, memory_end, mirrored_memory, usable_memory}
+use Rattle.early_memory.specs.Memory.{end_of_last_frame, last_run_end_or, end_of_last_run, memory_end, mirrored_memory, usable_memory}
 use Rattle.early_memory.proofs.MirrorLaws.{mirrored-usable}
 
 -- a usable frame ends at or below the limit of addresses
 pub low_frame : (limit : ℕ) (f : TypeAt) (frame : ℕ) → is_usable_frame (types_below limit f) frame ≡ true → 4096 * frame + 4096 ≤ limit
 low_frame limit f frame usable =
-    let last = usable_each (types_below limit f) frame usable (4096 * frame + 4095) (omega arith) (omega arith) in
+    let last = is_usable_frame-each (types_below limit f) frame usable (4096 * frame + 4095) (omega arith) (omega arith) in
     let both = sym (memory_reached limit f (4096 * frame + 4095)) ∙ last in
     grind (arith, nat_tests, both)
 
@@ -83,10 +83,10 @@ record EndsAt {X : Type 0} (rs : List (RunOf X)) (from at : ℕ) : Type 0 where
   past : (x : ℕ) → at ≤ x → value_at rs x ≡ None
   last : from < at → (v : X) × (value_at rs (at - 1) ≡ Some v)
 
-ends_at : {X : Type 0} (from : ℕ) (rs : List (RunOf X)) → AreRuns rs → StartAtOrPast from rs → EndsAt rs from (end_after_runs from rs)
+ends_at : {X : Type 0} (from : ℕ) (rs : List (RunOf X)) → AreRuns rs → StartAtOrPast from rs → EndsAt rs from (last_run_end_or from rs)
 ends_at from [] runs start = record { later = omega arith; past = λ x past. refl; last = λ some. absurd (omega (arith, some)) }
 ends_at {X} from (r ∷ rs) runs start =
-    let at : ℕ = end_after_runs (run_end r) rs in
+    let at : ℕ = last_run_end_or (run_end r) rs in
     let rest = ends_at (run_end r) rs runs.2 (rest_from r rs runs) in
     record {
       later = omega (arith, rest.later);
@@ -101,9 +101,9 @@ ends_at {X} from (r ∷ rs) runs start =
 
 -- so the runs of memory end where memory ends
 runs_are_end : (limit : ℕ) (f : TypeAt) (mirrors : List FrameRange) (rs : List (RunOf LabelView))
-    → IsRunsOf (mirrored_memory mirrors (usable_memory limit f)) rs → IsEnd limit f (end_of_runs rs)
+    → IsRunsOf (mirrored_memory mirrors (usable_memory limit f)) rs → IsEnd limit f (end_of_last_run rs)
 runs_are_end limit f mirrors rs are =
-    let at : ℕ = end_of_runs rs in
+    let at : ℕ = end_of_last_run rs in
     let ends = ends_at 0 rs are.runs (start_zero rs) in
     let is : (x : ℕ) → is_some (value_at rs x) ≡ is_usable_frame (types_below limit f) (x / 4096) =
     λ x. ap is_some (are.each x) ∙ mirrored-usable limit f mirrors x in
@@ -124,7 +124,7 @@ runs_are_end limit f mirrors rs are =
     }
 
 pub runs_end_memory : (limit : ℕ) (f : TypeAt) (mirrors : List FrameRange) (rs : List (RunOf LabelView))
-    → IsRunsOf (mirrored_memory mirrors (usable_memory limit f)) rs → end_of_runs rs ≡ memory_end limit f
+    → IsRunsOf (mirrored_memory mirrors (usable_memory limit f)) rs → end_of_last_run rs ≡ memory_end limit f
 runs_end_memory limit f mirrors rs are =
     let first = runs_are_end limit f mirrors rs are in
     let second = memory_end-is limit f in

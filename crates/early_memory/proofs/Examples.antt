@@ -16,7 +16,7 @@ use Rattle.memblock_model.specs.declared.owner.Owner.TheVariants as owner
 use Rattle.memblock_model.specs.declared.item.Item.TheVariants as item
 use Rattle.early_memory.specs.EarlyInputs.{EarlyInputs, FrameRange}
 use Rattle.early_memory.specs.Memory.{is_mirrored, memory_end, usable_memory}
-use Rattle.early_memory.specs.FirstItems.{closing_items, early_claims, first_items, items_of_run, part_below}
+use Rattle.early_memory.specs.FirstItems.{items_after_map, early_claims, early_items, items_of_run, part_below}
 use Rattle.early_memory.proofs.EndLaws.{IsEnd, memory_end-is, one_end}
 
 abbrev bytes : ℕ → ℕ → RangeView
@@ -62,7 +62,7 @@ some_frames = record { first = 1; count = 2 } ∷ record { first = 8; count = 1 
 -- RAM from frame 1 to the middle of frame 2: the half frame is removed before anything is
 -- mirrored, and then frame 1 is mirrored
 abbrev ram_and_a_half : ℕ → Labels
-ram_and_a_half steps = memory_of (item.Mem (bytes 0x1000 0x1800) ∷ take steps (closing_items some_frames 0x4000))
+ram_and_a_half steps = memory_of (item.Mem (bytes 0x1000 0x1800) ∷ take steps (items_after_map some_frames 0x4000))
 
 only_whole_frames_are_mirrored : (ram_and_a_half 0 0x27FF ≡ Some plain_label) × (ram_and_a_half 1 0x27FF ≡ None)
     × (ram_and_a_half 1 0x1FFF ≡ Some plain_label) × (ram_and_a_half 2 0x1FFF ≡ Some (with_mirror plain_label))
@@ -70,9 +70,9 @@ unfolding trim_frames each_in each_from
 only_whole_frames_are_mirrored = (refl, refl, refl, refl)
 
 -- after the whole list allocations end at the end of memory, and the first MiB has its owner
-closed : (limit_of (item.Limit 0x100000 ∷ closing_items some_frames 0x4000) ≡ 0x4000)
-    × (owner_of (closing_items some_frames 0x4000) 0xFFFFF ≡ Some owner.Low1M)
-    × (owner_of (closing_items some_frames 0x4000) 0x100000 ≡ None)
+closed : (limit_of (item.Limit 0x100000 ∷ items_after_map some_frames 0x4000) ≡ 0x4000)
+    × (owner_of (items_after_map some_frames 0x4000) 0xFFFFF ≡ Some owner.Low1M)
+    × (owner_of (items_after_map some_frames 0x4000) 0x100000 ≡ None)
 closed = (refl, refl, refl)
 
 -- a boot with 127 MiB of RAM from 1 MiB on
@@ -81,7 +81,7 @@ given initrd upward =
     record { limit = limit; kernel = bytes 0x1000000 0x2000000; initrd = initrd; mirrors = some_frames; upward = upward }
 
 abbrev wanted : Option RangeView → Bool → ℕ → List Item
-wanted initrd upward steps = take steps (first_items (given initrd upward) (run 0x100000 0x7F00000 1 ∷ []))
+wanted initrd upward steps = take steps (early_items (given initrd upward) (run 0x100000 0x7F00000 1 ∷ []))
 
 -- allocations stay in the first MiB when the first byte becomes memory, by the fourth item
 limited_when_memory_comes : (memory_of (wanted None false 3) 0x100000 ≡ None) × (limit_of (wanted None false 3) ≡ 0x100000)
@@ -98,8 +98,8 @@ direction_behind_the_limit = (refl, refl, refl, refl, refl, refl)
 
 -- without a map there is no memory, whatever is mirrored, and the first MiB is claimed
 -- nevertheless
-no_map_no_memory : (memory_of (first_items (given None false) []) 0x1000 ≡ None)
-    × (owner_of (first_items (given None false) []) 0xFFFFF ≡ Some owner.Low1M)
+no_map_no_memory : (memory_of (early_items (given None false) []) 0x1000 ≡ None)
+    × (owner_of (early_items (given None false) []) 0xFFFFF ≡ Some owner.Low1M)
 unfolding trim_frames each_in each_from
 no_map_no_memory = (refl, refl)
 

@@ -4,7 +4,7 @@ use Rattle.std.proofs.lemmas.Bool.Decides.{nat_tests}
 use Rattle.std.proofs.lemmas.List.{append-nil, append_assoc}
 use Rattle.bm_base.specs.Range.{RangeView, end_of}
 use Rattle.bm_base.specs.ResultSteps.{◌>>=◌}
-use Rattle.address_runs.specs.Edits.{NothingFrom, cover_range}
+use Rattle.address_runs.specs.Edits.{IsEmptyFrom, cover_range}
 use Rattle.memblock_model.specs.declared.owner.Which.{Which}
 use Rattle.memblock_model.specs.declared.owner.Which.TheVariants as which
 use Rattle.memblock_model.specs.declared.item.Item.{Item}
@@ -12,12 +12,12 @@ use Rattle.memblock_model.specs.declared.item.Item.TheVariants as item
 use Rattle.memblock_model.specs.Labels.{Labels, plain_label}
 use Rattle.memblock_model.specs.Tables.{records_for, records_of, room_after, room_of, table_after, table_of}
 use Rattle.memblock_model.proofs.ItemLaws.{room_of-push, table_of-push}
-use Rattle.memblock_ranges.specs.Steps.{EndsInSpace}
+use Rattle.memblock_ranges.specs.Steps.{RangeEndsInAddressSpace}
 use Rattle.memblock_ranges.proofs.CountLaws.{few-pieces, length-covered, length-trimmed}
 use Rattle.memblock_ranges.proofs.StepLaws.{items-within}
 use Rattle.growth_model.specs.Change.{ChangeEffect, write_item}
 use Rattle.growth_model.specs.Growth.{is_full, count_uncovered_pieces}
-use Rattle.growth_model.specs.Requests.{carry_out_items, change_for, items_or_refusal}
+use Rattle.growth_model.specs.Requests.{carry_out_items, change_writing_item, items_or_refusal}
 use Rattle.growth_model.proofs.FirstLaws.{no_records, nothing_said}
 use Rattle.growth_model.proofs.IdleLaws.{add_range-idle, claim_range-idle}
 
@@ -26,7 +26,7 @@ record HasFew (items : List Item) (n m : ℕ) : Type 0 where
   reserved : length (records_for (table_of which.Reserved items)) ≤ n
   memory : length (records_for (table_of which.Memory items)) ≤ m
   rooms : (w : Which) → room_of w items ≡ 128
-  within : (w : Which) → NothingFrom (2 ^ 64) (table_of w items)
+  within : (w : Which) → IsEmptyFrom (2 ^ 64) (table_of w items)
 
 -- the items are claims, memory, trims and limits, and so few that both tables have room for them
 abbrev pub NeedNone : ℕ → ℕ → List Item → Type 0
@@ -38,7 +38,7 @@ NeedNone n m (item.Limit at ∷ is) = NeedNone n m is
 NeedNone n m (i ∷ is) = ⊥
 
 -- after an item the tables have at most these numbers of records
-behind : (i : Item) (items : List Item) (n m a b : ℕ) → HasFew items n m → EndsInSpace i
+behind : (i : Item) (items : List Item) (n m a b : ℕ) → HasFew items n m → RangeEndsInAddressSpace i
     → ((w : Which) → room_after w (room_of w items) i ≡ 128)
     → length (records_for (table_after which.Reserved (table_of which.Reserved items) i)) ≤ a
     → length (records_for (table_after which.Memory (table_of which.Memory items) i)) ≤ b → HasFew (items ++ i ∷ []) a b
@@ -51,7 +51,7 @@ behind i items n m a b few small rooms reserved memory = record {
 
 -- a range that is added to a table of few records needs no growth
 covers_few : (w : Which) (r : RangeView) (items : List Item) (n : ℕ) → end_of r ≤ 2 ^ 64 → 2 * n + 1 ≤ 128 → room_of w items ≡ 128
-    → NothingFrom (2 ^ 64) (table_of w items) → length (records_for (table_of w items)) ≤ n
+    → IsEmptyFrom (2 ^ 64) (table_of w items) → length (records_for (table_of w items)) ≤ n
     → (is_full w (count_uncovered_pieces w r) items ≡ false)
     × (length (records_for (cover_range r plain_label (table_of w items))) ≤ 2 * n + 1)
 unfolding records_of
@@ -61,7 +61,7 @@ covers_few w r items n small low room within few =
     (grind (arith, nat_tests, room, low, few, some), omega (arith, few, some, more))
 
 -- one item, and then the others
-goes : (i : Item) (is items : List Item) → change_for i items ≡ write_item i items
+goes : (i : Item) (is items : List Item) → change_writing_item i items ≡ write_item i items
     → carry_out_items is (items ++ i ∷ []) ≡ Ok ((items ++ i ∷ []) ++ is) → carry_out_items (i ∷ is) items ≡ Ok (items ++ (i ∷ is))
 unfolding carry_out_items
 goes i is items first rest =

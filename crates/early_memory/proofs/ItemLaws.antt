@@ -4,14 +4,14 @@ use Rattle.std.proofs.lemmas.Bool.Decides.{nat_tests}
 use Rattle.std.specs.Prelude.{IfSome}
 use Rattle.std.specs.List.{All}
 use Rattle.bm_base.specs.Range.{RangeView}
-use Rattle.address_runs.specs.Runs.{RunOf, AreRuns, extent_of}
+use Rattle.address_runs.specs.Runs.{RunOf, AreRuns, range_of_run}
 use Rattle.e820_model.specs.Usable.{is_memory}
 use Rattle.memblock_model.specs.declared.item.Item.{Item}
 use Rattle.memblock_model.specs.declared.item.Item.TheVariants as item
 use Rattle.memblock_model.specs.declared.owner.Owner.TheVariants as owner
 use Rattle.memblock_model.specs.Items.{ItemsHaveBytes, ItemHasBytes}
 use Rattle.early_memory.specs.EarlyInputs.{EarlyInputs, FrameRange}
-use Rattle.early_memory.specs.FirstItems.{direction_items, first_items, initrd_claims, items_of_map, items_of_run, mirror_items, part_below}
+use Rattle.early_memory.specs.FirstItems.{direction_items, early_items, initrd_claims, items_of_map, items_of_run, mirror_items, part_below}
 
 items-append : (is js : List Item) → ItemsHaveBytes is → ItemsHaveBytes js → ItemsHaveBytes (is ++ js)
 items-append [] js first rest = rest
@@ -29,7 +29,7 @@ map-items limit [] runs = tt
 map-items limit (r ∷ rs) runs =
     let some = runs.0 in
     items-append (items_of_run limit r) (items_of_map limit rs)
-    (if-items (r.value == 0xEFFFFFFF) (is_memory (Some r.value) && nat_lt r.base limit) (item.Claim (extent_of r) owner.Soft)
+    (if-items (r.value == 0xEFFFFFFF) (is_memory (Some r.value) && nat_lt r.base limit) (item.Claim (range_of_run r) owner.Soft)
     (item.Mem (part_below limit r)) some (λ held. (let low : r.base < limit = grind (arith, nat_tests) in omega (arith, low, some))))
     (map-items limit rs runs.2)
 
@@ -49,7 +49,7 @@ direction-items true = (tt, tt)
 direction-items false = tt
 
 pub first-items : (e : EarlyInputs) (map : List (RunOf ℕ)) → 0 < e.kernel.size → IfSome e.initrd (λ range. 0 < range.size)
-    → All (λ r. 0 < r.count) e.mirrors → AreRuns map → ItemsHaveBytes (first_items e map)
+    → All (λ r. 0 < r.count) e.mirrors → AreRuns map → ItemsHaveBytes (early_items e map)
 first-items e map image some mirrors runs = (
   image,
   (

@@ -13,7 +13,7 @@ use Rattle.address_runs.specs.Runs.{RunOf, lies_in, run_end, value_at, AreRuns}
 use Rattle.address_runs.proofs.RunsLaws.{none_below, rest_from}
 use Rattle.e820_model.specs.Map.{TypeAt}
 use Rattle.e820_model.specs.Usable.{is_memory, is_usable_frame, types_below}
-use Rattle.e820_model.proofs.UsableLaws.{memory_reached, usable_each, usable_whole}
+use Rattle.e820_model.proofs.UsableLaws.{memory_reached, is_usable_frame-each, usable_whole}
 use Rattle.memblock_model.specs.Labels.{LabelView, Labels, plain_label}
 use Rattle.memblock_model.specs.Items.{memory_after, no_memory, trim_frames}
 use Rattle.memblock_model.proofs.LabelLaws.{IsInFrame, in_own_frame, trim_frames-cases, trim_frames-whole}
@@ -80,7 +80,7 @@ trimmed_memory t g each x =
           (let held : (y : ℕ) → IsInFrame x y → g y ≡ Some plain_label = λ y within. (
           let above = within.above in
           let below = within.below in
-          each y ∙ rw (usable_each t (x / 4096) usable y (omega (arith, above)) (omega (arith, below))) refl) in
+          each y ∙ rw (is_usable_frame-each t (x / 4096) usable y (omega (arith, above)) (omega (arith, below))) refl) in
           rw usable (trim_frames-whole g x (λ y within. held y within ∙ sym (held x (in_own_frame x))) ∙ held x (in_own_frame x)))
       | inr other ↦ (rw other (elim (trim_frames-cases g x) as (λ _. trim_frames g x ≡ None) [
         | inl one ↦ (elim (cases_Bool (is_memory (t x))) as (λ _. trim_frames g x ≡ None) [

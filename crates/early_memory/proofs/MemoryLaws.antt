@@ -17,7 +17,7 @@ use Rattle.growth_model.proofs.CarriedLaws.{carried-memory}
 use Rattle.early_memory.specs.declared.low.TheConstants.{ISA_END_ADDRESS}
 use Rattle.early_memory.specs.EarlyInputs.{EarlyInputs, FrameRange}
 use Rattle.early_memory.specs.Memory.{memory_end, mirrored_memory, usable_memory}
-use Rattle.early_memory.specs.FirstItems.{closing_items, direction_items, early_claims, first_items, items_of_map, mirror_items, range_up_to}
+use Rattle.early_memory.specs.FirstItems.{items_after_map, direction_items, early_claims, early_items, items_of_map, mirror_items, range_up_to}
 use Rattle.early_memory.proofs.MapItemLaws.{added_memory, trimmed_memory}
 use Rattle.early_memory.proofs.MirrorLaws.{mirrors-memory}
 
@@ -61,18 +61,18 @@ mirrored-first e map runs x = let all = mapped e map [] runs (λ f. refl) x in r
 
 -- the memory after the list was carried out from the beginning
 pub first_memory : (e : EarlyInputs) (map : List (RunOf ℕ)) (items : List Item) → AreRuns map
-    → carry_out_items (first_items e map) [] ≡ Ok items
+    → carry_out_items (early_items e map) [] ≡ Ok items
     → (x : ℕ) → memory_of items x ≡ mirrored_memory e.mirrors (usable_memory e.limit (value_at map)) x
 first_memory e map items runs ends x =
-    ap (λ (h : Labels). h x) (memory_of-same items (first_items e map) (carried-memory (first_items e map) [] items ends))
+    ap (λ (h : Labels). h x) (memory_of-same items (early_items e map) (carried-memory (early_items e map) [] items ends))
     ∙ mapped e map (item.Limit (memory_end e.limit (value_at map)) ∷ item.Claim (range_up_to ISA_END_ADDRESS) owner.Low1M ∷ []) runs (λ f.
     refl) x
 
-pub first_limit : (e : EarlyInputs) (map : List (RunOf ℕ)) (items : List Item) → carry_out_items (first_items e map) [] ≡ Ok items
+pub first_limit : (e : EarlyInputs) (map : List (RunOf ℕ)) (items : List Item) → carry_out_items (early_items e map) [] ≡ Ok items
     → limit_of items ≡ memory_end e.limit (value_at map)
 first_limit e map items ends =
-    let closing : List Item = closing_items e.mirrors (memory_end e.limit (value_at map)) in
-    limit_of-same items (first_items e map) (carried-memory (first_items e map) [] items ends)
+    let closing : List Item = items_after_map e.mirrors (memory_end e.limit (value_at map)) in
+    limit_of-same items (early_items e map) (carried-memory (early_items e map) [] items ends)
     ∙ (begins e.kernel e.initrd e.upward (items_of_map e.limit map ++ closing)).1
     ∙ fold-append limit_after ISA_END_ADDRESS (items_of_map e.limit map) closing
     ∙ mirrors-limit e.mirrors (fold limit_after ISA_END_ADDRESS (items_of_map e.limit map)) _

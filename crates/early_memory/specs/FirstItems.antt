@@ -2,7 +2,7 @@
 -- inputs.
 use Rattle.std.specs.Prelude.{ℕ, ◌-◌, ◌==◌, Bool, true, false, ◌&&◌, nat_lt, min, if◌then◌else◌, Option, Some, None, List, [], ◌∷◌, ◌++◌}
 use Rattle.bm_base.specs.Range.{RangeView}
-use Rattle.address_runs.specs.Runs.{RunOf, run_end, extent_of, value_at}
+use Rattle.address_runs.specs.Runs.{RunOf, run_end, range_of_run, value_at}
 use Rattle.e820_model.specs.declared.entry.TheConstants.{E820_TYPE_SOFT_RESERVED}
 use Rattle.e820_model.specs.Usable.{is_memory}
 use Rattle.memblock_model.specs.declared.owner.Owner.TheVariants as owner
@@ -34,7 +34,7 @@ part_below limit r = record { base = r.base; size = min (run_end r) limit - r.ba
 -- far as they lie below the limit of physical addresses (the loop body of `e820__memblock_setup`)
 abbrev pub items_of_run : ℕ → RunOf ℕ → List Item
 items_of_run limit r =
-    if r.value == E820_TYPE_SOFT_RESERVED then item.Claim (extent_of r) owner.Soft ∷ []
+    if r.value == E820_TYPE_SOFT_RESERVED then item.Claim (range_of_run r) owner.Soft ∷ []
     else (if is_memory (Some r.value) && nat_lt r.base limit then item.Mem (part_below limit r) ∷ [] else [])
 
 abbrev pub items_of_map : ℕ → List (RunOf ℕ) → List Item
@@ -55,14 +55,14 @@ mirror_items (r ∷ rs) = item.Mirror (bytes_of_frames r) ∷ mirror_items rs
 -- Memory is trimmed to whole frames (`memblock_trim_memory`), and some of it is mirrored. The
 -- limit is set to the end of the last usable frame (`memblock_set_current_limit`), and the first
 -- MiB is claimed (`reserve_real_mode`).
-abbrev pub closing_items : List FrameRange → ℕ → List Item
-closing_items mirrors end =
+abbrev pub items_after_map : List FrameRange → ℕ → List Item
+items_after_map mirrors end =
     item.Trim ∷ (mirror_items mirrors ++ (item.Limit end ∷ item.Claim (range_up_to ISA_END_ADDRESS) owner.Low1M ∷ []))
 
 -- the whole list for these inputs and a map; before memory is known, allocations stay in the first
 -- MiB (`setup_arch`)
-abbrev pub first_items : EarlyInputs → List (RunOf ℕ) → List Item
-first_items e map =
+abbrev pub early_items : EarlyInputs → List (RunOf ℕ) → List Item
+early_items e map =
     early_claims e.kernel e.initrd
     ++ (item.Limit ISA_END_ADDRESS ∷ (direction_items e.upward
-    ++ (items_of_map e.limit map ++ closing_items e.mirrors (memory_end e.limit (value_at map)))))
+    ++ (items_of_map e.limit map ++ items_after_map e.mirrors (memory_end e.limit (value_at map)))))

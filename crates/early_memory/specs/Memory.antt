@@ -35,9 +35,9 @@ unfoldable pub memory_end : ℕ → TypeAt → ℕ
 memory_end limit f = end_of_last_frame (last_below (is_usable_frame (types_below limit f)) (limit / FRAME_SIZE))
 
 -- the end of the last run of a list, or 0 if it is empty (`memblock_end_of_DRAM`)
-abbrev pub end_after_runs : {X : Type 0} → ℕ → List (RunOf X) → ℕ
-end_after_runs at [] = at
-end_after_runs at (r ∷ rs) = end_after_runs (run_end r) rs
+abbrev pub last_run_end_or : {X : Type 0} → ℕ → List (RunOf X) → ℕ
+last_run_end_or at [] = at
+last_run_end_or at (r ∷ rs) = last_run_end_or (run_end r) rs
 
-abbrev pub end_of_runs : {X : Type 0} → List (RunOf X) → ℕ
-end_of_runs rs = end_after_runs 0 rs
+abbrev pub end_of_last_run : {X : Type 0} → List (RunOf X) → ℕ
+end_of_last_run rs = last_run_end_or 0 rs

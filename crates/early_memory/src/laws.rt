@@ -11,8 +11,8 @@ ghost use Rattle.memblock_model.specs.Items.{ItemsHaveBytes, limit_of, memory_of
 ghost use Rattle.memblock_model.specs.Labels.{LabelView};
 ghost use Rattle.growth_model.specs.Requests.{carry_out_items};
 ghost use Rattle.early_memory.specs.EarlyInputs.{EarlyInputs, FrameRange};
-ghost use Rattle.early_memory.specs.Memory.{end_of_runs, memory_end, mirrored_memory, usable_memory};
-ghost use Rattle.early_memory.specs.FirstItems.{first_items};
+ghost use Rattle.early_memory.specs.Memory.{end_of_last_run, memory_end, mirrored_memory, usable_memory};
+ghost use Rattle.early_memory.specs.FirstItems.{early_items};
 
 use bm_base::FRAME_SIZE;
 
@@ -21,18 +21,18 @@ use bm_base::FRAME_SIZE;
 /// allocations is the end of the last usable frame.
 pub fn memory_is_usable_frames()
     ensures memory { (e : EarlyInputs) (map : List (RunOf ℕ)) (items : List AnyItem) → AreRuns map →
-        carry_out_items (first_items e map) [] ≡ Ok items →
+        carry_out_items (early_items e map) [] ≡ Ok items →
         (x : ℕ) →
         memory_of items x ≡ mirrored_memory e.mirrors (usable_memory e.limit (value_at map)) x }
     ensures limit { (e : EarlyInputs) (map : List (RunOf ℕ)) (items : List AnyItem) →
-        carry_out_items (first_items e map) [] ≡ Ok items
+        carry_out_items (early_items e map) [] ≡ Ok items
         → limit_of items ≡ memory_end e.limit (value_at map) }
 {}
 
 /// Law: all memory, mirrored or not, ends at or below the end of the last usable frame. That end is
 /// a multiple of the frame size, and at most the limit of physical addresses. Unless it is 0, the
 /// frame right below it is usable.
-pub fn memory_ends_within_reach()
+pub fn memory_ends_at_last_usable_frame()
     ensures below { (limit : ℕ) (f : TypeAt) (mirrors : List FrameRange) (x : ℕ) (label : LabelView)
         →
         mirrored_memory mirrors (usable_memory limit f) x ≡ Some label → x < memory_end limit f }
@@ -47,13 +47,13 @@ pub fn memory_ends_within_reach()
 pub fn memory_ends_with_its_last_run()
     ensures { (limit : ℕ) (f : TypeAt) (mirrors : List FrameRange) (runs : List (RunOf LabelView)) →
         IsRunsOf (mirrored_memory mirrors (usable_memory limit f)) runs
-        → end_of_runs runs ≡ memory_end limit f }
+        → end_of_last_run runs ≡ memory_end limit f }
 {}
 
 /// Law: if the kernel's image, the initrd and each range of mirrored frames aren't empty, no item
 /// of the list has an empty range.
-pub fn first_items_have_bytes()
+pub fn no_early_item_is_empty()
     ensures { (e : EarlyInputs) (map : List (RunOf ℕ)) → 0 < e.kernel.size
         → IfSome e.initrd (λ range. 0 < range.size) →
-        All (λ r. 0 < r.count) e.mirrors → AreRuns map → ItemsHaveBytes (first_items e map) }
+        All (λ r. 0 < r.count) e.mirrors → AreRuns map → ItemsHaveBytes (early_items e map) }
 {}

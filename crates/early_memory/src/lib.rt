@@ -27,7 +27,7 @@ mod laws;
 mod low;
 
 pub use laws::{
-    first_items_have_bytes, memory_ends_with_its_last_run, memory_ends_within_reach,
+    no_early_item_is_empty, memory_ends_with_its_last_run, memory_ends_at_last_usable_frame,
     memory_is_usable_frames,
 };
 pub use low::{ISA_END_ADDRESS, LOW_END};

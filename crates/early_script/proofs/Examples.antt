@@ -16,8 +16,8 @@ use Rattle.memblock_grow.specs.MemblockView.{MemblockView}
 use Rattle.early_script.specs.declared.outcome.Answer.{Answer}
 use Rattle.early_script.specs.declared.outcome.Outcome.TheVariants as outcomes
 use Rattle.early_script.specs.LiveView.{LiveView, range_of_id, is_live, with_range, without_id}
-use Rattle.early_script.specs.Overlaps.{is_owned_by, is_overlap, is_over_table}
-use Rattle.early_script.specs.Effects.{ScriptState, RunsOutDuringLine, answer_only, alloc_effect_at, reserve_effect, free_whole, free_effect, trim_effect, fill_whole, fill_effect, act_effect, outcome_unless_refused, ids_unless_refused}
+use Rattle.early_script.specs.Overlaps.{is_owned_by, ranges_overlap, is_over_table}
+use Rattle.early_script.specs.Effects.{ScriptState, RunsOutDuringLine, answer_only, alloc_effect_at, reserve_effect, free_whole_range, free_effect, trim_effect, fill_whole_range, fill_effect, act_effect, outcome_unless_refused, ids_unless_refused}
 use Rattle.early_script.specs.FromMemblock.{state_of_memblock, memblock_bytes}
 use Rattle.early_script.specs.Lines.{ScriptSoFar, RunsOutDuringLines, line_effect, script_after_lines}
 
@@ -56,7 +56,7 @@ unfolding is_owned_by each_in each_from
 owned_examples = (refl, refl, refl)
 
 -- the memory table is at 0x12000 and the reserved one at 0x13000, with 3,072 bytes each
-touches_examples : (is_overlap first (at_base 0x103 9) ≡ true) × (is_overlap first (at_base 0x104 9) ≡ false)
+touches_examples : (ranges_overlap first (at_base 0x103 9) ≡ true) × (ranges_overlap first (at_base 0x104 9) ≡ false)
     × (is_over_table kernel items (at_base 0x11FFF 1) ≡ false) × (is_over_table kernel items (at_base 0x12BFF 1) ≡ true)
     × (is_over_table kernel items (at_base 0x12C00 0x400) ≡ false) × (is_over_table kernel items (at_base 0x12C00 0x401) ≡ true)
 touches_examples = (refl, refl, refl, refl, refl, refl)
@@ -74,12 +74,12 @@ alloc_examples : (alloc_effect_at found 2 8 None ≡ answer_only found outcomes.
 alloc_examples = (refl, refl, refl, refl, refl, refl)
 
 whole_examples : (free_effect found 2 ≡ answer_only found outcomes.Unknown) × (free_effect found 5 ≡ answer_only found outcomes.NotWhole)
-    × (free_effect found 1 ≡ free_whole found 1 first) × ((free_effect found 1).ids ≡ (5, second) ∷ [])
+    × (free_effect found 1 ≡ free_whole_range found 1 first) × ((free_effect found 1).ids ≡ (5, second) ∷ [])
     × (trim_effect found 1 4 ≡ answer_only found outcomes.TooLargeKeep) × (trim_effect found 5 9 ≡ answer_only found outcomes.NotWhole)
     × ((trim_effect found 1 3).ids ≡ (1, at_base 0x100 3) ∷ (5, second) ∷ [])
     × ((fill_effect found 1 7).fill ≡ Some (record { range = first; byte = 7; at = 4 }))
-    × (fill_whole found 7 (at_base 0 65537) ≡ answer_only found outcomes.TooLargeFill)
-    × ((fill_whole found 7 (at_base 0 65536)).answer ≡ outcomes.Done)
+    × (fill_whole_range found 7 (at_base 0 65537) ≡ answer_only found outcomes.TooLargeFill)
+    × ((fill_whole_range found 7 (at_base 0 65536)).answer ≡ outcomes.Done)
 unfolding is_owned_by each_in each_from
 whole_examples = (refl, refl, refl, refl, refl, refl, refl, refl, refl, refl)
 

@@ -14,14 +14,14 @@ use Rattle.early_script.specs.declared.outcome.Answer.{Answer}
 use Rattle.early_script.specs.LiveView.{LiveView}
 use Rattle.early_script.specs.Effects.{ScriptState, RunsOutDuringLine, act_effect}
 use Rattle.early_script.specs.FromMemblock.{state_of_memblock, memblock_bytes}
-use Rattle.early_script.specs.Lines.{ScriptSoFar, HasReached, RunsOutDuringLines, IsPrefixChain, line_effect, script_after_line, script_after_lines}
+use Rattle.early_script.specs.Lines.{ScriptSoFar, MatchesScriptSoFar, RunsOutDuringLines, IsPrefixChain, line_effect, script_after_line, script_after_lines}
 use Rattle.early_script.proofs.RunLaws.{ran-cut}
 use Rattle.early_script.proofs.StageLaws.{script_after_lines-append, act_effect-reached}
 
 -- out of memory during the next line
 pub out-amid : (start : ScriptSoFar) (lines : List Line) (i : ℕ) (line : Line) (ids later : LiveView) (m next : MemblockView)
     (answers : List Answer) → take (i + 1) lines ≡ take i lines ++ line ∷ [] →
-    HasReached (script_after_lines start (take i lines)) ids m answers →
+    MatchesScriptSoFar (script_after_lines start (take i lines)) ids m answers →
     RunsOutDuringLine (state_of_memblock ids m) (state_of_memblock later next)
     (act_effect (state_of_memblock ids m) (memblock_bytes m) line.act) →
     ((fills : List Fill) → AreBytesFromHistory m.kernel m.journal.items fills (memblock_bytes m) →
@@ -88,7 +88,7 @@ all-lines start lines i line more =
 
 -- all lines were run
 pub between-all : (start : ScriptSoFar) (lines : List Line) (ids : LiveView) (m : MemblockView) (answers : List Answer) →
-    HasReached (script_after_lines start lines) ids m answers →
+    MatchesScriptSoFar (script_after_lines start lines) ids m answers →
     IsPrefixChain start.state.items m.journal.items (script_after_lines start lines).state.items
 between-all start lines ids m answers reached =
     let whole = (script_after_lines start lines).state.items in

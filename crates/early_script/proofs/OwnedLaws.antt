@@ -13,16 +13,16 @@ use Rattle.memblock_model.specs.declared.item.Item.{Item}
 use Rattle.memblock_model.specs.Same.{same_owner}
 use Rattle.memblock_model.specs.Items.{Owners}
 use Rattle.memblock_model.specs.Tables.{table_bytes}
-use Rattle.memblock_model.proofs.SameLaws.{owner_self, owner_tells}
-use Rattle.memblock_grow.specs.Touch.{TouchesTable}
-use Rattle.early_script.specs.Overlaps.{is_owned_by, is_overlap, is_over_table}
+use Rattle.memblock_model.proofs.SameLaws.{owner_self, same_owner_decides_equality}
+use Rattle.memblock_grow.specs.Touch.{OverlapsTableOfItems}
+use Rattle.early_script.specs.Overlaps.{is_owned_by, ranges_overlap, is_over_table}
 
 agrees : (o : Option Owner) (who : Owner) → o ≡ Some who → agree same_owner o (Some who) ≡ true
 agrees o who is = rw is (owner_self who)
 
 agreed : (o : Option Owner) (who : Owner) → agree same_owner o (Some who) ≡ true → o ≡ Some who
 agreed None who h = cc h
-agreed (Some a) who h = ap (λ (b : Owner). Some b) (owner_tells.true_is_equal a who h)
+agreed (Some a) who h = ap (λ (b : Owner). Some b) (same_owner_decides_equality.true_is_equal a who h)
 
 pub owned-each : (own : Owners) (who : Owner) (range : RangeView) → is_owned_by own who range ≡ true → (x : ℕ) → range.base ≤ x → x < end_of
     range →
@@ -39,15 +39,15 @@ owned-is own who range false tells =
     false_from_ne_true _ (λ holds. false≢true (tells.1 (λ x low high. owned-each own who range holds x low high)))
 
 -- ranges that meet have a byte in common, and conversely
-is_overlap-meet : (r s : RangeView) → is_overlap r s ≡ true → Meet s r
-is_overlap-meet r s h =
+ranges_overlap-meet : (r s : RangeView) → ranges_overlap r s ≡ true → Meet s r
+ranges_overlap-meet r s h =
     let x = max r.base s.base in
     let below : x < min (end_of r) (end_of s) = grind (arith, nat_tests) in
     let here : covers s x ≡ true = grind (arith, nat_tests) in
     let too : covers r x ≡ true = grind (arith, nat_tests) in
     (x, and_from (covers s x) (covers r x) here too)
 
-meet-meets : (r s : RangeView) → Meet s r → is_overlap r s ≡ true
+meet-meets : (r s : RangeView) → Meet s r → ranges_overlap r s ≡ true
 meet-meets r s both = grind (arith, nat_tests, both.1)
 
 met : (kernel : RangeView) (items : List Item) (range : RangeView) → (w : Which) × Meet (table_bytes w kernel items) range →
@@ -57,13 +57,13 @@ met kernel items range (which.Reserved, both) = or_right _ _ (meet-meets range (
 
 touched : (kernel : RangeView) (items : List Item) (range : RangeView) → is_over_table kernel items range ≡ true →
     (w : Which) × Meet (table_bytes w kernel items) range
-touched kernel items range h = elim (cases_Bool (is_overlap range (table_bytes which.Memory kernel items))) [
-  | inl first ↦ (which.Memory, is_overlap-meet range (table_bytes which.Memory kernel items) first)
-  | inr none ↦ (which.Reserved, is_overlap-meet range (table_bytes which.Reserved kernel items) (rw none at h))
+touched kernel items range h = elim (cases_Bool (ranges_overlap range (table_bytes which.Memory kernel items))) [
+  | inl first ↦ (which.Memory, ranges_overlap-meet range (table_bytes which.Memory kernel items) first)
+  | inr none ↦ (which.Reserved, ranges_overlap-meet range (table_bytes which.Reserved kernel items) (rw none at h))
 ]
 
 pub is_over_table-is : (kernel : RangeView) (items : List Item) (range : RangeView) (b : Bool) →
-    (IsTrue b ↔ TouchesTable kernel range items) → is_over_table kernel items range ≡ b
+    (IsTrue b ↔ OverlapsTableOfItems kernel range items) → is_over_table kernel items range ≡ b
 is_over_table-is kernel items range true tells = met kernel items range (tells.0 refl)
 is_over_table-is kernel items range false tells =
     false_from_ne_true _ (λ holds. false≢true (tells.1 (touched kernel items range holds)))

@@ -15,7 +15,7 @@ use Rattle.growth_model.specs.Change as growth
 use Rattle.growth_model.specs.Growth.{claim_range, free_range}
 use Rattle.growth_model.specs.Request.{place_for}
 use Rattle.growth_model.specs.Ends.{StopsBeforeStep}
-use Rattle.growth_model.specs.Bytes.{byte_after, Fill, byte_after_fill}
+use Rattle.growth_model.specs.Bytes.{byte_after_items, Fill, byte_after_fill}
 use Rattle.early_script.specs.declared.outcome.Outcome.{Outcome}
 use Rattle.early_script.specs.declared.outcome.Outcome.TheVariants as outcomes
 use Rattle.early_script.specs.LiveView.{LiveView, range_of_id, is_live, with_range, without_id}
@@ -85,15 +85,15 @@ abbrev pub on_range_of_id : ScriptState → ℕ → (RangeView → LineEffect) �
 on_range_of_id s id act_effect = act_on_owned_range s id act_effect (range_of_id s.ids id)
 
 -- free: the whole range of the ID is freed
-abbrev pub free_whole : ScriptState → ℕ → RangeView → LineEffect
-free_whole s id range = record { change = free_range range; answer = outcomes.Done; ids = without_id s.ids id; fill = None; takes = false }
+abbrev pub free_whole_range : ScriptState → ℕ → RangeView → LineEffect
+free_whole_range s id range = record { change = free_range range; answer = outcomes.Done; ids = without_id s.ids id; fill = None; takes = false }
 
 abbrev pub free_effect : ScriptState → ℕ → LineEffect
-free_effect s id = on_range_of_id s id (free_whole s id)
+free_effect s id = on_range_of_id s id (free_whole_range s id)
 
 -- trim: the bytes from `keep` on are freed, and the ID keeps those before
-abbrev pub trim_to : ScriptState → ℕ → ℕ → RangeView → LineEffect
-trim_to s id keep range = record {
+abbrev pub keep_start_of_range : ScriptState → ℕ → ℕ → RangeView → LineEffect
+keep_start_of_range s id keep range = record {
   change = free_range (record { base = range.base + keep; size = range.size - keep });
   answer = outcomes.Done;
   ids = with_range s.ids id (record { base = range.base; size = keep });
@@ -101,19 +101,19 @@ trim_to s id keep range = record {
   takes = true;
 }
 
-abbrev pub trim_whole : ScriptState → ℕ → ℕ → RangeView → LineEffect
-trim_whole s id keep range = if nat_le range.size keep then answer_only s outcomes.TooLargeKeep else trim_to s id keep range
+abbrev pub trim_whole_range : ScriptState → ℕ → ℕ → RangeView → LineEffect
+trim_whole_range s id keep range = if nat_le range.size keep then answer_only s outcomes.TooLargeKeep else keep_start_of_range s id keep range
 
 abbrev pub trim_effect : ScriptState → ℕ → ℕ → LineEffect
-trim_effect s id keep = on_range_of_id s id (trim_whole s id keep)
+trim_effect s id keep = on_range_of_id s id (trim_whole_range s id keep)
 
 -- fill: each byte of the ID's range gets the value, if there are at most 65,536
-abbrev pub fill_whole : ScriptState → ℕ → RangeView → LineEffect
-fill_whole s byte range = if nat_lt 65536 range.size then answer_only s outcomes.TooLargeFill else
+abbrev pub fill_whole_range : ScriptState → ℕ → RangeView → LineEffect
+fill_whole_range s byte range = if nat_lt 65536 range.size then answer_only s outcomes.TooLargeFill else
     record (answer_only s outcomes.Done) { fill = Some (record { range = range; byte = byte; at = length s.items }); takes = true }
 
 abbrev pub fill_effect : ScriptState → ℕ → ℕ → LineEffect
-fill_effect s id byte = on_range_of_id s id (fill_whole s byte)
+fill_effect s id byte = on_range_of_id s id (fill_whole_range s byte)
 
 -- peek: returns the bytes from the address on
 abbrev pub peek_effect : ScriptState → (ℕ → ℕ) → ℕ → ℕ → LineEffect
@@ -172,8 +172,8 @@ byte_after_any_fill (Some f) x b = byte_after_fill f x b
 
 -- the byte at an address after a line, if it was b before
 abbrev pub byte_after_line : Result Outcome Memory → ScriptState → ScriptState → LineEffect → ℕ → ℕ → ℕ
-byte_after_line (Ok answer) old new d x b = byte_after_any_fill d.fill x (byte_after old.kernel old.items new.items x b)
-byte_after_line (Err memory) old new d x b = byte_after old.kernel old.items new.items x b
+byte_after_line (Ok answer) old new d x b = byte_after_any_fill d.fill x (byte_after_items old.kernel old.items new.items x b)
+byte_after_line (Err memory) old new d x b = byte_after_items old.kernel old.items new.items x b
 
 -- the fills, with that of the line added if it made one
 abbrev pub add_fill : List Fill → Option Fill → List Fill

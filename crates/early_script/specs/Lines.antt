@@ -43,7 +43,7 @@ script_so_far ids m fills answers = record { state = state_of_memblock ids m; fi
 
 -- live IDs, memblock and outcomes are those of `s`, and each byte is what the items and fills of
 -- `s` give
-pub record HasReached (s : ScriptSoFar) (ids : LiveView) (m : MemblockView) (answers : List Answer) : Type 0 where
+pub record MatchesScriptSoFar (s : ScriptSoFar) (ids : LiveView) (m : MemblockView) (answers : List Answer) : Type 0 where
   pub state : state_of_memblock ids m ≡ s.state
   pub answers_are : answers ≡ s.answers
   pub holds : AreBytesFromHistory m.kernel m.journal.items s.fills (memblock_bytes m)
@@ -84,9 +84,9 @@ pub record IsPrefixChain (first second third : List Item) : Type 0 where
   pub goes_further : third ≡ second ++ rest
 
 -- the lines before the one that places the sections, or all of them; and the lines after it
-abbrev pub before_sections : List Line → List Line
-before_sections [] = []
-before_sections (line ∷ lines) = if is_sections line.act then [] else line ∷ before_sections lines
+abbrev pub lines_before_sections : List Line → List Line
+lines_before_sections [] = []
+lines_before_sections (line ∷ lines) = if is_sections line.act then [] else line ∷ lines_before_sections lines
 
 abbrev pub lines_after_sections : List Line → List Line
 lines_after_sections [] = []

@@ -15,10 +15,10 @@ unfoldable pub is_owned_by : Owners → Owner → RangeView → Bool
 is_owned_by own who range = each_in range (λ x. agree same_owner (own x) (Some who))
 
 -- the ranges have a byte in common
-abbrev pub is_overlap : RangeView → RangeView → Bool
-is_overlap r s = nat_lt (max r.base s.base) (min (end_of r) (end_of s))
+abbrev pub ranges_overlap : RangeView → RangeView → Bool
+ranges_overlap r s = nat_lt (max r.base s.base) (min (end_of r) (end_of s))
 
 -- the range overlaps a table
 abbrev pub is_over_table : RangeView → List Item → RangeView → Bool
 is_over_table kernel items range =
-    is_overlap range (table_bytes which.Memory kernel items) || is_overlap range (table_bytes which.Reserved kernel items)
+    ranges_overlap range (table_bytes which.Memory kernel items) || ranges_overlap range (table_bytes which.Reserved kernel items)

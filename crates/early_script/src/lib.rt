@@ -32,7 +32,7 @@ mod live;
 mod outcome;
 mod steps;
 
-pub use lines::{lines_leave_memory, run_script_lines, scripts_place_once, split_at_sections};
+pub use lines::{lines_leave_memory, run_script_lines, scripts_place_sections_once, split_at_sections};
 pub use live::Live;
 pub use outcome::{Answer, Outcome};
 pub use script_reader::{Act, Line, ScriptFault, read_script};

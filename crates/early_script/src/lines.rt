@@ -5,12 +5,12 @@
 ghost use Rattle.std.specs.Prelude.{◌≡◌, ℕ, ◌+◌, ◌<◌, ◌≤◌, List, [], ◌∷◌, ◌++◌, OnOk, OnErr, Result, Ok};
 ghost use Rattle.std.specs.List.{All};
 ghost use Rattle.script_reader.specs.Forms.{HasBounds};
-ghost use Rattle.growth_model.specs.Tables.{HasBegun};
+ghost use Rattle.growth_model.specs.Tables.{HasFirstItem};
 ghost use Rattle.growth_model.specs.Bytes.{Fill, AreBytesFromHistory};
 ghost use Rattle.memblock_grow.specs.Invariant.{StayPrepared};
 ghost use Rattle.early_script.specs.Effects.{CanBeRun, ScriptState, EndsAsLine, act_effect};
 ghost use Rattle.early_script.specs.FromMemblock.{memblock_bytes};
-ghost use Rattle.early_script.specs.Lines.{IsPrefixChain, HasReached, ScriptRunsOut, PlacesSectionsOnce, script_so_far, script_after_lines, before_sections, lines_after_sections};
+ghost use Rattle.early_script.specs.Lines.{IsPrefixChain, MatchesScriptSoFar, ScriptRunsOut, PlacesSectionsOnce, script_so_far, script_after_lines, lines_before_sections, lines_after_sections};
 ghost use Rattle.bm_base.specs.declared.memory.Memory.{Memory};
 ghost use Rattle.memblock_model.specs.Items.{memory_of, limit_of};
 ghost use Rattle.script_reader.specs.declared.act.Act.{Act};
@@ -38,12 +38,13 @@ pub fn run_script_lines(
     lines: &[Line],
     answers: &mut Vec<Answer>,
 ) -> Result<(), Memory>
-    requires begun { HasBegun mb.old.journal.items }
+    requires begun { HasFirstItem mb.old.journal.items }
     requires run { All (λ l. CanBeRun l.act) lines.now }
     requires bounds { All (λ l. HasBounds l.act) lines.now }
     ensures ok { OnOk result ((fills : List Fill)
         → AreBytesFromHistory mb.old.kernel mb.old.journal.items fills (memblock_bytes mb.old) →
-        HasReached (script_after_lines (script_so_far live.old mb.old fills answers.old.items)
+        MatchesScriptSoFar (script_after_lines (script_so_far live.old mb.old fills
+        answers.old.items)
         lines.now) live.new mb.new answers.new.items) }
     ensures memory { OnErr result
         (ScriptRunsOut live.old mb.old answers.old lines.now live.new mb.new answers.new) }
@@ -53,7 +54,7 @@ pub fn run_script_lines(
         (script_after_lines
         (script_so_far live.old mb.old fills answers.old.items) lines.now).state.items }
     ensures kernel { mb.new.kernel ≡ mb.old.kernel }
-    ensures begun { HasBegun mb.new.journal.items }
+    ensures begun { HasFirstItem mb.new.journal.items }
     ensures still_ready { StayPrepared mb.old.tables.store mb.new.tables.store }
 {
     answers.reserve(lines.len())?;
@@ -73,7 +74,7 @@ pub fn run_script_lines(
 pub fn split_at_sections(lines: &[Line]) -> (&[Line], &[Line])
     requires once { PlacesSectionsOnce lines.now }
     requires bounds { All (λ l. HasBounds l.act) lines.now }
-    ensures before { result.0.now ≡ before_sections lines.now }
+    ensures before { result.0.now ≡ lines_before_sections lines.now }
     ensures behind { result.1.now ≡ lines_after_sections lines.now }
     ensures run { All (λ l. CanBeRun l.act) result.0.now × All (λ l. CanBeRun l.act) result.1.now }
     ensures bounds { All (λ l. HasBounds l.act) result.0.now
@@ -102,7 +103,7 @@ pub fn lines_leave_memory()
 
 /// Law: a script that the reader accepted places the sections at most once. So each line after that
 /// one can be run.
-pub fn scripts_place_once()
+pub fn scripts_place_sections_once()
     ensures { (bytes : List ℕ) (lines : List Line) → script_of bytes ≡ Ok lines
         → PlacesSectionsOnce lines }
 {}

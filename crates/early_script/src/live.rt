@@ -4,7 +4,7 @@
 ghost use Rattle.std.specs.Prelude.{◌≡◌, ℕ, ◌+◌, ◌-◌, ◌^◌, ◌<◌, ◌≤◌, List, [], OnOk, OnErr, IfOk, IfErr, IsOk};
 ghost use Rattle.bm_base.specs.Range.{RangeView};
 ghost use Rattle.script_reader.specs.Forms.{HasBounds};
-ghost use Rattle.growth_model.specs.Tables.{HasBegun, TouchesNoTable};
+ghost use Rattle.growth_model.specs.Tables.{HasFirstItem, OverlapsNoTable};
 ghost use Rattle.growth_model.specs.Bytes.{Fill, AreBytesFromHistory};
 ghost use Rattle.memblock_grow.specs.Continues.{ContinuesMemblock};
 ghost use Rattle.memblock_grow.specs.Invariant.{StayPrepared};
@@ -20,7 +20,7 @@ use std::collections::BTreeMap;
 use std::marker::Model;
 
 /// The largest number of bytes that a `fill` writes.
-const MOST_FILLED: u64 = 65_536;
+const MAX_FILL_BYTES: u64 = 65_536;
 
 /// The live IDs of the script, each with its range. An ID becomes live when a line gets memory for
 /// it, and stays live until a line frees the ID. No range is empty.
@@ -62,7 +62,7 @@ impl Live {
     /// `Memory` if this program is out of memory. Some steps of the line's change may then be
     /// written, and the IDs are unchanged.
     pub fn run_line(&mut self, mb: &mut Memblock, line: &Line) -> Result<Outcome, Memory>
-        requires begun { HasBegun mb.old.journal.items }
+        requires begun { HasFirstItem mb.old.journal.items }
         requires run { CanBeRun line.now.act }
         requires bounds { HasBounds line.now.act }
         ensures acts { EndsAsLine result (state_of_memblock self.old mb.old)
@@ -94,7 +94,7 @@ impl Live {
     }
 
     fn alloc(&mut self, mb: &mut Memblock, id: u32, request: &Request) -> Result<Outcome, Memory>
-        requires begun { HasBegun mb.old.journal.items }
+        requires begun { HasFirstItem mb.old.journal.items }
         requires some { 1 ≤ request.now.size }
         requires aligned { (k : ℕ) × (request.now.align ≡ 2 ^ k) }
         ensures acts { EndsAsLine result (state_of_memblock self.old mb.old)
@@ -121,7 +121,7 @@ impl Live {
     }
 
     fn reserve(&mut self, mb: &mut Memblock, id: u32, range: Range) -> Result<Outcome, Memory>
-        requires begun { HasBegun mb.old.journal.items }
+        requires begun { HasFirstItem mb.old.journal.items }
         requires some { 0 < range.size }
         ensures acts { EndsAsLine result (state_of_memblock self.old mb.old)
             (state_of_memblock self.new mb.new)
@@ -145,7 +145,7 @@ impl Live {
     }
 
     fn free(&mut self, mb: &mut Memblock, id: u32) -> Result<Outcome, Memory>
-        requires { HasBegun mb.old.journal.items }
+        requires { HasFirstItem mb.old.journal.items }
         ensures acts { EndsAsLine result (state_of_memblock self.old mb.old)
             (state_of_memblock self.new mb.new)
             (free_effect (state_of_memblock self.old mb.old) id) }
@@ -164,7 +164,7 @@ impl Live {
     }
 
     fn trim(&mut self, mb: &mut Memblock, id: u32, keep: u64) -> Result<Outcome, Memory>
-        requires begun { HasBegun mb.old.journal.items }
+        requires begun { HasFirstItem mb.old.journal.items }
         requires some { 0 < keep }
         ensures acts { EndsAsLine result (state_of_memblock self.old mb.old)
             (state_of_memblock self.new mb.new)
@@ -189,7 +189,7 @@ impl Live {
     }
 
     fn fill(&mut self, mb: &mut Memblock, id: u32, byte: u8) -> Result<Outcome, Memory>
-        requires { HasBegun mb.old.journal.items }
+        requires { HasFirstItem mb.old.journal.items }
         ensures acts { EndsAsLine result (state_of_memblock self.old mb.old)
             (state_of_memblock self.new mb.new)
             (fill_effect (state_of_memblock self.old mb.old) id byte) }
@@ -208,7 +208,7 @@ impl Live {
             Ok(range) => range,
             Err(outcome) => return Ok(outcome),
         };
-        if range.size > MOST_FILLED {
+        if range.size > MAX_FILL_BYTES {
             return Ok(Outcome::TooLargeFill);
         }
         mb.fill(range, byte)?;
@@ -241,12 +241,12 @@ impl Live {
     /// - `Unknown` if the ID isn't live.
     /// - `NotWhole` if it doesn't own all of its range.
     fn owned_range(&self, mb: &Memblock, id: u32) -> Result<Range, Outcome>
-        requires { HasBegun mb.now.journal.items }
+        requires { HasFirstItem mb.now.journal.items }
         ensures range { IfOk result (λ range. (act_effect : RangeView → LineEffect)
             → on_range_of_id (state_of_memblock self.now mb.now) id act_effect ≡ act_effect range) }
         ensures some { IfOk result (λ range. 0 < range.size) }
         ensures away { IfOk result (λ range.
-            TouchesNoTable mb.now.kernel range mb.now.journal.items) }
+            OverlapsNoTable mb.now.kernel range mb.now.journal.items) }
         ensures outcome { IfErr result (λ outcome. (act_effect : RangeView → LineEffect) →
             on_range_of_id (state_of_memblock self.now mb.now) id act_effect
             ≡ answer_only (state_of_memblock self.now mb.now) outcome) }

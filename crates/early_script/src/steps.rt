@@ -3,7 +3,7 @@
 
 ghost use Rattle.std.specs.Prelude.{◌≡◌, ℕ, ◌+◌, ◌-◌, ◌^◌, ◌<◌, ◌≤◌, false, MatchOption};
 ghost use Rattle.phys_store.specs.Bytes.{bytes_at};
-ghost use Rattle.growth_model.specs.Tables.{HasBegun, TouchesNoTable};
+ghost use Rattle.growth_model.specs.Tables.{HasFirstItem, OverlapsNoTable};
 ghost use Rattle.growth_model.specs.Bytes.{Follows};
 ghost use Rattle.early_script.specs.declared.outcome.Outcome.TheVariants as outcomes;
 ghost use Rattle.early_script.specs.Overlaps.{is_over_table};
@@ -49,14 +49,14 @@ pub fn split_range(range: Range, keep: u64) -> Option<(Range, Range)>
 /// Tests whether the range overlaps a table.
 pub fn is_over_table(mb: &Memblock, range: Range) -> bool
     ensures value { result ≡ is_over_table mb.now.kernel mb.now.journal.items range }
-    ensures away { result ≡ false → TouchesNoTable mb.now.kernel range mb.now.journal.items }
+    ensures away { result ≡ false → OverlapsNoTable mb.now.kernel range mb.now.journal.items }
 {
     mb.touches_table(range)
 }
 
 /// Reads `len` bytes, at most 64, from address `at` on.
 pub fn read_bytes_at(mb: &Memblock, at: u64, len: u32) -> Outcome
-    requires begun { HasBegun mb.now.journal.items }
+    requires begun { HasFirstItem mb.now.journal.items }
     requires few { len ≤ 64 }
     requires within { at + len < 2 ^ 64 }
     ensures told { result

@@ -5,18 +5,18 @@ use Rattle.std.proofs.lemmas.Bool.{cases_eq}
 use Rattle.std.proofs.lemmas.List.{at_drop_all}
 use Rattle.std.proofs.lemmas.Nat.{pow_pos}
 use Rattle.bm_base.specs.declared.zone.Zone.{Zone}
-use Rattle.address_runs.specs.Edits.{NothingFrom}
+use Rattle.address_runs.specs.Edits.{IsEmptyFrom}
 use Rattle.buddy_blocks.specs.declared.block.Block.{Block}
 use Rattle.buddy_blocks.specs.declared.block.BlockRow.{BlockRow}
 use Rattle.buddy_blocks.specs.declared.run.TheConstants.{MAX_FRAMES}
 use Rattle.buddy_blocks.specs.Frames.{Frames, IsBlock, IsInBlock}
 use Rattle.buddy_blocks.specs.BlockList.{block_of, blocks_of, ListsBlock}
-use Rattle.buddy_blocks.specs.Rows.{row_from, blocks_of_row, blocks_of_rows, AreRows}
+use Rattle.buddy_blocks.specs.Rows.{row_from, blocks_of_row, blocks_of_rows, AreCanonicalRows}
 use Rattle.buddy_blocks.specs.Buddies.{RemovesFrameSet, IsBuddy}
 use Rattle.buddy_blocks.proofs.SetLaws.{set_until}
 use Rattle.buddy_blocks.proofs.BlockLaws.{found_block, block_found, listed_sound, listed_complete}
 use Rattle.buddy_blocks.proofs.BuddyLaws.{in_set_or_not, others_stay, others_were, left_is_block, rest_is_left, buddy_inside, one_at}
-use Rattle.free_areas.specs.Areas.{FollowsLargestBlock, IndexesFreeBlocks, lead_block, AreLargestAlike, AddsBuddies, RemovesBuddies}
+use Rattle.free_areas.specs.Areas.{FollowsLargestBlock, IndexesFreeBlocks, first_block_of_row, AreLargestInSameZone, AddsBuddies, RemovesBuddies}
 
 no_buddy : (b c : Block) (low x : ℕ) → IsBuddy b low low x c → ⊥
 no_buddy b c low x it = let from = it.from in let below = it.below in absurd (omega (arith, from, below))
@@ -40,7 +40,7 @@ abbrev front : Block → Block
 front c = record c { first = c.first - 1024 }
 
 -- the frame after a block of the largest order isn't in that block
-behind_differs : (f : Frames) (b c : Block) → IsBlock f b → AreLargestAlike b c → IsInBlock c (b.first + 2 ^ b.order) → c ≡ b → ⊥
+behind_differs : (f : Frames) (b c : Block) → IsBlock f b → AreLargestInSameZone b c → IsInBlock c (b.first + 2 ^ b.order) → c ≡ b → ⊥
 behind_differs f b c block like inner same =
     let there : (b.first + 2 ^ b.order) / 2 ^ b.order ≡ b.first / 2 ^ b.order =
     subst (λ (d : Block). IsInBlock d (b.first + 2 ^ b.order)) same inner in
@@ -51,9 +51,9 @@ behind_differs f b c block like inner same =
 -- a set is taken from the block b
 pub split_areas : (f g : Frames) (low x : ℕ) (b : Block) (behind : Option Block) (bs ms cs : List Block) → IndexesFreeBlocks f bs
     → RemovesFrameSet f g low x → IsBlock f b → IsInBlock b x → low ≤ b.order → behind ≡ block_of f (b.first + 2 ^ b.order)
-    → ((c : Block) → ListsBlock ms c → ((c ≢ b) × ListsBlock bs c) ⊎ ((behind ≡ Some c) × AreLargestAlike b c))
+    → ((c : Block) → ListsBlock ms c → ((c ≢ b) × ListsBlock bs c) ⊎ ((behind ≡ Some c) × AreLargestInSameZone b c))
     → ((c : Block) → c ≢ b → ListsBlock bs c → ListsBlock ms c)
-    → ((c : Block) → behind ≡ Some c → AreLargestAlike b c → ListsBlock ms c)
+    → ((c : Block) → behind ≡ Some c → AreLargestInSameZone b c → ListsBlock ms c)
     → AddsBuddies b low b.order x ms cs → IndexesFreeBlocks g cs
 split_areas f g low x b behind bs ms cs areas without block inner order next sound kept back buddies = record {
   sound = λ c has. ⊎_elim
@@ -61,7 +61,7 @@ split_areas f g low x b behind bs ms cs areas without block inner order next sou
       subst (λ (d : Block). IsBlock g d) (sym it.is) (left_is_block f g low it.order x b without block inner it.from it.below))
       (λ (was : ListsBlock ms c). ⊎_elim
       (λ (had : (c ≢ b) × ListsBlock bs c). others_stay f g low x b c without block inner order (areas.sound c had.1) had.0)
-      (λ (goes : (behind ≡ Some c) × AreLargestAlike b c).
+      (λ (goes : (behind ≡ Some c) × AreLargestInSameZone b c).
       let found = block_found f (b.first + 2 ^ b.order) c (sym next ∙ goes.0) in
       let other : c ≢ b = λ same. behind_differs f b c block goes.1 found.1 same in
       others_stay f g low x b c without block inner order found.0 other)
@@ -183,7 +183,7 @@ led f bs c areas is = led_by c.first f bs c areas is (omega arith)
 -- the first blocks of rows
 pub leads : List BlockRow → List Block
 leads [] = []
-leads (r ∷ rs) = lead_block r ∷ leads rs
+leads (r ∷ rs) = first_block_of_row r ∷ leads rs
 
 lists_append : (bs cs : List Block) (b : Block) → ListsBlock (bs ++ cs) b → ListsBlock bs b ⊎ ListsBlock cs b
 lists_append [] cs b has = inr has
@@ -223,18 +223,18 @@ in_row (suc k) o x n z b has = ⊎_elim
     (in_row k o (x + 2 ^ o) n z b rest)))
     has
 
-lead_in_row : (r : BlockRow) → 0 < r.count → ListsBlock (blocks_of_row r) (lead_block r)
+lead_in_row : (r : BlockRow) → 0 < r.count → ListsBlock (blocks_of_row r) (first_block_of_row r)
 lead_in_row r some =
     let more : r.count ≡ suc (r.count - 1) = omega arith in
-    let here : ListsBlock (row_from r.order r.first r.node r.zone (suc (r.count - 1))) (lead_block r) = unfold row_from in inl refl in
-    subst (λ (k : ℕ). ListsBlock (row_from r.order r.first r.node r.zone k) (lead_block r)) (sym more) here
+    let here : ListsBlock (row_from r.order r.first r.node r.zone (suc (r.count - 1))) (first_block_of_row r) = unfold row_from in inl refl in
+    subst (λ (k : ℕ). ListsBlock (row_from r.order r.first r.node r.zone k) (first_block_of_row r)) (sym more) here
 
-lead_listed : (rs : List BlockRow) (b : Block) → AreRows rs → ListsBlock (leads rs) b → ListsBlock (blocks_of_rows rs) b
+lead_listed : (rs : List BlockRow) (b : Block) → AreCanonicalRows rs → ListsBlock (leads rs) b → ListsBlock (blocks_of_rows rs) b
 unfolding leads
 lead_listed [] b rows has = absurd has
 lead_listed (r ∷ rs) b rows has = ⊎_elim
-    (λ (is : lead_block r ≡ b). subst (λ (d : Block). ListsBlock (blocks_of_rows (r ∷ rs)) d) is
-    (lists_left (blocks_of_row r) (blocks_of_rows rs) (lead_block r) (lead_in_row r rows.0)))
+    (λ (is : first_block_of_row r ≡ b). subst (λ (d : Block). ListsBlock (blocks_of_rows (r ∷ rs)) d) is
+    (lists_left (blocks_of_row r) (blocks_of_rows rs) (first_block_of_row r) (lead_in_row r rows.0)))
     (λ (rest : ListsBlock (leads rs) b). lists_right (blocks_of_row r) (blocks_of_rows rs) b (lead_listed rs b rows.3 rest))
     has
 
@@ -242,19 +242,19 @@ only_lead : (r : BlockRow) (b : Block) (rs : List BlockRow) → ListsBlock (row_
     → ListsBlock (leads (r ∷ rs)) b
 unfolding leads
 only_lead r b rs only =
-    let one : ListsBlock (lead_block r ∷ row_from r.order (r.first + 2 ^ r.order) r.node r.zone 0) b = unfold row_from in only in
-    ⊎_elim (λ (is : lead_block r ≡ b). inl is)
+    let one : ListsBlock (first_block_of_row r ∷ row_from r.order (r.first + 2 ^ r.order) r.node r.zone 0) b = unfold row_from in only in
+    ⊎_elim (λ (is : first_block_of_row r ≡ b). inl is)
     (λ (none : ListsBlock (row_from r.order (r.first + 2 ^ r.order) r.node r.zone 0) b). absurd
     (let no_more : ⊥ = unfold row_from in none in no_more)) one
 
 -- a block of rows is the first of one, or begins where another of the largest order ends
-in_rows : (rs : List BlockRow) (b : Block) → AreRows rs → ListsBlock (blocks_of_rows rs) b
+in_rows : (rs : List BlockRow) (b : Block) → AreCanonicalRows rs → ListsBlock (blocks_of_rows rs) b
     → ListsBlock (leads rs) b ⊎ ((b.order ≡ 10) × (1024 ≤ b.first) × ListsBlock (blocks_of_rows rs) (record b { first = b.first - 1024 }))
 unfolding leads
 in_rows [] b rows has = absurd has
 in_rows (r ∷ rs) b rows has = ⊎_elim
     (λ (one : ListsBlock (blocks_of_row r) b). ⊎_elim
-    (λ (is : lead_block r ≡ b). inl (inl is))
+    (λ (is : first_block_of_row r ≡ b). inl (inl is))
     (λ (behind : (2 ^ r.order ≤ b.first) × (b.order ≡ r.order) × ListsBlock (blocks_of_row r) (record b { first = b.first - 2 ^ r.order })).
     ⊎_elim
     (λ (ten : r.order ≡ 10).
@@ -277,7 +277,7 @@ in_rows (r ∷ rs) b rows has = ⊎_elim
     (lists_append (blocks_of_row r) (blocks_of_rows rs) b has)
 
 -- the first blocks of all rows are an index
-pub leads_done : (f : Frames) (rs : List BlockRow) (bs : List Block) → NothingFrom MAX_FRAMES f → AreRows rs
+pub leads_done : (f : Frames) (rs : List BlockRow) (bs : List Block) → IsEmptyFrom MAX_FRAMES f → AreCanonicalRows rs
     → blocks_of_rows rs ≡ blocks_of f
     → ((b : Block) → ListsBlock bs b → ListsBlock (leads rs) b) → ((b : Block) → ListsBlock (leads rs) b → ListsBlock bs b)
     → IndexesFreeBlocks f bs
@@ -293,20 +293,20 @@ leads_done f rs bs low rows all sound complete = record {
       (in_rows rs b rows listed);
 }
 
-pub lead_at : (rs : List BlockRow) (i : ℕ) (d : BlockRow) → i < length rs → ListsBlock (leads rs) (lead_block (get_or rs i d))
+pub lead_at : (rs : List BlockRow) (i : ℕ) (d : BlockRow) → i < length rs → ListsBlock (leads rs) (first_block_of_row (get_or rs i d))
 unfolding leads
 lead_at [] i d few = absurd (omega arith)
 lead_at (r ∷ rs) zero d few = inl refl
 lead_at (r ∷ rs) (suc i) d few = inr (lead_at rs i d (omega arith))
 
 pub lead_dropped : (rs : List BlockRow) (i : ℕ) (d : BlockRow) (b : Block) → i < length rs → ListsBlock (leads (drop i rs)) b
-    → (lead_block (get_or rs i d) ≡ b) ⊎ ListsBlock (leads (drop (i + 1) rs)) b
+    → (first_block_of_row (get_or rs i d) ≡ b) ⊎ ListsBlock (leads (drop (i + 1) rs)) b
 unfolding leads
 lead_dropped rs i d b few has =
     let next : i + 1 ≡ suc i = omega arith in
     let here : ListsBlock (leads (get_or rs i d ∷ drop (suc i) rs)) b =
     subst (λ (qs : List BlockRow). ListsBlock (leads qs) b) (drop-cons rs i d few) has in
-    ⊎_elim (λ (is : lead_block (get_or rs i d) ≡ b). inl is)
+    ⊎_elim (λ (is : first_block_of_row (get_or rs i d) ≡ b). inl is)
     (λ (rest : ListsBlock (leads (drop (suc i) rs)) b). inr (subst (λ (j : ℕ). ListsBlock (leads (drop j rs)) b) (sym next) rest)) here
 
 pub lead_none : (rs : List BlockRow) (i : ℕ) (b : Block) → length rs ≤ i → ListsBlock (leads (drop i rs)) b → ⊥
@@ -321,7 +321,7 @@ pub record HasLeads (rs : List BlockRow) (i : ℕ) (bs : List Block) : Type 0 wh
   pub complete : (b : Block) → ListsBlock (leads rs) b → ListsBlock bs b ⊎ ListsBlock (leads (drop i rs)) b
 
 pub leads_more : (rs : List BlockRow) (i : ℕ) (d : BlockRow) (k : Block) (now next : List Block) → i < length rs
-    → k ≡ lead_block (get_or rs i d) → HasLeads rs i now → ((b : Block) → ListsBlock next b ↔ ((b ≡ k) ⊎ ListsBlock now b))
+    → k ≡ first_block_of_row (get_or rs i d) → HasLeads rs i now → ((b : Block) → ListsBlock next b ↔ ((b ≡ k) ⊎ ListsBlock now b))
     → HasLeads rs (i + 1) next
 leads_more rs i d k now next few key_is has put =
     record {
@@ -332,13 +332,13 @@ leads_more rs i d k now next few key_is has put =
       complete = λ b leading. ⊎_elim
           (λ (was : ListsBlock now b). inl ((put b).1 (inr was)))
           (λ (left : ListsBlock (leads (drop i rs)) b). ⊎_elim
-          (λ (here : lead_block (get_or rs i d) ≡ b). inl ((put b).1 (inl (sym here ∙ sym key_is))))
+          (λ (here : first_block_of_row (get_or rs i d) ≡ b). inl ((put b).1 (inl (sym here ∙ sym key_is))))
           (λ (rest : ListsBlock (leads (drop (i + 1) rs)) b). inr rest)
           (lead_dropped rs i d b few left))
           (has.complete b leading);
     }
 
-pub leads_all : (f : Frames) (rs : List BlockRow) (i : ℕ) (bs : List Block) → NothingFrom MAX_FRAMES f → AreRows rs
+pub leads_all : (f : Frames) (rs : List BlockRow) (i : ℕ) (bs : List Block) → IsEmptyFrom MAX_FRAMES f → AreCanonicalRows rs
     → blocks_of_rows rs ≡ blocks_of f → length rs ≤ i → HasLeads rs i bs → IndexesFreeBlocks f bs
 leads_all f rs i bs low rows all end has =
     leads_done f rs bs low rows all has.sound

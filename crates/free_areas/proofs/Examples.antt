@@ -8,7 +8,7 @@ use Rattle.bm_base.specs.Zones.{zone_of}
 use Rattle.buddy_blocks.specs.declared.block.Block.{Block}
 use Rattle.buddy_blocks.specs.Frames.{Frames, IsBlock}
 use Rattle.buddy_blocks.proofs.BuddyLaws.{one_at}
-use Rattle.free_areas.specs.Areas.{FollowsLargestBlock, IndexesFreeBlocks, AreLargestAlike}
+use Rattle.free_areas.specs.Areas.{FollowsLargestBlock, IndexesFreeBlocks, AreLargestInSameZone}
 
 -- frame 5 alone is free, on node 7
 abbrev lone : Frames
@@ -63,9 +63,9 @@ follow_examples = (
   λ follows. let ten = follows.great in absurd (omega (arith, ten)),
 )
 
-like_examples : AreLargestAlike (great 0) (great 1024)
-    × (AreLargestAlike (great 0) (record { order = 10; first = 1024; node = 8; zone = zone.Dma }) → ⊥)
-    × (AreLargestAlike (great 0) lone_block → ⊥)
+like_examples : AreLargestInSameZone (great 0) (great 1024)
+    × (AreLargestInSameZone (great 0) (record { order = 10; first = 1024; node = 8; zone = zone.Dma }) → ⊥)
+    × (AreLargestInSameZone (great 0) lone_block → ⊥)
 like_examples = (
   record { great = refl; order = refl; node = refl; zone = refl },
   λ like. let node = like.node in absurd (omega (arith, node)),

@@ -21,11 +21,11 @@ pub record IndexesFreeBlocks (f : Frames) (bs : List Block) : Type 0 where
   pub complete : (b : Block) → IsBlock f b → ListsBlock bs b ⊎ FollowsLargestBlock f b
 
 -- the first block of a row
-abbrev pub lead_block : BlockRow → Block
-lead_block r = record { order = r.order; first = r.first; node = r.node; zone = r.zone }
+abbrev pub first_block_of_row : BlockRow → Block
+first_block_of_row r = record { order = r.order; first = r.first; node = r.node; zone = r.zone }
 
 -- both blocks are of the largest order, on one node and in one zone
-pub record AreLargestAlike (b next : Block) : Type 0 where
+pub record AreLargestInSameZone (b next : Block) : Type 0 where
   pub great : b.order ≡ 10
   pub order : next.order ≡ 10
   pub node : next.node ≡ b.node

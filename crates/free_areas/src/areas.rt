@@ -2,7 +2,7 @@
 
 ghost use Rattle.std.specs.Prelude.{◌≡◌, ℕ, ◌+◌, ◌^◌, ◌<◌, ◌≤◌, OnOk, IfOk, MatchOption};
 ghost use Rattle.address_runs.specs.Runs.{AreRuns, value_at};
-ghost use Rattle.address_runs.specs.Edits.{NothingFrom};
+ghost use Rattle.address_runs.specs.Edits.{IsEmptyFrom};
 ghost use Rattle.buddy_blocks.specs.Frames.{Frames, IsBlock, IsInBlock};
 ghost use Rattle.buddy_blocks.specs.BlockList.{block_of};
 ghost use Rattle.buddy_blocks.specs.PickedBlock.{IsPicked, NoneServes};
@@ -10,7 +10,7 @@ ghost use Rattle.buddy_blocks.specs.Buddies.{RemovesFrameSet};
 ghost use Rattle.free_areas.specs.Areas.{IndexesFreeBlocks};
 
 use crate::index::{
-    insert_block, insert_buddies, lead_block, remove_and_expose_next, remove_buddies,
+    insert_block, insert_buddies, first_block_of_row, remove_and_expose_next, remove_buddies,
 };
 use bm_base::{Memory, Zone};
 use buddy_blocks::{Block, FrameRun, MAX_FRAMES, MAX_ORDER, block_rows};
@@ -43,13 +43,13 @@ impl Areas {
     /// - `Memory`: the program ran out of memory.
     pub fn index_free_runs(alloc: Global, runs: &[FrameRun]) -> Result<Areas, Memory>
         requires runs { AreRuns runs.now }
-        requires low { NothingFrom MAX_FRAMES (value_at runs.now) }
+        requires low { IsEmptyFrom MAX_FRAMES (value_at runs.now) }
         ensures { IfOk result (λ areas. IndexesFreeBlocks (value_at runs.now) areas) }
     {
         let rows = block_rows(alloc, runs)?;
         let mut blocks = BTreeSet::new(alloc);
         for row in &rows {
-            insert_block(&mut blocks, lead_block(row))?;
+            insert_block(&mut blocks, first_block_of_row(row))?;
         }
         Ok(Areas { blocks })
     }

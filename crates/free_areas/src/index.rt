@@ -4,15 +4,15 @@ ghost use Rattle.std.specs.Prelude.{◌≡◌, ◌≢◌, ◌⊎◌, ◌↔◌, 
 ghost use Rattle.buddy_blocks.specs.declared.block.Block.{Block as AnyBlock};
 ghost use Rattle.buddy_blocks.specs.BlockList.{ListsBlock};
 ghost use Rattle.buddy_blocks.specs.Buddies.{buddy_of};
-ghost use Rattle.free_areas.specs.Areas.{lead_block, AreLargestAlike, AddsBuddies, RemovesBuddies};
+ghost use Rattle.free_areas.specs.Areas.{first_block_of_row, AreLargestInSameZone, AddsBuddies, RemovesBuddies};
 
 use bm_base::Memory;
 use buddy_blocks::{Block, BlockRow, MAX_FRAMES, MAX_ORDER};
 use std::collections::BTreeSet;
 
 /// Returns the first block of a row.
-pub fn lead_block(row: &BlockRow) -> Block
-    ensures { result ≡ lead_block row.now }
+pub fn first_block_of_row(row: &BlockRow) -> Block
+    ensures { result ≡ first_block_of_row row.now }
 {
     Block {
         node: row.node,
@@ -56,14 +56,15 @@ pub fn remove_and_expose_next(
 ) -> Result<(), Memory>
     ensures sound { OnOk result ((b : AnyBlock) → ListsBlock blocks.new.keys b →
         ((b ≢ block.now) × ListsBlock blocks.old.keys b)
-        ⊎ ((behind ≡ Some b) × AreLargestAlike block.now b)) }
+        ⊎ ((behind ≡ Some b) × AreLargestInSameZone block.now b)) }
     ensures kept { OnOk result ((b : AnyBlock) → b ≢ block.now → ListsBlock blocks.old.keys b
         → ListsBlock blocks.new.keys b) }
-    ensures behind { OnOk result ((b : AnyBlock) → behind ≡ Some b → AreLargestAlike block.now b
+    ensures behind { OnOk result ((b : AnyBlock) → behind ≡ Some b → AreLargestInSameZone
+        block.now b
         → ListsBlock blocks.new.keys b) }
 {
     remove_block(blocks, block);
-    match next_like_block(block, behind) {
+    match next_block_of_row(block, behind) {
         Some(next) => insert_block(blocks, next),
         None => Ok(()),
     }
@@ -108,10 +109,11 @@ pub fn remove_buddies(blocks: &mut BTreeSet<Block>, block: &Block, order: u32, f
 
 /// Returns `behind`, the block after `block`, if both are of the largest order, on one node and in
 /// one zone. The index may lack such a block as long as it has the first one of its row.
-fn next_like_block(block: &Block, behind: Option<Block>) -> Option<Block>
-    ensures some { IfSome result (λ next. (behind ≡ Some next) × AreLargestAlike block.now next) }
+fn next_block_of_row(block: &Block, behind: Option<Block>) -> Option<Block>
+    ensures some { IfSome result (λ next. (behind ≡ Some next) × AreLargestInSameZone block.now
+        next) }
     ensures none { IfNone result ((next : AnyBlock) → behind ≡ Some next
-        → AreLargestAlike block.now next → ⊥) }
+        → AreLargestInSameZone block.now next → ⊥) }
 {
     behind.filter(|next| {
         block.order == MAX_ORDER

@@ -10,7 +10,7 @@ use Rattle.memblock_model.specs.declared.item.Item.{Item}
 use Rattle.memblock_model.specs.declared.item.Item.TheVariants as item
 use Rattle.memblock_ranges.specs.Encoding.{encode_table, encode_fields}
 use Rattle.memblock_ranges.specs.Tables.{TableView}
-use Rattle.growth_model.specs.Bytes.{byte_with_tables, TablesAreEncoded, byte_after, Fill, byte_from_history, AreMadeBy}
+use Rattle.growth_model.specs.Bytes.{byte_with_tables, TablesAreEncoded, byte_after_items, Fill, byte_from_history, AreFillsUpTo}
 use Rattle.growth_model.proofs.BytesLaws.{byte_with_tables-again}
 
 abbrev at_base : ℕ → ℕ → RangeView
@@ -61,9 +61,9 @@ abbrev moved_twice : List Item
 moved_twice = moved_once ++ second_move ∷ []
 
 -- the old bytes of a table are 0, whatever they were
-after_examples : (byte_after kernel begun moved_twice 0x10FE000 7 ≡ 0) × (byte_after kernel begun moved_twice 0x2000000 7 ≡ 0)
-    × (byte_after kernel begun moved_twice 0x4000000 7 ≡ 7)
-unfolding byte_after
+after_examples : (byte_after_items kernel begun moved_twice 0x10FE000 7 ≡ 0) × (byte_after_items kernel begun moved_twice 0x2000000 7 ≡ 0)
+    × (byte_after_items kernel begun moved_twice 0x4000000 7 ≡ 7)
+unfolding byte_after_items
 after_examples = (refl, refl, refl)
 
 -- a fill before the first move, one between the moves, and one after both
@@ -86,5 +86,5 @@ byte_examples : (byte_from_history kernel moved_twice fills 0x10FE000 ≡ 0) × 
 unfolding byte_from_history
 byte_examples = (refl, refl, refl)
 
-made_examples : AreMadeBy 3 fills × ¬ AreMadeBy 2 fills
+made_examples : AreFillsUpTo 3 fills × ¬ AreFillsUpTo 2 fills
 made_examples = ((lit≤ tt, (lit≤ tt, (lit≤ tt, tt))), λ made. absurd (omega (arith, made.1.1.0)))

@@ -13,7 +13,7 @@ use Rattle.memblock_model.specs.Tables.{room_after, room_of, moved_after, moved_
 use Rattle.memblock_model.proofs.ItemLaws.{room_of-push, moved_to-push}
 use Rattle.memblock_ranges.specs.Tables.{TableView, bytes_of}
 use Rattle.growth_model.proofs.PlacedLaws.{live_by, table_bytes-is}
-use Rattle.growth_model.specs.Bytes.{table_for, table_byte_at, byte_with_tables, byte_with_item_tables, is_vacated_by, is_vacated, byte_after, Fill, byte_after_fills, byte_outside_tables, byte_from_history, AreMadeBy}
+use Rattle.growth_model.specs.Bytes.{table_from_items, table_byte_at, byte_with_tables, byte_with_item_tables, is_vacated_by, is_vacated, byte_after_items, Fill, byte_after_fills, byte_outside_tables, byte_from_history, AreFillsUpTo}
 
 -- a table's bytes after one more item
 table_bytes-push : (w : Which) (kernel : RangeView) (items : List Item) (i : Item) →
@@ -69,8 +69,8 @@ pub byte_with_item_tables-further : (kernel : RangeView) (items more : List Item
     byte_with_item_tables kernel (items ++ more) x (byte_with_item_tables kernel items x c)
     ≡ byte_with_item_tables kernel (items ++ more) x c
 byte_with_item_tables-further kernel items more x c stays =
-    byte_with_tables-over (table_for which.Memory kernel items) (table_for which.Reserved kernel items)
-    (table_for which.Memory kernel (items ++ more)) (table_for which.Reserved kernel (items ++ more)) x c
+    byte_with_tables-over (table_from_items which.Memory kernel items) (table_from_items which.Reserved kernel items)
+    (table_from_items which.Memory kernel (items ++ more)) (table_from_items which.Reserved kernel (items ++ more)) x c
     (λ here. still_live which.Memory kernel items more x here stays)
     (λ here. still_live which.Reserved kernel items more x here stays)
 
@@ -91,15 +91,15 @@ is_vacated-append kernel items (i ∷ more) further x =
     (is_vacated kernel (items ++ i ∷ more) further x)
 
 pub after-is : (kernel : RangeView) (items more : List Item) (x b : ℕ) →
-    byte_after kernel items (items ++ more) x b
+    byte_after_items kernel items (items ++ more) x b
     ≡ byte_with_item_tables kernel (items ++ more) x (if is_vacated kernel items more x then 0 else b)
-unfolding byte_after
+unfolding byte_after_items
 after-is kernel items more x b =
     ap (λ (is : List Item). byte_with_item_tables kernel (items ++ more) x (if is_vacated kernel items is x then 0 else b))
     (drop-append_seam items more)
 
 pub after-along : (kernel : RangeView) (items more longer : List Item) (x b : ℕ) → longer ≡ items ++ more →
-    byte_after kernel items longer x b ≡ byte_with_item_tables kernel longer x (if is_vacated kernel items more x then 0 else b)
+    byte_after_items kernel items longer x b ≡ byte_with_item_tables kernel longer x (if is_vacated kernel items more x then 0 else b)
 after-along kernel items more longer x b goes = rw goes (after-is kernel items more x b)
 
 -- what two parts of the items leave
@@ -112,10 +112,10 @@ left_twice g h false false b hides = hides refl b
 
 -- the further items, applied to the byte after the first ones, give the byte after all of them
 pub after-after : (kernel : RangeView) (items more further : List Item) (x b : ℕ) →
-    byte_after kernel (items ++ more) ((items ++ more) ++ further) x (byte_after kernel items (items ++ more) x b)
-    ≡ byte_after kernel items ((items ++ more) ++ further) x b
+    byte_after_items kernel (items ++ more) ((items ++ more) ++ further) x (byte_after_items kernel items (items ++ more) x b)
+    ≡ byte_after_items kernel items ((items ++ more) ++ further) x b
 after-after kernel items more further x b =
-    after-is kernel (items ++ more) further x (byte_after kernel items (items ++ more) x b)
+    after-is kernel (items ++ more) further x (byte_after_items kernel items (items ++ more) x b)
     ∙ ap (λ (n : ℕ). byte_with_item_tables kernel ((items ++ more) ++ further) x (if is_vacated kernel (items ++ more) further x then 0
     else n))
     (after-is kernel items more x b)
@@ -127,11 +127,11 @@ after-after kernel items more further x b =
     (is_vacated-append kernel items more further x))
 
 pub after-chain : (kernel : RangeView) (items more further mid last : List Item) (x b : ℕ) → mid ≡ items ++ more → last ≡ mid ++ further →
-    byte_after kernel mid last x (byte_after kernel items mid x b) ≡ byte_after kernel items last x b
+    byte_after_items kernel mid last x (byte_after_items kernel items mid x b) ≡ byte_after_items kernel items last x b
 after-chain kernel items more further mid last x b goes goes_on = rw (goes_on, goes) (after-after kernel items more further x b)
 
 -- fills that were made earlier change nothing later
-byte_after_fills-later : (n m : ℕ) (fills : List Fill) (x b : ℕ) → AreMadeBy n fills → n < m → byte_after_fills m fills x b ≡ b
+byte_after_fills-later : (n m : ℕ) (fills : List Fill) (x b : ℕ) → AreFillsUpTo n fills → n < m → byte_after_fills m fills x b ≡ b
 byte_after_fills-later n m [] x b made less = refl
 byte_after_fills-later n m (f ∷ fills) x b made less =
     let earlier : f.at ≤ n = made.0 in
@@ -139,9 +139,9 @@ byte_after_fills-later n m (f ∷ fills) x b made less =
     ap (λ (t : Bool). byte_after_fills m fills x (if t && covers f.range x then f.byte else b)) other
     ∙ byte_after_fills-later n m fills x b made.1 less
 
-pub AreMadeBy-more : (n m : ℕ) (fills : List Fill) → n ≤ m → AreMadeBy n fills → AreMadeBy m fills
-AreMadeBy-more n m [] less made = tt
-AreMadeBy-more n m (f ∷ fills) less made = let earlier : f.at ≤ n = made.0 in (omega arith, AreMadeBy-more n m fills less made.1)
+pub AreFillsUpTo-more : (n m : ℕ) (fills : List Fill) → n ≤ m → AreFillsUpTo n fills → AreFillsUpTo m fills
+AreFillsUpTo-more n m [] less made = tt
+AreFillsUpTo-more n m (f ∷ fills) less made = let earlier : f.at ≤ n = made.0 in (omega arith, AreFillsUpTo-more n m fills less made.1)
 
 pub byte_outside_tables-append : (kernel : RangeView) (fills : List Fill) (items more further : List Item) (x b : ℕ) →
     byte_outside_tables kernel fills items (more ++ further) x b
@@ -155,7 +155,7 @@ byte_outside_tables-append kernel fills items (i ∷ more) further x b =
     (append_assoc items (i ∷ []) more)
 
 -- after the last fill only moves write
-byte_outside_tables-beyond : (kernel : RangeView) (fills : List Fill) (items more : List Item) (x b : ℕ) → AreMadeBy (length items) fills →
+byte_outside_tables-beyond : (kernel : RangeView) (fills : List Fill) (items more : List Item) (x b : ℕ) → AreFillsUpTo (length items) fills →
     byte_outside_tables kernel fills items more x b ≡ (if is_vacated kernel items more x then 0 else b)
 byte_outside_tables-beyond kernel fills items [] x b made = refl
 byte_outside_tables-beyond kernel fills items (i ∷ more) x b made =
@@ -164,13 +164,13 @@ byte_outside_tables-beyond kernel fills items (i ∷ more) x b made =
     ap (λ (n : ℕ). byte_outside_tables kernel fills (items ++ i ∷ []) more x n)
     (byte_after_fills-later (length items) (length items + 1) fills x now made (omega arith))
     ∙ byte_outside_tables-beyond kernel fills (items ++ i ∷ []) more x now
-    (AreMadeBy-more (length items) (length (items ++ i ∷ [])) fills (omega arith) made)
+    (AreFillsUpTo-more (length items) (length (items ++ i ∷ [])) fills (omega arith) made)
     ∙ left_twice (λ (n : ℕ). n) (λ (n : ℕ). n) (is_vacated_by kernel items i x) (is_vacated kernel (items ++ i ∷ []) more x) b (λ stays c.
     refl)
 
 -- the byte of the longer list is the byte of the first items, with the further items applied
-pub after-byte : (kernel : RangeView) (items more : List Item) (fills : List Fill) (x : ℕ) → AreMadeBy (length items) fills →
-    byte_after kernel items (items ++ more) x (byte_from_history kernel items fills x) ≡ byte_from_history kernel (items ++ more) fills x
+pub after-byte : (kernel : RangeView) (items more : List Item) (fills : List Fill) (x : ℕ) → AreFillsUpTo (length items) fills →
+    byte_after_items kernel items (items ++ more) x (byte_from_history kernel items fills x) ≡ byte_from_history kernel (items ++ more) fills x
 unfolding byte_from_history
 after-byte kernel items more fills x made =
     let old = byte_outside_tables kernel fills [] items x (byte_after_fills 0 fills x 0) in

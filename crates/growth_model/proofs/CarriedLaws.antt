@@ -6,8 +6,8 @@ use Rattle.memblock_model.specs.declared.owner.Which.TheVariants as which
 use Rattle.memblock_model.specs.declared.item.Item.{Item}
 use Rattle.memblock_model.specs.declared.item.Item.TheVariants as item
 use Rattle.growth_model.specs.Change.{RefusedGrowth, ChangeEffect, Change, ◌>>◌, followed_by, items_after_change, items_of_steps, write_item}
-use Rattle.growth_model.specs.Growth.{add_range, claim_range, free_range, set_range_mirror, set_range_node, count_uncovered_pieces, split_record_count}
-use Rattle.growth_model.specs.Requests.{StepsKeepMemory, carry_out_items, change_for, items_or_refusal, memory_items, unless_refused}
+use Rattle.growth_model.specs.Growth.{add_range, claim_range, free_range, set_range_mirror, set_range_node, count_uncovered_pieces, max_records_added_by_split}
+use Rattle.growth_model.specs.Requests.{StepsKeepMemory, carry_out_items, change_writing_item, items_or_refusal, memory_items, unless_refused}
 use Rattle.growth_model.proofs.EndLaws.{items_of_steps-append}
 use Rattle.growth_model.proofs.MemoryItemLaws.{memory_items-append, quiet-joined}
 use Rattle.growth_model.proofs.QuietLaws.{IsQuiet, quiet-grown, reserved_growth-quiet, memory_growth-quiet}
@@ -25,9 +25,9 @@ goes_on (Ok next) others last ends = record { next = next; first = refl; rest = 
 goes_on (Err refused) others last ends = absurd (cc)
 
 pub first_carried : (i : Item) (is items last : List Item) → carry_out_items (i ∷ is) items ≡ Ok last
-    → GoesOn (items_or_refusal items (change_for i items)) (carry_out_items is) last
+    → GoesOn (items_or_refusal items (change_writing_item i items)) (carry_out_items is) last
 unfolding carry_out_items
-first_carried i is items last ends = goes_on (items_or_refusal items (change_for i items)) (carry_out_items is) last ends
+first_carried i is items last ends = goes_on (items_or_refusal items (change_writing_item i items)) (carry_out_items is) last ends
 
 -- after quiet steps and an item, the items that change memory are those before and this one, if it
 -- changes memory
@@ -63,22 +63,22 @@ plainly_behind i items next ends =
     ap memory_items (sym same) ∙ one_behind items [] i tt
 
 -- one item that was to be written
-pub change_for-memory : (i : Item) (items next : List Item) → items_or_refusal items (change_for i items) ≡ Ok next
+pub change_writing_item-memory : (i : Item) (items next : List Item) → items_or_refusal items (change_writing_item i items) ≡ Ok next
     → memory_items next ≡ memory_items items ++ memory_items (i ∷ [])
 unfolding add_range set_range_node set_range_mirror claim_range free_range
-change_for-memory (item.Mem range) items next ends =
+change_writing_item-memory (item.Mem range) items next ends =
     grown_behind _ (item.Mem range) items next
     (quiet-grown which.Memory (count_uncovered_pieces which.Memory range) _ memory_growth-quiet) ends
-change_for-memory (item.Node range node) items next ends =
-    grown_behind _ (item.Node range node) items next (quiet-grown which.Memory split_record_count _ memory_growth-quiet) ends
-change_for-memory (item.Mirror range) items next ends =
-    grown_behind _ (item.Mirror range) items next (quiet-grown which.Memory split_record_count _ memory_growth-quiet) ends
-change_for-memory (item.Claim range who) items next ends =
+change_writing_item-memory (item.Node range node) items next ends =
+    grown_behind _ (item.Node range node) items next (quiet-grown which.Memory max_records_added_by_split _ memory_growth-quiet) ends
+change_writing_item-memory (item.Mirror range) items next ends =
+    grown_behind _ (item.Mirror range) items next (quiet-grown which.Memory max_records_added_by_split _ memory_growth-quiet) ends
+change_writing_item-memory (item.Claim range who) items next ends =
     grown_behind _ (item.Claim range who) items next
     (quiet-grown which.Reserved (count_uncovered_pieces which.Reserved range) _ (reserved_growth-quiet range)) ends
-change_for-memory (item.Free range) items next ends =
-    grown_behind _ (item.Free range) items next (quiet-grown which.Reserved split_record_count _ (reserved_growth-quiet range)) ends
-change_for-memory i items next ends = plainly_behind i items next ends
+change_writing_item-memory (item.Free range) items next ends =
+    grown_behind _ (item.Free range) items next (quiet-grown which.Reserved max_records_added_by_split _ (reserved_growth-quiet range)) ends
+change_writing_item-memory i items next ends = plainly_behind i items next ends
 
 -- all items that were to be written; growth is in no law about memory
 pub carried-memory : (is items last : List Item) → carry_out_items is items ≡ Ok last
@@ -89,7 +89,7 @@ carried-memory [] items last ends =
 carried-memory (i ∷ is) items last ends =
     let known = first_carried i is items last ends in
     carried-memory is known.next last known.rest
-    ∙ ap (λ (t : List Item). t ++ memory_items is) (change_for-memory i items known.next known.first)
+    ∙ ap (λ (t : List Item). t ++ memory_items is) (change_writing_item-memory i items known.next known.first)
     ∙ append_assoc (memory_items items) (memory_items (i ∷ [])) (memory_items is)
     ∙ ap (λ (t : List Item). memory_items items ++ t) (sym (memory_items-append (i ∷ []) is))
 
@@ -104,6 +104,6 @@ pub carried-append : (is js items : List Item)
 unfolding carry_out_items
 carried-append [] js items = refl
 carried-append (i ∷ is) js items =
-    further (items_or_refusal items (change_for i items)) (carry_out_items is) (λ next.
+    further (items_or_refusal items (change_writing_item i items)) (carry_out_items is) (λ next.
     carry_out_items js next) (carry_out_items (is ++ js))
     (carried-append is js)

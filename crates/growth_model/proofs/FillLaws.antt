@@ -6,9 +6,9 @@ use Rattle.bm_base.specs.Range.{RangeView, covers}
 use Rattle.memblock_model.specs.declared.owner.Which.TheVariants as which
 use Rattle.memblock_model.specs.declared.item.Item.{Item}
 use Rattle.memblock_ranges.specs.Tables.{TableView, bytes_of}
-use Rattle.growth_model.specs.Tables.{AreDisjoint, TouchesNoTable}
-use Rattle.growth_model.specs.Bytes.{table_for, table_byte_at, byte_with_tables, TablesAreEncoded, byte_with_item_tables, is_vacated_by, byte_after, Fill, byte_after_fill, byte_after_fills, byte_outside_tables, byte_from_history, AreMadeBy, Follows, AreBytesFromHistory}
-use Rattle.growth_model.proofs.BytesLaws.{AreMadeBy-more, after-byte}
+use Rattle.growth_model.specs.Tables.{AreDisjoint, OverlapsNoTable}
+use Rattle.growth_model.specs.Bytes.{table_from_items, table_byte_at, byte_with_tables, TablesAreEncoded, byte_with_item_tables, is_vacated_by, byte_after_items, Fill, byte_after_fill, byte_after_fills, byte_outside_tables, byte_from_history, AreFillsUpTo, Follows, AreBytesFromHistory}
+use Rattle.growth_model.proofs.BytesLaws.{AreFillsUpTo-more, after-byte}
 
 byte_after_fills-append : (n : ℕ) (fills : List Fill) (f : Fill) (x b : ℕ) →
     byte_after_fills n (fills ++ f ∷ []) x b ≡ (if (f.at == n) && covers f.range x then f.byte else byte_after_fills n fills x b)
@@ -67,12 +67,12 @@ byte_with_tables-put m r f x b first second =
 
 -- the newest fill decides
 pub fill-newest : (kernel : RangeView) (items : List Item) (fills : List Fill) (f : Fill) (x : ℕ) → f.at ≡ length items →
-    TouchesNoTable kernel f.range items
+    OverlapsNoTable kernel f.range items
     → byte_from_history kernel items (fills ++ f ∷ []) x ≡ byte_after_fill f x (byte_from_history kernel items fills x)
 unfolding byte_from_history
 fill-newest kernel items fills f x last away =
     ap (λ (n : ℕ). byte_with_item_tables kernel items x n) (all-newest kernel fills f items x last)
-    ∙ byte_with_tables-put (table_for which.Memory kernel items) (table_for which.Reserved kernel items) f x
+    ∙ byte_with_tables-put (table_from_items which.Memory kernel items) (table_from_items which.Reserved kernel items) f x
     (byte_outside_tables kernel fills [] items x (byte_after_fills 0 fills x 0)) away.0 away.1
 
 -- after a fill both tables are in their bytes as before
@@ -84,9 +84,9 @@ fill-spelled m r fill f g first second spelled filled_in = λ x.
     ∙ sym (byte_with_tables-put m r fill x (f x) first second)
     ∙ ap (λ (n : ℕ). byte_with_tables m r x n) (sym (filled_in x))
 
-AreMadeBy-append : (n : ℕ) (fills : List Fill) (f : Fill) → AreMadeBy n fills → f.at ≤ n → AreMadeBy n (fills ++ f ∷ [])
-AreMadeBy-append n [] f made now = (now, tt)
-AreMadeBy-append n (g ∷ fills) f made now = (made.0, AreMadeBy-append n fills f made.1 now)
+AreFillsUpTo-append : (n : ℕ) (fills : List Fill) (f : Fill) → AreFillsUpTo n fills → f.at ≤ n → AreFillsUpTo n (fills ++ f ∷ [])
+AreFillsUpTo-append n [] f made now = (now, tt)
+AreFillsUpTo-append n (g ∷ fills) f made now = (made.0, AreFillsUpTo-append n fills f made.1 now)
 
 -- bytes that are those of items and fills are so after a call
 pub holds-call : (kernel : RangeView) (items longer : List Item) (fills : List Fill) (f g : ℕ → ℕ)
@@ -95,9 +95,9 @@ pub holds-call : (kernel : RangeView) (items longer : List Item) (fills : List F
 holds-call kernel items longer fills f g holds follows =
     let long : length longer ≡ length items + length follows.more = ap length follows.goes_on ∙ length-append items follows.more in
     record {
-      made = AreMadeBy-more (length items) (length longer) fills (omega arith) holds.made;
-      each = λ x. follows.each x ∙ ap (λ (n : ℕ). byte_after kernel items longer x n) (holds.each x)
-          ∙ ap (λ (l : List Item). byte_after kernel items l x (byte_from_history kernel items fills x)) follows.goes_on
+      made = AreFillsUpTo-more (length items) (length longer) fills (omega arith) holds.made;
+      each = λ x. follows.each x ∙ ap (λ (n : ℕ). byte_after_items kernel items longer x n) (holds.each x)
+          ∙ ap (λ (l : List Item). byte_after_items kernel items l x (byte_from_history kernel items fills x)) follows.goes_on
           ∙ after-byte kernel items follows.more fills x holds.made
           ∙ ap (λ (l : List Item). byte_from_history kernel l fills x) (sym follows.goes_on);
     }
@@ -105,9 +105,9 @@ holds-call kernel items longer fills f g holds follows =
 -- and after a fill
 pub holds-fill : (kernel : RangeView) (items : List Item) (fills : List Fill) (fill : Fill) (f g : ℕ → ℕ)
     → AreBytesFromHistory kernel items fills f →
-    fill.at ≡ length items → TouchesNoTable kernel fill.range items → ((x : ℕ) → g x ≡ byte_after_fill fill x (f x)) →
+    fill.at ≡ length items → OverlapsNoTable kernel fill.range items → ((x : ℕ) → g x ≡ byte_after_fill fill x (f x)) →
     AreBytesFromHistory kernel items (fills ++ fill ∷ []) g
 holds-fill kernel items fills fill f g holds last away filled_in = record {
-  made = AreMadeBy-append (length items) fills fill holds.made (omega arith);
+  made = AreFillsUpTo-append (length items) fills fill holds.made (omega arith);
   each = λ x. filled_in x ∙ ap (λ (n : ℕ). byte_after_fill fill x n) (holds.each x) ∙ sym (fill-newest kernel items fills fill x last away);
 }

@@ -14,7 +14,7 @@ use Rattle.memblock_model.specs.Tables.{table_of, records_for, records_of, room_
 use Rattle.memblock_model.proofs.TableLaws.{records_for-is}
 use Rattle.memblock_ranges.proofs.CountLaws.{few-pieces}
 use Rattle.growth_model.specs.Change.{write_item}
-use Rattle.growth_model.specs.Growth.{record_count, is_full, count_uncovered_pieces, split_record_count, claim_range}
+use Rattle.growth_model.specs.Growth.{record_count, is_full, count_uncovered_pieces, max_records_added_by_split, claim_range}
 use Rattle.growth_model.specs.Tables.{ShareNoFrame, TablesAreClaimed, IsKernelImage}
 use Rattle.growth_model.proofs.IdleLaws.{claim_range-idle}
 use Rattle.growth_model.proofs.SeatLaws.{IsTablePlace-new}
@@ -36,7 +36,7 @@ first-full r small =
     let none = no_records f (λ x. refl) in
     grind (arith, nat_tests, few, none)
 
-pub first-full_by_two : is_full which.Reserved split_record_count [] ≡ false
+pub first-full_by_two : is_full which.Reserved max_records_added_by_split [] ≡ false
 unfolding records_of
 first-full_by_two = let none = no_records (table_of which.Reserved []) (λ x. refl) in grind (arith, nat_tests, none)
 

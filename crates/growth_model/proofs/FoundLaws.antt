@@ -12,12 +12,12 @@ use Rattle.memblock_model.specs.Tables.{without_owner, table_of, table_bytes}
 use Rattle.memblock_model.specs.Items.{upward_of}
 use Rattle.memblock_model.specs.Search.{top_place, best_place}
 use Rattle.memblock_model.proofs.SearchLaws.{IsPlace, either, top_place_in-fits, best_place_in-fits, fits_in-parts}
-use Rattle.memblock_ranges.specs.Tables.{TablesView, bytes_of, bytes_in, OverlapsTable}
+use Rattle.memblock_ranges.specs.Tables.{TablesView, bytes_of, table_range_in, OverlapsTable}
 use Rattle.growth_model.specs.Growth.{round_up_to_frames, frames_for_bytes, table_query, place_beside_range}
 use Rattle.memblock_model.specs.declared.query.Request.{Request}
 use Rattle.growth_model.specs.Request.{Attempt, attempt, any_node_attempt, node_attempts, attempts_from, attempts, first_found_place, place_for}
-use Rattle.growth_model.specs.Tables.{AreDisjoint, IsUnclaimed, TablesAreClaimed, TouchesNoTable}
-use Rattle.growth_model.specs.Bytes.{table_for}
+use Rattle.growth_model.specs.Tables.{AreDisjoint, IsUnclaimed, TablesAreClaimed, OverlapsNoTable}
+use Rattle.growth_model.specs.Bytes.{table_from_items}
 use Rattle.growth_model.proofs.SeatLaws.{covers-from, frames-more, unclaimed-clear}
 
 -- a best place fits, and so does a top one
@@ -157,7 +157,7 @@ place-within r items place h =
 
 -- unclaimed bytes overlap no table
 pub unclaimed-away : (kernel a : RangeView) (items : List Item) → TablesAreClaimed kernel items → IsUnclaimed (owner_of items) a
-    → TouchesNoTable kernel a items
+    → OverlapsNoTable kernel a items
 unclaimed-away kernel a items placed free = (
   unclaimed-clear (owner_of items) a (table_bytes which.Memory kernel items) free placed.seats.first,
   unclaimed-clear (owner_of items) a (table_bytes which.Reserved kernel items) free placed.seats.second,
@@ -165,36 +165,36 @@ unclaimed-away kernel a items placed free = (
 
 pub found-away : (kernel : RangeView) (items : List Item) (q : Query) (place : ℕ) → TablesAreClaimed kernel items
     → best_place items q ≡ Some place
-    → TouchesNoTable kernel (record { base = place; size = q.size }) items
+    → OverlapsNoTable kernel (record { base = place; size = q.size }) items
 found-away kernel items q place placed found =
     unclaimed-away kernel (record { base = place; size = q.size }) items placed (found-unclaimed items q place found)
 
 -- a part of a range that overlaps no table overlaps none
 pub away-within : (kernel a b : RangeView) (items : List Item) → ((x : ℕ) → covers b x ≡ true → covers a x ≡ true)
-    → TouchesNoTable kernel a items
-    → TouchesNoTable kernel b items
+    → OverlapsNoTable kernel a items
+    → OverlapsNoTable kernel b items
 away-within kernel a b items inside away = (λ x at. away.0 x (inside x at), λ x at. away.1 x (inside x at))
 
 -- such a range and the tables as they are stored have no byte in common, and the other way round
-away_at : (kernel a : RangeView) (items : List Item) (w : Which) → TouchesNoTable kernel a items → Meet (table_bytes w kernel items) a → ⊥
+away_at : (kernel a : RangeView) (items : List Item) (w : Which) → OverlapsNoTable kernel a items → Meet (table_bytes w kernel items) a → ⊥
 away_at kernel a items which.Memory away (x, both) = let parts = and_parts _ _ both in away.0 x parts.1 parts.0
 away_at kernel a items which.Reserved away (x, both) = let parts = and_parts _ _ both in away.1 x parts.1 parts.0
 
-live_bytes : (kernel : RangeView) (items : List Item) (t : TablesView) (w : Which) → t.memory ≡ table_for which.Memory kernel items
-    → t.reserved ≡ table_for which.Reserved kernel items → bytes_in w t ≡ table_bytes w kernel items
+live_bytes : (kernel : RangeView) (items : List Item) (t : TablesView) (w : Which) → t.memory ≡ table_from_items which.Memory kernel items
+    → t.reserved ≡ table_from_items which.Reserved kernel items → table_range_in w t ≡ table_bytes w kernel items
 live_bytes kernel items t which.Memory memory reserved = ap bytes_of memory
 live_bytes kernel items t which.Reserved memory reserved = ap bytes_of reserved
 
-pub away-apart : (kernel a : RangeView) (items : List Item) (t : TablesView) → t.memory ≡ table_for which.Memory kernel items
-    → t.reserved ≡ table_for which.Reserved kernel items → TouchesNoTable kernel a items → ¬ OverlapsTable t a
+pub away-apart : (kernel a : RangeView) (items : List Item) (t : TablesView) → t.memory ≡ table_from_items which.Memory kernel items
+    → t.reserved ≡ table_from_items which.Reserved kernel items → OverlapsNoTable kernel a items → ¬ OverlapsTable t a
 away-apart kernel a items t memory reserved away (w, meet) =
     away_at kernel a items w away (subst (λ (e : RangeView). Meet e a) (live_bytes kernel items t w memory reserved) meet)
 
 -- the place that was found for a table with twice the room satisfies what `Tables::relocate`
 -- requires
 pub found-apart : (kernel : RangeView) (items : List Item) (t : TablesView) (room place : ℕ)
-    → t.memory ≡ table_for which.Memory kernel items
-    → t.reserved ≡ table_for which.Reserved kernel items → TablesAreClaimed kernel items
+    → t.memory ≡ table_from_items which.Memory kernel items
+    → t.reserved ≡ table_from_items which.Reserved kernel items → TablesAreClaimed kernel items
     → IsUnclaimed (owner_of items) (frames_for_bytes place (48 * room)) → ¬ OverlapsTable t (record { base = place; size = 48 * room })
 found-apart kernel items t room place memory reserved placed free =
     let range : RangeView = record { base = place; size = 48 * room } in

@@ -5,7 +5,7 @@ use Rattle.std.proofs.lemmas.Bool.{false_from_ne_true}
 use Rattle.std.proofs.lemmas.Bool.Decides.{nat_tests}
 use Rattle.bm_base.specs.Range.{RangeView, end_of, covers}
 use Rattle.address_runs.specs.Runs.{RunOf}
-use Rattle.address_runs.specs.Edits.{NothingFrom}
+use Rattle.address_runs.specs.Edits.{IsEmptyFrom}
 use Rattle.memblock_model.specs.declared.owner.Which.{Which}
 use Rattle.memblock_model.specs.declared.owner.Which.TheVariants as which
 use Rattle.memblock_model.specs.declared.owner.Owner.{Owner}
@@ -23,7 +23,7 @@ use Rattle.memblock_ranges.proofs.CountLaws.{few-pieces}
 use Rattle.growth_model.specs.declared.refusal.Refusal.TheVariants as refusal
 use Rattle.memblock_model.specs.declared.query.Request.{Request}
 use Rattle.growth_model.specs.Change.{ChangeEffect, items_of_steps, write_items, write_item, refuse_growth}
-use Rattle.growth_model.specs.Growth.{round_up_to_frames, frames_for_bytes, record_count, table_query, place_beside_range, reserved_growth_items, reserved_growth_at, reserved_growth, is_full, count_uncovered_pieces, split_record_count, claim_range, free_range, memory_growth_at, memory_growth}
+use Rattle.growth_model.specs.Growth.{round_up_to_frames, frames_for_bytes, record_count, table_query, place_beside_range, reserved_growth_items, reserved_growth_at, reserved_growth, is_full, count_uncovered_pieces, max_records_added_by_split, claim_range, free_range, memory_growth_at, memory_growth}
 use Rattle.growth_model.specs.Request.{Attempt, attempt, attempts_from, attempts, first_found_place}
 use Rattle.growth_model.specs.Ends.{WritesFirstSteps, StopsBeforeStep, EndsAsEffect, EndsAsChange, Allocates}
 use Rattle.growth_model.proofs.FirstLaws.{no_records}
@@ -154,7 +154,7 @@ growth_below = rw below_place refl
 abbrev reserved_records : List (RunOf LabelView)
 reserved_records = record { base = 65536; size = 16384; value = plain_label } ∷ []
 
-reserved_ends : NothingFrom (2 ^ 64) (table_of which.Reserved small)
+reserved_ends : IsEmptyFrom (2 ^ 64) (table_of which.Reserved small)
 reserved_ends x le = grind (arith, nat_tests)
 
 reserved_count : record_count which.Reserved small ≡ 1
@@ -167,7 +167,7 @@ unfolding records_of
 none_at_first = no_records (table_of which.Memory []) (λ x. refl)
 
 -- an edit adds at most two pieces, so no table is full
-new_has_room : (w : Which) (r : RangeView) → end_of r ≤ 2 ^ 64 → NothingFrom (2 ^ 64) (table_of w small) → record_count w small ≡ 1
+new_has_room : (w : Which) (r : RangeView) → end_of r ≤ 2 ^ 64 → IsEmptyFrom (2 ^ 64) (table_of w small) → record_count w small ≡ 1
     → is_full w (count_uncovered_pieces w r) small ≡ false
 unfolding records_of
 new_has_room w r small_enough ends one = let few = few-pieces r (table_of w small) small_enough ends in grind (arith, nat_tests, one, few)
@@ -185,7 +185,7 @@ free_behind_127 : (range : RangeView) (items : List Item) → record_count which
     → place_beside_range range 128 items ≡ None → free_range range items ≡ refuse_growth which.Reserved 128 items
 unfolding free_range reserved_growth reserved_growth_at
 free_behind_127 range items many room none =
-    let full : is_full which.Reserved split_record_count items ≡ true = grind (arith, nat_tests, many, room) in
+    let full : is_full which.Reserved max_records_added_by_split items ≡ true = grind (arith, nat_tests, many, room) in
     rw (full, room, none) refl
 
 -- the growth of the memory table: the claim of its new place, and the move

@@ -13,7 +13,7 @@ use Rattle.memblock_model.specs.Tables.{room_of, moved_to}
 use Rattle.memblock_model.specs.Search.{best_place}
 use Rattle.growth_model.specs.declared.refusal.Refusal.{Refusal}
 use Rattle.growth_model.specs.Change.{Change, items_after_change, write_item, ◌>>◌}
-use Rattle.growth_model.specs.Growth.{round_up_to_frames, frames_for_bytes, table_query, place_beside_range, reserved_growth_items, reserved_growth_at, reserved_growth, count_uncovered_pieces, split_record_count, make_table_room, claim_range, free_range, old_frames, free_old_place, memory_growth_at, memory_growth}
+use Rattle.growth_model.specs.Growth.{round_up_to_frames, frames_for_bytes, table_query, place_beside_range, reserved_growth_items, reserved_growth_at, reserved_growth, count_uncovered_pieces, max_records_added_by_split, make_table_room, claim_range, free_range, old_frames, free_old_place, memory_growth_at, memory_growth}
 use Rattle.growth_model.specs.Ends.{EndsAsChange}
 use Rattle.growth_model.proofs.CutLaws.{EachCut, cuts-last, cuts-ends, cuts-then, cuts-grown, cuts-map}
 use Rattle.growth_model.proofs.FoundLaws.{found-fits}
@@ -61,7 +61,7 @@ claim_range-stays m n a o t at =
 free_range-stays : (m : Option ℕ) (n : ℕ) (a : RangeView) (t : List Item) → LiesAt m n t → EachCut (LiesAt m n) t (free_range a t).steps
 unfolding free_range
 free_range-stays m n a t at =
-    behind-growths m n a split_record_count (item.Free a) t
+    behind-growths m n a max_records_added_by_split (item.Free a) t
     (λ u here. (moves-of which.Memory u _ ∙ here.0, rooms-of which.Memory u _ ∙ here.1)) at
 
 pub free_old_place-stays : (m : Option ℕ) (n : ℕ) (old : Option RangeView) (t : List Item) → LiesAt m n t

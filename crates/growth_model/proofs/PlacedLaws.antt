@@ -14,7 +14,7 @@ use Rattle.memblock_model.specs.declared.item.Item.TheVariants as item
 use Rattle.memblock_model.specs.Items.{Owners, owners_after, no_owners, owner_of, limit_after, limit_of}
 use Rattle.memblock_model.specs.Tables.{room_after, room_of, moved_after, moved_to, built_in_place, table_bytes}
 use Rattle.growth_model.specs.Growth.{frames_for_bytes}
-use Rattle.growth_model.specs.Tables.{may_hold_table, AreDisjoint, IsUnclaimed, AreTablePlaces, TablesAreClaimed, TouchesNoTable}
+use Rattle.growth_model.specs.Tables.{may_hold_table, AreDisjoint, IsUnclaimed, AreTablePlaces, TablesAreClaimed, OverlapsNoTable}
 use Rattle.growth_model.proofs.SeatLaws.{frames, AreTablePlaces-claim, AreTablePlaces-clear, AreTablePlaces-free, AreTablePlaces-move, AreTablePlaces-leave}
 
 -- a table's bytes, from its newest place and its room
@@ -80,7 +80,7 @@ still-placed kernel items i at wide placed seats =
 -- a claim may be made for an owner in whose memory a table may lie, or of bytes that overlap no
 -- table
 abbrev pub MayTake : RangeView → List Item → RangeView → Owner → Type 0
-MayTake kernel items range who = (may_hold_table (Some who) ≡ true) ⊎ TouchesNoTable kernel range items
+MayTake kernel items range who = (may_hold_table (Some who) ≡ true) ⊎ OverlapsNoTable kernel range items
 
 pub claim-placed : (kernel : RangeView) (items : List Item) (r : RangeView) (o : Owner) → MayTake kernel items r o
     → TablesAreClaimed kernel items
@@ -99,7 +99,7 @@ claim-placed kernel items r o may placed =
           placed.seats
     ])
 
-pub free-placed : (kernel : RangeView) (items : List Item) (r : RangeView) → TouchesNoTable kernel r items → TablesAreClaimed kernel items
+pub free-placed : (kernel : RangeView) (items : List Item) (r : RangeView) → OverlapsNoTable kernel r items → TablesAreClaimed kernel items
     → TablesAreClaimed kernel (items ++ item.Free r ∷ [])
 free-placed kernel items r away placed =
     still-placed kernel items (item.Free r) (λ w. refl) (λ w. refl) placed
@@ -156,8 +156,8 @@ pub record Going (kernel a : RangeView) (items t : List Item) : Type 0 where
   pub aside : Aside kernel a items t
 
 -- the range still overlaps no table, and may still be claimed
-pub away-still : (kernel a : RangeView) (items t : List Item) → Aside kernel a items t → TouchesNoTable kernel a items
-    → TouchesNoTable kernel a t
+pub away-still : (kernel a : RangeView) (items t : List Item) → Aside kernel a items t → OverlapsNoTable kernel a items
+    → OverlapsNoTable kernel a t
 away-still kernel a items t aside away = (
   subst (λ (e : RangeView). AreDisjoint a e)
       (sym (table_bytes-same which.Memory kernel items t aside.place aside.wide)) away.0,

@@ -12,10 +12,10 @@ use Rattle.memblock_model.specs.Tables.{room_of, moved_to, table_bytes}
 use Rattle.memblock_model.specs.Search.{best_place}
 use Rattle.memblock_model.specs.declared.query.Request.{Request}
 use Rattle.growth_model.specs.Change.{items_after_change, write_item, ◌>>◌}
-use Rattle.growth_model.specs.Growth.{frames_for_bytes, table_query, count_uncovered_pieces, split_record_count, make_table_room, claim_range, old_frames, free_old_place, memory_growth_at, memory_growth, add_range, set_range_node, set_range_mirror}
+use Rattle.growth_model.specs.Growth.{frames_for_bytes, table_query, count_uncovered_pieces, max_records_added_by_split, make_table_room, claim_range, old_frames, free_old_place, memory_growth_at, memory_growth, add_range, set_range_node, set_range_mirror}
 use Rattle.growth_model.specs.Request.{place_for}
 use Rattle.growth_model.specs.Ends.{EndsAsChange}
-use Rattle.growth_model.specs.Tables.{AreDisjoint, IsUnclaimed, AreTablePlaces, TablesAreClaimed, TouchesNoTable}
+use Rattle.growth_model.specs.Tables.{AreDisjoint, IsUnclaimed, AreTablePlaces, TablesAreClaimed, OverlapsNoTable}
 use Rattle.growth_model.proofs.CutLaws.{EachCut, cuts-last, cuts-then, cuts-grown}
 use Rattle.growth_model.proofs.SeatLaws.{frames, apart-clear, old-clear, AreTablePlaces-swap}
 use Rattle.growth_model.proofs.FoundLaws.{found-fits, found-unclaimed, place-unclaimed, unclaimed-away}
@@ -65,7 +65,7 @@ module _ (kernel : RangeView) (t : List Item) (place : ℕ) where
   taken-placed placed = claim-placed kernel t a (for_table which.Memory) (inl refl) placed
 
   -- the new place overlaps no table yet
-  taken-away : IsFree t place → TablesAreClaimed kernel t → TouchesNoTable kernel a u
+  taken-away : IsFree t place → TablesAreClaimed kernel t → OverlapsNoTable kernel a u
   taken-away new placed =
       let away = unclaimed-away kernel a t placed new.free in (
         subst (λ (e : RangeView). AreDisjoint a e) (sym (stays which.Memory kernel t claims refl refl)) away.0,
@@ -85,7 +85,7 @@ module _ (kernel : RangeView) (t : List Item) (place : ℕ) where
 
   -- after the move the frames of the old place overlap no table
   pub old-away : (q : ℕ) → moved_to which.Memory t ≡ Some q → IsFree t place → TablesAreClaimed kernel t
-      → TouchesNoTable kernel (frames_for_bytes q (24 * room_of which.Memory t)) (moved t place)
+      → OverlapsNoTable kernel (frames_for_bytes q (24 * room_of which.Memory t)) (moved t place)
   old-away q was new placed =
       let room = room_of which.Memory t in
       let before : RangeView = live_by which.Memory kernel (Some q) room in
@@ -111,10 +111,10 @@ pub record IsTaken (kernel : RangeView) (u : List Item) (room : ℕ) (old : Opti
   pub placed : TablesAreClaimed kernel u
   pub wide : room_of which.Memory u ≡ room
   pub was : moved_to which.Memory u ≡ old
-  pub away : TouchesNoTable kernel (frames_for_bytes place (48 * room)) u
+  pub away : OverlapsNoTable kernel (frames_for_bytes place (48 * room)) u
   pub next : TablesAreClaimed kernel (u ++ item.Grown which.Memory place (2 * room) ∷ [])
   pub left : (q : ℕ) → old ≡ Some q
-      → TouchesNoTable kernel (frames_for_bytes q (24 * room)) (u ++ item.Grown which.Memory place (2 * room) ∷ [])
+      → OverlapsNoTable kernel (frames_for_bytes q (24 * room)) (u ++ item.Grown which.Memory place (2 * room) ∷ [])
 
 taken-is : (kernel : RangeView) (t : List Item) (place : ℕ) → IsFree t place → TablesAreClaimed kernel t
     → IsTaken kernel (taken t place) (room_of which.Memory t) (moved_to which.Memory t) place
@@ -153,7 +153,7 @@ claim_range-taken x kernel items u place placed is ends =
 
 -- freeing an old place, and the move after the claim, keep both tables seated
 left-cuts : (kernel : RangeView) (u : List Item) (room : ℕ) (old : Option ℕ) → TablesAreClaimed kernel u
-    → ((q : ℕ) → old ≡ Some q → TouchesNoTable kernel (frames_for_bytes q (24 * room)) u)
+    → ((q : ℕ) → old ≡ Some q → OverlapsNoTable kernel (frames_for_bytes q (24 * room)) u)
     → EachCut (TablesAreClaimed kernel) u (free_old_place (old_frames room old) u).steps
 left-cuts kernel u room None placed left = placed
 left-cuts kernel u room (Some q) placed left = free_range-cuts kernel u (frames_for_bytes q (24 * room)) (left q refl) placed
@@ -218,13 +218,13 @@ pub set_range_node-cuts : (kernel : RangeView) (items : List Item) (r : RangeVie
     → EachCut (TablesAreClaimed kernel) items (set_range_node r node items).steps
 unfolding set_range_node
 set_range_node-cuts kernel items r node placed =
-    marked-cuts kernel items split_record_count (item.Node r node) (λ t here. node-placed kernel t r node here) placed
+    marked-cuts kernel items max_records_added_by_split (item.Node r node) (λ t here. node-placed kernel t r node here) placed
 
 pub set_range_mirror-cuts : (kernel : RangeView) (items : List Item) (r : RangeView) → TablesAreClaimed kernel items
     → EachCut (TablesAreClaimed kernel) items (set_range_mirror r items).steps
 unfolding set_range_mirror
 set_range_mirror-cuts kernel items r placed =
-    marked-cuts kernel items split_record_count (item.Mirror r) (λ t here. mirror-placed kernel t r here) placed
+    marked-cuts kernel items max_records_added_by_split (item.Mirror r) (λ t here. mirror-placed kernel t r here) placed
 
 -- throughout the claim of a place that an allocation found, for any owner
 pub allocated-cuts : (kernel : RangeView) (items : List Item) (r : Request) (place : ℕ) (o : Owner) → place_for r items ≡ Some place

@@ -12,8 +12,8 @@ use Rattle.memblock_model.specs.declared.item.Item.TheVariants as item
 use Rattle.memblock_model.specs.Items.{Owners, owner_of, limit_of}
 use Rattle.memblock_model.specs.Tables.{room_after, room_of, moved_after, moved_to, table_bytes}
 use Rattle.growth_model.specs.Change.{items_after_change, write_item}
-use Rattle.growth_model.specs.Growth.{frames_for_bytes, place_beside_range, reserved_growth_items, reserved_growth_at, reserved_growth, count_uncovered_pieces, split_record_count, make_table_room, claim_range, free_range}
-use Rattle.growth_model.specs.Tables.{AreDisjoint, IsUnclaimed, AreTablePlaces, TablesAreClaimed, TouchesNoTable}
+use Rattle.growth_model.specs.Growth.{frames_for_bytes, place_beside_range, reserved_growth_items, reserved_growth_at, reserved_growth, count_uncovered_pieces, max_records_added_by_split, make_table_room, claim_range, free_range}
+use Rattle.growth_model.specs.Tables.{AreDisjoint, IsUnclaimed, AreTablePlaces, TablesAreClaimed, OverlapsNoTable}
 use Rattle.growth_model.proofs.CutLaws.{EachCut, cuts-last, cuts-then, cuts-grown, cuts-map, items_after_change-then, then-unrefused}
 use Rattle.growth_model.proofs.FoundLaws.{IsNew, beside-new}
 use Rattle.growth_model.proofs.PlacedLaws.{live_by, table_bytes-is, table_bytes-same, placed-more, owners-of, moves-of, rooms-of, limits-of, MayTake, claim-placed, free-placed, Aside, aside-same, aside-on, Going, away-still, take-still, for_table, move-seats, leave-seats}
@@ -184,18 +184,18 @@ claim_range-cuts kernel items r o may placed =
     (λ _. (going.placed, claim-placed kernel (roomy r more items) r o (take-still kernel r o items _ going.aside may) going.placed))
 
 -- throughout a free
-pub free_range-cuts : (kernel : RangeView) (items : List Item) (r : RangeView) → TouchesNoTable kernel r items
+pub free_range-cuts : (kernel : RangeView) (items : List Item) (r : RangeView) → OverlapsNoTable kernel r items
     → TablesAreClaimed kernel items
     → EachCut (TablesAreClaimed kernel) items (free_range r items).steps
 unfolding free_range
 free_range-cuts kernel items r away placed =
-    let going = room-going kernel r split_record_count items placed in
-    cuts-then (TablesAreClaimed kernel) items (make_table_room which.Reserved split_record_count (reserved_growth r))
+    let going = room-going kernel r max_records_added_by_split items placed in
+    cuts-then (TablesAreClaimed kernel) items (make_table_room which.Reserved max_records_added_by_split (reserved_growth r))
     (write_item (item.Free r))
-    (room-placed kernel r split_record_count items placed)
+    (room-placed kernel r max_records_added_by_split items placed)
     (λ _. (
       going.placed,
-      free-placed kernel (roomy r split_record_count items) r
+      free-placed kernel (roomy r max_records_added_by_split items) r
           (away-still kernel r items _ going.aside away) going.placed,
     ))
 

@@ -13,7 +13,7 @@ use Rattle.memblock_model.specs.Items.{memory_of, limit_of}
 use Rattle.memblock_model.specs.Tables.{room_of, moved_to}
 use Rattle.memblock_model.specs.Search.{best_place}
 use Rattle.growth_model.specs.Change.{RefusedGrowth, ChangeEffect, Change, ◌>>◌, followed_by, items_after_change, items_of_steps, if_due, write_item}
-use Rattle.growth_model.specs.Growth.{claim_range, free_range, frames_for_bytes, make_table_room, is_full, free_old_place, memory_growth, memory_growth_at, count_uncovered_pieces, old_frames, place_beside_range, reserved_growth, reserved_growth_at, reserved_growth_items, table_query, split_record_count}
+use Rattle.growth_model.specs.Growth.{claim_range, free_range, frames_for_bytes, make_table_room, is_full, free_old_place, memory_growth, memory_growth_at, count_uncovered_pieces, old_frames, place_beside_range, reserved_growth, reserved_growth_at, reserved_growth_items, table_query, max_records_added_by_split}
 use Rattle.growth_model.specs.Requests.{StepsKeepMemory, memory_items}
 use Rattle.growth_model.proofs.MemoryItemLaws.{quiet-append, quiet-joined, memory_items-append, memory_of-same, limit_of-same}
 
@@ -69,7 +69,7 @@ claim_range-quiet range who =
 pub free_range-quiet : (range : RangeView) → IsQuiet (free_range range)
 unfolding free_range
 free_range-quiet range =
-    quiet-then _ _ (quiet-grown which.Reserved split_record_count _ (reserved_growth-quiet range)) (written-quiet (item.Free range) refl)
+    quiet-then _ _ (quiet-grown which.Reserved max_records_added_by_split _ (reserved_growth-quiet range)) (written-quiet (item.Free range) refl)
 
 free_old_place-quiet : (room : ℕ) (old : Option ℕ) → IsQuiet (free_old_place (old_frames room old))
 free_old_place-quiet room None = record { each = λ items. tt }

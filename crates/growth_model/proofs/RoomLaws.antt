@@ -6,7 +6,7 @@ use Rattle.std.proofs.lemmas.Bool.{cases_Bool}
 use Rattle.std.proofs.lemmas.Bool.Decides.{nat_tests}
 use Rattle.std.proofs.lemmas.List.{append-nil}
 use Rattle.bm_base.specs.Range.{RangeView, end_of}
-use Rattle.address_runs.specs.Edits.{cover_range, uncover_range, NothingFrom}
+use Rattle.address_runs.specs.Edits.{cover_range, uncover_range, IsEmptyFrom}
 use Rattle.address_runs.proofs.EditLaws.{nothing-covered, nothing-uncovered}
 use Rattle.memblock_model.specs.declared.owner.Which.{Which}
 use Rattle.memblock_model.specs.declared.owner.Which.TheVariants as which
@@ -22,7 +22,7 @@ use Rattle.memblock_model.proofs.ItemLaws.{reserved_labels-replaced, reserved_la
 use Rattle.memblock_model.proofs.TableLaws.{room_of-least}
 use Rattle.memblock_ranges.proofs.CountLaws.{length-covered, length-uncovered, few-pieces, one-piece}
 use Rattle.growth_model.specs.Change.{Change, items_after_change, if_due, write_item, ◌>>◌}
-use Rattle.growth_model.specs.Growth.{record_count, is_full, count_uncovered_pieces, split_record_count, frames_for_bytes, place_beside_range, table_query, reserved_growth_items, reserved_growth_at, reserved_growth, claim_range, old_frames, free_old_place, memory_growth_at, memory_growth}
+use Rattle.growth_model.specs.Growth.{record_count, is_full, count_uncovered_pieces, max_records_added_by_split, frames_for_bytes, place_beside_range, table_query, reserved_growth_items, reserved_growth_at, reserved_growth, claim_range, old_frames, free_old_place, memory_growth_at, memory_growth}
 use Rattle.growth_model.specs.Tables.{IsUnclaimed, TablesAreClaimed, TablesHaveRoom}
 use Rattle.growth_model.specs.Room.{IsInAddressSpace, DoublesRoom, HasRoomAfter}
 use Rattle.growth_model.proofs.CutLaws.{cuts-last, items_after_change-then, then-unrefused}
@@ -35,7 +35,7 @@ use Rattle.growth_model.proofs.LimitLaws.{LiesAt, claim_range-stays, free_old_pl
 
 -- one table and the limit end at or below 2^64
 record Bounded (w : Which) (items : List Item) : Type 0 where
-  pub ends : NothingFrom (2 ^ 64) (table_of w items)
+  pub ends : IsEmptyFrom (2 ^ 64) (table_of w items)
   pub limit : limit_of items ≤ 2 ^ 64
 
 -- the table doubled, and still ends at or below 2^64
@@ -113,7 +113,7 @@ module _ (avoid : RangeView) (t : List Item) (place : ℕ) (new : IsNew t avoid 
       let all = length-covered claim plain_label table claim-ends bounded.ends in
       omega (arith, one, all)
 
-  claim_range-bounded : NothingFrom (2 ^ 64) (cover_range claim plain_label table)
+  claim_range-bounded : IsEmptyFrom (2 ^ 64) (cover_range claim plain_label table)
   claim_range-bounded = nothing-covered (2 ^ 64) claim plain_label table claim-ends bounded.ends
 
   abbrev grew-table : Option ℕ → Labels
@@ -136,7 +136,7 @@ module _ (avoid : RangeView) (t : List Item) (place : ℕ) (new : IsNew t avoid 
       (cover_range claim plain_label table) claim_range-bounded in
       omega (arith, few, one)
 
-  grew-bounded : (old : Option ℕ) → NothingFrom (2 ^ 64) (grew-table old)
+  grew-bounded : (old : Option ℕ) → IsEmptyFrom (2 ^ 64) (grew-table old)
   grew-bounded None = claim_range-bounded
   grew-bounded (Some q) =
       nothing-uncovered (2 ^ 64) (frames_for_bytes q (24 * room_of which.Reserved t))
@@ -150,7 +150,7 @@ module _ (avoid : RangeView) (t : List Item) (place : ℕ) (new : IsNew t avoid 
       few = subst (λ (f : Labels). length (records_for f) ≤ length (records_for table) + 2) (sym (grew-table-is old)) (grew-few old);
     };
     bounded = record {
-      ends = subst (λ (f : Labels). NothingFrom (2 ^ 64) f) (sym (grew-table-is old)) (grew-bounded old);
+      ends = subst (λ (f : Labels). IsEmptyFrom (2 ^ 64) f) (sym (grew-table-is old)) (grew-bounded old);
       limit = subst (λ (n : ℕ). n ≤ 2 ^ 64) (sym (grew-limit t old place)) bounded.limit;
     };
   }
@@ -214,7 +214,7 @@ memory-well t bounded unrefused =
     record {
       doubled = record { room = memory-room t unrefused; few = omega (arith, few) };
       bounded = record {
-        ends = subst (λ (f : Labels). NothingFrom (2 ^ 64) f) (sym same) bounded.ends;
+        ends = subst (λ (f : Labels). IsEmptyFrom (2 ^ 64) f) (sym same) bounded.ends;
         limit = subst (λ (n : ℕ). n ≤ 2 ^ 64) (sym (quiet-limit t (memory_growth t) (memory_growth-quiet.each t))) bounded.limit;
       };
     }
@@ -237,7 +237,7 @@ few-new : (w : Which) (range : RangeView) → end_of range ≤ 2 ^ 64 → (t : L
 unfolding records_of
 few-new w range ends t bounded = let few = few-pieces range (table_of w t) ends bounded.ends in omega (arith, few)
 
-few-two : (w : Which) (t : List Item) → Bounded w t → split_record_count t ≤ record_count w t + 2
+few-two : (w : Which) (t : List Item) → Bounded w t → max_records_added_by_split t ≤ record_count w t + 2
 few-two w t bounded = omega arith
 
 pub enough-claimed : (avoid range : RangeView) (items : List Item) → IsInAddressSpace items → TablesHaveRoom items → end_of range ≤ 2 ^ 64
@@ -247,9 +247,9 @@ enough-claimed avoid range items space fits ends =
     (few-new which.Reserved range ends) items (bounded-of which.Reserved items space) (fits which.Reserved)
 
 pub enough-freed : (avoid : RangeView) (items : List Item) → IsInAddressSpace items → TablesHaveRoom items
-    → HasRoomAfter which.Reserved split_record_count (reserved_growth avoid) items
+    → HasRoomAfter which.Reserved max_records_added_by_split (reserved_growth avoid) items
 enough-freed avoid items space fits =
-    room-behind which.Reserved split_record_count (reserved_growth avoid) (reserved-well avoid) (few-two which.Reserved) items
+    room-behind which.Reserved max_records_added_by_split (reserved_growth avoid) (reserved-well avoid) (few-two which.Reserved) items
     (bounded-of which.Reserved items space) (fits which.Reserved)
 
 pub enough-added : (range : RangeView) (items : List Item) → IsInAddressSpace items → TablesHaveRoom items → end_of range ≤ 2 ^ 64
@@ -259,9 +259,9 @@ enough-added range items space fits ends =
     (bounded-of which.Memory items space) (fits which.Memory)
 
 pub enough-labelled : (items : List Item) → IsInAddressSpace items → TablesHaveRoom items
-    → HasRoomAfter which.Memory split_record_count memory_growth items
+    → HasRoomAfter which.Memory max_records_added_by_split memory_growth items
 enough-labelled items space fits =
-    room-behind which.Memory split_record_count memory_growth memory-well (few-two which.Memory) items (bounded-of which.Memory items space)
+    room-behind which.Memory max_records_added_by_split memory_growth memory-well (few-two which.Memory) items (bounded-of which.Memory items space)
     (fits which.Memory)
 
 -- after one growth apart from an unclaimed range, the table has room for the range, since it is

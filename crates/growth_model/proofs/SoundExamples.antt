@@ -8,7 +8,7 @@ use Rattle.memblock_model.specs.declared.item.Item.{Item}
 use Rattle.memblock_model.specs.declared.item.Item.TheVariants as item
 use Rattle.bm_base.specs.Range.{covers}
 use Rattle.memblock_model.specs.Items.{Owners, owner_of}
-use Rattle.growth_model.specs.Tables.{may_hold_table, IsTablePlace, ShareNoFrame, AreDisjoint, TablesAreClaimed, IsKernelImage, TouchesNoTable, MayClaim}
+use Rattle.growth_model.specs.Tables.{may_hold_table, IsTablePlace, ShareNoFrame, AreDisjoint, TablesAreClaimed, IsKernelImage, OverlapsNoTable, MayClaim}
 use Rattle.growth_model.proofs.FirstLaws.{first-placed}
 use Rattle.growth_model.proofs.GrowthExamples.{image, frame}
 
@@ -87,10 +87,10 @@ beside_the_scripts_frame = record {
 }
 
 -- the first frames of the image overlap no table, and its last two do
-away : TouchesNoTable image (frame 16) begun
+away : OverlapsNoTable image (frame 16) begun
 away = (λ x at_a at_t. grind (arith, nat_tests, at_a, at_t), λ x at_a at_t. grind (arith, nat_tests, at_a, at_t))
 
-not_away : TouchesNoTable image (frame 18) begun → ⊥
+not_away : OverlapsNoTable image (frame 18) begun → ⊥
 not_away known = known.0 73728 refl refl
 
 -- the image is claimed first, only for the kernel; then others may claim the tables' bytes, and

@@ -16,7 +16,7 @@ use Rattle.memblock_ranges.specs.Encoding.{encode_table, encode_record, flags_fi
 use Rattle.memblock_ranges.proofs.SpellLaws.{length-fields_of}
 use Rattle.growth_model.specs.Tables.{TablesAreClaimed, TablesHaveRoom, AreDisjoint}
 use Rattle.growth_model.proofs.ToldLaws.{listed-told, chosen}
-use Rattle.growth_model.specs.Bytes.{table_for, table_byte_at, TablesAreEncoded}
+use Rattle.growth_model.specs.Bytes.{table_from_items, table_byte_at, TablesAreEncoded}
 
 -- no byte is in both tables
 pub table_bytes-clear : (kernel : RangeView) (items : List Item) → TablesAreClaimed kernel items →
@@ -25,9 +25,9 @@ table_bytes-clear kernel items placed = λ x here too. placed.seats.apart x x he
 
 -- the byte at an address of a table is that of its encoding
 pub journal-stands : (w : Which) (kernel : RangeView) (items : List Item) (f : ℕ → ℕ) (x : ℕ) → TablesAreClaimed kernel items →
-    TablesAreEncoded (table_for which.Memory kernel items) (table_for which.Reserved kernel items) f
+    TablesAreEncoded (table_from_items which.Memory kernel items) (table_from_items which.Reserved kernel items) f
     → covers (table_bytes w kernel items) x ≡ true →
-    f x ≡ table_byte_at (table_for w kernel items) x
+    f x ≡ table_byte_at (table_from_items w kernel items) x
 journal-stands which.Memory kernel items f x placed spelled here = spelled x ∙ rw here refl
 journal-stands which.Reserved kernel items f x placed spelled here =
     let beside : covers (table_bytes which.Memory kernel items) x ≡ false =
@@ -37,19 +37,19 @@ journal-stands which.Reserved kernel items f x placed spelled here =
 -- conversely, if the bytes at both places are those of the encodings, both tables are in their
 -- bytes
 pub spelled-from : (kernel : RangeView) (items : List Item) (f : ℕ → ℕ) →
-    ((w : Which) (x : ℕ) → covers (table_bytes w kernel items) x ≡ true → f x ≡ table_byte_at (table_for w kernel items) x) →
-    TablesAreEncoded (table_for which.Memory kernel items) (table_for which.Reserved kernel items) f
+    ((w : Which) (x : ℕ) → covers (table_bytes w kernel items) x ≡ true → f x ≡ table_byte_at (table_from_items w kernel items) x) →
+    TablesAreEncoded (table_from_items which.Memory kernel items) (table_from_items which.Reserved kernel items) f
 spelled-from kernel items f each = λ x.
     chosen (covers (table_bytes which.Memory kernel items) x) (covers (table_bytes which.Reserved kernel items) x) (f x)
-    (table_byte_at (table_for which.Memory kernel items) x) (table_byte_at (table_for which.Reserved kernel items) x) (f x)
+    (table_byte_at (table_from_items which.Memory kernel items) x) (table_byte_at (table_from_items which.Reserved kernel items) x) (f x)
     (each which.Memory x) (each which.Reserved x) (λ out too. refl)
 
 -- the same statement for lists of bytes
 pub spelled-lists : (kernel : RangeView) (items : List Item) (f : ℕ → ℕ) →
     ((w : Which) → bytes_at f (table_place w kernel items) (24 * room_of w items) ≡ encode_table (records_of w items) (room_of w items)) →
-    TablesAreEncoded (table_for which.Memory kernel items) (table_for which.Reserved kernel items) f
+    TablesAreEncoded (table_from_items which.Memory kernel items) (table_from_items which.Reserved kernel items) f
 spelled-lists kernel items f lists =
-    spelled-from kernel items f (λ w x here. listed-told (table_for w kernel items) f x (lists w) here)
+    spelled-from kernel items f (λ w x here. listed-told (table_from_items w kernel items) f x (lists w) here)
 
 -- a table with room for its records has 24 bytes for each
 pub length-spelled_table : (rs : List (RunOf LabelView)) (n : ℕ) → length rs ≤ n → length (encode_table rs n) ≡ 24 * n
@@ -64,7 +64,7 @@ length-spelled_table (r ∷ rs) (suc n) few =
     ∙ omega (arith, first, rest)
 
 spelled_here : (w : Which) (kernel : RangeView) (items : List Item) (f : ℕ → ℕ) (k : ℕ) → TablesAreClaimed kernel items →
-    TablesAreEncoded (table_for which.Memory kernel items) (table_for which.Reserved kernel items) f → k < 24 * room_of w items →
+    TablesAreEncoded (table_from_items which.Memory kernel items) (table_from_items which.Reserved kernel items) f → k < 24 * room_of w items →
     get_or (encode_table (records_of w items) (room_of w items)) k 0 ≡ f (table_place w kernel items + k)
 spelled_here w kernel items f k placed spelled below =
     let place = table_place w kernel items in
@@ -74,7 +74,7 @@ spelled_here w kernel items f k placed spelled below =
 
 -- as one list: the bytes at the place of a table are the encoding of its records
 pub list-stands : (w : Which) (kernel : RangeView) (items : List Item) (f : ℕ → ℕ) → TablesAreClaimed kernel items → TablesHaveRoom items →
-    TablesAreEncoded (table_for which.Memory kernel items) (table_for which.Reserved kernel items) f →
+    TablesAreEncoded (table_from_items which.Memory kernel items) (table_from_items which.Reserved kernel items) f →
     bytes_at f (table_place w kernel items) (24 * room_of w items) ≡ encode_table (records_of w items) (room_of w items)
 list-stands w kernel items f placed fits spelled =
     sym (told_bytes f (table_place w kernel items) (24 * room_of w items) (encode_table (records_of w items) (room_of w items))

@@ -10,7 +10,7 @@ use Rattle.memblock_model.specs.Labels.{LabelView}
 use Rattle.memblock_model.specs.declared.owner.Which.{Which}
 use Rattle.memblock_model.specs.declared.owner.Which.TheVariants as which
 use Rattle.memblock_ranges.specs.Encoding.{encode_table}
-use Rattle.memblock_ranges.specs.Tables.{TableView, TablesView, table_in, bytes_of, bytes_in, IsInStore}
+use Rattle.memblock_ranges.specs.Tables.{TableView, TablesView, table_in, bytes_of, table_range_in, IsInStore}
 use Rattle.growth_model.specs.Bytes.{table_byte_at, byte_with_tables, byte_without_table}
 
 -- if the bytes at a table's place are its encoding, so is each of them
@@ -41,7 +41,7 @@ all-told m r s g first second beside x =
 
 -- outside both tables an address is in neither
 beside-one : (w : Which) (t : TablesView) (x : ℕ) → covers (bytes_of t.memory) x ≡ false → covers (bytes_of t.reserved) x ≡ false →
-    covers (bytes_in w t) x ≡ false
+    covers (table_range_in w t) x ≡ false
 beside-one which.Memory t x first second = first
 beside-one which.Reserved t x first second = second
 
@@ -49,18 +49,18 @@ beside-one which.Reserved t x first second = second
 -- `set_node` and `trim`)
 pub edit-told : (w : Which) (old new : TablesView) (records : List (RunOf LabelView)) →
     table_in w new ≡ record (table_in w old) { records = records } →
-    ((x : ℕ) → covers (bytes_in w old) x ≡ false → byte_of new.store x ≡ byte_of old.store x) → IsInStore new.memory new.store →
+    ((x : ℕ) → covers (table_range_in w old) x ≡ false → byte_of new.store x ≡ byte_of old.store x) → IsInStore new.memory new.store →
     IsInStore new.reserved new.store → (x : ℕ) → byte_of new.store x ≡ byte_with_tables new.memory new.reserved x (byte_of old.store x)
 edit-told w old new records edited elsewhere first second =
     all-told new.memory new.reserved new.store (byte_of old.store) first second
     (λ x out too. elsewhere x (ap (λ (t : TableView). covers (bytes_of t) x) (sym edited) ∙ beside-one w new x out too))
 
 -- the bytes after a move of one table (`relocate`)
-pub move-told : (w : Which) (old new : TablesView) → ((x : ℕ) → covers (bytes_in w old) x ≡ true → byte_of new.store x ≡ 0) →
-    ((x : ℕ) → covers (bytes_in w new) x ≡ false → covers (bytes_in w old) x ≡ false → byte_of new.store x ≡ byte_of old.store x) →
+pub move-told : (w : Which) (old new : TablesView) → ((x : ℕ) → covers (table_range_in w old) x ≡ true → byte_of new.store x ≡ 0) →
+    ((x : ℕ) → covers (table_range_in w new) x ≡ false → covers (table_range_in w old) x ≡ false → byte_of new.store x ≡ byte_of old.store x) →
     IsInStore new.memory new.store → IsInStore new.reserved new.store → (x : ℕ) →
     byte_of new.store x ≡ byte_with_tables new.memory new.reserved x (byte_without_table (table_in w old) x (byte_of old.store x))
 move-told w old new gone elsewhere first second =
     all-told new.memory new.reserved new.store (λ x. byte_without_table (table_in w old) x (byte_of old.store x)) first second
-    (λ x out too. cond_both (covers (bytes_in w old) x) 0 (byte_of old.store x) (λ (n : ℕ). byte_of new.store x ≡ n) (gone x)
+    (λ x out too. cond_both (covers (table_range_in w old) x) 0 (byte_of old.store x) (λ (n : ℕ). byte_of new.store x ≡ n) (gone x)
     (λ away. elsewhere x (beside-one w new x out too) away))

@@ -12,8 +12,8 @@ use Rattle.memblock_ranges.specs.Encoding.{encode_table}
 use Rattle.memblock_ranges.specs.Tables.{TableView, bytes_of}
 
 -- the table that the items define
-abbrev pub table_for : Which → RangeView → List Item → TableView
-table_for w kernel items = record { records = records_of w items; place = table_place w kernel items; room = room_of w items }
+abbrev pub table_from_items : Which → RangeView → List Item → TableView
+table_from_items w kernel items = record { records = records_of w items; place = table_place w kernel items; room = room_of w items }
 
 -- the byte at an address inside a table: of its records, and 0 after them
 abbrev pub table_byte_at : TableView → ℕ → ℕ
@@ -34,7 +34,7 @@ byte_without_table t x b = if covers (bytes_of t) x then 0 else b
 
 -- the byte at an address, with the tables that the items define
 abbrev pub byte_with_item_tables : RangeView → List Item → ℕ → ℕ → ℕ
-byte_with_item_tables kernel items x b = byte_with_tables (table_for which.Memory kernel items) (table_for which.Reserved kernel items) x b
+byte_with_item_tables kernel items x b = byte_with_tables (table_from_items which.Memory kernel items) (table_from_items which.Reserved kernel items) x b
 
 -- whether the item, written after these items, moves a table away from the address
 abbrev pub is_vacated_by : RangeView → List Item → Item → ℕ → Bool
@@ -52,8 +52,8 @@ further_items items longer = drop (length items) longer
 
 -- the byte at the address after the items have become the longer list, if it was b before: a
 -- table's byte, else 0 if a table moved away, else b
-unfoldable pub byte_after : RangeView → List Item → List Item → ℕ → ℕ → ℕ
-byte_after kernel items longer x b =
+unfoldable pub byte_after_items : RangeView → List Item → List Item → ℕ → ℕ → ℕ
+byte_after_items kernel items longer x b =
     byte_with_item_tables kernel longer x (if is_vacated kernel items (further_items items longer) x then 0 else b)
 
 -- a fill: its range, its byte, and the number of items when it was made
@@ -86,17 +86,17 @@ byte_from_history kernel items fills x =
     byte_with_item_tables kernel items x (byte_outside_tables kernel fills [] items x (byte_after_fills 0 fills x 0))
 
 -- each fill was made when there were at most n items
-abbrev pub AreMadeBy : ℕ → List Fill → Type 0
-AreMadeBy n [] = Unit {0}
-AreMadeBy n (f ∷ fs) = (f.at ≤ n) × AreMadeBy n fs
+abbrev pub AreFillsUpTo : ℕ → List Fill → Type 0
+AreFillsUpTo n [] = Unit {0}
+AreFillsUpTo n (f ∷ fs) = (f.at ≤ n) × AreFillsUpTo n fs
 
 -- the items became the longer list, and each byte is what the further items make of its old value
 pub record Follows (kernel : RangeView) (items longer : List Item) (f g : ℕ → ℕ) : Type 0 where
   pub more : List Item
   pub goes_on : longer ≡ items ++ more
-  pub each : (x : ℕ) → g x ≡ byte_after kernel items longer x (f x)
+  pub each : (x : ℕ) → g x ≡ byte_after_items kernel items longer x (f x)
 
 -- the bytes are those of the items and the fills
 pub record AreBytesFromHistory (kernel : RangeView) (items : List Item) (fills : List Fill) (f : ℕ → ℕ) : Type 0 where
-  pub made : AreMadeBy (length items) fills
+  pub made : AreFillsUpTo (length items) fills
   pub each : (x : ℕ) → f x ≡ byte_from_history kernel items fills x

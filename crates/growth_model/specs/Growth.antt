@@ -74,8 +74,8 @@ count_uncovered_pieces w range items = uncovered_run_count range (table_of w ite
 
 -- the greatest number of records that an edit inside a table may add: it may split a record at both
 -- ends of its range
-abbrev pub split_record_count : List Item → ℕ
-split_record_count items = 2
+abbrev pub max_records_added_by_split : List Item → ℕ
+max_records_added_by_split items = 2
 
 -- the table grows if it is full, and once more if it still is; two growths are always enough
 abbrev pub make_table_room : Which → (List Item → ℕ) → Change → Change
@@ -89,7 +89,7 @@ claim_range range who =
 
 -- the free of a range (`memblock_phys_free`)
 unfoldable pub free_range : RangeView → Change
-free_range range = make_table_room which.Reserved split_record_count (reserved_growth range) >> write_item (item.Free range)
+free_range range = make_table_room which.Reserved max_records_added_by_split (reserved_growth range) >> write_item (item.Free range)
 
 -- the frames of a table's old place, unless that is the built-in one
 abbrev pub old_frames : ℕ → Option ℕ → Option RangeView
@@ -122,8 +122,8 @@ add_range range = make_table_room which.Memory (count_uncovered_pieces which.Mem
 
 -- the memory of the range gets the node (`memblock_set_node`)
 unfoldable pub set_range_node : RangeView → ℕ → Change
-set_range_node range node = make_table_room which.Memory split_record_count memory_growth >> write_item (item.Node range node)
+set_range_node range node = make_table_room which.Memory max_records_added_by_split memory_growth >> write_item (item.Node range node)
 
 -- the memory of the range becomes mirrored (`memblock_mark_mirror`)
 unfoldable pub set_range_mirror : RangeView → Change
-set_range_mirror range = make_table_room which.Memory split_record_count memory_growth >> write_item (item.Mirror range)
+set_range_mirror range = make_table_room which.Memory max_records_added_by_split memory_growth >> write_item (item.Mirror range)

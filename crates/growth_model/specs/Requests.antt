@@ -9,13 +9,13 @@ use Rattle.growth_model.specs.Growth.{claim_range, free_range, add_range, set_ra
 
 -- the change that ends with the item: an added range, a node, a mirrored range, a claim or a free,
 -- each after the growth that it needs; other items are written without growth
-abbrev pub change_for : Item → Change
-change_for (item.Mem range) = add_range range
-change_for (item.Node range node) = set_range_node range node
-change_for (item.Mirror range) = set_range_mirror range
-change_for (item.Claim range who) = claim_range range who
-change_for (item.Free range) = free_range range
-change_for i = write_item i
+abbrev pub change_writing_item : Item → Change
+change_writing_item (item.Mem range) = add_range range
+change_writing_item (item.Node range node) = set_range_node range node
+change_writing_item (item.Mirror range) = set_range_mirror range
+change_writing_item (item.Claim range who) = claim_range range who
+change_writing_item (item.Free range) = free_range range
+change_writing_item i = write_item i
 
 -- the items, or the growth that was refused
 abbrev pub unless_refused : Option RefusedGrowth → List Item → Result (List Item) RefusedGrowth
@@ -29,7 +29,7 @@ items_or_refusal items o = unless_refused o.refused (items_after_change items o)
 -- the items after all of the list, or the first growth that was refused
 unfoldable pub carry_out_items : List Item → List Item → Result (List Item) RefusedGrowth
 carry_out_items [] items = Ok items
-carry_out_items (i ∷ is) items = items_or_refusal items (change_for i items) >>= λ next. carry_out_items is next
+carry_out_items (i ∷ is) items = items_or_refusal items (change_writing_item i items) >>= λ next. carry_out_items is next
 
 -- whether the item changes memory, its labels, or the limit; other items change owners, the
 -- tables' places, or the search direction

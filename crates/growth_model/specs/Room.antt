@@ -1,6 +1,6 @@
 -- How much room a growth gives a table, and when the table has enough.
 use Rattle.std.specs.Prelude.{◌≡◌, ℕ, ◌+◌, ◌*◌, ◌^◌, ◌≤◌, false, None, List}
-use Rattle.address_runs.specs.Edits.{NothingFrom}
+use Rattle.address_runs.specs.Edits.{IsEmptyFrom}
 use Rattle.memblock_model.specs.declared.owner.Which.{Which}
 use Rattle.memblock_model.specs.declared.item.Item.{Item}
 use Rattle.memblock_model.specs.Items.{limit_of}
@@ -10,7 +10,7 @@ use Rattle.growth_model.specs.Growth.{record_count, is_full, make_table_room}
 
 -- both tables end at or below 2^64, and so does the limit
 pub record IsInAddressSpace (items : List Item) : Type 0 where
-  pub ends : (w : Which) → NothingFrom (2 ^ 64) (table_of w items)
+  pub ends : (w : Which) → IsEmptyFrom (2 ^ 64) (table_of w items)
   pub limit : limit_of items ≤ 2 ^ 64
 
 -- the table has twice the room and at most two more records: one for the claim of its new place,

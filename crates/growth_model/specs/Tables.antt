@@ -64,17 +64,17 @@ pub record IsKernelImage (kernel : RangeView) : Type 0 where
   pub large : 2 * FRAME_SIZE ≤ kernel.size
 
 -- there is at least one item; the first is always the claim of the kernel's image
-abbrev pub HasBegun : List Item → Type 0
-HasBegun [] = ⊥
-HasBegun (i ∷ is) = Unit {0}
+abbrev pub HasFirstItem : List Item → Type 0
+HasFirstItem [] = ⊥
+HasFirstItem (i ∷ is) = Unit {0}
 
 -- the range overlaps no table
-abbrev pub TouchesNoTable : RangeView → RangeView → List Item → Type 0
-TouchesNoTable kernel range items =
+abbrev pub OverlapsNoTable : RangeView → RangeView → List Item → Type 0
+OverlapsNoTable kernel range items =
     AreDisjoint range (table_bytes which.Memory kernel items) × AreDisjoint range (table_bytes which.Reserved kernel items)
 
 -- what may be claimed: first the kernel's image, for the kernel; then any range, which for the
 -- script must overlap no table
 abbrev pub MayClaim : RangeView → List Item → RangeView → Owner → Type 0
 MayClaim kernel [] range who = (range ≡ kernel) × (who ≡ owner.Kernel)
-MayClaim kernel (i ∷ is) range who = (may_hold_table (Some who) ≡ true) ⊎ TouchesNoTable kernel range (i ∷ is)
+MayClaim kernel (i ∷ is) range who = (may_hold_table (Some who) ≡ true) ⊎ OverlapsNoTable kernel range (i ∷ is)

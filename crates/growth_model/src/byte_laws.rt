@@ -1,6 +1,6 @@
 //! Laws about the byte at each address.
 //!
-//! `byte_from_history` computes it from the items and the fills. `byte_after` says how a call
+//! `byte_from_history` computes it from the items and the fills. `byte_after_items` says how a call
 //! changes a byte, whatever it was before; contracts of calls use it. One law gives the bytes after
 //! two calls in turn, another says that both definitions agree. So a caller can keep
 //! `AreBytesFromHistory` true from call to call and from fill to fill.
@@ -18,21 +18,21 @@ ghost use Rattle.memblock_model.specs.declared.owner.Which.TheVariants as which;
 ghost use Rattle.memblock_model.specs.declared.item.Item.{Item};
 ghost use Rattle.memblock_model.specs.Tables.{records_of, room_of, table_place, table_bytes};
 ghost use Rattle.memblock_ranges.specs.Encoding.{encode_table};
-ghost use Rattle.memblock_ranges.specs.Tables.{TablesView, table_in, bytes_in, IsInStore};
-ghost use Rattle.growth_model.specs.Tables.{TablesAreClaimed, TablesHaveRoom, TouchesNoTable};
-ghost use Rattle.growth_model.specs.Bytes.{table_for, table_byte_at, byte_with_tables, TablesAreEncoded, byte_without_table, byte_after, byte_from_history, Fill, byte_after_fill, AreMadeBy, Follows, AreBytesFromHistory};
+ghost use Rattle.memblock_ranges.specs.Tables.{TablesView, table_in, table_range_in, IsInStore};
+ghost use Rattle.growth_model.specs.Tables.{TablesAreClaimed, TablesHaveRoom, OverlapsNoTable};
+ghost use Rattle.growth_model.specs.Bytes.{table_from_items, table_byte_at, byte_with_tables, TablesAreEncoded, byte_without_table, byte_after_items, byte_from_history, Fill, byte_after_fill, AreFillsUpTo, Follows, AreBytesFromHistory};
 
 /// Law: the effect of items on a byte can be computed in two parts. Further items applied to the
 /// byte after the first ones give the byte after all of them. Further items applied to the byte
 /// that the first items and the fills give yield the byte of all items with the same fills.
 pub fn byte_effects_compose()
     ensures after { (kernel : RangeView) (items more further : List Item) (x b : ℕ) →
-        byte_after kernel (items ++ more) ((items ++ more) ++ further) x
-        (byte_after kernel items (items ++ more) x b)
-        ≡ byte_after kernel items ((items ++ more) ++ further) x b }
+        byte_after_items kernel (items ++ more) ((items ++ more) ++ further) x
+        (byte_after_items kernel items (items ++ more) x b)
+        ≡ byte_after_items kernel items ((items ++ more) ++ further) x b }
     ensures byte { (kernel : RangeView) (items more : List Item) (fills : List Fill) (x : ℕ)
-        → AreMadeBy (length items) fills →
-        byte_after kernel items (items ++ more) x (byte_from_history kernel items fills x)
+        → AreFillsUpTo (length items) fills →
+        byte_after_items kernel items (items ++ more) x (byte_from_history kernel items fills x)
         ≡ byte_from_history kernel (items ++ more) fills x }
 {}
 
@@ -40,7 +40,7 @@ pub fn byte_effects_compose()
 /// before.
 pub fn newest_fill_decides()
     ensures { (kernel : RangeView) (items : List Item) (fills : List Fill) (f : Fill) (x : ℕ) →
-        f.at ≡ length items → TouchesNoTable kernel f.range items →
+        f.at ≡ length items → OverlapsNoTable kernel f.range items →
         byte_from_history kernel items (fills ++ f ∷ []) x
         ≡ byte_after_fill f x (byte_from_history kernel items fills x) }
 {}
@@ -49,13 +49,13 @@ pub fn newest_fill_decides()
 /// After each call, the bytes at each table's place are the encoding of its records. If the bytes
 /// are those that the items and the fills give, they still are after a further call. They still
 /// are after a further fill that overlaps no table.
-pub fn bytes_follow_calls()
+pub fn bytes_compose_over_calls()
     ensures then { (kernel : RangeView) (items mid last : List Item) (f g h : ℕ → ℕ) →
         Follows kernel items mid f g → Follows kernel mid last g h → Follows kernel items last f h }
     ensures spelled { (kernel : RangeView) (items longer : List Item) (f g : ℕ → ℕ)
         → Follows kernel items longer f g →
-        TablesAreEncoded (table_for which.Memory kernel longer)
-        (table_for which.Reserved kernel longer) g }
+        TablesAreEncoded (table_from_items which.Memory kernel longer)
+        (table_from_items which.Reserved kernel longer) g }
     ensures call { (kernel : RangeView) (items longer : List Item) (fills : List Fill) (f g : ℕ → ℕ)
         →
         AreBytesFromHistory kernel items fills f → Follows kernel items longer f g
@@ -63,7 +63,7 @@ pub fn bytes_follow_calls()
     ensures fill { (kernel : RangeView) (items : List Item) (fills : List Fill) (fill : Fill)
         (f g : ℕ → ℕ) →
         AreBytesFromHistory kernel items fills f → fill.at ≡ length items
-        → TouchesNoTable kernel fill.range items →
+        → OverlapsNoTable kernel fill.range items →
         ((x : ℕ) → g x ≡ byte_after_fill fill x (f x))
         → AreBytesFromHistory kernel items (fills ++ fill ∷ []) g }
 {}
@@ -73,14 +73,14 @@ pub fn bytes_follow_calls()
 pub fn tables_are_encoded()
     ensures each { (w : Which) (kernel : RangeView) (items : List Item) (f : ℕ → ℕ) (x : ℕ)
         → TablesAreClaimed kernel items →
-        TablesAreEncoded (table_for which.Memory kernel items)
-        (table_for which.Reserved kernel items) f →
+        TablesAreEncoded (table_from_items which.Memory kernel items)
+        (table_from_items which.Reserved kernel items) f →
         covers (table_bytes w kernel items) x ≡ true
-        → f x ≡ table_byte_at (table_for w kernel items) x }
+        → f x ≡ table_byte_at (table_from_items w kernel items) x }
     ensures list { (w : Which) (kernel : RangeView) (items : List Item) (f : ℕ → ℕ)
         → TablesAreClaimed kernel items → TablesHaveRoom items →
-        TablesAreEncoded (table_for which.Memory kernel items)
-        (table_for which.Reserved kernel items) f →
+        TablesAreEncoded (table_from_items which.Memory kernel items)
+        (table_from_items which.Reserved kernel items) f →
         bytes_at f (table_place w kernel items) (24 * room_of w items)
         ≡ encode_table (records_of w items) (room_of w items) }
 {}
@@ -88,15 +88,17 @@ pub fn tables_are_encoded()
 /// Law: if both tables are encoded in the store after an edit of one table's records, each byte
 /// inside a table is that of its encoding, and every other byte is as before. After a move of one
 /// table the same is true, except that the bytes at its old place are 0.
-pub fn edits_give_each_byte()
+pub fn edits_change_only_table_bytes()
     ensures edited { (w : Which) (old new : TablesView) (records : List (RunOf LabelView)) →
         table_in w new ≡ record (table_in w old) { records = records } →
-        ((x : ℕ) → covers (bytes_in w old) x ≡ false → byte_of new.store x ≡ byte_of old.store x) →
+        ((x : ℕ) → covers (table_range_in w old) x ≡ false → byte_of new.store x ≡ byte_of
+        old.store x) →
         IsInStore new.memory new.store → IsInStore new.reserved new.store → (x : ℕ) →
         byte_of new.store x ≡ byte_with_tables new.memory new.reserved x (byte_of old.store x) }
     ensures moved { (w : Which) (old new : TablesView) →
-        ((x : ℕ) → covers (bytes_in w old) x ≡ true → byte_of new.store x ≡ 0) →
-        ((x : ℕ) → covers (bytes_in w new) x ≡ false → covers (bytes_in w old) x ≡ false →
+        ((x : ℕ) → covers (table_range_in w old) x ≡ true → byte_of new.store x ≡ 0) →
+        ((x : ℕ) → covers (table_range_in w new) x ≡ false → covers (table_range_in w old) x ≡
+        false →
         byte_of new.store x ≡ byte_of old.store x) →
         IsInStore new.memory new.store → IsInStore new.reserved new.store → (x : ℕ) →
         byte_of new.store x ≡ byte_with_tables new.memory new.reserved x

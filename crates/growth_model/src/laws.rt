@@ -22,10 +22,10 @@ ghost use Rattle.memblock_model.specs.Search.{best_place};
 ghost use Rattle.growth_model.specs.declared.refusal.Refusal.{Refusal};
 ghost use Rattle.memblock_model.specs.declared.query.Request.{Request};
 ghost use Rattle.growth_model.specs.Change.{Change, ◌>>◌ as in_turn, items_after_change, write_item};
-ghost use Rattle.growth_model.specs.Growth.{round_up_to_frames, frames_for_bytes, is_full, count_uncovered_pieces, split_record_count, place_beside_range, reserved_growth, claim_range, free_range, memory_growth, add_range, set_range_node, set_range_mirror};
+ghost use Rattle.growth_model.specs.Growth.{round_up_to_frames, frames_for_bytes, is_full, count_uncovered_pieces, max_records_added_by_split, place_beside_range, reserved_growth, claim_range, free_range, memory_growth, add_range, set_range_node, set_range_mirror};
 ghost use Rattle.growth_model.specs.Request.{place_for};
 ghost use Rattle.growth_model.specs.Ends.{EndsAsChange, Allocates};
-ghost use Rattle.growth_model.specs.Tables.{AreDisjoint, IsUnclaimed, TablesAreClaimed, TablesHaveRoom, IsKernelImage, HasBegun, TouchesNoTable, MayClaim};
+ghost use Rattle.growth_model.specs.Tables.{AreDisjoint, IsUnclaimed, TablesAreClaimed, TablesHaveRoom, IsKernelImage, HasFirstItem, OverlapsNoTable, MayClaim};
 ghost use Rattle.growth_model.specs.Room.{IsInAddressSpace, DoublesRoom, HasRoomAfter};
 
 /// Law: two calls in turn end as the two changes in turn: like the second if the first succeeds,
@@ -52,23 +52,24 @@ pub fn first_claim_places_tables()
 /// Law: from the first claim on, both tables lie in claimed memory, apart from each other, after
 /// each allowed claim, however it ends. The same is true after the free of a range that overlaps no
 /// table.
-pub fn claims_keep_places()
+pub fn claims_keep_table_places()
     ensures claimed { (kernel : RangeView) (result : Result (Unit {0}) Refusal)
         (old new : List Item) (range : RangeView) (who : Owner) →
-        IsKernelImage kernel → end_of range ≤ 2 ^ 64 → (HasBegun old → TablesAreClaimed kernel old)
+        IsKernelImage kernel → end_of range ≤ 2 ^ 64 → (HasFirstItem old → TablesAreClaimed
+        kernel old)
         → MayClaim kernel old range who →
-        EndsAsChange result old new (claim_range range who) → HasBegun new
+        EndsAsChange result old new (claim_range range who) → HasFirstItem new
         → TablesAreClaimed kernel new }
     ensures freed { (kernel : RangeView) (result : Result (Unit {0}) Refusal) (old new : List Item)
         (range : RangeView) →
-        TablesAreClaimed kernel old → TouchesNoTable kernel range old
+        TablesAreClaimed kernel old → OverlapsNoTable kernel range old
         → EndsAsChange result old new (free_range range) → TablesAreClaimed kernel new }
 {}
 
 /// Law: both tables still lie in claimed memory, apart from each other, after a call that adds
 /// memory, gives it a node or makes it mirrored, however the call ends. They also do after a trim,
 /// a new limit and a new search direction.
-pub fn memory_keeps_places()
+pub fn memory_edits_keep_table_places()
     ensures added { (kernel : RangeView) (result : Result (Unit {0}) Refusal) (old new : List Item)
         (range : RangeView) →
         TablesAreClaimed kernel old → EndsAsChange result old new (add_range range)
@@ -92,7 +93,7 @@ pub fn memory_keeps_places()
 
 /// Law: both tables still lie in claimed memory, apart from each other, after an allocation for any
 /// owner, however it ends.
-pub fn allocations_keep_places()
+pub fn allocations_keep_table_places()
     ensures { (kernel : RangeView) (result : Result ℕ Refusal) (old new : List Item)
         (request : Request) (who : Owner) →
         TablesAreClaimed kernel old → Allocates result old new
@@ -110,7 +111,7 @@ pub fn found_places_are_free()
         IsUnclaimed (owner_of items) (record { base = place; size = query.size }) }
     ensures away { (kernel : RangeView) (items : List Item) (query : Query) (place : ℕ)
         → TablesAreClaimed kernel items → best_place items query ≡ Some place →
-        TouchesNoTable kernel (record { base = place; size = query.size }) items }
+        OverlapsNoTable kernel (record { base = place; size = query.size }) items }
     ensures allocated { (items : List Item) (request : Request) (place : ℕ)
         → place_for request items ≡ Some place →
         IsUnclaimed (owner_of items) (record { base = place; size = request.size }) }
@@ -156,12 +157,12 @@ pub fn two_growths_are_enough()
         (reserved_growth range) items }
     ensures freed { (range : RangeView) (items : List Item) → IsInAddressSpace items
         → TablesHaveRoom items →
-        HasRoomAfter which.Reserved split_record_count (reserved_growth range) items }
+        HasRoomAfter which.Reserved max_records_added_by_split (reserved_growth range) items }
     ensures added { (range : RangeView) (items : List Item) → IsInAddressSpace items
         → TablesHaveRoom items → end_of range ≤ 2 ^ 64 →
         HasRoomAfter which.Memory (count_uncovered_pieces which.Memory range) memory_growth items }
     ensures labelled { (items : List Item) → IsInAddressSpace items → TablesHaveRoom items
-        → HasRoomAfter which.Memory split_record_count memory_growth items }
+        → HasRoomAfter which.Memory max_records_added_by_split memory_growth items }
     ensures free { (kernel range : RangeView) (who : Owner) (items : List Item)
         → IsInAddressSpace items → TablesHaveRoom items → TablesAreClaimed kernel items →
         0 < range.size → end_of range ≤ 2 ^ 64 → IsUnclaimed (owner_of items) range →

@@ -33,13 +33,16 @@ mod memory_laws;
 mod refusal;
 
 pub use byte_laws::{
-    byte_effects_compose, bytes_follow_calls, edits_give_each_byte, newest_fill_decides,
+    byte_effects_compose, bytes_compose_over_calls, edits_change_only_table_bytes,
+    newest_fill_decides,
     tables_are_encoded,
 };
 pub use laws::{
-    allocations_keep_places, claims_keep_places, first_claim_places_tables, found_places_are_free,
-    growth_doubles_room, memory_keeps_places, successive_calls_compose, two_growths_are_enough,
+    allocations_keep_table_places, claims_keep_table_places, first_claim_places_tables,
+    found_places_are_free,
+    growth_doubles_room, memory_edits_keep_table_places, successive_calls_compose,
+    two_growths_are_enough,
 };
 pub use memblock_model::Request;
-pub use memory_laws::{claims_leave_memory, memory_items_decide, requested_items_make_memory};
+pub use memory_laws::{claims_leave_memory, memory_depends_on_memory_items, requested_items_make_memory};
 pub use refusal::Refusal;

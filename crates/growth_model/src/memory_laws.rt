@@ -14,7 +14,7 @@ ghost use Rattle.growth_model.specs.Requests.{StepsKeepMemory, carry_out_items, 
 
 /// Law: the items that change neither memory nor the limit can be left out: the other items give
 /// the same memory and the same limit.
-pub fn memory_items_decide()
+pub fn memory_depends_on_memory_items()
     ensures memory { (items : List AnyItem) → memory_of items ≡ memory_of (memory_items items) }
     ensures limit { (items : List AnyItem) → limit_of items ≡ limit_of (memory_items items) }
 {}

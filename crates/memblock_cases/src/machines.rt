@@ -1,7 +1,7 @@
 //! Builds machines on which something has happened: the kernel's image is claimed, and there is
 //! memory.
 ghost use Rattle.std.specs.Prelude.{◌<◌, IsTrue};
-ghost use Rattle.growth_model.specs.Tables.{HasBegun, IsKernelImage};
+ghost use Rattle.growth_model.specs.Tables.{HasFirstItem, IsKernelImage};
 
 use crate::ranges::{KERNEL, Part};
 use bm_base::Range;
@@ -18,13 +18,13 @@ pub const MEMORY: Range = Range {
 
 /// Tests whether the journal has an item, as most calls require.
 pub fn has_begun(memblock: &Memblock) -> bool
-    ensures { IsTrue result → HasBegun memblock.now.journal.items }
+    ensures { IsTrue result → HasFirstItem memblock.now.journal.items }
 {
     memblock.journal().items().len() > 0
 }
 
 /// Returns a machine about which nothing is known except the range of its kernel.
-pub fn started(alloc: Global, kernel: Range) -> Result<Memblock, Refusal>
+pub fn memblock_with_kernel(alloc: Global, kernel: Range) -> Result<Memblock, Refusal>
     requires image { IsKernelImage kernel }
     requires some { 0 < kernel.size }
 {
@@ -56,7 +56,7 @@ pub fn machine(alloc: Global, kernel: Range, memory: &[Part]) -> Result<Memblock
     requires image { IsKernelImage kernel }
     requires some { 0 < kernel.size }
 {
-    let mut memblock = started(alloc, kernel)?;
+    let mut memblock = memblock_with_kernel(alloc, kernel)?;
     for part in memory {
         if !add(&mut memblock, *part)? {
             return Err("memory".into());
@@ -76,7 +76,7 @@ pub fn limit(memblock: &mut Memblock, at: u64) -> Result<(), Fail> {
 
 /// Returns a machine with 128 MiB of memory without a node, and with this limit of allocations.
 pub fn bare(alloc: Global, at: u64) -> Result<Memblock, Fail> {
-    let mut memblock = started(alloc, KERNEL)?;
+    let mut memblock = memblock_with_kernel(alloc, KERNEL)?;
     if has_begun(&memblock) {
         memblock.add_memory(MEMORY)?;
     }

@@ -15,7 +15,7 @@ use std::process::Abort;
 use std::test::Fail;
 
 // Hands over, if the bytes are records.
-fn handed(alloc: Global, store: &Store, heads: &Heads) -> Result<Buddy, Fail> {
+fn hand_over_or_fail(alloc: Global, store: &Store, heads: &Heads) -> Result<Buddy, Fail> {
     if has_records(store, &heads.memory, FRAME_SIZE * MAX_FRAMES)
         && has_records(store, &heads.reserved, u64::MAX)
         && has_whole_frames(store, &heads.memory)
@@ -102,7 +102,7 @@ const RESERVED: [(u64, u64); 5] = [
 #[test]
 fn a_virtual_machine_of_128_mib(rt: HostRuntime) -> Result<(), Fail> {
     let (store, heads) = tables_of(rt.alloc(), &MACHINE, &RESERVED)?.into_parts();
-    let buddy = handed(rt.alloc(), &store, &heads)?;
+    let buddy = hand_over_or_fail(rt.alloc(), &store, &heads)?;
     let expected = [
         (0, Zone::Dma, [0, 0, 0, 0, 0, 0, 0, 0, 1, 1, 3]),
         (0, Zone::Dma32, [1, 1, 1, 1, 0, 1, 0, 1, 1, 0, 19]),
@@ -142,7 +142,7 @@ fn a_node_border_inside_a_set(rt: HostRuntime) -> Result<(), Fail> {
     let mut tables = tables_of(rt.alloc(), &IN_TURN, &RESERVED)?;
     assert!(rt; cover(&mut tables, Which::Reserved, 0x5FD5000, 0x2B000, 1024));
     let (store, heads) = tables.into_parts();
-    let buddy = handed(rt.alloc(), &store, &heads)?;
+    let buddy = hand_over_or_fail(rt.alloc(), &store, &heads)?;
     let expected = [
         (0, Zone::Dma32, [1, 1, 1, 1, 0, 1, 0, 1, 2, 0, 11]),
         (1, Zone::Dma32, [1, 0, 1, 0, 1, 0, 1, 1, 2, 2, 6]),

@@ -38,7 +38,7 @@ fn run(alloc: Global, memblock: &mut Memblock, text: &str) -> Result<Vec<Outcome
 }
 
 // Returns what a peek of these bytes returns.
-pub fn bytes_told(bytes: &[u8]) -> Option<ArrayVec<u8, 64>> {
+pub fn bytes_outcome(bytes: &[u8]) -> Option<ArrayVec<u8, 64>> {
     let mut told = ArrayVec::new();
     for byte in bytes {
         told.try_push(*byte).ok()?;
@@ -58,7 +58,7 @@ fn each_outcome(rt: HostRuntime) -> Result<(), Fail> {
             alloc 6 4K 4096 max 8K\nalloc 7 4K 4096 max 8191\nfill 4 0xab\npeek 0x3000fff 3\n\
             reserve 8 0x4000000 65537\nfill 8 1\nfree 4\nfill 4 1",
     )?;
-    let told = bytes_told(&[0, 0xAB, 0xAB]).ok_or("no room")?;
+    let told = bytes_outcome(&[0, 0xAB, 0xAB]).ok_or("no room")?;
     let want = [
         Outcome::At(0x7FF_0000),
         Outcome::Taken,

@@ -51,7 +51,7 @@ fn search(tables: &Tables, mode: Mode, wanted: Search) -> Answer {
 }
 
 // Tests whether this run is returned, and isn't mirrored. Size 0 stands for no run.
-fn is_told(run: Option<FreeRange>, base: u64, size: u64, node: u32) -> bool {
+fn is_expected_run(run: Option<FreeRange>, base: u64, size: u64, node: u32) -> bool {
     match run {
         Some(run) => {
             run.range.base == base && run.range.size == size && run.node == node && !run.mirror
@@ -74,7 +74,7 @@ fn claim_each(rt: &impl Abort, tables: &mut Tables, rows: &[(u64, u32, u64)]) {
 fn compare_next(rt: &impl Abort, tables: &Tables, rows: &[(u64, u64, u64, u32)]) {
     for (from, base, size, node) in rows {
         let run = next_free(tables, *from);
-        assert!(rt; is_told(run, *base, *size, *node), "from {from:#x}");
+        assert!(rt; is_expected_run(run, *base, *size, *node), "from {from:#x}");
     }
 }
 
@@ -83,7 +83,7 @@ fn compare_next(rt: &impl Abort, tables: &Tables, rows: &[(u64, u64, u64, u32)])
 fn compare_prev(rt: &impl Abort, tables: &Tables, rows: &[(u64, u64, u64, u32)]) {
     for (until, base, size, node) in rows {
         let run = prev_free(tables, *until);
-        assert!(rt; is_told(run, *base, *size, *node), "until {until:#x}");
+        assert!(rt; is_expected_run(run, *base, *size, *node), "until {until:#x}");
     }
 }
 
@@ -91,7 +91,7 @@ fn compare_prev(rt: &impl Abort, tables: &Tables, rows: &[(u64, u64, u64, u32)])
 fn compare_pass(rt: &impl Abort, tables: &Tables, from: u64, rows: &[(u64, u64, u32)]) {
     let mut runs = FreeRuns::from(tables, from);
     for (base, size, node) in rows {
-        assert!(rt; is_told(runs.next_run(), *base, *size, *node));
+        assert!(rt; is_expected_run(runs.next_run(), *base, *size, *node));
     }
     assert!(rt; runs.next_run().is_none());
     assert!(rt; runs.next_run().is_none());
@@ -310,7 +310,7 @@ fn mirrored_memory_and_from_below(rt: HostRuntime) -> Result<(), Fail> {
     let mode = Mode { mirror: true, ..UP };
     compare(&rt, &tables, mode, &mirrored_up);
     let run = next_free(&tables, 0x3FFFFFF);
-    assert!(rt; is_told(run, 0x3FFFFFF, 1, 0));
+    assert!(rt; is_expected_run(run, 0x3FFFFFF, 1, 0));
     let told = match next_free(&tables, 0x4000000) {
         Some(run) => run.mirror && run.range.size == 0x1000000,
         None => false,

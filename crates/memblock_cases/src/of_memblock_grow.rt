@@ -2,9 +2,9 @@
 //! tables, and the bytes that are read back. The expected values are from an implementation of the
 //! same rules in another language.
 ghost use Rattle.std.specs.Prelude.{◌≡◌, ◌^◌, ◌<◌, ◌≤◌};
-ghost use Rattle.growth_model.specs.Tables.{HasBegun};
+ghost use Rattle.growth_model.specs.Tables.{HasFirstItem};
 
-use crate::machines::{has_begun, started};
+use crate::machines::{has_begun, memblock_with_kernel};
 use crate::ranges::KERNEL;
 use crate::tables::FIRST_RECORD;
 use bm_base::Range;
@@ -90,7 +90,7 @@ fn add_apart(memblock: &mut Memblock, first: u64, count: u32) -> Result<(), Refu
 }
 
 fn add(memblock: &mut Memblock, base: u64, size: u64) -> Result<bool, Refusal>
-    requires { HasBegun memblock.old.journal.items }
+    requires { HasFirstItem memblock.old.journal.items }
 {
     let Some(range) = Range::new(base, size) else {
         return Ok(false);
@@ -103,7 +103,7 @@ fn add(memblock: &mut Memblock, base: u64, size: u64) -> Result<bool, Refusal>
 }
 
 fn claim(memblock: &mut Memblock, base: u64, size: u64) -> Result<bool, Refusal>
-    requires { HasBegun memblock.old.journal.items }
+    requires { HasFirstItem memblock.old.journal.items }
 {
     let Some(range) = Range::new(base, size) else {
         return Ok(false);
@@ -116,7 +116,7 @@ fn claim(memblock: &mut Memblock, base: u64, size: u64) -> Result<bool, Refusal>
 }
 
 fn free(memblock: &mut Memblock, base: u64, size: u64) -> Result<bool, Refusal>
-    requires { HasBegun memblock.old.journal.items }
+    requires { HasFirstItem memblock.old.journal.items }
 {
     let Some(range) = Range::new(base, size) else {
         return Ok(false);
@@ -129,7 +129,7 @@ fn free(memblock: &mut Memblock, base: u64, size: u64) -> Result<bool, Refusal>
 }
 
 fn set_node(memblock: &mut Memblock, base: u64, size: u64, node: u32) -> Result<bool, Refusal>
-    requires { HasBegun memblock.old.journal.items }
+    requires { HasFirstItem memblock.old.journal.items }
 {
     let Some(range) = Range::new(base, size) else {
         return Ok(false);
@@ -142,7 +142,7 @@ fn set_node(memblock: &mut Memblock, base: u64, size: u64, node: u32) -> Result<
 }
 
 fn set_mirror(memblock: &mut Memblock, base: u64, size: u64) -> Result<bool, Refusal>
-    requires { HasBegun memblock.old.journal.items }
+    requires { HasFirstItem memblock.old.journal.items }
 {
     let Some(range) = Range::new(base, size) else {
         return Ok(false);
@@ -191,7 +191,7 @@ fn request(size: u64, window: (u64, Option<u64>), node: Option<u32>) -> Request
 
 // Allocates what the request asks for.
 fn answer(memblock: &mut Memblock, request: &Request) -> Result<u64, Refusal>
-    requires begun { HasBegun memblock.old.journal.items }
+    requires begun { HasFirstItem memblock.old.journal.items }
     requires some { 1 ≤ request.now.size }
     requires aligned { request.now.align ≡ 2 ^ 12 }
 {
@@ -221,7 +221,7 @@ fn has_counts(memblock: &Memblock, items: usize, claims: u64) -> bool {
 // Returns a virtual machine of 128 MiB whose memory has its nodes. The kernel's image is
 // 0x1000000..0x2ffffff.
 fn machine(alloc: Global) -> Result<Memblock, Refusal> {
-    let mut memblock = started(alloc, KERNEL)?;
+    let mut memblock = memblock_with_kernel(alloc, KERNEL)?;
     let steps = [
         Step::Claim(0, 0x10000),
         Step::Add(0x1000, 0x9EC00),
@@ -316,7 +316,7 @@ fn reads(memblock: &Memblock, base: u64, bytes: &[u8]) -> bool {
 // after its second record.
 #[test]
 fn first_record_after_the_nodes(rt: HostRuntime) -> Result<(), Fail> {
-    let mut memblock = started(rt.alloc(), KERNEL)?;
+    let mut memblock = memblock_with_kernel(rt.alloc(), KERNEL)?;
     let steps = [
         Step::Claim(0, 0x10000),
         Step::Limit(0x100000),

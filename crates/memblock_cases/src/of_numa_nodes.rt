@@ -18,14 +18,14 @@ use std::test::Fail;
 /// The size of a node's data in bytes.
 const DATA: u64 = 0x2B000;
 
-fn has_limit(memblock: &Memblock) -> bool
+fn ends_with_limit(memblock: &Memblock) -> bool
     ensures { IsTrue result → 0 < limit_of memblock.now.journal.items }
 {
     matches!(memblock.journal().items(), [.., Item::Limit { at }] if *at > 0)
 }
 
 // Returns the items after those of the machine.
-fn items_behind(memblock: &Memblock) -> &[Item] {
+fn items_after_machine(memblock: &Memblock) -> &[Item] {
     match memblock.journal().items() {
         [_, _, _, behind @ ..] => behind,
         _ => &[],
@@ -41,7 +41,7 @@ fn nodes_by(
     requires { length blocks.now < 2 ^ 32 }
 {
     let srat = table(alloc, &[], blocks)?;
-    if !has_begun(memblock) || !has_limit(memblock) {
+    if !has_begun(memblock) || !ends_with_limit(memblock) {
         return Ok(None);
     }
     Ok(Some(assign(alloc, memblock, Some(&srat), false)?))
@@ -55,7 +55,7 @@ fn compare(rt: &impl Abort, nodes: &Nodes, why: Why, domains: &[u32], with_memor
 
 // The items after those of the machine must be these.
 fn compare_items(rt: &impl Abort, memblock: &Memblock, items: &[Item]) {
-    assert!(rt; items_behind(memblock) == items, "{memblock:?}");
+    assert!(rt; items_after_machine(memblock) == items, "{memblock:?}");
 }
 
 // Three blocks of two domains, with a hole between those of the second one. No block covers the
@@ -103,7 +103,7 @@ fn two_nodes_and_a_rest(rt: HostRuntime) -> Result<(), Fail> {
 fn no_table(rt: HostRuntime) -> Result<(), Fail> {
     let alloc = rt.alloc();
     let mut memblock = bare(alloc, 0x800_0000)?;
-    if has_begun(&memblock) && has_limit(&memblock) {
+    if has_begun(&memblock) && ends_with_limit(&memblock) {
         let nodes = assign(alloc, &mut memblock, None, false)?;
         compare(&rt, &nodes, Why::Absent, &[], &[0]);
     }
@@ -126,7 +126,7 @@ fn no_table(rt: HostRuntime) -> Result<(), Fail> {
 fn no_place_for_node_data(rt: HostRuntime) -> Result<(), Fail> {
     let alloc = rt.alloc();
     let mut memblock = bare(alloc, DATA - 1)?;
-    if has_begun(&memblock) && has_limit(&memblock) {
+    if has_begun(&memblock) && ends_with_limit(&memblock) {
         let stop = assign(alloc, &mut memblock, None, true).err();
         assert!(rt;
             stop == Some(StageStop::NoPlace {

@@ -1,6 +1,6 @@
 //! The texts of small stages, each written once with enough memory.
 
-use crate::of_early_script::bytes_told;
+use crate::of_early_script::bytes_outcome;
 use crate::ranges::FIRST_MIB;
 use bm_base::{Range, Zone};
 use boot_journal::{Item, Journal};
@@ -30,7 +30,7 @@ fn answer(line: u32, outcome: Outcome) -> Answer {
 // Each outcome, in no order.
 #[test]
 fn script(rt: HostRuntime) -> Result<(), Fail> {
-    let told = bytes_told(&[0, 0xAB]).ok_or("no room")?;
+    let told = bytes_outcome(&[0, 0xAB]).ok_or("no room")?;
     let answers = [
         answer(1, Outcome::At(0x7FF_0000)),
         answer(3, Outcome::Bytes(told)),

@@ -2,7 +2,7 @@
 //! were worked out by hand.
 ghost use Rattle.std.specs.Prelude.{◌≡◌, ◌+◌, ◌%◌, ◌^◌, ◌<◌, ◌≤◌, IsTrue};
 ghost use Rattle.std.specs.List.{All};
-ghost use Rattle.sparse_sections.specs.Present.{IsWholeWithNode};
+ghost use Rattle.sparse_sections.specs.Present.{IsWholeFramesWithNode};
 
 use crate::machines::{has_begun, limit, machine};
 use crate::ranges::{KERNEL, Part};
@@ -38,7 +38,7 @@ fn is_whole(region: &Region) -> bool
 
 // Tests whether sections can be found in all records.
 fn are_whole(tables: &Tables) -> bool
-    ensures { IsTrue result → All IsWholeWithNode tables.now.memory.records }
+    ensures { IsTrue result → All IsWholeFramesWithNode tables.now.memory.records }
 {
     let records = tables.records(Which::Memory);
     for i in 0..records.count() {
@@ -68,7 +68,7 @@ fn sections_of(alloc: Global, memblock: &Memblock) -> Result<Vec<Section>, Fail>
     Ok(present(alloc, memblock.tables())?)
 }
 
-fn roots_of(
+fn place_roots_or_fail(
     alloc: Global,
     memblock: &mut Memblock,
     sections: &[Section],
@@ -98,7 +98,7 @@ fn check_width(rt: &impl Abort, alloc: Global, row: (Width, u64, u64)) -> Result
     limit(&mut memblock, 0x8_0800_0000)?;
     let sections = sections_of(alloc, &memblock)?;
     compare_sections(rt, &sections, &[(0, 0), (1, 0), (2, 1), (3, 1), (256, 1)]);
-    let roots = roots_of(alloc, &mut memblock, &sections, width)?;
+    let roots = place_roots_or_fail(alloc, &mut memblock, &sections, width)?;
     let places = [
         RootPlace {
             number: 0,

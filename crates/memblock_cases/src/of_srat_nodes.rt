@@ -19,7 +19,7 @@ fn in_node(node: u32, from: u64, until: u64) -> NodeRange
 
 /// Returns the judgement of a table with these blocks, on a machine of 128 MiB with its last 32
 /// frames kept by firmware.
-fn judged(alloc: Global, blocks: &[SratBlock]) -> Result<SratNodes, Fail>
+fn judge_blocks(alloc: Global, blocks: &[SratBlock]) -> Result<SratNodes, Fail>
     requires { length blocks.now < 2 ^ 32 }
 {
     let srat = table(alloc, &[], blocks)?;
@@ -66,7 +66,7 @@ fn another_node_in_between(rt: HostRuntime) -> Result<(), Fail> {
         block(1, 0x310_0000, 0x320_0000),
         block(0, 0x320_0000, 0x800_0000),
     ];
-    let found = judged(rt.alloc(), &blocks)?;
+    let found = judge_blocks(rt.alloc(), &blocks)?;
     assert!(rt; found.why == Why::NotCovered { frames: 256 });
     assert!(rt; found.joined.is_empty());
     let covered = [
@@ -74,7 +74,7 @@ fn another_node_in_between(rt: HostRuntime) -> Result<(), Fail> {
         block(1, 0x300_1000, 0x320_0000),
         block(0, 0x320_0000, 0x800_0000),
     ];
-    let found = judged(rt.alloc(), &covered)?;
+    let found = judge_blocks(rt.alloc(), &covered)?;
     assert!(rt; found.why == Why::Used);
     assert!(rt; found.rest.as_slice() == [in_node(0, 0x300_0000, 0x300_1000)].as_slice());
     assert!(rt; found.uncovered == 1);
@@ -119,7 +119,7 @@ fn reasons(rt: HostRuntime) -> Result<(), Fail> {
         ),
     ];
     for (blocks, why, uncovered) in &cases {
-        let found = judged(rt.alloc(), blocks)?;
+        let found = judge_blocks(rt.alloc(), blocks)?;
         assert!(rt; found.why == *why);
         assert!(rt; found.uncovered == *uncovered);
     }

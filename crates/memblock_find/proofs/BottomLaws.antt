@@ -4,13 +4,13 @@ use Rattle.std.proofs.Math.Nat.{mul-le-mul_right, mod-eq_of_lt, mod_self}
 use Rattle.std.specs.Int.Bits.{bit_and}
 use Rattle.std.proofs.lemmas.Nat.{div-add-mod', mod-mul-add, mod_below}
 use Rattle.std.proofs.lemmas.Bool.{cases_lt, false_from_ne_true, true≢false}
-use Rattle.address_runs.specs.Sweep.{Stays}
+use Rattle.address_runs.specs.Sweep.{HasValueBetween}
 use Rattle.memblock_model.specs.Labels.{LabelView, Labels}
 use Rattle.memblock_model.specs.Search.{fits_in, top_place_in}
 use Rattle.memblock_model.specs.declared.query.Query.{Query}
 use Rattle.memblock_model.proofs.SearchLaws.{fits_in-parts, top_place_in-first, top_place_in-fails}
-use Rattle.memblock_find.specs.Unclaimed.{unclaimed_memory, ReachesUpTo}
-use Rattle.memblock_find.specs.Places.{FitsBetween, is_allowed_label, NoPlaceBegins, IsBestFrom}
+use Rattle.memblock_find.specs.Unclaimed.{unclaimed_memory, IsStretchWithTop}
+use Rattle.memblock_find.specs.Places.{FitsBetween, is_allowed_label, NoPlaceBeginsBetween, IsLowestPlaceFrom}
 use Rattle.memblock_find.proofs.PlaceLaws.{le_from_not_lt, label_of_place, held_somewhere, place_serves, place_of_bytes, some_align, mask_rest}
 
 -- a place that begins in a run lies in it
@@ -21,8 +21,8 @@ record StaysIn (memory : Labels) (until : ℕ) (label : Option LabelView) (last 
 
 -- the stretch of addresses in which a place is searched for
 pub record IsRise (memory reserved : Labels) (from until : ℕ) (label : Option LabelView) : Type 0 where
-  pub stays : Stays (unclaimed_memory memory reserved) from until label
-  pub up : label ≢ None → ReachesUpTo (unclaimed_memory memory reserved) from until label
+  pub stays : HasValueBetween (unclaimed_memory memory reserved) from until label
+  pub up : label ≢ None → IsStretchWithTop (unclaimed_memory memory reserved) from until label
 
 from_run : (mirror : Bool) (memory reserved : Labels) (q : Query) (from until b : ℕ) (label : Option LabelView) → 1 ≤ q.size
     → IsRise memory reserved from until label → fits_in mirror memory reserved q b ≡ true → from ≤ b → b < until
@@ -41,14 +41,14 @@ from_run mirror memory reserved q from until b label some known fits above under
 
 -- no place begins in a stretch that isn't unclaimed memory, or whose label doesn't serve
 pub none_begins_bare : (mirror : Bool) (memory reserved : Labels) (q : Query) (from until : ℕ) (label : Option LabelView) → 1 ≤ q.size
-    → IsRise memory reserved from until label → label ≡ None → NoPlaceBegins mirror memory reserved q from until
+    → IsRise memory reserved from until label → label ≡ None → NoPlaceBeginsBetween mirror memory reserved q from until
 none_begins_bare mirror memory reserved q from until label some known bare b fits above =
     le_from_not_lt b until (λ under. (from_run mirror memory reserved q from until b label some known fits above under).held bare)
 
 pub none_begins_refused : (mirror : Bool) (memory reserved : Labels) (q : Query) (from until : ℕ) (label : Option LabelView)
     (found : LabelView)
     → 1 ≤ q.size → IsRise memory reserved from until label → label ≡ Some found
-    → is_allowed_label mirror q.node (Some found) ≡ false → NoPlaceBegins mirror memory reserved q from until
+    → is_allowed_label mirror q.node (Some found) ≡ false → NoPlaceBeginsBetween mirror memory reserved q from until
 none_begins_refused mirror memory reserved q from until label found some known is refused b fits above =
     le_from_not_lt b until (λ under.
     let lies = from_run mirror memory reserved q from until b label some known fits above under in
@@ -73,7 +73,7 @@ pub first_of_stretch : (mirror : Bool) (memory reserved : Labels) (q : Query) (f
     → IsRise memory reserved from until label → label ≡ Some found → is_allowed_label mirror q.node (Some found) ≡ true
     → MatchOption answer ((b : ℕ) → FitsBetween from (min until q.hi) q.size q.align b → ⊥)
     (λ a. FitsBetween from (min until q.hi) q.size q.align a × ((b : ℕ) → FitsBetween from (min until q.hi) q.size q.align b → a ≤ b))
-    → MatchOption answer (NoPlaceBegins mirror memory reserved q from until) (IsBestFrom mirror memory reserved q from)
+    → MatchOption answer (NoPlaceBeginsBetween mirror memory reserved q from until) (IsLowestPlaceFrom mirror memory reserved q from)
 first_of_stretch mirror memory reserved q from until label found None some low first_frame known is served none =
     λ b fits above. le_from_not_lt b until (λ under.
     none b (between_ends mirror memory reserved q from until b label some known fits above under))
@@ -91,8 +91,8 @@ first_of_stretch mirror memory reserved q from until label found (Some a) some l
 
 -- if no place begins in the stretches below, the lowest place of a stretch is the result
 pub lowest_answer : (mirror : Bool) (memory reserved : Labels) (q : Query) (at until : ℕ) (answer : Option ℕ) → 1 ≤ q.size
-    → NoPlaceBegins mirror memory reserved q (max q.lo 4096) at
-    → MatchOption answer (NoPlaceBegins mirror memory reserved q at until) (IsBestFrom mirror memory reserved q at)
+    → NoPlaceBeginsBetween mirror memory reserved q (max q.lo 4096) at
+    → MatchOption answer (NoPlaceBeginsBetween mirror memory reserved q at until) (IsLowestPlaceFrom mirror memory reserved q at)
     → is_some answer ≡ true → q.hi < 2 ^ 64 → answer ≡ top_place_in (record { mirror = mirror; up = true }) memory reserved q
 lowest_answer mirror memory reserved q at until None size past best some small = absurd (true≢false (sym some))
 lowest_answer mirror memory reserved q at until (Some a) size past best some small =
@@ -107,15 +107,15 @@ lowest_answer mirror memory reserved q at until (Some a) size past best some sma
 
 -- if a stretch has no place, none begins below its end
 pub none_yet : (mirror : Bool) (memory reserved : Labels) (q : Query) (low at until : ℕ) (answer : Option ℕ)
-    → NoPlaceBegins mirror memory reserved q low at
-    → MatchOption answer (NoPlaceBegins mirror memory reserved q at until) (IsBestFrom mirror memory reserved q at)
-    → is_some answer ≡ false → NoPlaceBegins mirror memory reserved q low until
+    → NoPlaceBeginsBetween mirror memory reserved q low at
+    → MatchOption answer (NoPlaceBeginsBetween mirror memory reserved q at until) (IsLowestPlaceFrom mirror memory reserved q at)
+    → is_some answer ≡ false → NoPlaceBeginsBetween mirror memory reserved q low until
 none_yet mirror memory reserved q low at until None past none is = λ b fits above. none b fits (past b fits above)
 none_yet mirror memory reserved q low at until (Some a) past best is = absurd (true≢false is)
 
 -- if the walk has reached the window's end without a place, there is none
 pub none_at_all : (mirror : Bool) (memory reserved : Labels) (q : Query) (at : ℕ) → 1 ≤ q.size
-    → NoPlaceBegins mirror memory reserved q (max q.lo 4096) at → q.hi ≤ at
+    → NoPlaceBeginsBetween mirror memory reserved q (max q.lo 4096) at → q.hi ≤ at
     → top_place_in (record { mirror = mirror; up = true }) memory reserved q ≡ None
 none_at_all mirror memory reserved q at some past high =
     top_place_in-fails (record { mirror = mirror; up = true }) memory reserved q (λ b less.

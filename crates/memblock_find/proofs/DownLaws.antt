@@ -2,15 +2,15 @@
 use Rattle.std.proofs.Common.{◌≡◌, ◌≢◌, ◌⊎◌, ℕ, ◌+◌, ◌-◌, ◌<◌, ◌≤◌, is_none, if◌then◌else◌, Option, Some, None, List, length, max, refl, sym, ◌∙◌, ap, subst, inl, inr, arith}
 use Rattle.std.proofs.lemmas.Bool.{cases_lt}
 use Rattle.address_runs.specs.Runs.{RunOf, run_end, value_at, AreRuns}
-use Rattle.address_runs.specs.Sweep.{Stays}
+use Rattle.address_runs.specs.Sweep.{HasValueBetween}
 use Rattle.memblock_model.specs.Labels.{LabelView, Labels}
 use Rattle.memblock_find.specs.declared.cursor.Cursor.{Cursor}
-use Rattle.memblock_find.specs.Unclaimed.{unclaimed_memory, ReachesDownTo}
-use Rattle.memblock_find.specs.Walk.{nth_record, BeginAmong, BeginBelow, IsLookDown, IsWalkDownAt, unclaimed_label}
+use Rattle.memblock_find.specs.Unclaimed.{unclaimed_memory, IsStretchWithBottom}
+use Rattle.memblock_find.specs.Walk.{nth_record, OnlyFirstMayBegin, ExactlyFirstBeginBelow, IsLookDown, IsWalkDownAt, unclaimed_label}
 use Rattle.memblock_find.proofs.SlotLaws.{ends_before, ends_ascend, bases_ascend, size_at, value_in, none_beside, other_under}
 
 -- if no record begins below the address, the addresses below it have no label
-pub look_bottom : (rs : List (RunOf LabelView)) (at : ℕ) → BeginBelow at rs 0
+pub look_bottom : (rs : List (RunOf LabelView)) (at : ℕ) → ExactlyFirstBeginBelow at rs 0
     → IsLookDown rs at (record { label = None; bound = 0; slot = 0 })
 look_bottom rs at begun = record {
   down = record {
@@ -23,7 +23,7 @@ look_bottom rs at begun = record {
 }
 
 -- between the end of the last record below the address and the address there is no label
-pub look_gap : (rs : List (RunOf LabelView)) (slot at : ℕ) → 0 < slot → BeginBelow at rs slot → run_end (nth_record rs (slot - 1)) < at
+pub look_gap : (rs : List (RunOf LabelView)) (slot at : ℕ) → 0 < slot → ExactlyFirstBeginBelow at rs slot → run_end (nth_record rs (slot - 1)) < at
     → IsLookDown rs at (record { label = None; bound = run_end (nth_record rs (slot - 1)); slot = slot })
 look_gap rs slot at some begun under_at =
     let runs : AreRuns rs = begun.runs in
@@ -52,7 +52,7 @@ look_gap rs slot at some begun under_at =
     }
 
 -- in the last record that begins below the address, the label is the record's
-pub look_in : (rs : List (RunOf LabelView)) (slot at : ℕ) → 0 < slot → BeginBelow at rs slot → at ≤ run_end (nth_record rs (slot - 1))
+pub look_in : (rs : List (RunOf LabelView)) (slot at : ℕ) → 0 < slot → ExactlyFirstBeginBelow at rs slot → at ≤ run_end (nth_record rs (slot - 1))
     → IsLookDown rs at (record { label = Some (nth_record rs (slot - 1)).value; bound = (nth_record rs (slot - 1)).base; slot = slot - 1 })
 look_in rs slot at some begun at_end =
     let runs : AreRuns rs = begun.runs in
@@ -86,7 +86,7 @@ unclaimed_is memory reserved x a b m r =
 -- the addresses of a cursor's stretch have its label
 pub stretch_stays : (ms rs : List (RunOf LabelView)) (c : Cursor) (from : ℕ) (label : Option LabelView) → IsWalkDownAt ms rs c
     → from ≡ max c.memory.bound c.reserved.bound → label ≡ unclaimed_label c
-    → Stays (unclaimed_memory (value_at ms) (value_at rs)) from c.at label
+    → HasValueBetween (unclaimed_memory (value_at ms) (value_at rs)) from c.at label
 stretch_stays ms rs c from label known from_is label_is x above under =
     unclaimed_is (value_at ms) (value_at rs) x c.memory.label c.reserved.label
     (known.memory.down.stays x (omega arith) under) (known.reserved.down.stays x (omega arith) under) ∙ sym label_is
@@ -111,7 +111,7 @@ stretch_ends memory reserved x m r a None other_m other_r next some =
 -- below a stretch of unclaimed memory the address has another label
 pub stretch_down : (ms rs : List (RunOf LabelView)) (c : Cursor) (from : ℕ) (label : Option LabelView) → IsWalkDownAt ms rs c
     → from ≡ max c.memory.bound c.reserved.bound → label ≡ unclaimed_label c → label ≢ None
-    → ReachesDownTo (unclaimed_memory (value_at ms) (value_at rs)) from c.at label
+    → IsStretchWithBottom (unclaimed_memory (value_at ms) (value_at rs)) from c.at label
 stretch_down ms rs c from label known from_is label_is some =
     let held : unclaimed_label c ≢ None = subst (λ (o : Option LabelView). o ≢ None) label_is some in
     let ends : (x : ℕ) → x + 1 ≡ from → unclaimed_memory (value_at ms) (value_at rs) x ≢ unclaimed_label c = λ x next.
@@ -123,7 +123,7 @@ stretch_down ms rs c from label known from_is label_is some =
     }
 
 -- all records that begin below an address are among all records
-pub among_all : (rs : List (RunOf LabelView)) (at count : ℕ) → AreRuns rs → count ≡ length rs → BeginAmong at rs count
+pub among_all : (rs : List (RunOf LabelView)) (at count : ℕ) → AreRuns rs → count ≡ length rs → OnlyFirstMayBegin at rs count
 among_all rs at count runs all = record {
   runs = runs;
   within = omega arith;
@@ -132,8 +132,8 @@ among_all rs at count runs all = record {
 
 -- if the last of the first `count` records begins below the address, they are exactly those that
 -- do
-pub all_begun : (rs : List (RunOf LabelView)) (at count : ℕ) → BeginAmong at rs count → (0 < count → (nth_record rs (count - 1)).base < at)
-    → BeginBelow at rs count
+pub all_begun : (rs : List (RunOf LabelView)) (at count : ℕ) → OnlyFirstMayBegin at rs count → (0 < count → (nth_record rs (count - 1)).base < at)
+    → ExactlyFirstBeginBelow at rs count
 all_begun rs at count among last = record {
   runs = among.runs;
   within = among.within;

@@ -9,9 +9,9 @@ use Rattle.memblock_model.proofs.SearchLaws.{fits_in-whole}
 use Rattle.memblock_ranges.specs.Tables.{TablesView}
 use Rattle.memblock_find.specs.declared.cursor.Look.{Look}
 use Rattle.memblock_find.specs.declared.cursor.Cursor.{Cursor}
-use Rattle.memblock_find.specs.Unclaimed.{unclaimed_memory, unclaimed_in_tables, ReachesDownTo, ReachesUpTo, IsRunBelow, IsRunFrom}
-use Rattle.memblock_find.specs.Places.{FitsBetween, IsBestBy, IsBestFrom}
-use Rattle.memblock_find.specs.Walk.{nth_record, BeginBelow, EndAtOrBelow, IsLookDown, IsLookUp, IsWalkDownAt, IsWalkUpAt}
+use Rattle.memblock_find.specs.Unclaimed.{unclaimed_memory, unclaimed_in_tables, IsStretchWithBottom, IsStretchWithTop, IsRunBelow, IsRunFrom}
+use Rattle.memblock_find.specs.Places.{FitsBetween, IsHighestPlaceEndingBy, IsLowestPlaceFrom}
+use Rattle.memblock_find.specs.Walk.{nth_record, ExactlyFirstBeginBelow, ExactlyFirstEndAtOrBelow, IsLookDown, IsLookUp, IsWalkDownAt, IsWalkUpAt}
 use Rattle.memblock_find.proofs.DownLaws.{look_gap, look_in, among_all, all_begun, begun_so_far, not_begun_from}
 use Rattle.memblock_find.proofs.UpLaws.{look_top, look_over, ended_so_far, not_ended_from}
 
@@ -46,7 +46,7 @@ unclaimed_examples = (refl, refl)
 
 -- 0x2000 to below 0x3000 have one label; the address below is of another node, and 0x3000 isn't
 -- memory
-node_1_down : ReachesDownTo free 0x2000 0x3000 (Some (of_node 1))
+node_1_down : IsStretchWithBottom free 0x2000 0x3000 (Some (of_node 1))
 node_1_down = record {
   stays = λ x above under. grind (arith, nat_tests);
   another = λ x next same.
@@ -55,14 +55,14 @@ node_1_down = record {
       omega arith;
 }
 
-node_1_up : ReachesUpTo free 0x2000 0x3000 (Some (of_node 1))
+node_1_up : IsStretchWithTop free 0x2000 0x3000 (Some (of_node 1))
 node_1_up = record { stays = node_1_down.stays; another = λ same. cc }
 
 -- a stretch whose label continues below it
-not_all_down : ReachesDownTo free 0x2001 0x3000 (Some (of_node 1)) → ⊥
+not_all_down : IsStretchWithBottom free 0x2001 0x3000 (Some (of_node 1)) → ⊥
 not_all_down known = known.another 0x2000 refl refl
 
-not_all_up : ReachesUpTo free 0x2000 0x2FFF (Some (of_node 1)) → ⊥
+not_all_up : IsStretchWithTop free 0x2000 0x2FFF (Some (of_node 1)) → ⊥
 not_all_up known = known.another refl
 
 -- the run below 0x1900, where a claim ends, is cut to end at the claim's start; the run below
@@ -137,17 +137,17 @@ page_fits = fits_in-whole false (value_at memory_runs) (value_at claims) pages 0
   free = λ x above under. grind (arith, nat_tests);
 })
 
-best_page : IsBestBy false (value_at memory_runs) (value_at claims) pages 0x3000 0x2000
+best_page : IsHighestPlaceEndingBy false (value_at memory_runs) (value_at claims) pages 0x3000 0x2000
 best_page = record { fits = page_fits; last = λ b fits ends. omega arith }
 
-no_page_at_first : IsBestBy false (value_at memory_runs) (value_at claims) pages 0x3000 0x1000 → ⊥
+no_page_at_first : IsHighestPlaceEndingBy false (value_at memory_runs) (value_at claims) pages 0x3000 0x1000 → ⊥
 no_page_at_first known = let order = known.last 0x2000 page_fits (omega arith) in omega arith
 
 -- the search from below: 0x2000 is the lowest place from there on
-lowest_page : IsBestFrom false (value_at memory_runs) (value_at claims) pages 0x2000 0x2000
+lowest_page : IsLowestPlaceFrom false (value_at memory_runs) (value_at claims) pages 0x2000 0x2000
 lowest_page = record { fits = page_fits; first = λ b fits above. above }
 
-not_the_lowest_page : IsBestFrom false (value_at memory_runs) (value_at claims) pages 0x1000 0x2001 → ⊥
+not_the_lowest_page : IsLowestPlaceFrom false (value_at memory_runs) (value_at claims) pages 0x1000 0x2001 → ⊥
 not_the_lowest_page known = let order = known.first 0x2000 page_fits (omega arith) in omega arith
 
 memory_in_order : AreRuns memory_runs
@@ -161,13 +161,13 @@ claims_in_order : AreRuns claims
 claims_in_order = (omega arith, tt, tt)
 
 -- both records of memory begin below 0x2800, and one below 0x2000
-begun_both : BeginBelow 0x2800 memory_runs 2
+begun_both : ExactlyFirstBeginBelow 0x2800 memory_runs 2
 begun_both = all_begun memory_runs 0x2800 2 (among_all memory_runs 0x2800 2 memory_in_order refl) (λ some. omega arith)
 
 second_base : (i : ℕ) → 1 ≤ i → i < 2 → 0x2000 ≤ (nth_record memory_runs i).base
 second_base = not_begun_from memory_runs 0x2000 1 memory_in_order (omega arith)
 
-begun_one : BeginBelow 0x2000 memory_runs 1
+begun_one : ExactlyFirstBeginBelow 0x2000 memory_runs 1
 begun_one = record {
   runs = memory_in_order;
   within = omega arith;
@@ -175,11 +175,11 @@ begun_one = record {
   behind = second_base;
 }
 
-not_both_begun : BeginBelow 0x2000 memory_runs 2 → ⊥
+not_both_begun : ExactlyFirstBeginBelow 0x2000 memory_runs 2 → ⊥
 not_both_begun known = let base = known.before 1 (omega arith) in omega arith
 
 -- one record of memory ends at or below 0x2800, and so does the claim
-ended_one : EndAtOrBelow 0x2800 memory_runs 1
+ended_one : ExactlyFirstEndAtOrBelow 0x2800 memory_runs 1
 ended_one = record {
   runs = memory_in_order;
   within = omega arith;
@@ -187,7 +187,7 @@ ended_one = record {
   behind = not_ended_from memory_runs 0x2800 1 memory_in_order (omega arith);
 }
 
-ended_claim : EndAtOrBelow 0x2800 claims 1
+ended_claim : ExactlyFirstEndAtOrBelow 0x2800 claims 1
 ended_claim = record {
   runs = claims_in_order;
   within = omega arith;
@@ -195,7 +195,7 @@ ended_claim = record {
   behind = λ i from less. absurd (omega arith);
 }
 
-not_ended : EndAtOrBelow 0x2800 memory_runs 2 → ⊥
+not_ended : ExactlyFirstEndAtOrBelow 0x2800 memory_runs 2 → ⊥
 not_ended known = let end = known.before 1 (omega arith) in omega arith
 
 -- a walk down at 0x2800: memory of node 1 down to 0x2000, no claim down to 0x1900

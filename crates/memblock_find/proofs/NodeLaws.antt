@@ -7,8 +7,8 @@ use Rattle.memblock_model.specs.Labels.{LabelView, Labels}
 use Rattle.memblock_model.specs.declared.query.Query.{Query}
 use Rattle.memblock_model.proofs.SearchLaws.{fits_in-parts}
 use Rattle.memblock_find.specs.declared.cursor.Look.{Look}
-use Rattle.memblock_find.specs.Places.{is_allowed_label, NoPlaceEnds, NoAddressIsAllowed}
-use Rattle.memblock_find.specs.Walk.{nth_record, BeginBelow, IsLookDown}
+use Rattle.memblock_find.specs.Places.{is_allowed_label, NoPlaceEndsBetween, NoAddressIsAllowed}
+use Rattle.memblock_find.specs.Walk.{nth_record, ExactlyFirstBeginBelow, IsLookDown}
 use Rattle.memblock_find.proofs.PlaceLaws.{le_from_not_lt, place_serves}
 use Rattle.memblock_find.proofs.SlotLaws.{ends_before, ends_ascend, bases_ascend, size_at, value_in}
 
@@ -34,7 +34,7 @@ ends_by_bound rs from count at look known fewer none end =
 
 -- exactly the first `count` records begin below the end of the last of them
 pub begun_at_end : (rs : List (RunOf LabelView)) (count at : ℕ) → AreRuns rs → count ≤ length rs
-    → (count ≡ 0 → at ≡ 0) → (0 < count → at ≡ run_end (nth_record rs (count - 1))) → BeginBelow at rs count
+    → (count ≡ 0 → at ≡ 0) → (0 < count → at ≡ run_end (nth_record rs (count - 1))) → ExactlyFirstBeginBelow at rs count
 begun_at_end rs count at runs within none end =
     record {
       runs = runs;
@@ -92,7 +92,7 @@ passed_over rs mirror node from count at look known narrow fewer end others x ab
 -- no place ends where no memory serves
 pub past_refused : (mirror : Bool) (memory reserved : Labels) (q : Query) (at from : ℕ) → 1 ≤ q.size
     → NoAddressIsAllowed mirror memory q.node at from
-    → NoPlaceEnds mirror memory reserved q from q.hi → NoPlaceEnds mirror memory reserved q at q.hi
+    → NoPlaceEndsBetween mirror memory reserved q from q.hi → NoPlaceEndsBetween mirror memory reserved q at q.hi
 past_refused mirror memory reserved q at from some barred past b fits ends =
     le_from_not_lt at (b + q.size) (λ lt.
     let place = fits_in-parts mirror memory reserved q b fits in

@@ -3,7 +3,7 @@
 use Rattle.std.proofs.Common.{◌≡◌, ℕ, ◌-◌, ◌^◌, ◌≤◌, Bool, Some, None, List, refl, sym, ◌∙◌, ap, arith}
 use Rattle.std.proofs.lemmas.Option.{same_Some}
 use Rattle.address_runs.specs.Runs.{RunOf, run_end, value_at}
-use Rattle.address_runs.specs.Edits.{NothingFrom}
+use Rattle.address_runs.specs.Edits.{IsEmptyFrom}
 use Rattle.memblock_model.specs.declared.item.Item.{Item}
 use Rattle.memblock_model.specs.declared.query.Query.{Query}
 use Rattle.memblock_model.specs.declared.owner.Which.{Which}
@@ -18,13 +18,13 @@ use Rattle.memblock_find.specs.Unclaimed.{unclaimed_memory, unclaimed_in_tables,
 use Rattle.memblock_find.proofs.PlaceLaws.{le_from_not_lt}
 
 -- records that are those of the items give each address the items' label
-says : (w : Which) (items : List Item) (rs : List (RunOf LabelView)) → NothingFrom (2 ^ 64) (table_of w items) → rs ≡ records_of w items
+says : (w : Which) (items : List Item) (rs : List (RunOf LabelView)) → IsEmptyFrom (2 ^ 64) (table_of w items) → rs ≡ records_of w items
     → value_at rs ≡ table_of w items
 unfolding records_of
 says w items rs ends is = ap (λ (ss : List (RunOf LabelView)). value_at ss) is ∙ value_at-records (table_of w items) ends
 
 pub best_says : (items : List Item) (t : TablesView) (q : Query)
-    → NothingFrom (2 ^ 64) (table_of which.Memory items) → NothingFrom (2 ^ 64) (table_of which.Reserved items)
+    → IsEmptyFrom (2 ^ 64) (table_of which.Memory items) → IsEmptyFrom (2 ^ 64) (table_of which.Reserved items)
     → t.memory.records ≡ records_of which.Memory items → t.reserved.records ≡ records_of which.Reserved items
     → best_place_in (upward_of items) (value_at t.memory.records) (value_at t.reserved.records) q ≡ best_place items q
 unfolding best_place
@@ -35,7 +35,7 @@ best_says items t q memory_ends reserved_ends memory reserved =
     ) refl
 
 pub top_says : (items : List Item) (t : TablesView) (q : Query) (mirror : Bool)
-    → NothingFrom (2 ^ 64) (table_of which.Memory items) → NothingFrom (2 ^ 64) (table_of which.Reserved items)
+    → IsEmptyFrom (2 ^ 64) (table_of which.Memory items) → IsEmptyFrom (2 ^ 64) (table_of which.Reserved items)
     → t.memory.records ≡ records_of which.Memory items → t.reserved.records ≡ records_of which.Reserved items
     → top_place_in (record { mirror = mirror; up = upward_of items }) (value_at t.memory.records) (value_at t.reserved.records) q
     ≡ top_place items q mirror
@@ -47,7 +47,7 @@ top_says items t q mirror memory_ends reserved_ends memory reserved =
     ) refl
 
 pub free_says : (items : List Item) (t : TablesView)
-    → NothingFrom (2 ^ 64) (table_of which.Memory items) → NothingFrom (2 ^ 64) (table_of which.Reserved items)
+    → IsEmptyFrom (2 ^ 64) (table_of which.Memory items) → IsEmptyFrom (2 ^ 64) (table_of which.Reserved items)
     → t.memory.records ≡ records_of which.Memory items → t.reserved.records ≡ records_of which.Reserved items
     → unclaimed_in_tables t ≡ unclaimed_memory (table_of which.Memory items) (table_of which.Reserved items)
 free_says items t memory_ends reserved_ends memory reserved =

@@ -4,14 +4,14 @@ use Rattle.std.proofs.Math.Nat.{mul-le-mul_right, one-le-pow}
 use Rattle.std.specs.Int.Bits.{bit_and}
 use Rattle.std.proofs.lemmas.Nat.{le-div, div-add-mod', mod-mul-add, and_mask}
 use Rattle.std.proofs.lemmas.Bool.{cases_lt, false_from_ne_true, true≢false, and_from, and_parts}
-use Rattle.address_runs.specs.Edits.{NothingFrom}
-use Rattle.address_runs.specs.Sweep.{Stays}
+use Rattle.address_runs.specs.Edits.{IsEmptyFrom}
+use Rattle.address_runs.specs.Sweep.{HasValueBetween}
 use Rattle.memblock_model.specs.Labels.{LabelView, Labels}
 use Rattle.memblock_model.specs.Search.{is_allowed_node, is_allowed_mirror, fits_in, top_place_in}
 use Rattle.memblock_model.specs.declared.query.Query.{Query}
 use Rattle.memblock_model.proofs.SearchLaws.{IsPlace, fits_in-parts, fits_in-whole, top_place_in-last, top_place_in-fails}
-use Rattle.memblock_find.specs.Unclaimed.{unclaimed_memory, ReachesDownTo}
-use Rattle.memblock_find.specs.Places.{FitsBetween, is_allowed_label, NoPlaceEnds, IsBestBy}
+use Rattle.memblock_find.specs.Unclaimed.{unclaimed_memory, IsStretchWithBottom}
+use Rattle.memblock_find.specs.Places.{FitsBetween, is_allowed_label, NoPlaceEndsBetween, IsHighestPlaceEndingBy}
 
 pub le_from_not_lt : (a b : ℕ) → (a < b → ⊥) → b ≤ a
 le_from_not_lt a b not_lt = elim (cases_lt a b) as (λ _. b ≤ a) [ inl lt ↦ absurd (not_lt lt) | inr ge ↦ ge ]
@@ -51,8 +51,8 @@ place_serves mirror memory reserved q b place =
 
 -- the stretch of addresses in which a place is searched for
 pub record IsStretch (memory reserved : Labels) (from until : ℕ) (label : Option LabelView) : Type 0 where
-  pub stays : Stays (unclaimed_memory memory reserved) from until label
-  pub down : label ≢ None → ReachesDownTo (unclaimed_memory memory reserved) from until label
+  pub stays : HasValueBetween (unclaimed_memory memory reserved) from until label
+  pub down : label ≢ None → IsStretchWithBottom (unclaimed_memory memory reserved) from until label
 
 -- a place that ends in a run lies in it
 pub record LiesIn (memory : Labels) (from : ℕ) (label : Option LabelView) (b : ℕ) : Type 0 where
@@ -80,14 +80,14 @@ in_run mirror memory reserved q from until b label some known fits ends past =
 
 -- no place ends in a stretch that isn't unclaimed memory, or whose label doesn't serve
 pub none_bare : (mirror : Bool) (memory reserved : Labels) (q : Query) (from until : ℕ) (label : Option LabelView) → 1 ≤ q.size
-    → IsStretch memory reserved from until label → label ≡ None → NoPlaceEnds mirror memory reserved q from until
+    → IsStretch memory reserved from until label → label ≡ None → NoPlaceEndsBetween mirror memory reserved q from until
 none_bare mirror memory reserved q from until label some known bare b fits ends =
     le_from_not_lt from (b + q.size) (λ past. (in_run mirror memory reserved q from until b label some known fits ends past).held bare)
 
 pub none_served : (mirror : Bool) (memory reserved : Labels) (q : Query) (from until : ℕ) (label : Option LabelView) (found : LabelView)
     → 1 ≤ q.size
     → IsStretch memory reserved from until label → label ≡ Some found
-    → is_allowed_label mirror q.node (Some found) ≡ false → NoPlaceEnds mirror memory reserved q from until
+    → is_allowed_label mirror q.node (Some found) ≡ false → NoPlaceEndsBetween mirror memory reserved q from until
 none_served mirror memory reserved q from until label found some known is refused b fits ends =
     le_from_not_lt from (b + q.size) (λ past.
     let lies = in_run mirror memory reserved q from until b label some known fits ends past in
@@ -96,8 +96,8 @@ none_served mirror memory reserved q from until label found some known is refuse
     ∙ ap (λ (o : Option LabelView). is_allowed_label mirror q.node o) (lies.carries ∙ is) ∙ refused))
 
 -- no place ends above all memory
-pub none_above : (mirror : Bool) (memory reserved : Labels) (q : Query) (at : ℕ) → 1 ≤ q.size → NothingFrom at memory
-    → NoPlaceEnds mirror memory reserved q (min q.hi at) q.hi
+pub none_above : (mirror : Bool) (memory reserved : Labels) (q : Query) (at : ℕ) → 1 ≤ q.size → IsEmptyFrom at memory
+    → NoPlaceEndsBetween mirror memory reserved q (min q.hi at) q.hi
 none_above mirror memory reserved q at some none b fits ends =
     le_from_not_lt (min q.hi at) (b + q.size) (λ over.
     let place = fits_in-parts mirror memory reserved q b fits in
@@ -150,7 +150,7 @@ pub best_of_stretch : (mirror : Bool) (memory reserved : Labels) (q : Query) (fr
     → MatchOption answer ((b : ℕ) → FitsBetween (max (max from q.lo) 4096) until q.size q.align b → ⊥)
     (λ a. FitsBetween (max (max from q.lo) 4096) until q.size q.align a
     × ((b : ℕ) → FitsBetween (max (max from q.lo) 4096) until q.size q.align b → b ≤ a))
-    → MatchOption answer (NoPlaceEnds mirror memory reserved q from until) (IsBestBy mirror memory reserved q until)
+    → MatchOption answer (NoPlaceEndsBetween mirror memory reserved q from until) (IsHighestPlaceEndingBy mirror memory reserved q until)
 best_of_stretch mirror memory reserved q from until label found None some window known is served none =
     λ b fits ends. le_from_not_lt from (b + q.size) (λ past.
     none b (between_ends mirror memory reserved q from until b label some known fits ends past))
@@ -167,7 +167,7 @@ best_of_stretch mirror memory reserved q from until label found (Some a) some wi
     }
 
 -- if the walk has come below the window without a place, there is none
-pub none_found : (mirror : Bool) (memory reserved : Labels) (q : Query) (at : ℕ) → 1 ≤ q.size → NoPlaceEnds mirror memory reserved q at q.hi
+pub none_found : (mirror : Bool) (memory reserved : Labels) (q : Query) (at : ℕ) → 1 ≤ q.size → NoPlaceEndsBetween mirror memory reserved q at q.hi
     → at ≤ max q.lo 4096 → top_place_in (record { mirror = mirror; up = false }) memory reserved q ≡ None
 none_found mirror memory reserved q at some past low =
     top_place_in-fails (record { mirror = mirror; up = false }) memory reserved q (λ b less.
@@ -178,8 +178,8 @@ none_found mirror memory reserved q at some past low =
 
 -- if no place ends in the stretches above, the highest place of a stretch is the result
 pub best_answer : (mirror : Bool) (memory reserved : Labels) (q : Query) (from at : ℕ) (answer : Option ℕ)
-    → NoPlaceEnds mirror memory reserved q at q.hi
-    → MatchOption answer (NoPlaceEnds mirror memory reserved q from at) (IsBestBy mirror memory reserved q at)
+    → NoPlaceEndsBetween mirror memory reserved q at q.hi
+    → MatchOption answer (NoPlaceEndsBetween mirror memory reserved q from at) (IsHighestPlaceEndingBy mirror memory reserved q at)
     → is_some answer ≡ true → q.hi < 2 ^ 64 → answer ≡ top_place_in (record { mirror = mirror; up = false }) memory reserved q
 best_answer mirror memory reserved q from at None past best some small = absurd (true≢false (sym some))
 best_answer mirror memory reserved q from at (Some a) past best some small =
@@ -192,9 +192,9 @@ best_answer mirror memory reserved q from at (Some a) past best some small =
 
 -- if a stretch has no place, none ends above its start
 pub no_answer : (mirror : Bool) (memory reserved : Labels) (q : Query) (from at : ℕ) (answer : Option ℕ)
-    → NoPlaceEnds mirror memory reserved q at q.hi
-    → MatchOption answer (NoPlaceEnds mirror memory reserved q from at) (IsBestBy mirror memory reserved q at)
-    → is_some answer ≡ false → NoPlaceEnds mirror memory reserved q from q.hi
+    → NoPlaceEndsBetween mirror memory reserved q at q.hi
+    → MatchOption answer (NoPlaceEndsBetween mirror memory reserved q from at) (IsHighestPlaceEndingBy mirror memory reserved q at)
+    → is_some answer ≡ false → NoPlaceEndsBetween mirror memory reserved q from q.hi
 no_answer mirror memory reserved q from at None past none is = λ b fits ends. none b fits (past b fits ends)
 no_answer mirror memory reserved q from at (Some a) past best is = absurd (true≢false is)
 

@@ -3,9 +3,9 @@
 use Rattle.std.proofs.Common.{◌≡◌, ◌≢◌, ◌⊎◌, ℕ, zero, suc, ◌+◌, ◌-◌, ◌<◌, ◌≤◌, Some, None, List, [], ◌∷◌, length, refl, ap, inl, inr, arith}
 use Rattle.std.proofs.lemmas.Bool.{cases_lt}
 use Rattle.address_runs.specs.Runs.{RunOf, run_end, value_at, AreRuns}
-use Rattle.address_runs.specs.Edits.{NothingFrom}
+use Rattle.address_runs.specs.Edits.{IsEmptyFrom}
 use Rattle.address_runs.specs.Sweep.{StartAtOrPast}
-use Rattle.address_runs.proofs.RunsLaws.{inside, below, behind, none_below, rest_from, other_behind}
+use Rattle.address_runs.proofs.RunsLaws.{inside, below, behind, none_below, rest_from, another_value_at_run_end}
 use Rattle.memblock_model.specs.Labels.{LabelView}
 use Rattle.memblock_ranges.specs.declared.region.Region.{Region}
 use Rattle.memblock_ranges.specs.Encoding.{region_of}
@@ -79,7 +79,7 @@ none_beside x (r ∷ rs) beside =
 
 -- from the end of the last record on there is no label
 pub nothing_behind : (rs : List (RunOf LabelView)) (at : ℕ) → AreRuns rs → (0 < length rs → at ≡ run_end (nth_record rs (length rs - 1)))
-    → NothingFrom at (value_at rs)
+    → IsEmptyFrom at (value_at rs)
 nothing_behind rs at runs end x from = none_beside x rs (λ i less.
     let is = end (omega arith) in
     let order = ends_ascend i (length rs - 1) rs runs (omega arith) (omega arith) in
@@ -113,7 +113,7 @@ other_under (suc (suc i)) x (r ∷ rs) runs less next =
 pub other_past : (i : ℕ) (rs : List (RunOf LabelView)) → AreRuns rs → i < length rs
     → value_at rs (run_end (nth_record rs i)) ≢ Some (nth_record rs i).value
 other_past i [] runs less = absurd (omega arith)
-other_past zero (r ∷ rs) runs less = rw (behind r (run_end r) (omega arith)) (other_behind r rs runs)
+other_past zero (r ∷ rs) runs less = rw (behind r (run_end r) (omega arith)) (another_value_at_run_end r rs runs)
 other_past (suc i) (r ∷ rs) runs less =
     let start = start_at (run_end r) i rs runs.2 (rest_from r rs runs) (omega arith) in
     rw (behind r (run_end (nth_record rs i)) (omega arith)) (other_past i rs runs.2 (omega arith))

@@ -2,24 +2,24 @@
 use Rattle.std.proofs.Common.{◌≡◌, ◌≢◌, ◌⊎◌, ℕ, ◌+◌, ◌-◌, ◌^◌, ◌<◌, ◌≤◌, is_none, if◌then◌else◌, Option, Some, None, List, length, min, refl, sym, ◌∙◌, ap, subst, inl, inr, arith}
 use Rattle.std.proofs.lemmas.Bool.{cases_lt}
 use Rattle.address_runs.specs.Runs.{RunOf, run_end, value_at, AreRuns}
-use Rattle.address_runs.specs.Edits.{NothingFrom}
-use Rattle.address_runs.specs.Sweep.{Stays}
+use Rattle.address_runs.specs.Edits.{IsEmptyFrom}
+use Rattle.address_runs.specs.Sweep.{HasValueBetween}
 use Rattle.memblock_model.specs.Labels.{LabelView}
 use Rattle.memblock_find.specs.declared.cursor.Look.{Look}
 use Rattle.memblock_find.specs.declared.cursor.Cursor.{Cursor}
-use Rattle.memblock_find.specs.Unclaimed.{unclaimed_memory, ReachesUpTo}
-use Rattle.memblock_find.specs.Walk.{nth_record, EndAtOrBelow, IsLookUp, IsWalkUpAt, unclaimed_label}
+use Rattle.memblock_find.specs.Unclaimed.{unclaimed_memory, IsStretchWithTop}
+use Rattle.memblock_find.specs.Walk.{nth_record, ExactlyFirstEndAtOrBelow, IsLookUp, IsWalkUpAt, unclaimed_label}
 use Rattle.memblock_find.proofs.DownLaws.{unclaimed_is, unclaimed_changes}
 use Rattle.memblock_find.proofs.SlotLaws.{ends_before, ends_ascend, bases_ascend, size_at, value_in, none_beside, other_past}
 
 -- if every record ends at or below the address, there is no label from it on
-none_left : (rs : List (RunOf LabelView)) (at : ℕ) → EndAtOrBelow at rs (length rs) → NothingFrom at (value_at rs)
+none_left : (rs : List (RunOf LabelView)) (at : ℕ) → ExactlyFirstEndAtOrBelow at rs (length rs) → IsEmptyFrom at (value_at rs)
 none_left rs at ended x above = none_beside x rs (λ i less. let ends = ended.before i less in inl (omega arith))
 
-pub look_top : (rs : List (RunOf LabelView)) (slot at : ℕ) → slot ≡ length rs → at < 2 ^ 64 → EndAtOrBelow at rs slot
+pub look_top : (rs : List (RunOf LabelView)) (slot at : ℕ) → slot ≡ length rs → at < 2 ^ 64 → ExactlyFirstEndAtOrBelow at rs slot
     → IsLookUp rs at (record { label = None; bound = 2 ^ 64 - 1; slot = slot })
 look_top rs slot at all small known =
-    let ended : EndAtOrBelow at rs (length rs) = subst (λ (n : ℕ). EndAtOrBelow at rs n) all known in
+    let ended : ExactlyFirstEndAtOrBelow at rs (length rs) = subst (λ (n : ℕ). ExactlyFirstEndAtOrBelow at rs n) all known in
     record {
       stays = λ x above under. none_left rs at ended x above;
       another = λ some. absurd (some refl);
@@ -37,7 +37,7 @@ look_top rs slot at all small known =
     }
 
 -- up to the next record there is no label
-pub look_hole : (rs : List (RunOf LabelView)) (slot at : ℕ) → slot < length rs → EndAtOrBelow at rs slot → at < (nth_record rs slot).base
+pub look_hole : (rs : List (RunOf LabelView)) (slot at : ℕ) → slot < length rs → ExactlyFirstEndAtOrBelow at rs slot → at < (nth_record rs slot).base
     → (nth_record rs slot).base < 2 ^ 64
     → IsLookUp rs at (record { label = None; bound = (nth_record rs slot).base; slot = slot })
 look_hole rs slot at within ended before_base base_small =
@@ -70,7 +70,7 @@ look_hole rs slot at within ended before_base base_small =
     }
 
 -- in the next record, the label is the record's
-pub look_over : (rs : List (RunOf LabelView)) (slot at : ℕ) → slot < length rs → EndAtOrBelow at rs slot → (nth_record rs slot).base ≤ at
+pub look_over : (rs : List (RunOf LabelView)) (slot at : ℕ) → slot < length rs → ExactlyFirstEndAtOrBelow at rs slot → (nth_record rs slot).base ≤ at
     → run_end (nth_record rs slot) < 2 ^ 64
     → IsLookUp rs at (record { label = Some (nth_record rs slot).value; bound = run_end (nth_record rs slot); slot = slot + 1 })
 look_over rs slot at within ended from_base end_small =
@@ -107,7 +107,7 @@ not_ended_from rs at middle runs behind i from within = omega (arith, ends_ascen
 -- the addresses of a cursor's stretch upward have its label
 pub stretch_rises : (ms rs : List (RunOf LabelView)) (c : Cursor) (until : ℕ) (label : Option LabelView) → IsWalkUpAt ms rs c
     → until ≡ min c.memory.bound c.reserved.bound → label ≡ unclaimed_label c
-    → Stays (unclaimed_memory (value_at ms) (value_at rs)) c.at until label
+    → HasValueBetween (unclaimed_memory (value_at ms) (value_at rs)) c.at until label
 stretch_rises ms rs c until label known until_is label_is x above under =
     unclaimed_is (value_at ms) (value_at rs) x c.memory.label c.reserved.label
     (known.memory.stays x above (omega arith)) (known.reserved.stays x above (omega arith)) ∙ sym label_is
@@ -136,7 +136,7 @@ bare_claims carried (Some v) some = absurd (some refl)
 -- after a stretch of unclaimed memory the address has another label
 pub stretch_up : (ms rs : List (RunOf LabelView)) (c : Cursor) (until : ℕ) (label : Option LabelView) → IsWalkUpAt ms rs c
     → until ≡ min c.memory.bound c.reserved.bound → label ≡ unclaimed_label c → label ≢ None
-    → ReachesUpTo (unclaimed_memory (value_at ms) (value_at rs)) c.at until label
+    → IsStretchWithTop (unclaimed_memory (value_at ms) (value_at rs)) c.at until label
 stretch_up ms rs c until label known until_is label_is some =
     let held : unclaimed_label c ≢ None = subst (λ (o : Option LabelView). o ≢ None) label_is some in
     let parts = bare_claims c.memory.label c.reserved.label held in

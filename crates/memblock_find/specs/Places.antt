@@ -16,24 +16,24 @@ abbrev pub is_allowed_label : Bool → Option ℕ → Option LabelView → Bool
 is_allowed_label mirror node carried = is_allowed_node node carried && is_allowed_mirror mirror carried
 
 -- every place that ends at or below `until` also ends at or below `from`
-abbrev pub NoPlaceEnds : Bool → Labels → Labels → Query → ℕ → ℕ → Type 0
-NoPlaceEnds mirror memory reserved q from until =
+abbrev pub NoPlaceEndsBetween : Bool → Labels → Labels → Query → ℕ → ℕ → Type 0
+NoPlaceEndsBetween mirror memory reserved q from until =
     (b : ℕ) → fits_in mirror memory reserved q b ≡ true → b + q.size ≤ until → b + q.size ≤ from
 
 -- every place that begins at or above `from` also begins at or above `until`
-abbrev pub NoPlaceBegins : Bool → Labels → Labels → Query → ℕ → ℕ → Type 0
-NoPlaceBegins mirror memory reserved q from until = (b : ℕ) → fits_in mirror memory reserved q b ≡ true → from ≤ b → until ≤ b
+abbrev pub NoPlaceBeginsBetween : Bool → Labels → Labels → Query → ℕ → ℕ → Type 0
+NoPlaceBeginsBetween mirror memory reserved q from until = (b : ℕ) → fits_in mirror memory reserved q b ≡ true → from ≤ b → until ≤ b
 
 -- no address from `from` to just below `until` is memory that the search may return
 abbrev pub NoAddressIsAllowed : Bool → Labels → Option ℕ → ℕ → ℕ → Type 0
 NoAddressIsAllowed mirror memory node from until = (x : ℕ) → from ≤ x → x < until → is_allowed_label mirror node (memory x) ≡ false
 
 -- a place fits at a, and no place at a greater address ends at or below `until`
-pub record IsBestBy (mirror : Bool) (memory reserved : Labels) (q : Query) (until a : ℕ) : Type 0 where
+pub record IsHighestPlaceEndingBy (mirror : Bool) (memory reserved : Labels) (q : Query) (until a : ℕ) : Type 0 where
   pub fits : fits_in mirror memory reserved q a ≡ true
   pub last : (b : ℕ) → fits_in mirror memory reserved q b ≡ true → b + q.size ≤ until → b ≤ a
 
 -- a place fits at a, and no place begins from `from` to below a
-pub record IsBestFrom (mirror : Bool) (memory reserved : Labels) (q : Query) (from a : ℕ) : Type 0 where
+pub record IsLowestPlaceFrom (mirror : Bool) (memory reserved : Labels) (q : Query) (from a : ℕ) : Type 0 where
   pub fits : fits_in mirror memory reserved q a ≡ true
   pub first : (b : ℕ) → fits_in mirror memory reserved q b ≡ true → from ≤ b → a ≤ b

@@ -1,7 +1,7 @@
 -- Unclaimed memory and its runs (`__next_mem_range`, `for_each_free_mem_range`).
 use Rattle.std.specs.Prelude.{◌≡◌, ◌≢◌, ℕ, ◌+◌, ◌<◌, ◌≤◌, is_none, if◌then◌else◌, Option, Some, None, List}
 use Rattle.address_runs.specs.Runs.{RunOf, run_end, value_at}
-use Rattle.address_runs.specs.Sweep.{Stays}
+use Rattle.address_runs.specs.Sweep.{HasValueBetween}
 use Rattle.memblock_model.specs.Labels.{LabelView, Labels}
 use Rattle.memblock_ranges.specs.Tables.{TablesView}
 
@@ -26,26 +26,26 @@ unclaimed_in_walk p = unclaimed_memory (value_at p.memory) (value_at p.reserved)
 
 -- the addresses from `from` to below `until` have one label, or all have none, and the address
 -- below them has another
-pub record ReachesDownTo (f : Labels) (from until : ℕ) (label : Option LabelView) : Type 0 where
-  pub stays : Stays f from until label
+pub record IsStretchWithBottom (f : Labels) (from until : ℕ) (label : Option LabelView) : Type 0 where
+  pub stays : HasValueBetween f from until label
   pub another : (x : ℕ) → x + 1 ≡ from → f x ≢ label
 
 -- the addresses from `from` to below `until` have one label, or all have none, and the address
 -- `until` has another
-pub record ReachesUpTo (f : Labels) (from until : ℕ) (label : Option LabelView) : Type 0 where
-  pub stays : Stays f from until label
+pub record IsStretchWithTop (f : Labels) (from until : ℕ) (label : Option LabelView) : Type 0 where
+  pub stays : HasValueBetween f from until label
   pub another : f until ≢ label
 
 -- r is the highest run that begins below `below`; if it continues above, it is cut to end there
 pub record IsRunBelow (f : Labels) (below : ℕ) (r : RunOf LabelView) : Type 0 where
   pub some : 0 < r.size
   pub ends : run_end r ≤ below
-  pub run : ReachesDownTo f r.base (run_end r) (Some r.value)
-  pub behind : Stays f (run_end r) below None
+  pub run : IsStretchWithBottom f r.base (run_end r) (Some r.value)
+  pub behind : HasValueBetween f (run_end r) below None
 
 -- r is the lowest run that ends past `from`; if it begins below, it is cut to begin there
 pub record IsRunFrom (f : Labels) (from : ℕ) (r : RunOf LabelView) : Type 0 where
   pub some : 0 < r.size
   pub starts : from ≤ r.base
-  pub run : ReachesUpTo f r.base (run_end r) (Some r.value)
-  pub before : Stays f from r.base None
+  pub run : IsStretchWithTop f r.base (run_end r) (Some r.value)
+  pub before : HasValueBetween f from r.base None

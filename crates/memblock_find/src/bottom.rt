@@ -3,13 +3,13 @@
 //! place has the least one.
 ghost use Rattle.std.specs.Prelude.{◌≡◌, ◌≢◌, ℕ, ◌^◌, ◌≤◌, true, max, min, MatchOption, Option, Some, None};
 ghost use Rattle.address_runs.specs.Runs.{value_at};
-ghost use Rattle.address_runs.specs.Sweep.{Stays};
+ghost use Rattle.address_runs.specs.Sweep.{HasValueBetween};
 ghost use Rattle.memblock_model.specs.Labels.{Labels};
 ghost use Rattle.memblock_model.specs.Search.{top_place_in};
-ghost use Rattle.memblock_find.specs.Unclaimed.{unclaimed_memory, ReachesUpTo};
-ghost use Rattle.memblock_find.specs.Places.{FitsBetween, NoPlaceBegins, IsBestFrom};
+ghost use Rattle.memblock_find.specs.Unclaimed.{unclaimed_memory, IsStretchWithTop};
+ghost use Rattle.memblock_find.specs.Places.{FitsBetween, NoPlaceBeginsBetween, IsLowestPlaceFrom};
 
-use crate::cursor::lists_of;
+use crate::cursor::record_readers;
 use crate::node::is_allowed_label;
 use crate::up::cursor_from;
 use bm_base::FRAME_SIZE;
@@ -18,7 +18,7 @@ use memblock_ranges::Tables;
 
 /// Returns the least address of a place that fits the query, or `None`. If `mirror` is set, only
 /// mirrored memory is allowed. The size must be at least 1, and the alignment a power of two.
-// A function of its own for the same reason as `find_allowed`.
+// A function of its own for the same reason as `find_restricted_downward`.
 #[inline(never)]
 pub fn find_upward(tables: &Tables, query: &Query, mirror: bool) -> Option<u64>
     requires some { 1 ≤ query.now.size }
@@ -26,11 +26,11 @@ pub fn find_upward(tables: &Tables, query: &Query, mirror: bool) -> Option<u64>
     ensures { result ≡ top_place_in (record { mirror = mirror; up = true })
         (value_at tables.now.memory.records) (value_at tables.now.reserved.records) query.now }
 {
-    let lists = lists_of(tables);
+    let lists = record_readers(tables);
     let high = query.hi;
     let mut cursor = cursor_from(&lists, query.lo.max(FRAME_SIZE));
     while cursor.at < high {
-        let place = place_from(
+        let place = lowest_place_in_stretch(
             query,
             mirror,
             cursor.unclaimed_label(),
@@ -48,7 +48,7 @@ pub fn find_upward(tables: &Tables, query: &Query, mirror: bool) -> Option<u64>
 /// Returns the least address, from `from` to just below `until`, of a place that fits the query, or
 /// `None`. `label` is the label of these addresses, or `None` if none of them is unclaimed memory.
 /// If they have a label, it must change at `until`.
-fn place_from(
+fn lowest_place_in_stretch(
     query: &Query,
     mirror: bool,
     label: Option<Label>,
@@ -58,11 +58,12 @@ fn place_from(
     requires some { 1 ≤ query.now.size }
     requires aligned { (k : ℕ) × (query.now.align ≡ 2 ^ k) }
     requires window { max query.now.lo FRAME_SIZE ≤ from }
-    ensures { (memory reserved : Labels) → Stays (unclaimed_memory memory reserved) from until label
+    ensures { (memory reserved : Labels) → HasValueBetween (unclaimed_memory memory reserved) from
+        until label
         →
-        (label ≢ None → ReachesUpTo (unclaimed_memory memory reserved) from until label) →
-        MatchOption result (NoPlaceBegins mirror memory reserved query.now from until)
-        (IsBestFrom mirror memory reserved query.now from) }
+        (label ≢ None → IsStretchWithTop (unclaimed_memory memory reserved) from until label) →
+        MatchOption result (NoPlaceBeginsBetween mirror memory reserved query.now from until)
+        (IsLowestPlaceFrom mirror memory reserved query.now from) }
 {
     let Some(found) = label else {
         return None;

@@ -23,7 +23,7 @@ pub struct Look {
 
 /// The records of both tables, which a walk reads.
 #[derive(Drop)]
-pub struct Lists<'a> {
+pub struct RecordReaders<'a> {
     pub memory: Records<'a>,
     pub reserved: Records<'a>,
 }
@@ -32,11 +32,11 @@ pub struct Lists<'a> {
 // Inlined, since a returned struct goes through memory, which costs time in a search whose first
 // gap fits.
 #[inline(always)]
-pub fn lists_of(tables: &Tables) -> Lists<'_>
+pub fn record_readers(tables: &Tables) -> RecordReaders<'_>
     ensures memory { result.memory ≡ tables.now.memory.records }
     ensures reserved { result.reserved ≡ tables.now.reserved.records }
 {
-    Lists {
+    RecordReaders {
         memory: tables.records(Which::Memory),
         reserved: tables.records(Which::Reserved),
     }

@@ -2,23 +2,23 @@
 //! each table finds the first record. After that the walk looks at each record once, except those
 //! that a search for a node, or for mirrored memory, passes over (`node.rt`).
 ghost use Rattle.std.specs.Prelude.{◌≡◌, ◌≢◌, ◌<◌, ◌≤◌, max, None};
-ghost use Rattle.memblock_find.specs.Walk.{BeginAmong, BeginBelow, IsLookDown, IsWalkDownAt};
+ghost use Rattle.memblock_find.specs.Walk.{OnlyFirstMayBegin, ExactlyFirstBeginBelow, IsLookDown, IsWalkDownAt};
 
-use crate::cursor::{Cursor, Lists, Look};
+use crate::cursor::{Cursor, RecordReaders, Look};
 use memblock_ranges::Records;
 
 /// Returns the number of records that begin below the address `at`, by binary search.
-fn count_begun_below(records: &Records<'_>, at: u64) -> u64
-    ensures { BeginBelow at records.now result }
+fn count_beginning_below(records: &Records<'_>, at: u64) -> u64
+    ensures { ExactlyFirstBeginBelow at records.now result }
 {
-    count_begun_among(records, records.count(), at)
+    count_beginning_among(records, records.count(), at)
 }
 
 /// Returns the number of records that begin below the address `at`, by binary search. All of them
 /// must be among the first `count` records.
-fn count_begun_among(records: &Records<'_>, count: u64, at: u64) -> u64
-    requires { BeginAmong at records.now count }
-    ensures { BeginBelow at records.now result }
+fn count_beginning_among(records: &Records<'_>, count: u64, at: u64) -> u64
+    requires { OnlyFirstMayBegin at records.now count }
+    ensures { ExactlyFirstBeginBelow at records.now result }
 {
     if count == 0 || records.get(count - 1).base < at {
         return count;
@@ -39,7 +39,7 @@ fn count_begun_among(records: &Records<'_>, count: u64, at: u64) -> u64
 /// Returns the label that the records give the addresses right below `at`, and down to where.
 /// Exactly `slot` records must begin below `at`.
 pub fn look_down(records: &Records<'_>, slot: u64, at: u64) -> Look
-    requires { BeginBelow at records.now slot }
+    requires { ExactlyFirstBeginBelow at records.now slot }
     ensures { IsLookDown records.now at result }
 {
     if slot == 0 {
@@ -68,7 +68,7 @@ pub fn look_down(records: &Records<'_>, slot: u64, at: u64) -> Look
 
 /// Returns the look of a walk that has come down to `at`. Until the bound of `look` is reached,
 /// that is `look` itself.
-fn look_on(records: &Records<'_>, look: Look, from: u64, at: u64) -> Look
+fn look_after_move(records: &Records<'_>, look: Look, from: u64, at: u64) -> Look
     requires look { IsLookDown records.now from look }
     requires above { look.bound ≤ at }
     requires below { at ≤ from }
@@ -83,7 +83,7 @@ fn look_on(records: &Records<'_>, look: Look, from: u64, at: u64) -> Look
 
 /// Returns the look of a walk that continues at `at`, however far below that is. The records in
 /// between aren't read: if the walk has passed several, a binary search finds the next one.
-pub fn look_past(records: &Records<'_>, look: Look, from: u64, at: u64) -> Look
+pub fn look_after_jump(records: &Records<'_>, look: Look, from: u64, at: u64) -> Look
     requires look { IsLookDown records.now from look }
     requires below { at ≤ from }
     ensures { IsLookDown records.now at result }
@@ -91,7 +91,7 @@ pub fn look_past(records: &Records<'_>, look: Look, from: u64, at: u64) -> Look
     if look.bound < at {
         return look;
     }
-    let slot = count_begun_among(records, look.slot, at);
+    let slot = count_beginning_among(records, look.slot, at);
     look_down(records, slot, at)
 }
 
@@ -99,12 +99,12 @@ pub fn look_past(records: &Records<'_>, look: Look, from: u64, at: u64) -> Look
 // A hint, since it has several callers: a returned cursor goes through memory, which costs time in
 // a search whose first gap fits.
 #[inline]
-pub fn cursor_below(lists: &Lists<'_>, at: u64) -> Cursor
+pub fn start_walk_down(lists: &RecordReaders<'_>, at: u64) -> Cursor
     ensures at { result.at ≡ at }
     ensures down { IsWalkDownAt lists.now.memory lists.now.reserved result }
 {
-    let memory = count_begun_below(&lists.memory, at);
-    let reserved = count_begun_below(&lists.reserved, at);
+    let memory = count_beginning_below(&lists.memory, at);
+    let reserved = count_beginning_below(&lists.reserved, at);
     Cursor {
         at,
         memory: look_down(&lists.memory, memory, at),
@@ -122,7 +122,7 @@ impl Cursor {
     }
 
     /// Returns the position of the walk after it has moved down to [`Cursor::bottom`].
-    pub fn down(&self, lists: &Lists<'_>) -> Cursor
+    pub fn down(&self, lists: &RecordReaders<'_>) -> Cursor
         requires { IsWalkDownAt lists.now.memory lists.now.reserved self.now }
         ensures at { result.at ≡ max self.now.memory.bound self.now.reserved.bound }
         ensures down { IsWalkDownAt lists.now.memory lists.now.reserved result }
@@ -130,8 +130,8 @@ impl Cursor {
         let at = self.bottom();
         Cursor {
             at,
-            memory: look_on(&lists.memory, self.memory, self.at, at),
-            reserved: look_on(&lists.reserved, self.reserved, self.at, at),
+            memory: look_after_move(&lists.memory, self.memory, self.at, at),
+            reserved: look_after_move(&lists.reserved, self.reserved, self.at, at),
         }
     }
 }

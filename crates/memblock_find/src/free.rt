@@ -3,13 +3,13 @@
 //! step for each record that it passes.
 ghost use Rattle.std.specs.Prelude.{◌≡◌, ◌-◌, ◌≤◌, MatchOption, IfSome, None};
 ghost use Rattle.address_runs.specs.Runs.{run_end, value_at};
-ghost use Rattle.address_runs.specs.Edits.{NothingFrom};
-ghost use Rattle.address_runs.specs.Sweep.{Stays};
+ghost use Rattle.address_runs.specs.Edits.{IsEmptyFrom};
+ghost use Rattle.address_runs.specs.Sweep.{HasValueBetween};
 ghost use Rattle.memblock_find.specs.Walk.{IsWalkUpAt};
 ghost use Rattle.memblock_find.specs.Unclaimed.{unclaimed_in_walk, unclaimed_memory, unclaimed_in_tables, IsRunBelow, IsRunFrom};
 
-use crate::cursor::{Cursor, Lists, lists_of};
-use crate::down::cursor_below;
+use crate::cursor::{Cursor, RecordReaders, record_readers};
+use crate::down::start_walk_down;
 use crate::up::cursor_from;
 use bm_base::Range;
 use memblock_model::Label;
@@ -75,20 +75,20 @@ impl FreeRange {
 /// below it is unclaimed memory (`__next_mem_range_rev`). A run that continues above `below` is
 /// cut to end there.
 pub fn prev_free(tables: &Tables, below: u64) -> Option<FreeRange>
-    ensures { MatchOption result (Stays (unclaimed_in_tables tables.now) 0 below None)
+    ensures { MatchOption result (HasValueBetween (unclaimed_in_tables tables.now) 0 below None)
         (IsRunBelow (unclaimed_in_tables tables.now) below) }
 {
-    prev_in(&lists_of(tables), below)
+    prev_free_in_readers(&record_readers(tables), below)
 }
 
 /// Like [`prev_free`], from the records of both tables.
-fn prev_in(lists: &Lists<'_>, below: u64) -> Option<FreeRange>
-    ensures { MatchOption result (Stays
+fn prev_free_in_readers(lists: &RecordReaders<'_>, below: u64) -> Option<FreeRange>
+    ensures { MatchOption result (HasValueBetween
         (unclaimed_memory (value_at lists.now.memory) (value_at lists.now.reserved)) 0 below None)
         (IsRunBelow
         (unclaimed_memory (value_at lists.now.memory) (value_at lists.now.reserved)) below) }
 {
-    let mut cursor = cursor_below(lists, below);
+    let mut cursor = start_walk_down(lists, below);
     while cursor.at > 0 {
         if let Some(label) = cursor.unclaimed_label() {
             return Some(FreeRange::between(cursor.bottom(), cursor.at, label));
@@ -102,15 +102,15 @@ fn prev_in(lists: &Lists<'_>, below: u64) -> Option<FreeRange>
 /// there on is unclaimed memory (`__next_mem_range`). A run that begins below `from` is cut to
 /// begin there.
 pub fn next_free(tables: &Tables, from: u64) -> Option<FreeRange>
-    ensures { MatchOption result (NothingFrom from (unclaimed_in_tables tables.now))
+    ensures { MatchOption result (IsEmptyFrom from (unclaimed_in_tables tables.now))
         (IsRunFrom (unclaimed_in_tables tables.now) from) }
 {
-    next_in(&lists_of(tables), from)
+    next_free_in_readers(&record_readers(tables), from)
 }
 
 /// Like [`next_free`], from the records of both tables.
-fn next_in(lists: &Lists<'_>, from: u64) -> Option<FreeRange>
-    ensures { MatchOption result (NothingFrom from
+fn next_free_in_readers(lists: &RecordReaders<'_>, from: u64) -> Option<FreeRange>
+    ensures { MatchOption result (IsEmptyFrom from
         (unclaimed_memory (value_at lists.now.memory) (value_at lists.now.reserved)))
         (IsRunFrom
         (unclaimed_memory (value_at lists.now.memory) (value_at lists.now.reserved)) from) }
@@ -126,9 +126,9 @@ struct FoundRun {
 }
 
 /// Walks up to the end of the first run of unclaimed memory, or to the highest address.
-fn find_run_up(lists: &Lists<'_>, from: Cursor) -> FoundRun
+fn find_run_up(lists: &RecordReaders<'_>, from: Cursor) -> FoundRun
     requires { IsWalkUpAt lists.now.memory lists.now.reserved from }
-    ensures run { MatchOption result.run (NothingFrom from.at
+    ensures run { MatchOption result.run (IsEmptyFrom from.at
         (unclaimed_memory (value_at lists.now.memory) (value_at lists.now.reserved)))
         (IsRunFrom
         (unclaimed_memory (value_at lists.now.memory) (value_at lists.now.reserved)) from.at) }
@@ -153,7 +153,7 @@ fn find_run_up(lists: &Lists<'_>, from: Cursor) -> FoundRun
 /// the walk has reached.
 #[derive(Drop)]
 pub struct FreeRuns<'a> {
-    lists: Lists<'a>,
+    lists: RecordReaders<'a>,
     cursor: Cursor,
 }
 
@@ -180,7 +180,7 @@ impl FreeRuns<'_> {
               at = at;
             } }
     {
-        let lists = lists_of(tables);
+        let lists = record_readers(tables);
         let cursor = cursor_from(&lists, at);
         FreeRuns { lists, cursor }
     }
@@ -188,7 +188,7 @@ impl FreeRuns<'_> {
     /// Returns the next run: the one that [`next_free`] returns for the address that the walk has
     /// reached. The walk then continues at the run's end.
     pub fn next_run(&mut self) -> Option<FreeRange>
-        ensures run { MatchOption result (NothingFrom self.old.at (unclaimed_in_walk self.old))
+        ensures run { MatchOption result (IsEmptyFrom self.old.at (unclaimed_in_walk self.old))
             (IsRunFrom (unclaimed_in_walk self.old) self.old.at) }
         ensures at { IfSome result (λ r. self.new.at ≡ run_end r) }
         ensures order { self.old.at ≤ self.new.at }

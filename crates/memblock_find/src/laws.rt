@@ -1,7 +1,7 @@
 //! Laws of the search and of runs of unclaimed memory, on which the layers above may rest.
 ghost use Rattle.std.specs.Prelude.{◌≡◌, ℕ, ◌^◌, Bool, List};
 ghost use Rattle.address_runs.specs.Runs.{RunOf, value_at};
-ghost use Rattle.address_runs.specs.Edits.{NothingFrom};
+ghost use Rattle.address_runs.specs.Edits.{IsEmptyFrom};
 ghost use Rattle.memblock_model.specs.declared.item.Item.{Item};
 ghost use Rattle.memblock_model.specs.declared.query.Query.{Query as AnyQuery};
 ghost use Rattle.memblock_model.specs.declared.owner.Which.TheVariants as which;
@@ -17,23 +17,23 @@ ghost use Rattle.memblock_find.specs.Unclaimed.{unclaimed_memory, unclaimed_in_t
 /// owner.
 pub fn searches_follow_the_items()
     ensures best { (items : List Item) (t : TablesView) (q : AnyQuery) →
-        NothingFrom (2 ^ 64) (table_of which.Memory items)
-        → NothingFrom (2 ^ 64) (table_of which.Reserved items) →
+        IsEmptyFrom (2 ^ 64) (table_of which.Memory items)
+        → IsEmptyFrom (2 ^ 64) (table_of which.Reserved items) →
         t.memory.records ≡ records_of which.Memory items
         → t.reserved.records ≡ records_of which.Reserved items →
         best_place_in (upward_of items) (value_at t.memory.records) (value_at t.reserved.records) q
         ≡ best_place items q }
     ensures top { (items : List Item) (t : TablesView) (q : AnyQuery) (mirror : Bool) →
-        NothingFrom (2 ^ 64) (table_of which.Memory items)
-        → NothingFrom (2 ^ 64) (table_of which.Reserved items) →
+        IsEmptyFrom (2 ^ 64) (table_of which.Memory items)
+        → IsEmptyFrom (2 ^ 64) (table_of which.Reserved items) →
         t.memory.records ≡ records_of which.Memory items
         → t.reserved.records ≡ records_of which.Reserved items →
         top_place_in (record { mirror = mirror; up = upward_of items }) (value_at t.memory.records)
         (value_at t.reserved.records) q ≡
         top_place items q mirror }
     ensures free { (items : List Item) (t : TablesView) →
-        NothingFrom (2 ^ 64) (table_of which.Memory items)
-        → NothingFrom (2 ^ 64) (table_of which.Reserved items) →
+        IsEmptyFrom (2 ^ 64) (table_of which.Memory items)
+        → IsEmptyFrom (2 ^ 64) (table_of which.Reserved items) →
         t.memory.records ≡ records_of which.Memory items
         → t.reserved.records ≡ records_of which.Reserved items →
         unclaimed_in_tables t

@@ -6,9 +6,9 @@ ghost use Rattle.memblock_model.specs.Search.{top_place_in};
 ghost use Rattle.memblock_find.specs.Places.{is_allowed_label, NoAddressIsAllowed};
 ghost use Rattle.memblock_find.specs.Walk.{nth_record, IsWalkDownAt};
 
-use crate::cursor::{Cursor, Lists, lists_of};
-use crate::down::{cursor_below, look_down, look_past};
-use crate::search::place_in_run;
+use crate::cursor::{Cursor, RecordReaders, record_readers};
+use crate::down::{start_walk_down, look_down, look_after_jump};
+use crate::search::highest_place_in_stretch;
 use bm_base::FRAME_SIZE;
 use memblock_model::{Label, Query};
 use memblock_ranges::{Records, Tables};
@@ -71,9 +71,9 @@ impl Cursor {
 
     /// Returns the position of the walk at the end of the next memory that the search may return,
     /// below the memory at the cursor. If there is none, that is address 0.
-    // A hint, as for `cursor_below`.
+    // A hint, as for `start_walk_down`.
     #[inline]
-    fn walk_down_to_allowed(&self, lists: &Lists<'_>, mirror: bool, node: Option<u32>) -> Cursor
+    fn walk_down_to_allowed(&self, lists: &RecordReaders<'_>, mirror: bool, node: Option<u32>) -> Cursor
         requires narrow { is_allowed_label mirror node None ≡ false }
         requires down { IsWalkDownAt lists.now.memory lists.now.reserved self.now }
         ensures order { result.at ≤ self.now.memory.bound }
@@ -86,13 +86,13 @@ impl Cursor {
         Cursor {
             at,
             memory: look_down(&lists.memory, count, at),
-            reserved: look_past(&lists.reserved, self.reserved, self.at, at),
+            reserved: look_after_jump(&lists.reserved, self.reserved, self.at, at),
         }
     }
 
     /// Returns the position of the walk after it has moved down to [`Cursor::bottom`]. It moves
     /// further if the search may return none of the memory in between.
-    fn down_for(&self, lists: &Lists<'_>, mirror: bool, node: Option<u32>) -> Cursor
+    fn down_to_allowed(&self, lists: &RecordReaders<'_>, mirror: bool, node: Option<u32>) -> Cursor
         requires narrow { is_allowed_label mirror node None ≡ false }
         requires down { IsWalkDownAt lists.now.memory lists.now.reserved self.now }
         ensures order { result.at ≤ max self.now.memory.bound self.now.reserved.bound }
@@ -113,18 +113,18 @@ impl Cursor {
 // Never compiled into `find`, and with its own loop: with both loops in one function there are too
 // few registers, which costs time at each record of a search for any memory.
 #[inline(never)]
-pub fn find_allowed(tables: &Tables, query: &Query, mirror: bool) -> Option<u64>
+pub fn find_restricted_downward(tables: &Tables, query: &Query, mirror: bool) -> Option<u64>
     requires narrow { is_allowed_label mirror query.now.node None ≡ false }
     requires some { 1 ≤ query.now.size }
     requires aligned { (k : ℕ) × (query.now.align ≡ 2 ^ k) }
     ensures { result ≡ top_place_in (record { mirror = mirror; up = false })
         (value_at tables.now.memory.records) (value_at tables.now.reserved.records) query.now }
 {
-    let lists = lists_of(tables);
+    let lists = record_readers(tables);
     let low = query.lo.max(FRAME_SIZE);
-    let mut cursor = cursor_below(&lists, query.hi);
+    let mut cursor = start_walk_down(&lists, query.hi);
     while cursor.at > low {
-        let place = place_in_run(
+        let place = highest_place_in_stretch(
             query,
             low,
             mirror,
@@ -135,7 +135,7 @@ pub fn find_allowed(tables: &Tables, query: &Query, mirror: bool) -> Option<u64>
         if place.is_some() {
             return place;
         }
-        cursor = cursor.down_for(&lists, mirror, query.node);
+        cursor = cursor.down_to_allowed(&lists, mirror, query.node);
     }
     None
 }

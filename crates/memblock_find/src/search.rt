@@ -5,16 +5,16 @@
 //! search from below is in `bottom.rt`.
 ghost use Rattle.std.specs.Prelude.{◌≡◌, ◌≢◌, ℕ, ◌^◌, ◌≤◌, false, max, MatchOption, Option, Some, None};
 ghost use Rattle.address_runs.specs.Runs.{value_at};
-ghost use Rattle.address_runs.specs.Sweep.{Stays};
+ghost use Rattle.address_runs.specs.Sweep.{HasValueBetween};
 ghost use Rattle.memblock_model.specs.Labels.{Labels};
 ghost use Rattle.memblock_model.specs.Search.{top_place_in};
-ghost use Rattle.memblock_find.specs.Unclaimed.{unclaimed_memory, ReachesDownTo};
-ghost use Rattle.memblock_find.specs.Places.{FitsBetween, NoPlaceEnds, IsBestBy};
+ghost use Rattle.memblock_find.specs.Unclaimed.{unclaimed_memory, IsStretchWithBottom};
+ghost use Rattle.memblock_find.specs.Places.{FitsBetween, NoPlaceEndsBetween, IsHighestPlaceEndingBy};
 
 use crate::bottom::find_upward;
-use crate::cursor::{Lists, lists_of};
-use crate::down::cursor_below;
-use crate::node::{end_of_records, find_allowed, is_allowed_label};
+use crate::cursor::{RecordReaders, record_readers};
+use crate::down::start_walk_down;
+use crate::node::{end_of_records, find_restricted_downward, is_allowed_label};
 use bm_base::FRAME_SIZE;
 use memblock_model::{Label, Mode, Query};
 use memblock_ranges::Tables;
@@ -35,15 +35,15 @@ pub fn find(tables: &Tables, query: &Query, mode: Mode) -> Option<u64>
     if up {
         find_upward(tables, query, mirror)
     } else if mirror || query.node.is_some() {
-        find_allowed(tables, query, mirror)
+        find_restricted_downward(tables, query, mirror)
     } else {
-        find_in(&lists_of(tables), query)
+        find_any_downward(&record_readers(tables), query)
     }
 }
 
 /// Returns the greatest address of a place that fits the query, mirrored or not, or `None`. If the
 /// window ends above all memory, the walk begins where memory ends.
-fn find_in(lists: &Lists<'_>, query: &Query) -> Option<u64>
+fn find_any_downward(lists: &RecordReaders<'_>, query: &Query) -> Option<u64>
     requires some { 1 ≤ query.now.size }
     requires aligned { (k : ℕ) × (query.now.align ≡ 2 ^ k) }
     ensures { result ≡ top_place_in (record { mirror = false; up = false })
@@ -52,9 +52,9 @@ fn find_in(lists: &Lists<'_>, query: &Query) -> Option<u64>
     let low = query.lo.max(FRAME_SIZE);
     let end = end_of_records(&lists.memory, lists.memory.count());
     let high = query.hi.min(end);
-    let mut cursor = cursor_below(lists, high);
+    let mut cursor = start_walk_down(lists, high);
     while cursor.at > low {
-        let place = place_in_run(
+        let place = highest_place_in_stretch(
             query,
             low,
             false,
@@ -74,7 +74,7 @@ fn find_in(lists: &Lists<'_>, query: &Query) -> Option<u64>
 /// `None`. `label` is the label of these addresses, or `None` if none of them is unclaimed memory.
 /// If they have a label, it must change below `from`. `low` is the lowest address that a place may
 /// have: the window's start or the second frame, whichever is higher.
-pub fn place_in_run(
+pub fn highest_place_in_stretch(
     query: &Query,
     low: u64,
     mirror: bool,
@@ -86,11 +86,12 @@ pub fn place_in_run(
     requires aligned { (k : ℕ) × (query.now.align ≡ 2 ^ k) }
     requires low { low ≡ max query.now.lo FRAME_SIZE }
     requires window { until ≤ query.now.hi }
-    ensures { (memory reserved : Labels) → Stays (unclaimed_memory memory reserved) from until label
+    ensures { (memory reserved : Labels) → HasValueBetween (unclaimed_memory memory reserved) from
+        until label
         →
-        (label ≢ None → ReachesDownTo (unclaimed_memory memory reserved) from until label) →
-        MatchOption result (NoPlaceEnds mirror memory reserved query.now from until)
-        (IsBestBy mirror memory reserved query.now until) }
+        (label ≢ None → IsStretchWithBottom (unclaimed_memory memory reserved) from until label) →
+        MatchOption result (NoPlaceEndsBetween mirror memory reserved query.now from until)
+        (IsHighestPlaceEndingBy mirror memory reserved query.now until) }
 {
     let Some(found) = label else {
         return None;

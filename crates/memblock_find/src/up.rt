@@ -2,14 +2,14 @@
 //! down, except at the highest address. After the last record a look reaches up to 2^64 - 1, which
 //! no record covers, since each record ends below 2^64.
 ghost use Rattle.std.specs.Prelude.{◌≡◌, ◌≤◌, min};
-ghost use Rattle.memblock_find.specs.Walk.{EndAtOrBelow, IsLookUp, IsWalkUpAt};
+ghost use Rattle.memblock_find.specs.Walk.{ExactlyFirstEndAtOrBelow, IsLookUp, IsWalkUpAt};
 
-use crate::cursor::{Cursor, Lists, Look};
+use crate::cursor::{Cursor, RecordReaders, Look};
 use memblock_ranges::Records;
 
 /// Returns the number of records that end at or below the address `at`, by binary search.
-fn count_ended_by(records: &Records<'_>, at: u64) -> u64
-    ensures { EndAtOrBelow at records.now result }
+fn count_ending_by(records: &Records<'_>, at: u64) -> u64
+    ensures { ExactlyFirstEndAtOrBelow at records.now result }
 {
     let mut low = 0;
     let mut high = records.count();
@@ -28,7 +28,7 @@ fn count_ended_by(records: &Records<'_>, at: u64) -> u64
 /// Returns the label that the records give the addresses from `at` on, and up to where. Exactly
 /// `slot` records must end at or below `at`.
 fn look_up(records: &Records<'_>, slot: u64, at: u64) -> Look
-    requires { EndAtOrBelow at records.now slot }
+    requires { ExactlyFirstEndAtOrBelow at records.now slot }
     ensures { IsLookUp records.now at result }
 {
     if slot == records.count() {
@@ -57,7 +57,7 @@ fn look_up(records: &Records<'_>, slot: u64, at: u64) -> Look
 
 /// Returns the look of a walk that has come up to `at`. Until the bound of `look` is reached, that
 /// is `look` itself.
-fn look_on(records: &Records<'_>, look: Look, from: u64, at: u64) -> Look
+fn look_after_move(records: &Records<'_>, look: Look, from: u64, at: u64) -> Look
     requires look { IsLookUp records.now from look }
     requires above { from ≤ at }
     requires below { at ≤ look.bound }
@@ -71,12 +71,12 @@ fn look_on(records: &Records<'_>, look: Look, from: u64, at: u64) -> Look
 }
 
 /// Starts a walk up at the address.
-pub fn cursor_from(lists: &Lists<'_>, at: u64) -> Cursor
+pub fn cursor_from(lists: &RecordReaders<'_>, at: u64) -> Cursor
     ensures at { result.at ≡ at }
     ensures up { IsWalkUpAt lists.now.memory lists.now.reserved result }
 {
-    let memory = count_ended_by(&lists.memory, at);
-    let reserved = count_ended_by(&lists.reserved, at);
+    let memory = count_ending_by(&lists.memory, at);
+    let reserved = count_ending_by(&lists.reserved, at);
     Cursor {
         at,
         memory: look_up(&lists.memory, memory, at),
@@ -94,7 +94,7 @@ impl Cursor {
     }
 
     /// Returns the position of the walk after it has moved up to [`Cursor::top`].
-    pub fn up(&self, lists: &Lists<'_>) -> Cursor
+    pub fn up(&self, lists: &RecordReaders<'_>) -> Cursor
         requires { IsWalkUpAt lists.now.memory lists.now.reserved self.now }
         ensures at { result.at ≡ min self.now.memory.bound self.now.reserved.bound }
         ensures up { IsWalkUpAt lists.now.memory lists.now.reserved result }
@@ -102,8 +102,8 @@ impl Cursor {
         let at = self.top();
         Cursor {
             at,
-            memory: look_on(&lists.memory, self.memory, self.at, at),
-            reserved: look_on(&lists.reserved, self.reserved, self.at, at),
+            memory: look_after_move(&lists.memory, self.memory, self.at, at),
+            reserved: look_after_move(&lists.reserved, self.reserved, self.at, at),
         }
     }
 }

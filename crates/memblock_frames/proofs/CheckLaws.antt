@@ -10,7 +10,7 @@ use Rattle.memblock_ranges.specs.declared.region.Region.{Region}
 use Rattle.memblock_ranges.specs.Encoding.{decode_region, decode_record}
 use Rattle.memblock_ranges.specs.Tables.{records_of_head}
 use Rattle.memblock_ranges.proofs.LentLaws.{count_is}
-use Rattle.memblock_frames.specs.HeadRecords.{AscendBelow, AreWholeFrames}
+use Rattle.memblock_frames.specs.HeadRecords.{AreAscendingBelow, AreWholeFrames}
 use Rattle.memblock_frames.proofs.RecordLaws.{record_by_bytes}
 
 -- the list from an index on begins with the record that was read there
@@ -24,26 +24,26 @@ left_from s h i g few is =
     (r, rw (add-one, drop-cons (records_of_head s h) i r (omega arith), record_by_bytes s h i r few) refl, rw is refl, rw is refl)
 
 abbrev pub Ascends : ℕ → ℕ → List (RunOf LabelView) → Type 0
-Ascends from b rs = StartAtOrPast from rs × AscendBelow b rs
+Ascends from b rs = StartAtOrPast from rs × AreAscendingBelow b rs
 
 -- if a record is in its place, the list ascends exactly if the rest does
 pub one_in_place : (b from i next : ℕ) (rs ss : List (RunOf LabelView)) (r : RunOf LabelView)
-    → Ascends from b (drop i rs) ↔ AscendBelow b rs
-    → drop i rs ≡ r ∷ ss → from ≤ r.base → 0 < r.size → run_end r ≤ b → next ≡ run_end r → Ascends next b ss ↔ AscendBelow b rs
+    → Ascends from b (drop i rs) ↔ AreAscendingBelow b rs
+    → drop i rs ≡ r ∷ ss → from ≤ r.base → 0 < r.size → run_end r ≤ b → next ≡ run_end r → Ascends next b ss ↔ AreAscendingBelow b rs
 one_in_place b from i next rs ss r known left above some low is = (
   (λ both. known.0 (rw left (above, (some, low, rw (← is) both.0, both.1)))),
   λ ascend. let whole = rw left at (known.1 ascend) in (rw is whole.1.2, whole.1.3),
 )
 
 -- if a record isn't in its place, the list doesn't ascend
-pub out_of_place : (b from i : ℕ) (rs ss : List (RunOf LabelView)) (r : RunOf LabelView) → Ascends from b (drop i rs) ↔ AscendBelow b rs
-    → drop i rs ≡ r ∷ ss → (from ≤ r.base → 0 < r.size → run_end r ≤ b → ⊥) → AscendBelow b rs → ⊥
+pub out_of_place : (b from i : ℕ) (rs ss : List (RunOf LabelView)) (r : RunOf LabelView) → Ascends from b (drop i rs) ↔ AreAscendingBelow b rs
+    → drop i rs ≡ r ∷ ss → (from ≤ r.base → 0 < r.size → run_end r ≤ b → ⊥) → AreAscendingBelow b rs → ⊥
 out_of_place b from i rs ss r known left fails ascend =
     let whole = rw left at (known.1 ascend) in fails whole.0 whole.1.0 whole.1.1
 
 -- if no record is left, the list ascends
-pub all_in_place : (b from i : ℕ) (rs : List (RunOf LabelView)) → Ascends from b (drop i rs) ↔ AscendBelow b rs → length rs ≤ i
-    → AscendBelow b rs
+pub all_in_place : (b from i : ℕ) (rs : List (RunOf LabelView)) → Ascends from b (drop i rs) ↔ AreAscendingBelow b rs → length rs ≤ i
+    → AreAscendingBelow b rs
 all_in_place b from i rs known all = known.0 (rw (drop_all i rs all) (tt, tt))
 
 -- the same steps for records of whole frames

@@ -9,8 +9,8 @@ use Rattle.address_runs.specs.Sweep.{StartAtOrPast}
 use Rattle.address_runs.proofs.RunsLaws.{inside, behind}
 use Rattle.memblock_model.specs.Labels.{LabelView, Labels}
 use Rattle.memblock_frames.specs.declared.frames.RecordFrames.{RecordFrames}
-use Rattle.memblock_frames.specs.Frames.{frames_of_record, is_unclaimed, IsPassed}
-use Rattle.memblock_frames.specs.HeadRecords.{AscendBelow}
+use Rattle.memblock_frames.specs.Frames.{frames_of_record, is_unclaimed, OverlapOnlyBelow}
+use Rattle.memblock_frames.specs.HeadRecords.{AreAscendingBelow}
 use Rattle.memblock_frames.proofs.RecordLaws.{ascend_at, ascend_drop, ascend_none}
 
 -- a frame without a value for any of its bytes overlaps no record
@@ -28,16 +28,16 @@ claimed_byte f frame y v above below is =
     each_in-fails (bytes_of_frame frame) (λ z. is_none (f z)) y above below (ap (λ (o : Option LabelView). is_none o) is)
 
 -- records that have nothing from a frame on have nothing from a later frame on
-pub passed_later : (rs : List (RunOf LabelView)) (i at later : ℕ) → at ≤ later → IsPassed rs i at → IsPassed rs i later
+pub passed_later : (rs : List (RunOf LabelView)) (i at later : ℕ) → at ≤ later → OverlapOnlyBelow rs i at → OverlapOnlyBelow rs i later
 passed_later rs i at later order passed x above = passed x (omega arith)
 
-pub passed_none : (rs : List (RunOf LabelView)) (at : ℕ) → IsPassed rs 0 at
+pub passed_none : (rs : List (RunOf LabelView)) (at : ℕ) → OverlapOnlyBelow rs 0 at
 passed_none rs at x above = refl
 
 -- a record that ends below the frame can be skipped
-pub passed_more : (b : ℕ) (rs : List (RunOf LabelView)) (i at : ℕ) (d : RunOf LabelView) (fs : RecordFrames) → AscendBelow b rs
+pub passed_more : (b : ℕ) (rs : List (RunOf LabelView)) (i at : ℕ) (d : RunOf LabelView) (fs : RecordFrames) → AreAscendingBelow b rs
     → i < length rs
-    → fs ≡ frames_of_record (get_or rs i d) → fs.end ≤ at → IsPassed rs i at → IsPassed rs (i + 1) at
+    → fs ≡ frames_of_record (get_or rs i d) → fs.end ≤ at → OverlapOnlyBelow rs i at → OverlapOnlyBelow rs (i + 1) at
 passed_more b rs i at d fs ascend few is ends passed x above =
     let r : RunOf LabelView = get_or rs i d in
     let some = (ascend_at b rs i d ascend few).0 in
@@ -45,15 +45,15 @@ passed_more b rs i at d fs ascend few is ends passed x above =
     rw (← passed x above, add-one, drop-cons rs i d few, behind r x (omega arith)) refl
 
 -- after the last record the table has no byte
-pub unclaimed_end : (rs : List (RunOf LabelView)) (i at x : ℕ) → length rs ≤ i → IsPassed rs i at → at ≤ x
+pub unclaimed_end : (rs : List (RunOf LabelView)) (i at x : ℕ) → length rs ≤ i → OverlapOnlyBelow rs i at → at ≤ x
     → is_unclaimed (value_at rs) x ≡ true
 unclaimed_end rs i at x all passed above =
     unclaimed_bare (value_at rs) x
     (λ y low high. sym (passed y (omega arith)) ∙ at_drop_all (λ (ss : List (RunOf LabelView)). value_at ss y) rs i all)
 
 -- between the records so far and the next, the table has no byte of a frame
-pub unclaimed_gap : (b : ℕ) (rs : List (RunOf LabelView)) (i at x : ℕ) (d : RunOf LabelView) (fs : RecordFrames) → AscendBelow b rs
-    → i < length rs → fs ≡ frames_of_record (get_or rs i d) → IsPassed rs i at → at ≤ x → x < fs.first → is_unclaimed (value_at rs) x ≡ true
+pub unclaimed_gap : (b : ℕ) (rs : List (RunOf LabelView)) (i at x : ℕ) (d : RunOf LabelView) (fs : RecordFrames) → AreAscendingBelow b rs
+    → i < length rs → fs ≡ frames_of_record (get_or rs i d) → OverlapOnlyBelow rs i at → at ≤ x → x < fs.first → is_unclaimed (value_at rs) x ≡ true
 unclaimed_gap b rs i at x d fs ascend few is passed above before =
     let r : RunOf LabelView = get_or rs i d in
     let first : fs.first ≡ r.base / 4096 = ap (λ (g : RecordFrames). g.first) is in
@@ -62,9 +62,9 @@ unclaimed_gap b rs i at x d fs ascend few is passed above before =
     sym (passed y (omega arith)) ∙ ascend_none b r.base y (drop i rs) (ascend_drop b rs i ascend) starts (omega arith))
 
 -- the table has a byte of each frame of the next record
-pub claimed_by : (b : ℕ) (rs : List (RunOf LabelView)) (i at x : ℕ) (d : RunOf LabelView) (fs : RecordFrames) → AscendBelow b rs
+pub claimed_by : (b : ℕ) (rs : List (RunOf LabelView)) (i at x : ℕ) (d : RunOf LabelView) (fs : RecordFrames) → AreAscendingBelow b rs
     → i < length rs
-    → fs ≡ frames_of_record (get_or rs i d) → IsPassed rs i at → at ≤ x → fs.first ≤ x → x < fs.end → is_unclaimed (value_at rs) x ≡ false
+    → fs ≡ frames_of_record (get_or rs i d) → OverlapOnlyBelow rs i at → at ≤ x → fs.first ≤ x → x < fs.end → is_unclaimed (value_at rs) x ≡ false
 claimed_by b rs i at x d fs ascend few is passed above from until =
     let r : RunOf LabelView = get_or rs i d in
     let some = (ascend_at b rs i d ascend few).0 in

@@ -3,7 +3,7 @@ use Rattle.std.proofs.Common.{◌≡◌, ℕ, true, false, Some, None, [], ◌�
 use Rattle.address_runs.specs.Runs.{RunOf, value_at}
 use Rattle.memblock_model.specs.Labels.{LabelView, Labels, plain_label, with_node}
 use Rattle.memblock_frames.specs.Frames.{valid_node, frames_of_record, node_of_frame, is_unclaimed, free_node_in}
-use Rattle.memblock_frames.specs.HeadRecords.{AscendBelow, AreWholeFrames}
+use Rattle.memblock_frames.specs.HeadRecords.{AreAscendingBelow, AreWholeFrames}
 use Rattle.memblock_frames.proofs.ClaimLaws.{claimed_byte, unclaimed_bare}
 use Rattle.memblock_frames.proofs.WholeLaws.{free_by_first}
 
@@ -40,7 +40,7 @@ free_example : free_node_in (value_at (two ∷ [])) nobody 2 ≡ Some 3
 free_example =
     rw (← free_by_first (two ∷ []) nobody 2 (refl, refl, tt), unclaimed_bare nobody 2 (λ y above below. refl)) refl
 
-ascend_examples : AscendBelow 0x5000 (two ∷ (forty ∷ [])) × (AscendBelow 0x5000 (forty ∷ (two ∷ [])) → ⊥)
+ascend_examples : AreAscendingBelow 0x5000 (two ∷ (forty ∷ [])) × (AreAscendingBelow 0x5000 (forty ∷ (two ∷ [])) → ⊥)
 ascend_examples = (
   (omega arith, omega arith, omega arith, (omega arith, omega arith, tt, tt)),
   λ ascend. omega (arith, ascend.2),

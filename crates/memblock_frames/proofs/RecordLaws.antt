@@ -15,7 +15,7 @@ use Rattle.memblock_ranges.proofs.SpellLaws.{get-records_at}
 use Rattle.memblock_ranges.proofs.LentLaws.{count_is}
 use Rattle.memblock_frames.specs.declared.frames.RecordFrames.{RecordFrames}
 use Rattle.memblock_frames.specs.Frames.{valid_node, frames_of_record}
-use Rattle.memblock_frames.specs.HeadRecords.{AscendBelow, HasRecords}
+use Rattle.memblock_frames.specs.HeadRecords.{AreAscendingBelow, HasRecords}
 
 -- a record of a head, by its bytes
 pub record_by_bytes : (s : List ExtentView) (h : Head) (i : ℕ) (d : RunOf LabelView) → i < h.count
@@ -30,39 +30,39 @@ field_below n = elim (cases_Bool (n == 1024)) as (λ _. valid_node (node_of_fiel
 ]
 
 -- a record isn't empty, and ends at or below the bound
-pub ascend_at : (b : ℕ) (rs : List (RunOf LabelView)) (i : ℕ) (d : RunOf LabelView) → AscendBelow b rs → i < length rs
+pub ascend_at : (b : ℕ) (rs : List (RunOf LabelView)) (i : ℕ) (d : RunOf LabelView) → AreAscendingBelow b rs → i < length rs
     → (0 < (get_or rs i d).size) × (run_end (get_or rs i d) ≤ b)
 ascend_at b [] i d ascend few = absurd (omega arith)
 ascend_at b (r ∷ rs) zero d ascend few = (ascend.0, ascend.1)
 ascend_at b (r ∷ rs) (suc i) d ascend few = ascend_at b rs i d ascend.3 (omega arith)
 
-pub ascend_drop : (b : ℕ) (rs : List (RunOf LabelView)) (i : ℕ) → AscendBelow b rs → AscendBelow b (drop i rs)
+pub ascend_drop : (b : ℕ) (rs : List (RunOf LabelView)) (i : ℕ) → AreAscendingBelow b rs → AreAscendingBelow b (drop i rs)
 ascend_drop b rs zero ascend = ascend
 ascend_drop b [] (suc i) ascend = tt
 ascend_drop b (r ∷ rs) (suc i) ascend = ascend_drop b rs i ascend.3
 
 -- below the first record the list has no value
-pub ascend_none : (b at x : ℕ) (rs : List (RunOf LabelView)) → AscendBelow b rs → StartAtOrPast at rs → x < at → value_at rs x ≡ None
+pub ascend_none : (b at x : ℕ) (rs : List (RunOf LabelView)) → AreAscendingBelow b rs → StartAtOrPast at rs → x < at → value_at rs x ≡ None
 ascend_none b at x [] ascend start lt = refl
 ascend_none b at x (r ∷ rs) ascend start lt =
     rw (below r x (omega arith)) (ascend_none b (run_end r) x rs ascend.3 ascend.2 (omega arith))
 
 -- a later record begins at or above the end of an earlier one
-pub start_at : (b at : ℕ) (rs : List (RunOf LabelView)) (i : ℕ) (d : RunOf LabelView) → AscendBelow b rs → StartAtOrPast at rs
+pub start_at : (b at : ℕ) (rs : List (RunOf LabelView)) (i : ℕ) (d : RunOf LabelView) → AreAscendingBelow b rs → StartAtOrPast at rs
     → i < length rs
     → at ≤ (get_or rs i d).base
 start_at b at [] i d ascend start few = absurd (omega arith)
 start_at b at (r ∷ rs) zero d ascend start few = start
 start_at b at (r ∷ rs) (suc i) d ascend start few = omega (arith, start_at b (run_end r) rs i d ascend.3 ascend.2 (omega arith))
 
-pub in_order : (b : ℕ) (rs : List (RunOf LabelView)) (i k : ℕ) (d : RunOf LabelView) → AscendBelow b rs → i < k → k < length rs
+pub in_order : (b : ℕ) (rs : List (RunOf LabelView)) (i k : ℕ) (d : RunOf LabelView) → AreAscendingBelow b rs → i < k → k < length rs
     → run_end (get_or rs i d) ≤ (get_or rs k d).base
 in_order b (r ∷ rs) zero (suc k) d ascend order few = start_at b (run_end r) rs k d ascend.3 ascend.2 (omega arith)
 in_order b (r ∷ rs) (suc i) (suc k) d ascend order few = in_order b rs i k d ascend.3 (omega arith) (omega arith)
 in_order b rs i k d ascend order few = absurd (omega arith)
 
 -- from the first byte of a record on, the records before it have no value
-pub taken_none : (b : ℕ) (rs : List (RunOf LabelView)) (i x : ℕ) (d : RunOf LabelView) → AscendBelow b rs → i < length rs
+pub taken_none : (b : ℕ) (rs : List (RunOf LabelView)) (i x : ℕ) (d : RunOf LabelView) → AreAscendingBelow b rs → i < length rs
     → (get_or rs i d).base ≤ x
     → value_at (take i rs) x ≡ None
 taken_none b [] i x d ascend few above = absurd (omega arith)
@@ -85,7 +85,7 @@ pub region_frames : (s : List ExtentView) (h : Head) (i : ℕ) (g : Region) (nod
 region_frames s h i g node d few is told =
     rw (told, is, record_by_bytes s h i d few, field_below (node_in (bytes_at (byte_of s) (h.place + 24 * i) 24))) refl
 
-pub ascend_higher : (b c : ℕ) (rs : List (RunOf LabelView)) → b ≤ c → AscendBelow b rs → AscendBelow c rs
+pub ascend_higher : (b c : ℕ) (rs : List (RunOf LabelView)) → b ≤ c → AreAscendingBelow b rs → AreAscendingBelow c rs
 ascend_higher b c [] order ascend = tt
 ascend_higher b c (r ∷ rs) order ascend = (ascend.0, omega arith, ascend.2, ascend_higher b c rs order ascend.3)
 

@@ -6,7 +6,7 @@ use Rattle.bm_base.specs.Frames.{bytes_of_frame}
 use Rattle.bm_base.proofs.EachLaws.{each_in-same}
 use Rattle.phys_store.specs.Bytes.{ExtentView, byte_of, bytes_at}
 use Rattle.address_runs.specs.Runs.{RunOf, run_end, lies_in, value_at, AreRuns}
-use Rattle.address_runs.specs.Edits.{NothingFrom}
+use Rattle.address_runs.specs.Edits.{IsEmptyFrom}
 use Rattle.address_runs.specs.Sweep.{StartAtOrPast}
 use Rattle.address_runs.proofs.RunsLaws.{inside, behind, rest_from}
 use Rattle.memblock_model.specs.Labels.{LabelView}
@@ -14,7 +14,7 @@ use Rattle.memblock_ranges.specs.declared.region.Region.{Region}
 use Rattle.memblock_ranges.specs.Encoding.{node_in, node_of_field, node_field, decode_region, region_of, records_at}
 use Rattle.memblock_ranges.specs.Tables.{TableView, IsInStore, head_of, records_of_head}
 use Rattle.memblock_frames.specs.Frames.{valid_node, node_of_label, node_of_frame, free_node_in}
-use Rattle.memblock_frames.specs.HeadRecords.{AscendBelow, HasRecords, AreWholeFrames}
+use Rattle.memblock_frames.specs.HeadRecords.{AreAscendingBelow, HasRecords, AreWholeFrames}
 use Rattle.memblock_frames.proofs.RecordLaws.{field_below}
 use Rattle.memblock_frames.proofs.WholeLaws.{whole_by_value}
 
@@ -50,7 +50,7 @@ alike_starts at [] [] alike start = tt
 alike_starts at (r ∷ rs) (s ∷ ss) alike start = omega arith
 alike_starts at rs ss alike start = absurd alike
 
-alike_ascends : (b : ℕ) (rs ss : List (RunOf LabelView)) → Alike rs ss → AscendBelow b ss → AscendBelow b rs
+alike_ascends : (b : ℕ) (rs ss : List (RunOf LabelView)) → Alike rs ss → AreAscendingBelow b ss → AreAscendingBelow b rs
 alike_ascends b [] [] alike ascend = tt
 alike_ascends b (r ∷ rs) (s ∷ ss) alike ascend = (
   omega arith,
@@ -80,7 +80,7 @@ alike_stands : (t : TableView) (s : List ExtentView) → IsInStore t s → Alike
 alike_stands t s stands = alike_from (byte_of s) t.place t.records stands.regions
 
 -- a canonical list ascends
-runs_ascend : (b : ℕ) (rs : List (RunOf LabelView)) → AreRuns rs → NothingFrom b (value_at rs) → AscendBelow b rs
+runs_ascend : (b : ℕ) (rs : List (RunOf LabelView)) → AreRuns rs → IsEmptyFrom b (value_at rs) → AreAscendingBelow b rs
 runs_ascend b [] runs none = tt
 runs_ascend b (r ∷ rs) runs none =
     let low : run_end r ≤ b = elim (cases_lt b (run_end r)) [
@@ -93,7 +93,7 @@ runs_ascend b (r ∷ rs) runs none =
       runs_ascend b rs runs.2 (λ x high. rw (behind r x (omega arith)) at (none x high)),
     )
 
-pub stands_below : (t : TableView) (s : List ExtentView) (b : ℕ) → IsInStore t s → NothingFrom b (value_at t.records)
+pub stands_below : (t : TableView) (s : List ExtentView) (b : ℕ) → IsInStore t s → IsEmptyFrom b (value_at t.records)
     → HasRecords s (head_of t) b
 stands_below t s b stands none = record {
   few = stands.few;

@@ -9,7 +9,7 @@ use Rattle.address_runs.proofs.SweepLaws.{value_append_none, value_append_left}
 use Rattle.memblock_model.specs.Labels.{LabelView}
 use Rattle.memblock_frames.specs.declared.frames.RecordFrames.{RecordFrames}
 use Rattle.memblock_frames.specs.Frames.{node_of_frame, frames_of_record}
-use Rattle.memblock_frames.specs.HeadRecords.{AscendBelow, AreWholeFrames}
+use Rattle.memblock_frames.specs.HeadRecords.{AreAscendingBelow, AreWholeFrames}
 use Rattle.memblock_frames.proofs.RecordLaws.{ascend_at, taken_none, in_order, frames_order}
 use Rattle.memblock_frames.proofs.WholeLaws.{whole_at, first_byte, other_byte}
 
@@ -23,7 +23,7 @@ pub tests_both : (first x end : ℕ) → (nat_le first x && nat_lt x end) ≡ tr
 tests_both first x end holds = grind (arith, nat_tests)
 
 -- the values of the records up to one, with the frames of that one
-pub node_more : (b : ℕ) (ms : List (RunOf LabelView)) (i x : ℕ) (d : RunOf LabelView) → AscendBelow b ms → AreWholeFrames ms → i < length ms
+pub node_more : (b : ℕ) (ms : List (RunOf LabelView)) (i x : ℕ) (d : RunOf LabelView) → AreAscendingBelow b ms → AreWholeFrames ms → i < length ms
     → node_of_frame (value_at (take (i + 1) ms)) x
     ≡ (if nat_le (frames_of_record (get_or ms i d)).first x
     && nat_lt x (frames_of_record (get_or ms i d)).end then (frames_of_record (get_or ms i d)).node
@@ -50,7 +50,7 @@ node_more b ms i x d ascend whole few =
     ])
 
 -- the frames of a record: at least one, below the bound, in the order of the records
-pub frames_below : (b m : ℕ) (ms : List (RunOf LabelView)) (i : ℕ) (d : RunOf LabelView) (fs : RecordFrames) → AscendBelow b ms
+pub frames_below : (b m : ℕ) (ms : List (RunOf LabelView)) (i : ℕ) (d : RunOf LabelView) (fs : RecordFrames) → AreAscendingBelow b ms
     → i < length ms
     → fs ≡ frames_of_record (get_or ms i d) → b ≤ 4096 * m → fs.end ≤ m
 frames_below b m ms i d fs ascend few is bound =
@@ -59,7 +59,7 @@ frames_below b m ms i d fs ascend few is bound =
     let end : fs.end ≡ (r.base + (r.size - 1)) / 4096 + 1 = ap (λ (g : RecordFrames). g.end) is in
     omega arith
 
-pub frames_in_order : (b : ℕ) (ms : List (RunOf LabelView)) (i k : ℕ) (d : RunOf LabelView) (fs : RecordFrames) → AscendBelow b ms
+pub frames_in_order : (b : ℕ) (ms : List (RunOf LabelView)) (i k : ℕ) (d : RunOf LabelView) (fs : RecordFrames) → AreAscendingBelow b ms
     → AreWholeFrames ms
     → i < k → k < length ms → fs ≡ frames_of_record (get_or ms i d) → fs.end ≤ (frames_of_record (get_or ms k d)).first
 frames_in_order b ms i k d fs ascend whole order few is =

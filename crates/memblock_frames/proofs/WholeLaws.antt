@@ -8,7 +8,7 @@ use Rattle.bm_base.specs.Frames.{bytes_of_frame}
 use Rattle.bm_base.proofs.EachLaws.{each_in-same}
 use Rattle.address_runs.specs.Runs.{RunOf, run_end, lies_in, value_at, AreRuns}
 use Rattle.address_runs.specs.Sweep.{StartAtOrPast}
-use Rattle.address_runs.proofs.RunsLaws.{inside, behind, none_below, rest_from, other_behind}
+use Rattle.address_runs.proofs.RunsLaws.{inside, behind, none_below, rest_from, another_value_at_run_end}
 use Rattle.memblock_model.specs.Labels.{LabelView, Labels}
 use Rattle.memblock_frames.specs.Frames.{node_of_label, node_of_frame, is_unclaimed, free_node_in, frames_of_record}
 use Rattle.memblock_frames.specs.HeadRecords.{AreWholeFrames}
@@ -76,7 +76,7 @@ whole_by_value (r ∷ rs) runs same =
           let frame : 4096 * ((e - 1) / 4096) ≡ 4096 * (e / 4096) = omega (arith, lt) in
           let last : value_at all (e - 1) ≡ Some r.value = rw (inside r (e - 1) (omega arith) (omega arith)) refl in
           let next : value_at all e ≡ value_at rs e = rw (behind r e (omega arith)) refl in
-          absurd (other_behind r rs runs
+          absurd (another_value_at_run_end r rs runs
           (sym next ∙ same e ∙ sym (ap (value_at all) frame) ∙ sym (same (e - 1)) ∙ last))
       | inr ge ↦ omega (arith, ge)
     ] in

@@ -37,5 +37,5 @@ free_node_in memory reserved frame =
     if each_in (bytes_of_frame frame) (λ x. is_some (memory x) && is_none (reserved x)) then node_of_frame memory frame else None
 
 -- the records before the index don't overlap the frame or any above it
-abbrev pub IsPassed : List (RunOf LabelView) → ℕ → ℕ → Type 0
-IsPassed rs i frame = (x : ℕ) → FRAME_SIZE * frame ≤ x → value_at (drop i rs) x ≡ value_at rs x
+abbrev pub OverlapOnlyBelow : List (RunOf LabelView) → ℕ → ℕ → Type 0
+OverlapOnlyBelow rs i frame = (x : ℕ) → FRAME_SIZE * frame ≤ x → value_at (drop i rs) x ≡ value_at rs x

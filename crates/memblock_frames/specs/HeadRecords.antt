@@ -10,15 +10,15 @@ use Rattle.memblock_ranges.specs.Tables.{records_of_head}
 
 -- no record is empty, each ends at or below the bound, and each begins at or above the end of the
 -- one before it
-abbrev pub AscendBelow : ℕ → List (RunOf LabelView) → Type 0
-AscendBelow bound [] = Unit {0}
-AscendBelow bound (r ∷ rs) = (0 < r.size) × (run_end r ≤ bound) × StartAtOrPast (run_end r) rs × AscendBelow bound rs
+abbrev pub AreAscendingBelow : ℕ → List (RunOf LabelView) → Type 0
+AreAscendingBelow bound [] = Unit {0}
+AreAscendingBelow bound (r ∷ rs) = (0 < r.size) × (run_end r ≤ bound) × StartAtOrPast (run_end r) rs × AreAscendingBelow bound rs
 
 -- the bytes at the head are such an ascending list of records, and its room ends below 2^64
 pub record HasRecords (store : List ExtentView) (head : Head) (bound : ℕ) : Type 0 where
   pub few : head.count ≤ head.room
   pub fits : head.place + 24 * head.room < 2 ^ 64
-  pub ascend : AscendBelow bound (records_of_head store head)
+  pub ascend : AreAscendingBelow bound (records_of_head store head)
 
 -- the records begin and end at borders of frames
 abbrev pub AreWholeFrames : List (RunOf LabelView) → Type 0

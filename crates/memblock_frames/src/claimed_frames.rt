@@ -4,7 +4,7 @@
 ghost use Rattle.std.specs.Prelude.{◌≡◌, ◌^◌, ◌<◌, ◌≤◌, ℕ, true, false};
 ghost use Rattle.address_runs.specs.Runs.{value_at};
 ghost use Rattle.memblock_ranges.specs.Tables.{records_of_head};
-ghost use Rattle.memblock_frames.specs.Frames.{is_unclaimed, IsPassed};
+ghost use Rattle.memblock_frames.specs.Frames.{is_unclaimed, OverlapOnlyBelow};
 ghost use Rattle.memblock_frames.specs.HeadRecords.{HasRecords};
 
 use crate::frames::frames_of_record;
@@ -28,11 +28,11 @@ pub struct ClaimedFrames {
 pub fn next_claimed_frames(store: &Store, head: &Head, index: u64, at: u64) -> ClaimedFrames
     requires table { HasRecords store.now head.now (2 ^ 64) }
     requires index { index ≤ head.now.count }
-    requires passed { IsPassed (records_of_head store.now head.now) index at }
+    requires passed { OverlapOnlyBelow (records_of_head store.now head.now) index at }
     requires low { at < 2 ^ 52 }
     ensures index { result.index ≤ head.now.count }
     ensures forward { index ≤ result.index }
-    ensures passed { IsPassed (records_of_head store.now head.now) result.index at }
+    ensures passed { OverlapOnlyBelow (records_of_head store.now head.now) result.index at }
     ensures order { at ≤ result.first }
     ensures behind { at < result.end }
     ensures some { result.first ≤ result.end }

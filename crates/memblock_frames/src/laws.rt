@@ -5,7 +5,7 @@
 ghost use Rattle.std.specs.Prelude.{◌≡◌, ℕ, ◌*◌, ◌/◌, ◌^◌, List};
 ghost use Rattle.bm_base.specs.declared.range.TheConstants.{FRAME_SIZE};
 ghost use Rattle.address_runs.specs.Runs.{value_at};
-ghost use Rattle.address_runs.specs.Edits.{NothingFrom};
+ghost use Rattle.address_runs.specs.Edits.{IsEmptyFrom};
 ghost use Rattle.phys_store.specs.Bytes.{ExtentView};
 ghost use Rattle.memblock_ranges.specs.Tables.{TableView, IsInStore, head_of, records_of_head};
 ghost use Rattle.memblock_frames.specs.Frames.{free_node_in, node_of_frame};
@@ -19,7 +19,7 @@ pub fn stored_records_give_table_frames()
     ensures records { (t : TableView) (store : List ExtentView) → IsInStore t store
         → HasRecords store (head_of t) (2 ^ 64) }
     ensures below { (t : TableView) (store : List ExtentView) (bound : ℕ) → IsInStore t store
-        → NothingFrom bound (value_at t.records) →
+        → IsEmptyFrom bound (value_at t.records) →
         HasRecords store (head_of t) bound }
     ensures whole { (t : TableView) (store : List ExtentView) → IsInStore t store →
         ((x : ℕ) → value_at t.records x ≡ value_at t.records (FRAME_SIZE * (x / FRAME_SIZE))) →

@@ -11,7 +11,7 @@ use Rattle.growth_model.specs.Bytes.{is_vacated_by}
 use Rattle.growth_model.proofs.EndLaws.{EndsAsChange-second, EndsAsChange-first, EndsAsChange-step, EndsAsChange-wanting}
 use Rattle.growth_model.proofs.FollowLaws.{follows-item, follows-then}
 use Rattle.memblock_grow.specs.declared.places.AllocSettings.{AllocSettings}
-use Rattle.memblock_grow.specs.Invariant.{TablesMatchItems, ChangesOnlyTables, KeepsTables, KeepsBytes}
+use Rattle.memblock_grow.specs.Invariant.{TablesMatchItems, ChangesOnlyTables, KeepsTables, BytesFollowItems}
 
 -- an error that is passed on
 pub handed : {T : Type 0} (r : Result T Refusal) (e : Refusal) → IsErrAnd r (λ (n : Refusal). n ≡ e) → r ≡ Err e
@@ -41,8 +41,8 @@ change-done growths i old mid new h is =
 pub change-bytes : (i : Item) {old mid new : List Item} {t : TablesView} (u : TablesView) {v : TablesView} {at : AllocSettings}
     → new ≡ mid ++ i ∷ []
     → ((kernel : RangeView) (x : ℕ) → is_vacated_by kernel mid i x ≡ false) → KeepsTables old t new v at → ChangesOnlyTables u v
-    → KeepsBytes old t mid u at
-    → KeepsBytes old t new v at
+    → BytesFollowItems old t mid u at
+    → BytesFollowItems old t new v at
 change-bytes i {mid} u {v} {at} is stays kept told before = λ kernel known spelled.
     let after = subst (λ (l : List Item). TablesMatchItems kernel l v at) is (kept kernel known) in
     rw is (follows-then _ _ _ _ _ _ _ (before kernel known spelled)

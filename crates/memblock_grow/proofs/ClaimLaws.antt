@@ -15,7 +15,7 @@ use Rattle.growth_model.specs.Growth.{is_full, count_uncovered_pieces, reserved_
 use Rattle.growth_model.specs.Ends.{EndsAsChange}
 use Rattle.growth_model.proofs.EndLaws.{followed, EndsAsChange-first, EndsAsChange-due}
 use Rattle.growth_model.proofs.CutLaws.{then-unrefused}
-use Rattle.memblock_grow.specs.Prepared.{PreparesWith, PreparesBy}
+use Rattle.memblock_grow.specs.Prepared.{PreparesPlaceToo, PreparesAsResult}
 
 pub claim-refused : (e : Refusal) (range : RangeView) (who : Owner) (items : List Item)
     → is_full which.Reserved (count_uncovered_pieces which.Reserved range) items ≡ true
@@ -40,8 +40,8 @@ claim-begins range who items unrefused =
 
 pub claim-prepares : (r : Result (Unit {0}) Refusal) (who : Owner) {place : RangeView} {items longer : List Item} {s t : List ExtentView}
     → (claim_range place who items).refused ≡ None → EndsAsChange r items longer (claim_range place who)
-    → PreparesWith place items longer s t
-    → OnErr r (PreparesBy r items longer s t)
+    → PreparesPlaceToo place items longer s t
+    → OnErr r (PreparesAsResult r items longer s t)
 claim-prepares (Ok x) who unrefused ends h = tt
 claim-prepares (Err refusal.NoGap) who unrefused ends h = absurd ends
 claim-prepares (Err (refusal.NoGapForTable w room)) who unrefused ends h = let clash = sym unrefused ∙ ends.0 in cc

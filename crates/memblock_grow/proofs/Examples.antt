@@ -18,14 +18,14 @@ use Rattle.memblock_model.proofs.SearchLaws.{IsLastBelow, fits_in-parts, fits_in
 use Rattle.memblock_ranges.specs.Tables.{TablesView}
 use Rattle.growth_model.specs.declared.refusal.Refusal.TheVariants as refusal
 use Rattle.growth_model.specs.Growth.{table_query}
-use Rattle.growth_model.specs.Bytes.{table_for}
+use Rattle.growth_model.specs.Bytes.{table_from_items}
 use Rattle.growth_model.proofs.FirstLaws.{no_table_full, nothing_said}
 use Rattle.memblock_grow.specs.declared.places.AllocSettings.{AllocSettings}
 use Rattle.memblock_grow.specs.declared.new_records.MaxNewRecords.TheVariants as more
 use Rattle.memblock_grow.specs.Invariant.{TablesMatchItems, IsMemblock, alloc_settings}
-use Rattle.memblock_grow.specs.Prepared.{is_grown_over, Prepares, PreparesBy}
+use Rattle.memblock_grow.specs.Prepared.{is_moved_over_by_table, Prepares, PreparesAsResult}
 use Rattle.memblock_grow.specs.Places.{MirrorsComeFromItems, best_place_in_tables, frames_beside}
-use Rattle.memblock_grow.specs.NewRecords.{HasRoomFor, RangeEndsInSpace}
+use Rattle.memblock_grow.specs.NewRecords.{HasRoomFor, RangeEndsBelow2To64}
 use Rattle.memblock_grow.proofs.PlaceLaws.{best_place_in-large}
 
 abbrev image : RangeView
@@ -34,8 +34,8 @@ image = record { base = 65536; size = 16384 }
 -- both tables empty, in the last frames of the image
 abbrev at_first : TablesView
 at_first = record {
-  memory = table_for which.Memory image [];
-  reserved = table_for which.Reserved image [];
+  memory = table_from_items which.Memory image [];
+  reserved = table_from_items which.Reserved image [];
   store = [];
 }
 
@@ -70,18 +70,18 @@ prepares_examples : ((bytes : List ℕ) → length bytes ≡ 8192 → Prepares [
     × ((s t : List ExtentView) (x : ℕ) → Prepares [] (item.Claim image owner.Kernel ∷ []) s t → is_prepared_at t x ≡ is_prepared_at s x)
 prepares_examples = (
   λ bytes long. record { more = a_growth; goes_on = refl; each = λ x. rw long (sym (or-false _)) },
-  λ t p. p.each 16384 ∙ ap (λ (is : List Item). is_grown_over is 16384 || false) (sym p.goes_on),
-  λ s t x p. p.each x ∙ ap (λ (is : List Item). is_grown_over is x || is_prepared_at s x) (sym p.goes_on),
+  λ t p. p.each 16384 ∙ ap (λ (is : List Item). is_moved_over_by_table is 16384 || false) (sym p.goes_on),
+  λ s t x p. p.each x ∙ ap (λ (is : List Item). is_moved_over_by_table is x || is_prepared_at s x) (sym p.goes_on),
 )
 
 -- after the error Memory, one place may be prepared that is in no item; after a refusal none is
 by_examples : ((bytes : List ℕ) → length bytes ≡ 8192
-    → PreparesBy {T = Unit {0}} (Err refusal.Memory) [] [] [] (record { base = 8192; bytes = bytes } ∷ []))
-    × ((t : List ExtentView) → PreparesBy {T = Unit {0}} (Err (refusal.NoGapForTable which.Reserved 128)) [] [] [] t
+    → PreparesAsResult {T = Unit {0}} (Err refusal.Memory) [] [] [] (record { base = 8192; bytes = bytes } ∷ []))
+    × ((t : List ExtentView) → PreparesAsResult {T = Unit {0}} (Err (refusal.NoGapForTable which.Reserved 128)) [] [] [] t
     → is_prepared_at t 8192 ≡ false)
 by_examples = (
   λ bytes long. (record { base = 8192; size = 8192 }, record { more = []; goes_on = refl; each = λ x. rw long refl }),
-  λ t p. p.each 8192 ∙ ap (λ (is : List Item). is_grown_over is 8192 || false) (sym p.goes_on),
+  λ t p. p.each 8192 ∙ ap (λ (is : List Item). is_moved_over_by_table is 8192 || false) (sym p.goes_on),
 )
 
 -- 64 KiB of memory, nothing claimed
@@ -160,6 +160,6 @@ room_for_two : HasRoomFor more.Two (record { records = []; place = 0; room = 2 }
     × (HasRoomFor more.Two (record { records = []; place = 0; room = 1 }) → ⊥)
 room_for_two = (omega arith, λ has. omega arith)
 
-ends_in_space : RangeEndsInSpace (more.PiecesOf (record { base = 5; size = 1 }))
-    × (RangeEndsInSpace (more.PiecesOf (record { base = 5; size = 2 ^ 64 })) → ⊥)
+ends_in_space : RangeEndsBelow2To64 (more.PiecesOf (record { base = 5; size = 1 }))
+    × (RangeEndsBelow2To64 (more.PiecesOf (record { base = 5; size = 2 ^ 64 })) → ⊥)
 ends_in_space = (omega arith, λ ends. omega arith)

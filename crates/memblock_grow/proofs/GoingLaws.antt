@@ -14,8 +14,8 @@ use Rattle.memblock_model.specs.Tables.{table_bytes}
 use Rattle.growth_model.specs.declared.refusal.Refusal.{Refusal}
 use Rattle.growth_model.specs.Growth.{claim_range, count_uncovered_pieces}
 use Rattle.growth_model.specs.Ends.{EndsAsChange}
-use Rattle.growth_model.specs.Tables.{AreDisjoint, TablesAreClaimed, TouchesNoTable}
-use Rattle.growth_model.specs.Bytes.{table_for, TablesAreEncoded}
+use Rattle.growth_model.specs.Tables.{AreDisjoint, TablesAreClaimed, OverlapsNoTable}
+use Rattle.growth_model.specs.Bytes.{table_from_items, TablesAreEncoded}
 use Rattle.growth_model.proofs.FollowLaws.{follows-next, follows-none}
 use Rattle.growth_model.proofs.FoundLaws.{found-away}
 use Rattle.growth_model.proofs.PlacedLaws.{table_bytes-same, moves-of, rooms-of, away-still}
@@ -31,8 +31,8 @@ goes-then old mid new first second = record {
   ready = λ x h. second.ready x (first.ready x h);
 }
 
-pub goes-none : (m : MemblockView) → m.tables.memory ≡ table_for which.Memory m.kernel m.journal.items
-    → m.tables.reserved ≡ table_for which.Reserved m.kernel m.journal.items
+pub goes-none : (m : MemblockView) → m.tables.memory ≡ table_from_items which.Memory m.kernel m.journal.items
+    → m.tables.reserved ≡ table_from_items which.Reserved m.kernel m.journal.items
     → TablesAreEncoded m.tables.memory m.tables.reserved (byte_of m.tables.store) → ContinuesMemblock m m
 goes-none m memory reserved spelled = record {
   kernel = refl;
@@ -42,19 +42,19 @@ goes-none m memory reserved spelled = record {
 
 pub place-away : (kernel : RangeView) (items : List Item) (query : Query) (place : Option ℕ) → TablesAreClaimed kernel items
     → place ≡ best_place items query
-    → IfSome place (λ base. TouchesNoTable kernel (record { base = base; size = query.size }) items)
+    → IfSome place (λ base. OverlapsNoTable kernel (record { base = base; size = query.size }) items)
 place-away kernel items query None seated same = tt
 place-away kernel items query (Some base) seated same = found-away kernel items query base seated (sym same)
 
 -- a range that overlapped no table overlaps none after its claim, since the growth for the claim
 -- avoids it
 claim_range-away : (kernel r : RangeView) (items new : List Item) (who : Owner) → TablesAreClaimed kernel items
-    → TouchesNoTable kernel r items
-    → EndsAsChange {T = Unit {0}} (Ok tt) items new (claim_range r who) → TouchesNoTable kernel r new
+    → OverlapsNoTable kernel r items
+    → EndsAsChange {T = Unit {0}} (Ok tt) items new (claim_range r who) → OverlapsNoTable kernel r new
 claim_range-away kernel r items new who placed away ends =
     let t : List Item = roomy r (count_uncovered_pieces which.Reserved r) items in
     let one : List Item = item.Claim r who ∷ [] in
-    let still : TouchesNoTable kernel r t =
+    let still : OverlapsNoTable kernel r t =
     away-still kernel r items t (room-going kernel r (count_uncovered_pieces which.Reserved r) items placed).aside away in
     let is : new ≡ t ++ one = ends.1 ∙ claim_range-after items r who ends.0 in
     let clear : (w : Which) → AreDisjoint r (table_bytes w kernel t) → AreDisjoint r (table_bytes w kernel (t ++ one)) = λ w.
@@ -63,6 +63,6 @@ claim_range-away kernel r items new who placed away ends =
 
 pub claim-away : (result : Result (Unit {0}) Refusal) (kernel r : RangeView) (items new : List Item) (who : Owner)
     → TablesAreClaimed kernel items
-    → TouchesNoTable kernel r items → EndsAsChange result items new (claim_range r who) → OnOk result (TouchesNoTable kernel r new)
+    → OverlapsNoTable kernel r items → EndsAsChange result items new (claim_range r who) → OnOk result (OverlapsNoTable kernel r new)
 claim-away (Ok x) kernel r items new who placed away ends = claim_range-away kernel r items new who placed away ends
 claim-away (Err e) kernel r items new who placed away ends = tt

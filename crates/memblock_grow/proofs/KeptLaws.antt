@@ -3,7 +3,7 @@ use Rattle.std.proofs.Common.{◌≡◌, ℕ, ◌+◌, ◌*◌, ◌^◌, ◌<◌
 use Rattle.std.proofs.lemmas.Option.{same_Some}
 use Rattle.bm_base.specs.Range.{RangeView, end_of}
 use Rattle.address_runs.specs.Runs.{RunOf, value_at}
-use Rattle.address_runs.specs.Edits.{cover_range, uncover_range, relabel_range, NothingFrom}
+use Rattle.address_runs.specs.Edits.{cover_range, uncover_range, relabel_range, IsEmptyFrom}
 use Rattle.memblock_model.specs.declared.owner.Which.{Which}
 use Rattle.memblock_model.specs.declared.owner.Which.TheVariants as which
 use Rattle.memblock_model.specs.declared.owner.Owner.{Owner}
@@ -14,19 +14,19 @@ use Rattle.memblock_model.specs.Items.{trim_frames, limit_after, upward_after}
 use Rattle.memblock_model.specs.Tables.{table_of, table_after, records_for, records_of, uncovered_run_count, room_of, room_after, moved_to, moved_after, table_place}
 use Rattle.memblock_model.proofs.ItemLaws.{limit_of-push, upward_of-push, table_of-push, room_of-push, moved_to-push}
 use Rattle.memblock_model.proofs.TableLaws.{value_at-records}
-use Rattle.memblock_ranges.specs.Steps.{EndsInSpace}
-use Rattle.memblock_ranges.specs.Tables.{TableView, TablesView, table_in, other_in, records_in, room_in, place_in}
+use Rattle.memblock_ranges.specs.Steps.{RangeEndsInAddressSpace}
+use Rattle.memblock_ranges.specs.Tables.{TableView, TablesView, table_in, other_table_in, records_in, room_in, place_in}
 use Rattle.memblock_ranges.proofs.CountLaws.{length-covered, length-uncovered, length-relabelled, length-trimmed}
 use Rattle.memblock_ranges.proofs.StepLaws.{items-within}
 use Rattle.growth_model.specs.Growth.{round_up_to_frames}
 use Rattle.growth_model.specs.Tables.{TablesHaveRoom}
-use Rattle.growth_model.specs.Bytes.{table_for}
+use Rattle.growth_model.specs.Bytes.{table_from_items}
 use Rattle.memblock_grow.specs.declared.places.AllocSettings.{AllocSettings}
 use Rattle.memblock_grow.specs.Invariant.{TablesMatchItems, alloc_settings}
 
 -- each table has room for its records
-fits-by : (kernel : RangeView) (items : List Item) (m r : TableView) → m ≡ table_for which.Memory kernel items
-    → r ≡ table_for which.Reserved kernel items → length m.records ≤ m.room → length r.records ≤ r.room → TablesHaveRoom items
+fits-by : (kernel : RangeView) (items : List Item) (m r : TableView) → m ≡ table_from_items which.Memory kernel items
+    → r ≡ table_from_items which.Reserved kernel items → length m.records ≤ m.room → length r.records ≤ r.room → TablesHaveRoom items
 fits-by kernel items m r first second few too which.Memory = subst (λ (t : TableView). length t.records ≤ t.room) first few
 fits-by kernel items m r first second few too which.Reserved = subst (λ (t : TableView). length t.records ≤ t.room) second too
 
@@ -36,7 +36,7 @@ IsQuiet i = ((w : Which) (n : ℕ) → room_after w n i ≡ n) × ((w : Which) (
 
 module _ {kernel : RangeView} {items : List Item} {t : TablesView} {at : AllocSettings} (kept : TablesMatchItems kernel items t at) where
   -- each of the two tables is that of the items
-  pub table-is : (w : Which) → table_in w t ≡ table_for w kernel items
+  pub table-is : (w : Which) → table_in w t ≡ table_from_items w kernel items
   table-is which.Memory = kept.memory
   table-is which.Reserved = kept.reserved
 
@@ -54,8 +54,8 @@ module _ {kernel : RangeView} {items : List Item} {t : TablesView} {at : AllocSe
   unfolding records_of
   values-are w = ap (λ (rs : List (RunOf LabelView)). value_at rs) (records-are w) ∙ value_at-records (table_of w items) (kept.ends w)
 
-  values-end : (w : Which) → NothingFrom (2 ^ 64) (value_at (records_in w t))
-  values-end w = subst (λ (f : Labels). NothingFrom (2 ^ 64) f) (sym (values-are w)) (kept.ends w)
+  values-end : (w : Which) → IsEmptyFrom (2 ^ 64) (value_at (records_in w t))
+  values-end w = subst (λ (f : Labels). IsEmptyFrom (2 ^ 64) f) (sym (values-are w)) (kept.ends w)
 
   -- a table's records are those of the labels that it gives
   records-again : (w : Which) → records_for (value_at (records_in w t)) ≡ records_in w t
@@ -116,14 +116,14 @@ module _ {kernel : RangeView} {items : List Item} {t : TablesView} {at : AllocSe
   -- a table that an item doesn't change, one that it edits, and one that it moves
   table-stays : (w : Which) (i : Item) → table_after w (table_of w items) i ≡ table_of w items
       → room_after w (room_of w items) i ≡ room_of w items → moved_after w (moved_to w items) i ≡ moved_to w items
-      → table_in w u ≡ table_in w t → table_in w u ≡ table_for w kernel (items ++ i ∷ [])
+      → table_in w u ≡ table_in w t → table_in w u ≡ table_from_items w kernel (items ++ i ∷ [])
   unfolding records_of
   table-stays w i same stays moved is =
       rw (is, table-is kept w, table_of-push, moved_to-push, room_of-push, same, stays, moved) refl
 
   table-edited : (w : Which) (i : Item) → IsQuiet i
       → table_in w u ≡ record (table_in w t) { records = records_for (table_after w (value_at (records_in w t)) i) }
-      → table_in w u ≡ table_for w kernel (items ++ i ∷ [])
+      → table_in w u ≡ table_from_items w kernel (items ++ i ∷ [])
   unfolding records_of
   table-edited w i quiet is =
       rw (is, values-are kept w, place-is kept w, room-is kept w, table_of-push, moved_to-push, room_of-push, quiet.0, quiet.1) refl
@@ -132,13 +132,13 @@ module _ {kernel : RangeView} {items : List Item} {t : TablesView} {at : AllocSe
       → room_after w (room_of w items) (item.Grown w place room) ≡ 2 * room_of w items
       → moved_after w (moved_to w items) (item.Grown w place room) ≡ Some place
       → table_in w u ≡ record (table_in w t) { place = place; room = 2 * room_in w t }
-      → table_in w u ≡ table_for w kernel (items ++ item.Grown w place room ∷ [])
+      → table_in w u ≡ table_from_items w kernel (items ++ item.Grown w place room ∷ [])
   unfolding records_of
   table-moved w place room same twice moved is =
       rw (is, records-are kept w, room-is kept w, table_of-push, moved_to-push, room_of-push, same, twice, moved) refl
 
   table-quiet : (w : Which) (i : Item) → IsQuiet i → ((f : Labels) → table_after w f i ≡ f) → table_in w u ≡ table_in w t
-      → table_in w u ≡ table_for w kernel (items ++ i ∷ [])
+      → table_in w u ≡ table_from_items w kernel (items ++ i ∷ [])
   table-quiet w i quiet same is = table-stays w i (same (table_of w items)) (quiet.0 w (room_of w items)) (quiet.1 w (moved_to w items)) is
 
   few-stays : (w : Which) → table_in w u ≡ table_in w t → length (records_in w u) ≤ room_in w u
@@ -150,8 +150,8 @@ module _ {kernel : RangeView} {items : List Item} {t : TablesView} {at : AllocSe
       let few = few-kept kept w in subst (λ (s : TableView). length s.records ≤ s.room) (sym is) (omega (arith, few))
 
   -- one more item
-  kept-by : (i : Item) (to : AllocSettings) → EndsInSpace i → limit_after at.limit i ≡ to.limit → upward_after at.upward i ≡ to.upward
-      → u.memory ≡ table_for which.Memory kernel (items ++ i ∷ []) → u.reserved ≡ table_for which.Reserved kernel (items ++ i ∷ [])
+  kept-by : (i : Item) (to : AllocSettings) → RangeEndsInAddressSpace i → limit_after at.limit i ≡ to.limit → upward_after at.upward i ≡ to.upward
+      → u.memory ≡ table_from_items which.Memory kernel (items ++ i ∷ []) → u.reserved ≡ table_from_items which.Reserved kernel (items ++ i ∷ [])
       → length u.memory.records ≤ u.memory.room → length u.reserved.records ≤ u.reserved.room
       → ((w : Which) (place : ℕ) → moved_after w (moved_to w items) i ≡ Some place
       → place + round_up_to_frames (24 * room_after w (room_of w items) i) < 2 ^ 64) → TablesMatchItems kernel (items ++ i ∷ []) u to
@@ -166,7 +166,7 @@ module _ {kernel : RangeView} {items : List Item} {t : TablesView} {at : AllocSe
   }
 
   -- an edit of one table
-  kept-reserved : (i : Item) → IsQuiet i → EndsInSpace i → limit_after at.limit i ≡ at.limit → upward_after at.upward i ≡ at.upward
+  kept-reserved : (i : Item) → IsQuiet i → RangeEndsInAddressSpace i → limit_after at.limit i ≡ at.limit → upward_after at.upward i ≡ at.upward
       → ((f : Labels) → table_after which.Memory f i ≡ f)
       → u.reserved ≡ record t.reserved { records = records_for (table_after which.Reserved (value_at t.reserved.records) i) }
       → u.memory ≡ t.memory → length (records_for (table_after which.Reserved (value_at t.reserved.records) i)) ≤ t.reserved.room
@@ -175,7 +175,7 @@ module _ {kernel : RangeView} {items : List Item} {t : TablesView} {at : AllocSe
       kept-by i at space limited directed (table-quiet which.Memory i quiet other same) (table-edited which.Reserved i quiet is)
       (few-stays which.Memory same) (rw is few) (far-quiet kept i quiet)
 
-  kept-memory : (i : Item) → IsQuiet i → EndsInSpace i → limit_after at.limit i ≡ at.limit → upward_after at.upward i ≡ at.upward
+  kept-memory : (i : Item) → IsQuiet i → RangeEndsInAddressSpace i → limit_after at.limit i ≡ at.limit → upward_after at.upward i ≡ at.upward
       → ((f : Labels) → table_after which.Reserved f i ≡ f)
       → u.memory ≡ record t.memory { records = records_for (table_after which.Memory (value_at t.memory.records) i) }
       → u.reserved ≡ t.reserved → length (records_for (table_after which.Memory (value_at t.memory.records) i)) ≤ t.memory.room
@@ -233,7 +233,7 @@ module _ {kernel : RangeView} {items : List Item} {t : TablesView} {at : AllocSe
 
   -- the table that a growth moves, and the other one
   pub kept-grown : (w : Which) (place room : ℕ) → place + round_up_to_frames (48 * room_of w items) < 2 ^ 64
-      → table_in w u ≡ record (table_in w t) { place = place; room = 2 * room_in w t } → other_in w u ≡ other_in w t
+      → table_in w u ≡ record (table_in w t) { place = place; room = 2 * room_in w t } → other_table_in w u ≡ other_table_in w t
       → TablesMatchItems kernel (items ++ item.Grown w place room ∷ []) u at
   kept-grown which.Memory place room small is same =
       kept-by (item.Grown which.Memory place room) at tt refl refl (table-moved which.Memory place room refl refl refl is)
@@ -247,7 +247,7 @@ module _ {kernel : RangeView} {items : List Item} {t : TablesView} {at : AllocSe
 
 -- items that change only the limit or the search direction
 module _ {kernel : RangeView} {items : List Item} {t : TablesView} {at : AllocSettings} (kept : TablesMatchItems kernel items t at) where
-  kept-aimed : (i : Item) (to : AllocSettings) → IsQuiet i → EndsInSpace i → limit_after at.limit i ≡ to.limit
+  kept-aimed : (i : Item) (to : AllocSettings) → IsQuiet i → RangeEndsInAddressSpace i → limit_after at.limit i ≡ to.limit
       → upward_after at.upward i ≡ to.upward → ((f : Labels) → table_after which.Memory f i ≡ f)
       → ((f : Labels) → table_after which.Reserved f i ≡ f) → TablesMatchItems kernel (items ++ i ∷ []) t to
   kept-aimed i to quiet space limited directed first second =

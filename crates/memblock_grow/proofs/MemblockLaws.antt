@@ -11,8 +11,8 @@ use Rattle.memblock_model.specs.Tables.{records_of, table_of, built_in_place}
 use Rattle.memblock_model.proofs.TableLaws.{records_for-is}
 use Rattle.memblock_ranges.specs.Encoding.{encode_table}
 use Rattle.memblock_ranges.specs.Tables.{TableView, TablesView, bytes_of}
-use Rattle.growth_model.specs.Tables.{IsKernelImage, TouchesNoTable, AreDisjoint}
-use Rattle.growth_model.specs.Bytes.{table_for, table_byte_at, byte_with_tables, TablesAreEncoded, is_vacated_by, byte_from_history, Fill, byte_after_fill, Follows}
+use Rattle.growth_model.specs.Tables.{IsKernelImage, OverlapsNoTable, AreDisjoint}
+use Rattle.growth_model.specs.Bytes.{table_from_items, table_byte_at, byte_with_tables, TablesAreEncoded, is_vacated_by, byte_from_history, Fill, byte_after_fill, Follows}
 use Rattle.growth_model.proofs.FirstLaws.{no_table_full, nothing_said}
 use Rattle.growth_model.proofs.SoundLaws.{Stands}
 use Rattle.growth_model.proofs.FollowLaws.{follows-item, follows-stands}
@@ -44,7 +44,7 @@ unfolding records_of
 no_records_at_first w = sym (records_for-is (table_of w []) [] (λ x le. nothing_said w x)
     (record { runs = tt; each = λ x. sym (nothing_said w x) }))
 
-first-is : (w : Which) (kernel : RangeView) → first_table w kernel ≡ table_for w kernel []
+first-is : (w : Which) (kernel : RangeView) → first_table w kernel ≡ table_from_items w kernel []
 first-is w kernel = rw (no_records_at_first w) refl
 
 pub whole-new : (kernel : RangeView) (items : List Item) (t : TablesView) → IsKernelImage kernel → items ≡ []
@@ -67,7 +67,7 @@ whole-new kernel items t image none first second zero = rw none (record {
 
 pub bytes-new : (kernel : RangeView) (x : ℕ) → byte_from_history kernel [] [] x ≡ 0
 unfolding byte_from_history
-bytes-new kernel x = shown-empty (table_for which.Memory kernel []) (table_for which.Reserved kernel []) x
+bytes-new kernel x = shown-empty (table_from_items which.Memory kernel []) (table_from_items which.Reserved kernel []) x
     (no_records_at_first which.Memory) (no_records_at_first which.Reserved)
 
 -- after one item that moves no table
@@ -100,7 +100,7 @@ wrote-put old new fill wrote x =
 pub whole-fill : {kernel : RangeView} {items : List Item} {t : TablesView} (u : TablesView) {at : AllocSettings} (fill : Fill)
     → u.memory ≡ t.memory
     → u.reserved ≡ t.reserved → ((x : ℕ) → byte_of u.store x ≡ byte_after_fill fill x (byte_of t.store x))
-    → TouchesNoTable kernel fill.range items
+    → OverlapsNoTable kernel fill.range items
     → IsMemblock kernel items t at → IsMemblock kernel items u at
 whole-fill {t} u fill first second wrote away m =
     let memory : AreDisjoint fill.range (bytes_of t.memory) = rw m.kept.memory away.0 in

@@ -18,7 +18,7 @@ use Rattle.growth_model.specs.declared.refusal.Refusal.TheVariants as refusal
 use Rattle.growth_model.specs.Change.{ChangeEffect, Change, ◌>>◌, write_item}
 use Rattle.growth_model.specs.Growth.{round_up_to_frames, frames_for_bytes, table_query, old_frames, claim_range, free_old_place, memory_growth_at, memory_growth}
 use Rattle.growth_model.specs.Ends.{EndsAsEffect, EndsAsChange}
-use Rattle.growth_model.specs.Tables.{IsUnclaimed, TablesAreClaimed, TouchesNoTable}
+use Rattle.growth_model.specs.Tables.{IsUnclaimed, TablesAreClaimed, OverlapsNoTable}
 use Rattle.growth_model.specs.Bytes.{byte_with_tables, byte_without_table, TablesAreEncoded, Follows}
 use Rattle.growth_model.proofs.EndLaws.{EndsAsChange-second, EndsAsChange-first, EndsAsChange-step, EndsAsChange-wanting, EndsAsChange-refused}
 use Rattle.growth_model.proofs.SeatLaws.{frames-more}
@@ -26,7 +26,7 @@ use Rattle.growth_model.proofs.FoundLaws.{found-unclaimed, away-within, away-apa
 use Rattle.growth_model.proofs.PlacedMemoryLaws.{IsTaken, claim_range-taken}
 use Rattle.growth_model.proofs.FollowLaws.{follows-grown, follows-then, follows-stands}
 use Rattle.memblock_grow.specs.declared.places.AllocSettings.{AllocSettings}
-use Rattle.memblock_grow.specs.Invariant.{TablesMatchItems, IsMemblock, AllowsFree, KeepsTables, KeepsBytes}
+use Rattle.memblock_grow.specs.Invariant.{TablesMatchItems, IsMemblock, AllowsFree, KeepsTables, BytesFollowItems}
 use Rattle.memblock_grow.specs.Places.{frames_between}
 use Rattle.memblock_grow.proofs.KeptLaws.{room-is, kept-grown}
 use Rattle.memblock_grow.proofs.ChangeLaws.{handed}
@@ -160,7 +160,7 @@ module _ {kernel : RangeView} {items mid : List Item} {t k r : TablesView} {at :
       let here = m.here in
       kept-grown after r which.Memory base room (rw same (omega (arith, size, ends, here))) m.table m.other
 
-  memory-bytes : TablesAreEncoded t.memory t.reserved (byte_of t.store) → KeepsBytes items t mid k at
+  memory-bytes : TablesAreEncoded t.memory t.reserved (byte_of t.store) → BytesFollowItems items t mid k at
       → Follows kernel items (mid ++ item.Grown which.Memory base room ∷ []) (byte_of t.store) (byte_of r.store)
   memory-bytes spelled bytes =
       follows-then _ _ _ _ _ _ _ (bytes kernel kept spelled)
@@ -169,7 +169,7 @@ module _ {kernel : RangeView} {items mid : List Item} {t k r : TablesView} {at :
 
 -- a table's old place may be freed if it overlaps neither table
 free-by : {kernel : RangeView} {is : List Item} {t : TablesView} {at : AllocSettings} (n : ℕ) (o : Option ℕ) {left : Option RangeView}
-    → IsMemblock kernel is t at → ((q : ℕ) → o ≡ Some q → TouchesNoTable kernel (frames_for_bytes q (24 * n)) is) → left ≡ old_frames n o
+    → IsMemblock kernel is t at → ((q : ℕ) → o ≡ Some q → OverlapsNoTable kernel (frames_for_bytes q (24 * n)) is) → left ≡ old_frames n o
     → IfSome left (λ range. AllowsFree is t at range)
 free-by n None whole away h = rw h tt
 free-by {kernel} n (Some q) whole away h = rw h (kernel, whole, away q refl)
@@ -181,11 +181,11 @@ module _ (base room : ℕ) {items mid next : List Item} {t k r : TablesView} {at
   pub memory-keeps : KeepsTables items t next r at
   memory-keeps = λ kernel kept. rw is (memory-kept kept m keeps room)
 
-  pub memory-tells : KeepsBytes items t mid k at → KeepsBytes items t next r at
+  pub memory-tells : BytesFollowItems items t mid k at → BytesFollowItems items t next r at
   memory-tells bytes = λ kernel kept spelled. rw is (memory-bytes kept m keeps room spelled bytes)
 
   -- the invariant before the old place is freed
-  module _ (bytes : KeepsBytes items t mid k at) (twice : room ≡ 2 * room_of which.Memory items) {kernel : RangeView}
+  module _ (bytes : BytesFollowItems items t mid k at) (twice : room ≡ 2 * room_of which.Memory items) {kernel : RangeView}
       (whole : IsMemblock kernel items t at)
       (taken : IsTaken kernel mid (room_of which.Memory items) (moved_to which.Memory items) place.base) where
     memory-stands : IsMemblock kernel next r at

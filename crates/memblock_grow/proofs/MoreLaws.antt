@@ -13,7 +13,7 @@ use Rattle.growth_model.specs.declared.refusal.Refusal.{Refusal}
 use Rattle.growth_model.specs.Change.{Change}
 use Rattle.growth_model.specs.Growth.{is_full, record_count, make_table_room, reserved_growth, memory_growth}
 use Rattle.growth_model.specs.Ends.{EndsAsChange}
-use Rattle.growth_model.specs.Tables.{HasBegun}
+use Rattle.growth_model.specs.Tables.{HasFirstItem}
 use Rattle.growth_model.specs.Room.{IsInAddressSpace, HasRoomAfter}
 use Rattle.growth_model.proofs.FirstLaws.{no_records}
 use Rattle.growth_model.proofs.RoomLaws.{enough-claimed, enough-freed, enough-added, enough-labelled}
@@ -21,7 +21,7 @@ use Rattle.memblock_grow.specs.declared.places.AllocSettings.{AllocSettings}
 use Rattle.memblock_grow.specs.declared.new_records.MaxNewRecords.{MaxNewRecords}
 use Rattle.memblock_grow.specs.declared.new_records.MaxNewRecords.TheVariants as more
 use Rattle.memblock_grow.specs.Invariant.{TablesMatchItems}
-use Rattle.memblock_grow.specs.NewRecords.{new_records_by_items, new_records_in_table, HasRoomFor, RangeEndsInSpace}
+use Rattle.memblock_grow.specs.NewRecords.{new_records_by_items, new_records_in_table, HasRoomFor, RangeEndsBelow2To64}
 use Rattle.memblock_grow.proofs.KeptLaws.{records-are, room-is, values-are}
 
 module _ {kernel : RangeView} {items : List Item} {t : TablesView} {at : AllocSettings} (kept : TablesMatchItems kernel items t at) where
@@ -39,7 +39,7 @@ module _ {kernel : RangeView} {items : List Item} {t : TablesView} {at : AllocSe
   room-of w m h = let full = full-is w m ∙ h in grind (arith, nat_tests, full)
 
 -- before the first item no table is full
-few-more : (m : MaxNewRecords) → RangeEndsInSpace m → new_records_by_items which.Reserved m [] ≤ 2
+few-more : (m : MaxNewRecords) → RangeEndsBelow2To64 m → new_records_by_items which.Reserved m [] ≤ 2
 unfolding records_of
 few-more (more.PiecesOf range) ends =
     let few = few-pieces range (table_of which.Reserved []) (omega arith) (λ x le. refl) in
@@ -47,9 +47,9 @@ few-more (more.PiecesOf range) ends =
     omega (arith, few, none)
 few-more more.Two ends = omega arith
 
-pub full-begun : (m : MaxNewRecords) (items : List Item) → RangeEndsInSpace m
+pub full-begun : (m : MaxNewRecords) (items : List Item) → RangeEndsBelow2To64 m
     → is_full which.Reserved (new_records_by_items which.Reserved m) items ≡ true
-    → HasBegun items
+    → HasFirstItem items
 unfolding records_of
 full-begun m [] ends h =
     let none = no_records (table_of which.Reserved []) (λ x. refl) in
@@ -64,12 +64,12 @@ module _ {kernel : RangeView} {items : List Item} {t : TablesView} {at : AllocSe
   pub space-of : IsInAddressSpace items
   space-of = record { ends = kept.ends; limit = subst (λ (n : ℕ). n ≤ 2 ^ 64) (sym kept.limit) low }
 
-  pub reserved-enough : (m : MaxNewRecords) (avoid : RangeView) → RangeEndsInSpace m
+  pub reserved-enough : (m : MaxNewRecords) (avoid : RangeView) → RangeEndsBelow2To64 m
       → HasRoomAfter which.Reserved (new_records_by_items which.Reserved m) (reserved_growth avoid) items
   reserved-enough (more.PiecesOf range) avoid ends = enough-claimed avoid range items space-of kept.fits (omega arith)
   reserved-enough more.Two avoid ends = enough-freed avoid items space-of kept.fits
 
-  pub memory-enough : (m : MaxNewRecords) → RangeEndsInSpace m
+  pub memory-enough : (m : MaxNewRecords) → RangeEndsBelow2To64 m
       → HasRoomAfter which.Memory (new_records_by_items which.Memory m) memory_growth items
   memory-enough (more.PiecesOf range) ends = enough-added range items space-of kept.fits (omega arith)
   memory-enough more.Two ends = enough-labelled items space-of kept.fits

@@ -12,11 +12,11 @@ use Rattle.memblock_model.specs.declared.item.Item.TheVariants as item
 use Rattle.growth_model.specs.declared.refusal.Refusal.{Refusal}
 use Rattle.growth_model.specs.declared.refusal.Refusal.TheVariants as refusal
 use Rattle.growth_model.specs.Growth.{frames_for_bytes}
-use Rattle.memblock_grow.specs.Prepared.{grows_over, is_grown_over, Prepares, PreparesWith, PreparesBy}
+use Rattle.memblock_grow.specs.Prepared.{moves_table_over, is_moved_over_by_table, Prepares, PreparesPlaceToo, PreparesAsResult}
 
-grown-append : (a b : List Item) (x : ℕ) → is_grown_over (a ++ b) x ≡ (is_grown_over a x || is_grown_over b x)
+grown-append : (a b : List Item) (x : ℕ) → is_moved_over_by_table (a ++ b) x ≡ (is_moved_over_by_table a x || is_moved_over_by_table b x)
 grown-append [] b x = refl
-grown-append (i ∷ is) b x = rw (grown-append is b x) (sym (or_assoc (grows_over i x) (is_grown_over is x) (is_grown_over b x)))
+grown-append (i ∷ is) b x = rw (grown-append is b x) (sym (or_assoc (moves_table_over i x) (is_moved_over_by_table is x) (is_moved_over_by_table b x)))
 
 -- the addresses that further items and a place prepare, in another order
 swap : (g h c s : Bool) → (h || (c || (g || s))) ≡ ((g || h) || (c || s))
@@ -29,19 +29,19 @@ prepares-then {s} first second = record {
   more = first.more ++ second.more;
   goes_on = second.goes_on ∙ ap (λ (is : List Item). is ++ second.more) first.goes_on ∙ append_assoc _ first.more second.more;
   each = λ x. rw (second.each x, first.each x, grown-append first.more second.more x)
-      (swap (is_grown_over first.more x) (is_grown_over second.more x) false (is_prepared_at s x));
+      (swap (is_moved_over_by_table first.more x) (is_moved_over_by_table second.more x) false (is_prepared_at s x));
 }
 
 -- an item that is no growth prepares nothing
 pub prepares-item : (i : Item) {old mid new : List Item} {s t u : List ExtentView} → Prepares old mid s t → new ≡ mid ++ i ∷ []
-    → ((x : ℕ) → grows_over i x ≡ false) → ((x : ℕ) → is_prepared_at u x ≡ is_prepared_at t x) → Prepares old new s u
+    → ((x : ℕ) → moves_table_over i x ≡ false) → ((x : ℕ) → is_prepared_at u x ≡ is_prepared_at t x) → Prepares old new s u
 prepares-item i first is none same =
     prepares-then first (record { more = i ∷ []; goes_on = is; each = λ x. rw (none x) (same x) })
 
 -- a call after a place was prepared
 pub prepares-with : {place : RangeView} {items longer : List Item} {s p t : List ExtentView}
     → ((x : ℕ) → is_prepared_at p x ≡ (covers place x || is_prepared_at s x)) → Prepares items longer p t
-    → PreparesWith place items longer s t
+    → PreparesPlaceToo place items longer s t
 prepares-with first h = record {
   more = h.more;
   goes_on = h.goes_on;
@@ -49,12 +49,12 @@ prepares-with first h = record {
 }
 
 with-then : {place : RangeView} {items mid last : List Item} {s t u : List ExtentView} → Prepares items mid s t
-    → PreparesWith place mid last t u → PreparesWith place items last s u
+    → PreparesPlaceToo place mid last t u → PreparesPlaceToo place items last s u
 with-then {place} {s} first second = record {
   more = first.more ++ second.more;
   goes_on = second.goes_on ∙ ap (λ (is : List Item). is ++ second.more) first.goes_on ∙ append_assoc _ first.more second.more;
   each = λ x. rw (second.each x, first.each x, grown-append first.more second.more x)
-      (swap (is_grown_over first.more x) (is_grown_over second.more x) (covers place x) (is_prepared_at s x));
+      (swap (is_moved_over_by_table first.more x) (is_moved_over_by_table second.more x) (covers place x) (is_prepared_at s x));
 }
 
 -- a table grew into that place, with twice the room
@@ -62,7 +62,7 @@ join : (g c s : Bool) → (g || (c || s)) ≡ ((g || (c || false)) || s)
 join g c s = grind arith
 
 pub with-growth : (w : Which) (n : ℕ) {items mid longer : List Item} {base room : ℕ} {place : RangeView} {s t u : List ExtentView}
-    → PreparesWith place items mid s t → longer ≡ mid ++ item.Grown w base room ∷ [] → base ≡ place.base → room ≡ 2 * n
+    → PreparesPlaceToo place items mid s t → longer ≡ mid ++ item.Grown w base room ∷ [] → base ≡ place.base → room ≡ 2 * n
     → place ≡ frames_for_bytes place.base (48 * n) → ((x : ℕ) → is_prepared_at u x ≡ is_prepared_at t x) → Prepares items longer s u
 with-growth w n {base} {room} {place} {s} h is here twice frames same =
     let i : Item = item.Grown w base room in
@@ -73,7 +73,7 @@ with-growth w n {base} {room} {place} {s} h is here twice frames same =
       more = h.more ++ i ∷ [];
       goes_on = is ∙ ap (λ (is : List Item). is ++ i ∷ []) h.goes_on ∙ append_assoc _ h.more (i ∷ []);
       each = λ x. rw (same x, h.each x, grown-append h.more (i ∷ []) x, whole)
-          (join (is_grown_over h.more x) (grows_over i x) (is_prepared_at s x));
+          (join (is_moved_over_by_table h.more x) (moves_table_over i x) (is_prepared_at s x));
     }
 
 pub prepares-growth : (w : Which) (n : ℕ) {items longer : List Item} {base room : ℕ} {place : RangeView} {s t : List ExtentView}
@@ -88,7 +88,7 @@ abbrev nowhere : RangeView
 nowhere = record { base = 0; size = 0 }
 
 pub by-exact : {T : Type 0} (r : Result T Refusal) {items longer : List Item} {s t : List ExtentView} → Prepares items longer s t
-    → PreparesBy r items longer s t
+    → PreparesAsResult r items longer s t
 by-exact (Ok x) h = h
 by-exact (Err refusal.NoGap) h = h
 by-exact (Err (refusal.NoGapForTable w room)) h = h
@@ -103,18 +103,18 @@ by-exact (Err refusal.Memory) {s} h = (
 
 -- no further item was written, and no item at all was written
 pub by-item : {T : Type 0} (r : Result T Refusal) {items mid longer : List Item} {s t : List ExtentView} → longer ≡ mid
-    → Prepares items mid s t → PreparesBy r items longer s t
+    → Prepares items mid s t → PreparesAsResult r items longer s t
 by-item r {items} {s} {t} same h = by-exact r (subst (λ (l : List Item). Prepares items l s t) (sym same) h)
 
 pub none-on-err : {T : Type 0} (r : Result T Refusal) (items : List Item) {s t : List ExtentView} → t ≡ s
-    → OnErr r (PreparesBy r items items s t)
+    → OnErr r (PreparesAsResult r items items s t)
 none-on-err (Ok x) items same = tt
 none-on-err {T} (Err e) items same = by-exact {T = T} (Err e)
     (record { more = []; goes_on = sym (append-nil items); each = λ x. ap (λ (u : List ExtentView). is_prepared_at u x) same })
 
 -- a call after others, and an error that is passed on
 pub by-then : {T : Type 0} (r : Result T Refusal) {items mid : List Item} (last : List Item) {s t : List ExtentView} (u : List ExtentView)
-    → Prepares items mid s t → PreparesBy r mid last t u → PreparesBy r items last s u
+    → Prepares items mid s t → PreparesAsResult r mid last t u → PreparesAsResult r items last s u
 by-then (Ok x) last u first second = prepares-then first second
 by-then (Err refusal.NoGap) last u first second = prepares-then first second
 by-then (Err (refusal.NoGapForTable w room)) last u first second = prepares-then first second

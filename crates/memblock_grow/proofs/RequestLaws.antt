@@ -12,7 +12,7 @@ use Rattle.memblock_model.specs.declared.query.Request.{Request}
 use Rattle.growth_model.specs.Growth.{claim_range}
 use Rattle.growth_model.specs.Request.{Attempt, attempt, any_node_attempt, node_attempts, attempts, first_found_place, place_for}
 use Rattle.growth_model.specs.Ends.{EndsAsChange, Allocates}
-use Rattle.growth_model.specs.Tables.{HasBegun}
+use Rattle.growth_model.specs.Tables.{HasFirstItem}
 use Rattle.growth_model.proofs.EndLaws.{EndsAsChange-error}
 use Rattle.growth_model.proofs.FoundLaws.{place-unclaimed, place-within, unclaimed-away}
 use Rattle.growth_model.proofs.SoundLaws.{may-away}
@@ -52,7 +52,7 @@ module _ {kernel : RangeView} {items : List Item} {t : TablesView} {at : AllocSe
       let high = place-within r items place found in let limit = kept.limit in omega (arith, high, limit, small)
 
 pub place-allowed : {kernel : RangeView} {items : List Item} {t : TablesView} {at : AllocSettings} (r : Request) {place : ℕ} (who : Owner)
-    → IsMemblock kernel items t at → HasBegun items → place_for r items ≡ Some place
+    → IsMemblock kernel items t at → HasFirstItem items → place_for r items ≡ Some place
     → AllowsClaim items t at (record { base = place; size = r.size }) who
 place-allowed {kernel} {items} r {place} who whole begun found =
     let range : RangeView = record { base = place; size = r.size } in (

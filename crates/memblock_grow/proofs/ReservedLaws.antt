@@ -30,7 +30,7 @@ use Rattle.growth_model.proofs.SeatLaws.{covers-to}
 use Rattle.growth_model.proofs.FoundLaws.{beside-new, found-apart}
 use Rattle.growth_model.proofs.FollowLaws.{follows-still, follows-item, follows-grown, follows-then}
 use Rattle.memblock_grow.specs.declared.places.AllocSettings.{AllocSettings}
-use Rattle.memblock_grow.specs.Invariant.{TablesMatchItems, ChangesOnlyTables, KeepsTables, KeepsBytes}
+use Rattle.memblock_grow.specs.Invariant.{TablesMatchItems, ChangesOnlyTables, KeepsTables, BytesFollowItems}
 use Rattle.memblock_grow.specs.Prepared.{Prepares}
 use Rattle.memblock_grow.specs.Places.{frames_beside, old_place_frames}
 use Rattle.memblock_grow.proofs.KeptLaws.{values-are, room-is, few-kept, few-covered, kept-same, kept-claim, kept-free, kept-grown}
@@ -225,7 +225,7 @@ module _ {kernel : RangeView} {items : List Item} {t p r v : TablesView} {at : A
 -- the state after the claim of the new place
 pub record Claimed (items longer : List Item) (t v : TablesView) (at : AllocSettings) : Type 0 where
   pub kept : KeepsTables items t longer v at
-  pub bytes : KeepsBytes items t longer v at
+  pub bytes : BytesFollowItems items t longer v at
   pub room : (kernel : RangeView) → TablesMatchItems kernel items t at → length v.reserved.records + 2 ≤ v.reserved.room
 
 pub claimed : (room : ℕ) {items longer : List Item} {t p r v : TablesView} {at : AllocSettings} {base : ℕ} {place : RangeView}
@@ -248,7 +248,7 @@ module _ (range : RangeView) {items longer new : List Item} {t v : TablesView} (
   pub freed-keeps : KeepsTables items t new u at
   freed-keeps = λ kernel kept. rw is (freed-kept kernel kept)
 
-  pub freed-tells : ChangesOnlyTables v u → KeepsBytes items t new u at
+  pub freed-tells : ChangesOnlyTables v u → BytesFollowItems items t new u at
   freed-tells told = λ kernel kept spelled.
       let after = freed-kept kernel kept in
       rw is (follows-then _ _ _ _ _ _ _ (c.bytes kernel kept spelled)
@@ -256,7 +256,7 @@ module _ (range : RangeView) {items longer new : List Item} {t v : TablesView} (
 
 -- no item was written
 pub still-bytes : {items longer : List Item} {t : TablesView} (p : TablesView) {at : AllocSettings} → longer ≡ items
-    → ((x : ℕ) → byte_of p.store x ≡ byte_of t.store x) → KeepsBytes items t longer p at
+    → ((x : ℕ) → byte_of p.store x ≡ byte_of t.store x) → BytesFollowItems items t longer p at
 still-bytes p none same = λ kernel kept spelled. rw none (follows-still _ _ _ _ _ _ kept.memory kept.reserved spelled same)
 
 -- the move prepares the frames of the place, and their claim prepares nothing

@@ -2,7 +2,7 @@
 -- claimed memory.
 use Rattle.std.specs.Prelude.{◌≡◌, ℕ, ◌+◌, ◌*◌, ◌^◌, ◌<◌, Bool, Some, List, IsTrue}
 use Rattle.bm_base.specs.Range.{RangeView}
-use Rattle.address_runs.specs.Edits.{NothingFrom}
+use Rattle.address_runs.specs.Edits.{IsEmptyFrom}
 use Rattle.phys_store.specs.Bytes.{ExtentView, byte_of, is_prepared_at}
 use Rattle.memblock_model.specs.declared.owner.Which.{Which}
 use Rattle.memblock_model.specs.declared.owner.Which.TheVariants as which
@@ -12,8 +12,8 @@ use Rattle.memblock_model.specs.Items.{limit_of, upward_of}
 use Rattle.memblock_model.specs.Tables.{table_of, room_of, moved_to}
 use Rattle.memblock_ranges.specs.Tables.{TablesView}
 use Rattle.growth_model.specs.Growth.{round_up_to_frames}
-use Rattle.growth_model.specs.Tables.{TablesHaveRoom, TablesAreClaimed, IsKernelImage, HasBegun, TouchesNoTable, MayClaim}
-use Rattle.growth_model.specs.Bytes.{table_for, byte_with_tables, TablesAreEncoded, Follows}
+use Rattle.growth_model.specs.Tables.{TablesHaveRoom, TablesAreClaimed, IsKernelImage, HasFirstItem, OverlapsNoTable, MayClaim}
+use Rattle.growth_model.specs.Bytes.{table_from_items, byte_with_tables, TablesAreEncoded, Follows}
 use Rattle.memblock_grow.specs.declared.places.AllocSettings.{AllocSettings}
 
 -- the settings of allocations, from the limit and the direction of searches
@@ -23,11 +23,11 @@ alloc_settings limit upward = record { limit = limit; upward = upward }
 -- the tables, the limit and the direction of searches are those of the items; each table has room
 -- for its records; and the frames of a place that a table moved to end below 2^64
 pub record TablesMatchItems (kernel : RangeView) (items : List Item) (t : TablesView) (at : AllocSettings) : Type 0 where
-  pub memory : t.memory ≡ table_for which.Memory kernel items
-  pub reserved : t.reserved ≡ table_for which.Reserved kernel items
+  pub memory : t.memory ≡ table_from_items which.Memory kernel items
+  pub reserved : t.reserved ≡ table_from_items which.Reserved kernel items
   pub limit : limit_of items ≡ at.limit
   pub upward : upward_of items ≡ at.upward
-  pub ends : (w : Which) → NothingFrom (2 ^ 64) (table_of w items)
+  pub ends : (w : Which) → IsEmptyFrom (2 ^ 64) (table_of w items)
   pub fits : TablesHaveRoom items
   pub far : (w : Which) (place : ℕ) → moved_to w items ≡ Some place → place + round_up_to_frames (24 * room_of w items) < 2 ^ 64
 
@@ -36,27 +36,27 @@ pub record TablesMatchItems (kernel : RangeView) (items : List Item) (t : Tables
 pub record IsMemblock (kernel : RangeView) (items : List Item) (t : TablesView) (at : AllocSettings) : Type 0 where
   pub image : IsKernelImage kernel
   pub kept : TablesMatchItems kernel items t at
-  pub placed : HasBegun items → TablesAreClaimed kernel items
+  pub placed : HasFirstItem items → TablesAreClaimed kernel items
   pub spelled : TablesAreEncoded t.memory t.reserved (byte_of t.store)
 
 -- the invariant holds for some range of the kernel's image; or for one that also allows the claim,
 -- or the free
-abbrev pub IsSomeMemblock : List Item → TablesView → AllocSettings → Type 0
-IsSomeMemblock items t at = (kernel : RangeView) × IsMemblock kernel items t at
+abbrev pub IsMemblockForSomeKernel : List Item → TablesView → AllocSettings → Type 0
+IsMemblockForSomeKernel items t at = (kernel : RangeView) × IsMemblock kernel items t at
 
 abbrev pub AllowsClaim : List Item → TablesView → AllocSettings → RangeView → Owner → Type 0
 AllowsClaim items t at range who = (kernel : RangeView) × IsMemblock kernel items t at × MayClaim kernel items range who
 
 abbrev pub AllowsFree : List Item → TablesView → AllocSettings → RangeView → Type 0
-AllowsFree items t at range = (kernel : RangeView) × IsMemblock kernel items t at × TouchesNoTable kernel range items
+AllowsFree items t at range = (kernel : RangeView) × IsMemblock kernel items t at × OverlapsNoTable kernel range items
 
 -- the tables are again those of the items, for every range of the kernel's image
 abbrev pub KeepsTables : List Item → TablesView → List Item → TablesView → AllocSettings → Type 0
 KeepsTables items t longer u at = (kernel : RangeView) → TablesMatchItems kernel items t at → TablesMatchItems kernel longer u at
 
 -- each byte becomes what the further items make of it
-abbrev pub KeepsBytes : List Item → TablesView → List Item → TablesView → AllocSettings → Type 0
-KeepsBytes items t longer u at =
+abbrev pub BytesFollowItems : List Item → TablesView → List Item → TablesView → AllocSettings → Type 0
+BytesFollowItems items t longer u at =
     (kernel : RangeView) → TablesMatchItems kernel items t at → TablesAreEncoded t.memory t.reserved (byte_of t.store)
     → Follows kernel items longer (byte_of t.store) (byte_of u.store)
 

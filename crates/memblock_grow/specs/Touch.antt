@@ -6,5 +6,5 @@ use Rattle.memblock_model.specs.declared.item.Item.{Item}
 use Rattle.memblock_model.specs.Tables.{table_bytes}
 
 -- some address of the range is a byte of a table of the items
-abbrev pub TouchesTable : RangeView → RangeView → List Item → Type 0
-TouchesTable kernel range items = (w : Which) × Meet (table_bytes w kernel items) range
+abbrev pub OverlapsTableOfItems : RangeView → RangeView → List Item → Type 0
+OverlapsTableOfItems kernel range items = (w : Which) × Meet (table_bytes w kernel items) range

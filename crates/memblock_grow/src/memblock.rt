@@ -11,7 +11,7 @@
 
 ghost use Rattle.std.specs.Prelude.{◌≡◌, ℕ, ◌+◌, ◌-◌, ◌*◌, ◌^◌, ◌<◌, ◌≤◌, ◌↔◌, ◌||◌, false, max, Some, [], ◌++◌, length, OnOk, OnErr, IfOk, IfSome, IsOk, IsTrue};
 ghost use Rattle.bm_base.specs.Range.{covers};
-ghost use Rattle.address_runs.specs.Edits.{NothingFrom};
+ghost use Rattle.address_runs.specs.Edits.{IsEmptyFrom};
 ghost use Rattle.phys_store.specs.Bytes.{ArePrepared, byte_of, is_prepared_at, bytes_at};
 ghost use Rattle.memblock_model.specs.declared.owner.Which.{Which as AnyWhich};
 ghost use Rattle.memblock_model.specs.declared.owner.Which.TheVariants as tables_of;
@@ -20,16 +20,16 @@ ghost use Rattle.memblock_model.specs.Items.{memory_of};
 ghost use Rattle.memblock_model.specs.Tables.{records_of, room_of, table_place, table_bytes};
 ghost use Rattle.memblock_model.specs.Search.{best_place};
 ghost use Rattle.memblock_ranges.specs.Encoding.{encode_table};
-ghost use Rattle.memblock_ranges.specs.Tables.{head_of, IsInStore, HaveNoNode};
-ghost use Rattle.growth_model.specs.Growth.{claim_range, free_range, add_range, set_range_node, set_range_mirror, count_uncovered_pieces, split_record_count, is_full};
+ghost use Rattle.memblock_ranges.specs.Tables.{head_of, IsInStore, ArePlainRecords};
+ghost use Rattle.growth_model.specs.Growth.{claim_range, free_range, add_range, set_range_node, set_range_mirror, count_uncovered_pieces, max_records_added_by_split, is_full};
 ghost use Rattle.growth_model.specs.Ends.{EndsAsChange, Allocates};
 ghost use Rattle.growth_model.specs.Request.{place_for};
-ghost use Rattle.growth_model.specs.Tables.{TablesAreSound, IsKernelImage, HasBegun, TouchesNoTable, MayClaim};
-ghost use Rattle.growth_model.specs.Bytes.{table_for, TablesAreEncoded, byte_from_history, byte_after_fill};
+ghost use Rattle.growth_model.specs.Tables.{TablesAreSound, IsKernelImage, HasFirstItem, OverlapsNoTable, MayClaim};
+ghost use Rattle.growth_model.specs.Bytes.{table_from_items, TablesAreEncoded, byte_from_history, byte_after_fill};
 ghost use Rattle.memblock_grow.specs.Continues.{AppendsItem, ContinuesMemblock};
 ghost use Rattle.memblock_grow.specs.Invariant.{StayPrepared};
-ghost use Rattle.memblock_grow.specs.Prepared.{Prepares, PreparesBy};
-ghost use Rattle.memblock_grow.specs.Touch.{TouchesTable};
+ghost use Rattle.memblock_grow.specs.Prepared.{Prepares, PreparesAsResult};
+ghost use Rattle.memblock_grow.specs.Touch.{OverlapsTableOfItems};
 
 use crate::places::AllocSettings;
 use crate::table_laws::tables_are_in_store;
@@ -135,9 +135,9 @@ impl Memblock {
         ensures ends { EndsAsChange result self.old.journal.items self.new.journal.items
             (claim_range range owner) }
         ensures goes_on { ContinuesMemblock self.old self.new }
-        ensures away { HasBegun self.old.journal.items
-            → TouchesNoTable self.old.kernel range self.old.journal.items →
-            OnOk result (TouchesNoTable self.new.kernel range self.new.journal.items) }
+        ensures away { HasFirstItem self.old.journal.items
+            → OverlapsNoTable self.old.kernel range self.old.journal.items →
+            OnOk result (OverlapsNoTable self.new.kernel range self.new.journal.items) }
         ensures prepared { Prepares self.old.journal.items self.new.journal.items
             self.old.tables.store self.new.tables.store }
         ensures ready { 0 < self.old.journal.spare →
@@ -159,15 +159,15 @@ impl Memblock {
     /// - `Memory` if this program is out of memory.
     pub fn free(&mut self, range: Range) -> Result<(), Refusal>
         requires some { 0 < range.size }
-        requires begun { HasBegun self.old.journal.items }
-        requires away { TouchesNoTable self.old.kernel range self.old.journal.items }
+        requires begun { HasFirstItem self.old.journal.items }
+        requires away { OverlapsNoTable self.old.kernel range self.old.journal.items }
         ensures ends { EndsAsChange result self.old.journal.items self.new.journal.items
             (free_range range) }
         ensures goes_on { ContinuesMemblock self.old self.new }
         ensures prepared { Prepares self.old.journal.items self.new.journal.items
             self.old.tables.store self.new.tables.store }
         ensures ready { 0 < self.old.journal.spare
-            → is_full tables_of.Reserved split_record_count self.old.journal.items ≡ false →
+            → is_full tables_of.Reserved max_records_added_by_split self.old.journal.items ≡ false →
             IsOk result × (self.new.journal.spare ≡ self.old.journal.spare - 1) }
     {
         reserved::free(&mut self.journal, &mut self.tables, self.aim, range)
@@ -184,11 +184,11 @@ impl Memblock {
     /// - `Memory` if this program is out of memory.
     pub fn add_memory(&mut self, range: Range) -> Result<(), Refusal>
         requires some { 0 < range.size }
-        requires begun { HasBegun self.old.journal.items }
+        requires begun { HasFirstItem self.old.journal.items }
         ensures ends { EndsAsChange result self.old.journal.items self.new.journal.items
             (add_range range) }
         ensures goes_on { ContinuesMemblock self.old self.new }
-        ensures prepared { PreparesBy result self.old.journal.items self.new.journal.items
+        ensures prepared { PreparesAsResult result self.old.journal.items self.new.journal.items
             self.old.tables.store self.new.tables.store }
         ensures ready { 0 < self.old.journal.spare →
             is_full tables_of.Memory
@@ -210,14 +210,14 @@ impl Memblock {
     pub fn set_node(&mut self, range: Range, node: u32) -> Result<(), Refusal>
         requires some { 0 < range.size }
         requires node { node < 1024 }
-        requires begun { HasBegun self.old.journal.items }
+        requires begun { HasFirstItem self.old.journal.items }
         ensures ends { EndsAsChange result self.old.journal.items self.new.journal.items
             (set_range_node range node) }
         ensures goes_on { ContinuesMemblock self.old self.new }
-        ensures prepared { PreparesBy result self.old.journal.items self.new.journal.items
+        ensures prepared { PreparesAsResult result self.old.journal.items self.new.journal.items
             self.old.tables.store self.new.tables.store }
         ensures ready { 0 < self.old.journal.spare
-            → is_full tables_of.Memory split_record_count self.old.journal.items ≡ false →
+            → is_full tables_of.Memory max_records_added_by_split self.old.journal.items ≡ false →
             IsOk result × (self.new.journal.spare ≡ self.old.journal.spare - 1) }
     {
         memory::set_node(&mut self.journal, &mut self.tables, self.aim, range, node)
@@ -234,14 +234,14 @@ impl Memblock {
     /// - `Memory` if this program is out of memory.
     pub fn set_mirror(&mut self, range: Range) -> Result<(), Refusal>
         requires some { 0 < range.size }
-        requires begun { HasBegun self.old.journal.items }
+        requires begun { HasFirstItem self.old.journal.items }
         ensures ends { EndsAsChange result self.old.journal.items self.new.journal.items
             (set_range_mirror range) }
         ensures goes_on { ContinuesMemblock self.old self.new }
-        ensures prepared { PreparesBy result self.old.journal.items self.new.journal.items
+        ensures prepared { PreparesAsResult result self.old.journal.items self.new.journal.items
             self.old.tables.store self.new.tables.store }
         ensures ready { 0 < self.old.journal.spare
-            → is_full tables_of.Memory split_record_count self.old.journal.items ≡ false →
+            → is_full tables_of.Memory max_records_added_by_split self.old.journal.items ≡ false →
             IsOk result × (self.new.journal.spare ≡ self.old.journal.spare - 1) }
     {
         memory::set_mirror(&mut self.journal, &mut self.tables, self.aim, range)
@@ -253,7 +253,7 @@ impl Memblock {
     ///
     /// `Memory` if this program is out of memory. Nothing is then changed.
     pub fn trim(&mut self) -> Result<(), Memory>
-        requires { HasBegun self.old.journal.items }
+        requires { HasFirstItem self.old.journal.items }
         ensures appends { AppendsItem result item.Trim self.old self.new }
         ensures goes_on { ContinuesMemblock self.old self.new }
         ensures prepared { (x : ℕ)
@@ -272,7 +272,7 @@ impl Memblock {
     ///
     /// `Memory` if this program is out of memory. Nothing is then changed.
     pub fn set_limit(&mut self, at: u64) -> Result<(), Memory>
-        requires { HasBegun self.old.journal.items }
+        requires { HasFirstItem self.old.journal.items }
         ensures appends { AppendsItem result (item.Limit at) self.old self.new }
         ensures goes_on { ContinuesMemblock self.old self.new }
         ensures tables { self.new.tables ≡ self.old.tables }
@@ -289,7 +289,7 @@ impl Memblock {
     ///
     /// `Memory` if this program is out of memory. Nothing is then changed.
     pub fn set_upward(&mut self, on: bool) -> Result<(), Memory>
-        requires { HasBegun self.old.journal.items }
+        requires { HasFirstItem self.old.journal.items }
         ensures appends { AppendsItem result (item.Upward on) self.old self.new }
         ensures goes_on { ContinuesMemblock self.old self.new }
         ensures tables { self.new.tables ≡ self.old.tables }
@@ -307,8 +307,8 @@ impl Memblock {
         requires some { 1 ≤ query.now.size }
         requires aligned { (k : ℕ) × (query.now.align ≡ 2 ^ k) }
         ensures place { result ≡ best_place self.now.journal.items query.now }
-        ensures away { HasBegun self.now.journal.items → IfSome result (λ base.
-            TouchesNoTable self.now.kernel
+        ensures away { HasFirstItem self.now.journal.items → IfSome result (λ base.
+            OverlapsNoTable self.now.kernel
             (record { base = base; size = query.now.size }) self.now.journal.items) }
     {
         places::best_place_in_tables(&self.journal, &self.tables, self.aim.upward, query)
@@ -326,7 +326,7 @@ impl Memblock {
     pub fn alloc(&mut self, request: &Request, owner: Owner) -> Result<u64, Refusal>
         requires some { 1 ≤ request.now.size }
         requires aligned { (k : ℕ) × (request.now.align ≡ 2 ^ k) }
-        requires begun { HasBegun self.old.journal.items }
+        requires begun { HasFirstItem self.old.journal.items }
         ensures ends { Allocates result self.old.journal.items self.new.journal.items
             (place_for request.now self.old.journal.items) request.now.size owner }
         ensures inside { IfOk result (λ base. base + request.now.size < 2 ^ 64) }
@@ -357,7 +357,7 @@ impl Memblock {
     /// `Memory` if this program is out of memory. Nothing is then changed, and some address of the
     /// range wasn't prepared.
     pub fn fill(&mut self, range: Range, byte: u8) -> Result<(), Memory>
-        requires { TouchesNoTable self.old.kernel range self.old.journal.items }
+        requires { OverlapsNoTable self.old.kernel range self.old.journal.items }
         ensures kernel { self.new.kernel ≡ self.old.kernel }
         ensures journal { self.new.journal ≡ self.old.journal }
         ensures ok { OnOk result ((x : ℕ) → byte_of self.new.tables.store x ≡
@@ -388,9 +388,9 @@ impl Memblock {
     /// Tests whether an address of the range belongs to a table.
     pub fn touches_table(&self, range: Range) -> bool
         ensures touches { IsTrue result
-            ↔ TouchesTable self.now.kernel range self.now.journal.items }
+            ↔ OverlapsTableOfItems self.now.kernel range self.now.journal.items }
         ensures away { result ≡ false
-            → TouchesNoTable self.now.kernel range self.now.journal.items }
+            → OverlapsNoTable self.now.kernel range self.now.journal.items }
     {
         self.tables.overlaps_table(range)
     }
@@ -398,7 +398,7 @@ impl Memblock {
     /// Returns the journal of what happened to memory.
     pub fn journal(&self) -> &Journal
         ensures journal { result.now ≡ self.now.journal }
-        ensures sound { HasBegun self.now.journal.items
+        ensures sound { HasFirstItem self.now.journal.items
             → TablesAreSound self.now.kernel self.now.journal.items }
     {
         &self.journal
@@ -408,10 +408,10 @@ impl Memblock {
     pub fn tables(&self) -> &Tables
         ensures tables { result.now ≡ self.now.tables }
         ensures memory { result.now.memory
-            ≡ table_for tables_of.Memory self.now.kernel self.now.journal.items }
+            ≡ table_from_items tables_of.Memory self.now.kernel self.now.journal.items }
         ensures reserved { result.now.reserved
-            ≡ table_for tables_of.Reserved self.now.kernel self.now.journal.items }
-        ensures within { NothingFrom (2 ^ 64) (memory_of self.now.journal.items) }
+            ≡ table_from_items tables_of.Reserved self.now.kernel self.now.journal.items }
+        ensures within { IsEmptyFrom (2 ^ 64) (memory_of self.now.journal.items) }
         ensures bytes { TablesAreEncoded result.now.memory result.now.reserved
             (byte_of result.now.store) }
         ensures still { ContinuesMemblock self.now self.now }
@@ -437,11 +437,11 @@ impl Memblock {
             } }
         ensures journal { result.2 ≡ self.journal }
         ensures memory { IsInStore
-            (table_for tables_of.Memory self.kernel self.journal.items) result.0 }
+            (table_from_items tables_of.Memory self.kernel self.journal.items) result.0 }
         ensures reserved { IsInStore
-            (table_for tables_of.Reserved self.kernel self.journal.items) result.0 }
-        ensures plain { HaveNoNode (records_of tables_of.Reserved self.journal.items) }
-        ensures sound { HasBegun self.journal.items
+            (table_from_items tables_of.Reserved self.kernel self.journal.items) result.0 }
+        ensures plain { ArePlainRecords (records_of tables_of.Reserved self.journal.items) }
+        ensures sound { HasFirstItem self.journal.items
             → TablesAreSound self.kernel self.journal.items }
     {
         let Memblock {

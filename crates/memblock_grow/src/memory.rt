@@ -9,16 +9,16 @@ ghost use Rattle.memblock_model.specs.declared.owner.Which.TheVariants as tables
 ghost use Rattle.memblock_model.specs.declared.owner.Owner.TheVariants as owners;
 ghost use Rattle.memblock_model.specs.Items.{owner_of};
 ghost use Rattle.growth_model.specs.Change.{if_due};
-ghost use Rattle.growth_model.specs.Growth.{memory_growth, make_table_room, claim_range, add_range, set_range_node, set_range_mirror, count_uncovered_pieces, split_record_count, free_old_place, is_full};
+ghost use Rattle.growth_model.specs.Growth.{memory_growth, make_table_room, claim_range, add_range, set_range_node, set_range_mirror, count_uncovered_pieces, max_records_added_by_split, free_old_place, is_full};
 ghost use Rattle.growth_model.specs.Ends.{EndsAsChange};
-ghost use Rattle.growth_model.specs.Tables.{HasBegun, IsUnclaimed};
-ghost use Rattle.memblock_grow.specs.Invariant.{IsSomeMemblock, AllowsFree, KeepsTables, KeepsBytes};
-ghost use Rattle.memblock_grow.specs.Prepared.{Prepares, PreparesWith, PreparesBy};
-ghost use Rattle.memblock_grow.specs.NewRecords.{new_records_by_items, HasRoomFor, RangeEndsInSpace};
+ghost use Rattle.growth_model.specs.Tables.{HasFirstItem, IsUnclaimed};
+ghost use Rattle.memblock_grow.specs.Invariant.{IsMemblockForSomeKernel, AllowsFree, KeepsTables, BytesFollowItems};
+ghost use Rattle.memblock_grow.specs.Prepared.{Prepares, PreparesPlaceToo, PreparesAsResult};
+ghost use Rattle.memblock_grow.specs.NewRecords.{new_records_by_items, HasRoomFor, RangeEndsBelow2To64};
 
 use crate::new_records::{MaxNewRecords, lacks_room};
 use crate::places::{AllocSettings, old_place_frames, table_frames_between};
-use crate::reserved::{claim, free, may_claim};
+use crate::reserved::{claim, free, check_claim};
 use crate::table_laws::tables_are_in_store;
 use bm_base::Range;
 use boot_journal::{Item, Journal, Owner, Which};
@@ -33,12 +33,12 @@ fn free_old_place(
     aim: AllocSettings,
     old: Option<Range>,
 ) -> Result<(), Refusal>
-    requires begun { HasBegun journal.old.items }
+    requires begun { HasFirstItem journal.old.items }
     requires some { IfSome old (λ range. 0 < range.size) }
     requires away { IfSome old (λ range. AllowsFree journal.old.items tables.old aim range) }
     ensures ends { EndsAsChange result journal.old.items journal.new.items (free_old_place old) }
     ensures kept { KeepsTables journal.old.items tables.old journal.new.items tables.new aim }
-    ensures bytes { KeepsBytes journal.old.items tables.old journal.new.items tables.new aim }
+    ensures bytes { BytesFollowItems journal.old.items tables.old journal.new.items tables.new aim }
     ensures prepared { Prepares journal.old.items journal.new.items tables.old.store
         tables.new.store }
     ensures memory { tables.new.memory ≡ tables.old.memory }
@@ -60,22 +60,24 @@ fn claim_new_place(
     place: Range,
 ) -> Result<(), Refusal>
     requires some { 0 < place.size }
-    requires kept { IsSomeMemblock journal.old.items tables.old aim }
-    requires begun { HasBegun journal.old.items }
+    requires kept { IsMemblockForSomeKernel journal.old.items tables.old aim }
+    requires begun { HasFirstItem journal.old.items }
     requires free { IsUnclaimed (owner_of journal.old.items) place }
     ensures ends { EndsAsChange result journal.old.items journal.new.items
         (claim_range place (owners.Table tables_of.Memory)) }
     ensures kept { KeepsTables journal.old.items tables.old journal.new.items tables.new aim }
-    ensures bytes { KeepsBytes journal.old.items tables.old journal.new.items tables.new aim }
+    ensures bytes { BytesFollowItems journal.old.items tables.old journal.new.items tables.new aim }
     ensures memory { tables.new.memory ≡ tables.old.memory }
     ensures prepared { OnOk result
-        (PreparesWith place journal.old.items journal.new.items tables.old.store tables.new.store) }
+        (PreparesPlaceToo place journal.old.items journal.new.items tables.old.store
+        tables.new.store) }
     ensures err { OnErr result
-        (PreparesBy result journal.old.items journal.new.items tables.old.store tables.new.store) }
+        (PreparesAsResult result journal.old.items journal.new.items tables.old.store
+        tables.new.store) }
     ensures first { (journal.new.items ≡ journal.old.items)
         ⊎ ArePrepared tables.new.store place.base place.size }
 {
-    may_claim(journal, tables, aim, place)?;
+    check_claim(journal, tables, aim, place)?;
     tables.prepare(place)?;
     claim(journal, tables, aim, place, Owner::Table(Which::Memory))
 }
@@ -86,12 +88,12 @@ fn grow_memory(
     tables: &mut Tables,
     aim: AllocSettings,
 ) -> Result<(), Refusal>
-    requires kept { IsSomeMemblock journal.old.items tables.old aim }
-    requires begun { HasBegun journal.old.items }
+    requires kept { IsMemblockForSomeKernel journal.old.items tables.old aim }
+    requires begun { HasFirstItem journal.old.items }
     ensures ends { EndsAsChange result journal.old.items journal.new.items memory_growth }
     ensures kept { KeepsTables journal.old.items tables.old journal.new.items tables.new aim }
-    ensures bytes { KeepsBytes journal.old.items tables.old journal.new.items tables.new aim }
-    ensures prepared { PreparesBy result journal.old.items journal.new.items tables.old.store
+    ensures bytes { BytesFollowItems journal.old.items tables.old journal.new.items tables.new aim }
+    ensures prepared { PreparesAsResult result journal.old.items journal.new.items tables.old.store
         tables.new.store }
 {
     let head = tables.head(Which::Memory);
@@ -121,16 +123,16 @@ fn grow_memory_if_full(
     aim: AllocSettings,
     more: &MaxNewRecords,
 ) -> Result<(), Refusal>
-    requires kept { IsSomeMemblock journal.old.items tables.old aim }
-    requires begun { HasBegun journal.old.items }
+    requires kept { IsMemblockForSomeKernel journal.old.items tables.old aim }
+    requires begun { HasFirstItem journal.old.items }
     ensures ends { EndsAsChange result journal.old.items journal.new.items
         (if_due (is_full tables_of.Memory (new_records_by_items tables_of.Memory more.now))
         memory_growth) }
     ensures kept { KeepsTables journal.old.items tables.old journal.new.items tables.new aim }
-    ensures bytes { KeepsBytes journal.old.items tables.old journal.new.items tables.new aim }
-    ensures prepared { PreparesBy result journal.old.items journal.new.items tables.old.store
+    ensures bytes { BytesFollowItems journal.old.items tables.old journal.new.items tables.new aim }
+    ensures prepared { PreparesAsResult result journal.old.items journal.new.items tables.old.store
         tables.new.store }
-    ensures within { RangeEndsInSpace more.now }
+    ensures within { RangeEndsBelow2To64 more.now }
     ensures idle { HasRoomFor more.now tables.old.memory →
         IsOk result × (journal.new ≡ journal.old) × (tables.new ≡ tables.old) }
 {
@@ -149,14 +151,14 @@ fn make_memory_room(
     aim: AllocSettings,
     more: &MaxNewRecords,
 ) -> Result<(), Refusal>
-    requires kept { IsSomeMemblock journal.old.items tables.old aim }
-    requires begun { HasBegun journal.old.items }
+    requires kept { IsMemblockForSomeKernel journal.old.items tables.old aim }
+    requires begun { HasFirstItem journal.old.items }
     ensures ends { EndsAsChange result journal.old.items journal.new.items
         (make_table_room tables_of.Memory
         (new_records_by_items tables_of.Memory more.now) memory_growth) }
     ensures kept { KeepsTables journal.old.items tables.old journal.new.items tables.new aim }
-    ensures bytes { KeepsBytes journal.old.items tables.old journal.new.items tables.new aim }
-    ensures prepared { PreparesBy result journal.old.items journal.new.items tables.old.store
+    ensures bytes { BytesFollowItems journal.old.items tables.old journal.new.items tables.new aim }
+    ensures prepared { PreparesAsResult result journal.old.items journal.new.items tables.old.store
         tables.new.store }
     ensures room { OnOk result (HasRoomFor more.now tables.new.memory) }
     ensures idle { HasRoomFor more.now tables.old.memory →
@@ -176,12 +178,12 @@ pub fn add_memory(
     range: Range,
 ) -> Result<(), Refusal>
     requires some { 0 < range.size }
-    requires kept { IsSomeMemblock journal.old.items tables.old aim }
-    requires begun { HasBegun journal.old.items }
+    requires kept { IsMemblockForSomeKernel journal.old.items tables.old aim }
+    requires begun { HasFirstItem journal.old.items }
     ensures ends { EndsAsChange result journal.old.items journal.new.items (add_range range) }
     ensures kept { KeepsTables journal.old.items tables.old journal.new.items tables.new aim }
-    ensures bytes { KeepsBytes journal.old.items tables.old journal.new.items tables.new aim }
-    ensures prepared { PreparesBy result journal.old.items journal.new.items tables.old.store
+    ensures bytes { BytesFollowItems journal.old.items tables.old journal.new.items tables.new aim }
+    ensures prepared { PreparesAsResult result journal.old.items journal.new.items tables.old.store
         tables.new.store }
     ensures ready { 0 < journal.old.spare → is_full tables_of.Memory
         (count_uncovered_pieces tables_of.Memory range) journal.old.items ≡ false →
@@ -206,16 +208,16 @@ pub fn set_node(
 ) -> Result<(), Refusal>
     requires some { 0 < range.size }
     requires node { node < 1024 }
-    requires kept { IsSomeMemblock journal.old.items tables.old aim }
-    requires begun { HasBegun journal.old.items }
+    requires kept { IsMemblockForSomeKernel journal.old.items tables.old aim }
+    requires begun { HasFirstItem journal.old.items }
     ensures ends { EndsAsChange result journal.old.items journal.new.items
         (set_range_node range node) }
     ensures kept { KeepsTables journal.old.items tables.old journal.new.items tables.new aim }
-    ensures bytes { KeepsBytes journal.old.items tables.old journal.new.items tables.new aim }
-    ensures prepared { PreparesBy result journal.old.items journal.new.items tables.old.store
+    ensures bytes { BytesFollowItems journal.old.items tables.old journal.new.items tables.new aim }
+    ensures prepared { PreparesAsResult result journal.old.items journal.new.items tables.old.store
         tables.new.store }
     ensures ready { 0 < journal.old.spare
-        → is_full tables_of.Memory split_record_count journal.old.items ≡ false →
+        → is_full tables_of.Memory max_records_added_by_split journal.old.items ≡ false →
         IsOk result × (journal.new.spare ≡ journal.old.spare - 1) }
 {
     make_memory_room(journal, tables, aim, &MaxNewRecords::Two)?;
@@ -235,16 +237,16 @@ pub fn set_mirror(
     range: Range,
 ) -> Result<(), Refusal>
     requires some { 0 < range.size }
-    requires kept { IsSomeMemblock journal.old.items tables.old aim }
-    requires begun { HasBegun journal.old.items }
+    requires kept { IsMemblockForSomeKernel journal.old.items tables.old aim }
+    requires begun { HasFirstItem journal.old.items }
     ensures ends { EndsAsChange result journal.old.items journal.new.items
         (set_range_mirror range) }
     ensures kept { KeepsTables journal.old.items tables.old journal.new.items tables.new aim }
-    ensures bytes { KeepsBytes journal.old.items tables.old journal.new.items tables.new aim }
-    ensures prepared { PreparesBy result journal.old.items journal.new.items tables.old.store
+    ensures bytes { BytesFollowItems journal.old.items tables.old journal.new.items tables.new aim }
+    ensures prepared { PreparesAsResult result journal.old.items journal.new.items tables.old.store
         tables.new.store }
     ensures ready { 0 < journal.old.spare
-        → is_full tables_of.Memory split_record_count journal.old.items ≡ false →
+        → is_full tables_of.Memory max_records_added_by_split journal.old.items ≡ false →
         IsOk result × (journal.new.spare ≡ journal.old.spare - 1) }
 {
     make_memory_room(journal, tables, aim, &MaxNewRecords::Two)?;

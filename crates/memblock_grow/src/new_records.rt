@@ -3,7 +3,7 @@
 //! piece that isn't covered yet (the count in `memblock_add_range`).
 ghost use Rattle.std.specs.Prelude.{◌≡◌, ◌+◌, nat_lt, length};
 ghost use Rattle.memblock_ranges.specs.Tables.{table_in, records_in, room_in};
-ghost use Rattle.memblock_grow.specs.NewRecords.{new_records_in_table, RangeEndsInSpace};
+ghost use Rattle.memblock_grow.specs.NewRecords.{new_records_in_table, RangeEndsBelow2To64};
 
 use bm_base::Range;
 use memblock_model::Which;
@@ -24,7 +24,7 @@ pub fn lacks_room(tables: &Tables, which: Which, more: &MaxNewRecords) -> bool
     ensures full { result ≡
         nat_lt (room_in which tables.now) (length (records_in which tables.now)
         + new_records_in_table more.now (table_in which tables.now)) }
-    ensures within { RangeEndsInSpace more.now }
+    ensures within { RangeEndsBelow2To64 more.now }
 {
     let head = tables.head(which);
     let free = head.room - head.count;

@@ -11,8 +11,8 @@ ghost use Rattle.memblock_model.specs.declared.owner.Which.TheVariants as tables
 ghost use Rattle.growth_model.specs.Growth.{count_uncovered_pieces, is_full};
 ghost use Rattle.growth_model.specs.Request.{attempt, node_attempts, attempts_from, attempts, place_for};
 ghost use Rattle.growth_model.specs.Ends.{Allocates};
-ghost use Rattle.growth_model.specs.Tables.{HasBegun};
-ghost use Rattle.memblock_grow.specs.Invariant.{IsSomeMemblock, KeepsTables, KeepsBytes};
+ghost use Rattle.growth_model.specs.Tables.{HasFirstItem};
+ghost use Rattle.memblock_grow.specs.Invariant.{IsMemblockForSomeKernel, KeepsTables, BytesFollowItems};
 ghost use Rattle.memblock_grow.specs.Prepared.{Prepares};
 ghost use Rattle.memblock_grow.specs.Places.{MirrorsComeFromItems, top_place_in_tables, first_place_in_tables};
 
@@ -93,7 +93,7 @@ fn mirrored_place(
 }
 
 /// Returns the place that one round finds: from `lo` on, first in mirrored memory, then in any.
-fn first_place(
+fn place_in_round(
     journal: &Journal,
     tables: &Tables,
     request: &Request,
@@ -126,11 +126,11 @@ fn place_for(
     ensures { result
         ≡ first_place_in_tables tables.now aim.upward (attempts request.now aim.limit) }
 {
-    let place = first_place(journal, tables, request, aim, request.min);
+    let place = place_in_round(journal, tables, request, aim, request.min);
     if place.is_some() || request.min == 0 {
         return place;
     }
-    first_place(journal, tables, request, aim, 0)
+    place_in_round(journal, tables, request, aim, 0)
 }
 
 /// Finds a place for the request, claims it for the owner, and returns its address
@@ -145,13 +145,13 @@ pub fn allocate(
 ) -> Result<u64, Refusal>
     requires some { 1 ≤ request.now.size }
     requires aligned { (k : ℕ) × (request.now.align ≡ 2 ^ k) }
-    requires kept { IsSomeMemblock journal.old.items tables.old aim }
-    requires begun { HasBegun journal.old.items }
+    requires kept { IsMemblockForSomeKernel journal.old.items tables.old aim }
+    requires begun { HasFirstItem journal.old.items }
     ensures ends { Allocates result journal.old.items journal.new.items
         (place_for request.now journal.old.items) request.now.size owner }
     ensures inside { IfOk result (λ base. base + request.now.size < 2 ^ 64) }
     ensures kept { KeepsTables journal.old.items tables.old journal.new.items tables.new aim }
-    ensures bytes { KeepsBytes journal.old.items tables.old journal.new.items tables.new aim }
+    ensures bytes { BytesFollowItems journal.old.items tables.old journal.new.items tables.new aim }
     ensures prepared { Prepares journal.old.items journal.new.items tables.old.store
         tables.new.store }
     ensures ready { (place : ℕ) → place_for request.now journal.old.items ≡ Some place

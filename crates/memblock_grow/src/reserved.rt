@@ -9,12 +9,12 @@ ghost use Rattle.memblock_model.specs.Items.{owner_of};
 ghost use Rattle.memblock_model.specs.declared.owner.Which.TheVariants as tables_of;
 ghost use Rattle.growth_model.specs.declared.refusal.Refusal.TheVariants as refusals;
 ghost use Rattle.growth_model.specs.Change.{if_due};
-ghost use Rattle.growth_model.specs.Growth.{reserved_growth, make_table_room, claim_range, free_range, count_uncovered_pieces, split_record_count, is_full};
+ghost use Rattle.growth_model.specs.Growth.{reserved_growth, make_table_room, claim_range, free_range, count_uncovered_pieces, max_records_added_by_split, is_full};
 ghost use Rattle.growth_model.specs.Ends.{EndsAsChange};
-ghost use Rattle.growth_model.specs.Tables.{HasBegun, IsUnclaimed};
-ghost use Rattle.memblock_grow.specs.Invariant.{IsSomeMemblock, AllowsClaim, AllowsFree, KeepsTables, KeepsBytes};
+ghost use Rattle.growth_model.specs.Tables.{HasFirstItem, IsUnclaimed};
+ghost use Rattle.memblock_grow.specs.Invariant.{IsMemblockForSomeKernel, AllowsClaim, AllowsFree, KeepsTables, BytesFollowItems};
 ghost use Rattle.memblock_grow.specs.Prepared.{Prepares};
-ghost use Rattle.memblock_grow.specs.NewRecords.{new_records_by_items, HasRoomFor, RangeEndsInSpace};
+ghost use Rattle.memblock_grow.specs.NewRecords.{new_records_by_items, HasRoomFor, RangeEndsBelow2To64};
 
 use crate::new_records::{MaxNewRecords, lacks_room};
 use crate::places::{AllocSettings, old_place_frames, table_frames_beside};
@@ -35,11 +35,11 @@ fn grow_reserved(
     aim: AllocSettings,
     avoid: Range,
 ) -> Result<(), Refusal>
-    requires kept { IsSomeMemblock journal.old.items tables.old aim }
-    requires begun { HasBegun journal.old.items }
+    requires kept { IsMemblockForSomeKernel journal.old.items tables.old aim }
+    requires begun { HasFirstItem journal.old.items }
     ensures ends { EndsAsChange result journal.old.items journal.new.items (reserved_growth avoid) }
     ensures kept { KeepsTables journal.old.items tables.old journal.new.items tables.new aim }
-    ensures bytes { KeepsBytes journal.old.items tables.old journal.new.items tables.new aim }
+    ensures bytes { BytesFollowItems journal.old.items tables.old journal.new.items tables.new aim }
     ensures prepared { Prepares journal.old.items journal.new.items tables.old.store
         tables.new.store }
     ensures memory { tables.new.memory ≡ tables.old.memory }
@@ -87,16 +87,16 @@ fn grow_reserved_if_full(
     avoid: Range,
     more: &MaxNewRecords,
 ) -> Result<(), Refusal>
-    requires { IsSomeMemblock journal.old.items tables.old aim }
+    requires { IsMemblockForSomeKernel journal.old.items tables.old aim }
     ensures ends { EndsAsChange result journal.old.items journal.new.items
         (if_due (is_full tables_of.Reserved (new_records_by_items tables_of.Reserved more.now))
         (reserved_growth avoid)) }
     ensures kept { KeepsTables journal.old.items tables.old journal.new.items tables.new aim }
-    ensures bytes { KeepsBytes journal.old.items tables.old journal.new.items tables.new aim }
+    ensures bytes { BytesFollowItems journal.old.items tables.old journal.new.items tables.new aim }
     ensures prepared { Prepares journal.old.items journal.new.items tables.old.store
         tables.new.store }
     ensures memory { tables.new.memory ≡ tables.old.memory }
-    ensures within { RangeEndsInSpace more.now }
+    ensures within { RangeEndsBelow2To64 more.now }
     ensures idle { HasRoomFor more.now tables.old.reserved →
         IsOk result × (journal.new ≡ journal.old) × (tables.new ≡ tables.old) }
 {
@@ -116,12 +116,12 @@ fn make_reserved_room(
     avoid: Range,
     more: &MaxNewRecords,
 ) -> Result<(), Refusal>
-    requires { IsSomeMemblock journal.old.items tables.old aim }
+    requires { IsMemblockForSomeKernel journal.old.items tables.old aim }
     ensures ends { EndsAsChange result journal.old.items journal.new.items
         (make_table_room tables_of.Reserved (new_records_by_items tables_of.Reserved more.now)
         (reserved_growth avoid)) }
     ensures kept { KeepsTables journal.old.items tables.old journal.new.items tables.new aim }
-    ensures bytes { KeepsBytes journal.old.items tables.old journal.new.items tables.new aim }
+    ensures bytes { BytesFollowItems journal.old.items tables.old journal.new.items tables.new aim }
     ensures prepared { Prepares journal.old.items journal.new.items tables.old.store
         tables.new.store }
     ensures memory { tables.new.memory ≡ tables.old.memory }
@@ -141,15 +141,15 @@ fn make_reserved_room(
 /// `NoGapForTable` if the claim would be refused: the reserved table would have to grow and finds
 /// no place.
 // Only one growth is looked at: an unclaimed range is one piece, so one growth makes room for it.
-pub fn may_claim(
+pub fn check_claim(
     journal: &Journal,
     tables: &Tables,
     aim: AllocSettings,
     range: Range,
 ) -> Result<(), Refusal>
     requires some { 0 < range.size }
-    requires kept { IsSomeMemblock journal.now.items tables.now aim }
-    requires begun { HasBegun journal.now.items }
+    requires kept { IsMemblockForSomeKernel journal.now.items tables.now aim }
+    requires begun { HasFirstItem journal.now.items }
     requires free { IsUnclaimed (owner_of journal.now.items) range }
     ensures ok { (who : ModelOwner)
         → OnOk result ((claim_range range who journal.now.items).refused ≡ None) }
@@ -184,7 +184,7 @@ pub fn claim(
     ensures ends { EndsAsChange result journal.old.items journal.new.items
         (claim_range range owner) }
     ensures kept { KeepsTables journal.old.items tables.old journal.new.items tables.new aim }
-    ensures bytes { KeepsBytes journal.old.items tables.old journal.new.items tables.new aim }
+    ensures bytes { BytesFollowItems journal.old.items tables.old journal.new.items tables.new aim }
     ensures prepared { Prepares journal.old.items journal.new.items tables.old.store
         tables.new.store }
     ensures memory { tables.new.memory ≡ tables.old.memory }
@@ -209,16 +209,16 @@ pub fn free(
     range: Range,
 ) -> Result<(), Refusal>
     requires some { 0 < range.size }
-    requires begun { HasBegun journal.old.items }
+    requires begun { HasFirstItem journal.old.items }
     requires away { AllowsFree journal.old.items tables.old aim range }
     ensures ends { EndsAsChange result journal.old.items journal.new.items (free_range range) }
     ensures kept { KeepsTables journal.old.items tables.old journal.new.items tables.new aim }
-    ensures bytes { KeepsBytes journal.old.items tables.old journal.new.items tables.new aim }
+    ensures bytes { BytesFollowItems journal.old.items tables.old journal.new.items tables.new aim }
     ensures prepared { Prepares journal.old.items journal.new.items tables.old.store
         tables.new.store }
     ensures memory { tables.new.memory ≡ tables.old.memory }
     ensures ready { 0 < journal.old.spare
-        → is_full tables_of.Reserved split_record_count journal.old.items ≡ false →
+        → is_full tables_of.Reserved max_records_added_by_split journal.old.items ≡ false →
         IsOk result × (journal.new.spare ≡ journal.old.spare - 1) }
 {
     make_reserved_room(journal, tables, aim, range, &MaxNewRecords::Two)?;

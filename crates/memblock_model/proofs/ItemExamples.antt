@@ -2,7 +2,7 @@
 use Rattle.std.proofs.Common.{◌≡◌, ℕ, true, false, Some, None, List, [], ◌∷◌, refl, sym, arith}
 use Rattle.std.proofs.lemmas.Bool.Decides.{nat_tests}
 use Rattle.address_runs.specs.Runs.{RunOf}
-use Rattle.address_runs.proofs.RunsLaws.{the_list}
+use Rattle.address_runs.proofs.RunsLaws.{runs_equal_runs_of}
 use Rattle.memblock_model.specs.declared.owner.Owner.{Owner}
 use Rattle.memblock_model.specs.declared.owner.Owner.TheVariants as owner
 use Rattle.memblock_model.specs.declared.owner.Which.TheVariants as which
@@ -14,7 +14,7 @@ use Rattle.bm_base.specs.Each.{each_from, each_in}
 use Rattle.memblock_model.specs.Labels.{plain_label, with_node, with_mirror}
 use Rattle.memblock_model.specs.Same.{same_owner}
 use Rattle.memblock_model.specs.Items.{ItemHasBytes, owner_of, trim_frames, memory_of, tag_of, limit_of, upward_of, owner_runs_of}
-use Rattle.memblock_model.proofs.SameLaws.{owner_tells}
+use Rattle.memblock_model.proofs.SameLaws.{same_owner_decides_equality}
 
 abbrev pub bytes : ℕ → ℕ → RangeView
 bytes base size = record { base = base; size = size }
@@ -110,7 +110,7 @@ parted_runs = record { base = 1; size = 1; value = owner.Kernel } ∷ (record { 
 
 runs_of_parted : owner_runs_of parted ≡ parted_runs
 unfolding owner_runs_of
-runs_of_parted = sym (the_list same_owner owner_tells (owner_of parted) parted_runs (λ x le. grind (arith, nat_tests)) (record {
+runs_of_parted = sym (runs_equal_runs_of same_owner same_owner_decides_equality (owner_of parted) parted_runs (λ x le. grind (arith, nat_tests)) (record {
   runs = (omega arith, (omega arith, λ touch. absurd (omega arith)), (omega arith, tt, tt));
   each = λ x. grind (arith, nat_tests);
 }))

@@ -11,7 +11,7 @@ use Rattle.bm_base.specs.Each.{each_in}
 use Rattle.memblock_model.specs.Labels.{Labels}
 use Rattle.memblock_model.specs.Same.{same_label}
 use Rattle.memblock_model.specs.Items.{trim_frames}
-use Rattle.memblock_model.proofs.SameLaws.{label_tells}
+use Rattle.memblock_model.proofs.SameLaws.{same_label_decides_equality}
 
 -- the two addresses lie in one frame
 pub record IsInFrame (x y : ℕ) : Type 0 where
@@ -36,7 +36,7 @@ unfolding trim_frames
 trim_frames-whole f x all =
     let whole : each_in (frame_around x) (λ y. agree same_label (f y) (f x)) ≡ true =
     each_in-all (frame_around x) (λ y. agree same_label (f y) (f x))
-    (λ y above below. agree-same same_label label_tells (f y) (f x) (all y (record { above = above; below = below }))) in
+    (λ y above below. agree-same same_label same_label_decides_equality (f y) (f x) (all y (record { above = above; below = below }))) in
     rw whole refl
 
 -- what is trimmed is the label of the whole frame, or nothing
@@ -46,7 +46,7 @@ unfolding trim_frames
 trim_frames-cases f x =
     elim (cases_Bool (each_in (frame_around x) (λ u. agree same_label (f u) (f x)))) as (λ _. ((y : ℕ) → IsInFrame x y → f y ≡ f x)
     ⊎ (trim_frames f x ≡ None)) [
-      | inl holds ↦ inl (λ y at_y. agree-yes same_label label_tells (f y) (f x)
+      | inl holds ↦ inl (λ y at_y. agree-yes same_label same_label_decides_equality (f y) (f x)
           (each_in-each (frame_around x) (λ u. agree same_label (f u) (f x)) holds y at_y.above at_y.below))
       | inr fails ↦ inr (rw fails refl)
     ]

@@ -6,7 +6,7 @@ use Rattle.memblock_model.specs.declared.owner.Which.TheVariants as which
 use Rattle.memblock_model.specs.declared.owner.Owner.{Owner}
 use Rattle.memblock_model.specs.declared.owner.Owner.TheVariants as owner
 use Rattle.memblock_model.specs.Labels.{LabelView}
-use Rattle.memblock_model.specs.Same.{same_node_or_none, same_switch, same_label, variant_of, owner_number, same_owner}
+use Rattle.memblock_model.specs.Same.{same_node_or_none, same_bool, same_label, variant_of, owner_number, same_owner}
 
 node_yes : (a b : Option ℕ) → same_node_or_none a b ≡ true → a ≡ b
 node_yes None None h = refl
@@ -18,28 +18,28 @@ pub node_self : (a : Option ℕ) → same_node_or_none a a ≡ true
 node_self None = refl
 node_self (Some n) = eq-eqb n n refl
 
-switch_yes : (a b : Bool) → same_switch a b ≡ true → a ≡ b
+switch_yes : (a b : Bool) → same_bool a b ≡ true → a ≡ b
 switch_yes true true h = refl
 switch_yes true false h = cc
 switch_yes false true h = cc
 switch_yes false false h = refl
 
-switch_self : (a : Bool) → same_switch a a ≡ true
+switch_self : (a : Bool) → same_bool a a ≡ true
 switch_self true = refl
 switch_self false = refl
 
 -- labels are the same where their parts are
 label_yes : (a b : LabelView) → same_label a b ≡ true → a ≡ b
 label_yes a b h =
-    let parts = and_parts (same_node_or_none a.node b.node) (same_switch a.mirror b.mirror) h in
+    let parts = and_parts (same_node_or_none a.node b.node) (same_bool a.mirror b.mirror) h in
     ap (λ (n : Option ℕ). let label : LabelView = record { node = n; mirror = a.mirror } in label) (node_yes a.node b.node parts.0)
     ∙ ap (λ (m : Bool). let label : LabelView = record { node = b.node; mirror = m } in label) (switch_yes a.mirror b.mirror parts.1)
 
 pub label_self : (a : LabelView) → same_label a a ≡ true
-label_self a = and_from (same_node_or_none a.node a.node) (same_switch a.mirror a.mirror) (node_self a.node) (switch_self a.mirror)
+label_self a = and_from (same_node_or_none a.node a.node) (same_bool a.mirror a.mirror) (node_self a.node) (switch_self a.mirror)
 
-pub label_tells : DecidesEquality same_label
-label_tells = record { true_is_equal = label_yes; equal_is_true = λ a b e. ap (λ (l : LabelView). same_label a l) (sym e) ∙ label_self a }
+pub same_label_decides_equality : DecidesEquality same_label
+same_label_decides_equality = record { true_is_equal = label_yes; equal_is_true = λ a b e. ap (λ (l : LabelView). same_label a l) (sym e) ∙ label_self a }
 
 -- the owner of the variant that carries the number
 numbered : ℕ → ℕ → Owner
@@ -77,5 +77,5 @@ owner_yes a b h =
 pub owner_self : (a : Owner) → same_owner a a ≡ true
 owner_self a = and_from _ _ (eq-eqb (variant_of a) _ refl) (eq-eqb (owner_number a) _ refl)
 
-pub owner_tells : DecidesEquality same_owner
-owner_tells = record { true_is_equal = owner_yes; equal_is_true = λ a b e. ap (λ (o : Owner). same_owner a o) (sym e) ∙ owner_self a }
+pub same_owner_decides_equality : DecidesEquality same_owner
+same_owner_decides_equality = record { true_is_equal = owner_yes; equal_is_true = λ a b e. ap (λ (o : Owner). same_owner a o) (sym e) ∙ owner_self a }

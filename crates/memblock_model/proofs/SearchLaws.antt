@@ -13,7 +13,7 @@ use Rattle.memblock_model.specs.Labels.{LabelView, Labels, plain_label}
 use Rattle.memblock_model.specs.Same.{same_label}
 use Rattle.memblock_model.specs.declared.query.Mode.{Mode}
 use Rattle.memblock_model.specs.Search.{last_below, first_below, outermost_below, is_allowed_node, is_allowed_mirror, fits_in, top_place_in, best_place_in}
-use Rattle.memblock_model.proofs.SameLaws.{label_tells}
+use Rattle.memblock_model.proofs.SameLaws.{same_label_decides_equality}
 use Rattle.bm_base.proofs.EachLaws.{each_in-all, each_in-each}
 
 -- the number passes, and none of the greater ones below n does
@@ -125,7 +125,7 @@ fits_in-parts mirror memory reserved q a h =
       held = high.1;
       allowed = held.1;
       suited = allowed.1;
-      label = λ x above below. agree-yes same_label label_tells (memory x) (memory a) (and_parts _ _ (each x above below)).0;
+      label = λ x above below. agree-yes same_label same_label_decides_equality (memory x) (memory a) (and_parts _ _ (each x above below)).0;
       free = λ x above below. no_label (reserved x) (and_parts _ _ (each x above below)).1;
     }
 
@@ -141,7 +141,7 @@ fits_in-whole mirror memory reserved q a known =
     grind (arith, nat_tests, aligned, low, first, high) in
     let each : each_in (record { base = a; size = q.size }) (λ x. agree same_label (memory x) (memory a) && is_none (reserved x)) ≡ true =
     each_in-all _ _ (λ x above below. and_from _ _
-    (agree-same same_label label_tells (memory x) (memory a) (known.label x above below))
+    (agree-same same_label same_label_decides_equality (memory x) (memory a) (known.label x above below))
     (ap is_none (known.free x above below))) in
     and_from _ _ (and_from _ _ (and_from _ _ (and_from _ _ bounds known.held) known.allowed) known.suited) each
 
@@ -163,14 +163,14 @@ fits_unmirrored mirror memory reserved q a h =
     })
 
 -- if some byte isn't free memory of one label, or the label doesn't suit, the address doesn't fit
-unfit : (mirror : Bool) (memory reserved : Labels) (q : Query) (a : ℕ) → fits_in false memory reserved q a ≡ false
+fits_in-unmirrored_fails : (mirror : Bool) (memory reserved : Labels) (q : Query) (a : ℕ) → fits_in false memory reserved q a ≡ false
     → fits_in mirror memory reserved q a ≡ false
-unfit mirror memory reserved q a fails =
+fits_in-unmirrored_fails mirror memory reserved q a fails =
     false_from_ne_true _ (λ fits. true≢false (sym (fits_unmirrored mirror memory reserved q a fits) ∙ fails))
 
-unsuited : (mirror : Bool) (memory reserved : Labels) (q : Query) (a : ℕ) → is_allowed_mirror mirror (memory a) ≡ false
+fits_in-mirror_fails : (mirror : Bool) (memory reserved : Labels) (q : Query) (a : ℕ) → is_allowed_mirror mirror (memory a) ≡ false
     → fits_in mirror memory reserved q a ≡ false
-unsuited mirror memory reserved q a fails =
+fits_in-mirror_fails mirror memory reserved q a fails =
     false_from_ne_true _ (λ fits. true≢false (sym (fits_in-parts mirror memory reserved q a fits).suited ∙ fails))
 
 -- the first of two results, if there is one
@@ -340,7 +340,7 @@ pub best_place_in-fails : (up : Bool) (memory reserved : Labels) (q : Query)
     → best_place_in up memory reserved q ≡ None
 unfolding best_place_in
 best_place_in-fails up memory reserved q none =
-    rw (top_place_in-fails (record { mirror = true; up = up }) memory reserved q (λ b lt. unfit true memory reserved q b (none b lt)))
+    rw (top_place_in-fails (record { mirror = true; up = up }) memory reserved q (λ b lt. fits_in-unmirrored_fails true memory reserved q b (none b lt)))
     (top_place_in-fails (record { mirror = false; up = up }) memory reserved q none)
 
 -- plain memory is not mirrored
@@ -352,7 +352,7 @@ plain_or_none false = refl
 pub top_place_in-mirrorless : (up : Bool) (memory reserved : Labels) (q : Query) → ((x : ℕ) → is_allowed_mirror true (memory x) ≡ false)
     → top_place_in (record { mirror = true; up = up }) memory reserved q ≡ None
 top_place_in-mirrorless up memory reserved q none = top_place_in-fails (record { mirror = true; up = up }) memory reserved q
-    (λ b lt. unsuited true memory reserved q b (none b))
+    (λ b lt. fits_in-mirror_fails true memory reserved q b (none b))
 
 pub best_place_in-plain : (up : Bool) (memory reserved : Labels) (q : Query) → ((x : ℕ) → is_allowed_mirror true (memory x) ≡ false)
     → best_place_in up memory reserved q ≡ top_place_in (record { mirror = false; up = up }) memory reserved q

@@ -2,7 +2,7 @@
 use Rattle.std.proofs.Common.{◌≡◌, ◌^◌, Some, List, [], ◌∷◌, length, refl, sym, ap, arith}
 use Rattle.std.proofs.lemmas.Bool.Decides.{nat_tests}
 use Rattle.bm_base.specs.Range.{RangeView}
-use Rattle.address_runs.specs.Edits.{gaps_in_range, NothingFrom}
+use Rattle.address_runs.specs.Edits.{gaps_in_range, IsEmptyFrom}
 use Rattle.address_runs.specs.Runs.{RunOf, runs_from}
 use Rattle.memblock_model.specs.declared.owner.Owner.TheVariants as owner
 use Rattle.memblock_model.specs.declared.owner.Which.TheVariants as which
@@ -39,7 +39,7 @@ claims_are_one_record = refl
 abbrev memory_records : List (RunOf LabelView)
 memory_records = record { base = 1; size = 2; value = plain_label } ∷ (record { base = 3; size = 2; value = seventh } ∷ [])
 
-memory_ends : NothingFrom (2 ^ 64) (table_of which.Memory few)
+memory_ends : IsEmptyFrom (2 ^ 64) (table_of which.Memory few)
 memory_ends x le = grind (arith, nat_tests)
 
 plain_is_another : plain_label ≡ seventh → ⊥
@@ -60,7 +60,7 @@ partly = table_of which.Memory (item.Mem (bytes 3 2) ∷ [])
 abbrev two_runs : List (RunOf LabelView)
 two_runs = record { base = 1; size = 2; value = plain_label } ∷ (record { base = 5; size = 2; value = plain_label } ∷ [])
 
-bare_ends : NothingFrom (2 ^ 64) (gaps_in_range (bytes 1 6) plain_label partly)
+bare_ends : IsEmptyFrom (2 ^ 64) (gaps_in_range (bytes 1 6) plain_label partly)
 bare_ends x le = grind (arith, nat_tests)
 
 records_for_bare : records_for (gaps_in_range (bytes 1 6) plain_label partly) ≡ two_runs

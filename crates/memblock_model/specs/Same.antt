@@ -20,14 +20,14 @@ same_node_or_none (Some m) None = false
 same_node_or_none (Some m) (Some n) = m == n
 
 -- both are on, or both off
-abbrev pub same_switch : Bool → Bool → Bool
-same_switch true b = b
-same_switch false true = false
-same_switch false false = true
+abbrev pub same_bool : Bool → Bool → Bool
+same_bool true b = b
+same_bool false true = false
+same_bool false false = true
 
 -- all parts of both labels are the same
 abbrev pub same_label : LabelView → LabelView → Bool
-same_label a b = same_node_or_none a.node b.node && same_switch a.mirror b.mirror
+same_label a b = same_node_or_none a.node b.node && same_bool a.mirror b.mirror
 
 -- the index of the owner's variant
 abbrev pub variant_of : Owner → ℕ

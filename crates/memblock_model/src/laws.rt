@@ -8,7 +8,7 @@ ghost use Rattle.memblock_model.specs.declared.item.Item.{Item};
 ghost use Rattle.memblock_model.specs.declared.owner.Which.{Which};
 ghost use Rattle.memblock_model.specs.declared.query.Query.{Query};
 ghost use Rattle.memblock_model.specs.declared.query.Mode.{Mode};
-ghost use Rattle.address_runs.specs.Edits.{NothingFrom};
+ghost use Rattle.address_runs.specs.Edits.{IsEmptyFrom};
 ghost use Rattle.bm_base.specs.Frames.{frame_around};
 ghost use Rattle.memblock_model.specs.Labels.{Labels};
 ghost use Rattle.memblock_model.specs.Same.{same_label, same_owner};
@@ -50,9 +50,9 @@ pub fn tests_decide_equality()
 /// none is empty, and equal neighbours are merged. At each address they give what the items give.
 /// This holds if the items give nothing at or above 2^64.
 pub fn lists_are_runs()
-    ensures owners { (items : List Item) → NothingFrom (2 ^ 64) (owner_of items) →
+    ensures owners { (items : List Item) → IsEmptyFrom (2 ^ 64) (owner_of items) →
         IsRunsOf (owner_of items) (owner_runs_of items) }
-    ensures records { (w : Which) (items : List Item) → NothingFrom (2 ^ 64) (table_of w items) →
+    ensures records { (w : Which) (items : List Item) → IsEmptyFrom (2 ^ 64) (table_of w items) →
         IsRunsOf (table_of w items) (records_of w items) }
 {}
 

@@ -10,7 +10,7 @@ use Rattle.address_runs.specs.Runs.{RunOf}
 use Rattle.memblock_model.specs.Labels.{LabelView}
 use Rattle.memblock_ranges.specs.declared.region.Head.{Head}
 use Rattle.memblock_ranges.specs.Encoding.{decode_record, encode_record, records_at, FitsRecord, IsRecord}
-use Rattle.memblock_ranges.specs.Tables.{IsTable, bytes_outside_table, unedited_part}
+use Rattle.memblock_ranges.specs.Tables.{IsTable, bytes_outside_table, part_kept_by_edits}
 use Rattle.memblock_ranges.proofs.SpellLaws.{same_bytes, same_records, split_records, length-records_at, length-fields_of, run_back, is_record}
 
 -- the list of records after the bytes of one or several have changed
@@ -87,7 +87,7 @@ pub record Edited (s u : List ExtentView) (place room count : ℕ) (list : List 
 
 -- an edited table keeps the rest
 pub edited_kept : (s u : List ExtentView) (place room count : ℕ) (list : List (RunOf LabelView)) → Edited s u place room count list →
-    let h : Head = record { place = place; room = room; count = count } in unedited_part u h ≡ unedited_part s h
+    let h : Head = record { place = place; room = room; count = count } in part_kept_by_edits u h ≡ part_kept_by_edits s h
 edited_kept s u place room count list e = λ j. record { place = place; room = room; others = e.others j; ready = e.ready j }
 
 -- a record is written over the i-th

@@ -9,9 +9,9 @@ use Rattle.memblock_model.specs.declared.owner.Owner.TheVariants as owner
 use Rattle.memblock_model.specs.declared.item.Item.TheVariants as item
 use Rattle.memblock_ranges.specs.declared.region.Head.{Head}
 use Rattle.memblock_ranges.specs.Encoding.{base_in, size_in, flags_in, node_in, decode_region, encode_fields, node_of_field, label_of, node_field, decode_record, region_of, encode_record, records_at, encode_table, FitsRecord, IsRecord}
-use Rattle.memblock_ranges.specs.Tables.{bytes_outside_table, HasTable, AreRecords, TableView, TablesView, bytes_of, bytes_in, OverlapsTable, IsNodeOf, HaveNoNode, bytes_of_head}
+use Rattle.memblock_ranges.specs.Tables.{bytes_outside_table, HasTable, AreRecords, TableView, TablesView, bytes_of, table_range_in, OverlapsTable, MayBeNodeField, ArePlainRecords, bytes_of_head}
 use Rattle.memblock_ranges.specs.RecordBytes.{AreRecordBytes}
-use Rattle.memblock_ranges.specs.Steps.{EndsInSpace}
+use Rattle.memblock_ranges.specs.Steps.{RangeEndsInAddressSpace}
 use Rattle.memblock_ranges.proofs.NewLaws.{first_head}
 
 -- the first record of the memory table of a virtual machine of 128 MiB: 0x1000 to 0x9EFFF, node 0
@@ -146,7 +146,7 @@ abbrev both : TablesView
 both = record { memory = memory; reserved = reserved; store = [] }
 
 bytes_examples : (bytes_of memory ≡ record { base = 0x2FFE000; size = 3072 })
-    × (bytes_in which.Reserved both ≡ record { base = 0x2FFF000; size = 3072 })
+    × (table_range_in which.Reserved both ≡ record { base = 0x2FFF000; size = 3072 })
     × (bytes_of_head (nowhere 5) ≡ record { base = 5; size = 0 })
 bytes_examples = (refl, refl, refl)
 
@@ -154,17 +154,17 @@ bytes_examples = (refl, refl, refl)
 overlap : OverlapsTable both (record { base = 0x2FFEBFF; size = 1 })
 overlap = (which.Memory, (0x2FFEBFF, refl))
 
-node_examples : IsNodeOf which.Memory 1024 × IsNodeOf which.Memory 3 × IsNodeOf which.Reserved 1024 × ¬ IsNodeOf which.Reserved 3
+node_examples : MayBeNodeField which.Memory 1024 × MayBeNodeField which.Memory 3 × MayBeNodeField which.Reserved 1024 × ¬ MayBeNodeField which.Reserved 3
 node_examples = (omega arith, omega arith, refl, λ no. absurd (omega (arith, no)))
 
-no_nodes : HaveNoNode [] × ¬ HaveNoNode (first_run ∷ [])
+no_nodes : ArePlainRecords [] × ¬ ArePlainRecords (first_run ∷ [])
 no_nodes = (
   (λ x label is. cc is),
   λ plain. let clash : Some 0 ≡ None = ap (λ (l : LabelView). l.node) (plain 0x1000 in_node_0 refl) in
       cc clash,
 )
 
-space_examples : EndsInSpace (item.Claim (record { base = 0x1000; size = 0x1000 }) owner.Kernel) × EndsInSpace item.Trim
-    × ¬ EndsInSpace (item.Free (record { base = 1; size = 2 ^ 64 }))
-    × ¬ EndsInSpace (item.Mirror (record { base = 1; size = 2 ^ 64 }))
+space_examples : RangeEndsInAddressSpace (item.Claim (record { base = 0x1000; size = 0x1000 }) owner.Kernel) × RangeEndsInAddressSpace item.Trim
+    × ¬ RangeEndsInAddressSpace (item.Free (record { base = 1; size = 2 ^ 64 }))
+    × ¬ RangeEndsInAddressSpace (item.Mirror (record { base = 1; size = 2 ^ 64 }))
 space_examples = (omega arith, tt, (λ ends. absurd (omega (arith, ends))), λ ends. absurd (omega (arith, ends)))

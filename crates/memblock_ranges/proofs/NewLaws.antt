@@ -8,7 +8,7 @@ use Rattle.address_runs.specs.Runs.{RunOf}
 use Rattle.memblock_model.specs.Labels.{LabelView}
 use Rattle.memblock_ranges.specs.declared.region.Head.{Head}
 use Rattle.memblock_ranges.specs.Encoding.{records_at}
-use Rattle.memblock_ranges.specs.Tables.{HasTable, records_of_head, TableView, table_of_head, bytes_of_head, AreRecords, AreTables, HaveNoNode}
+use Rattle.memblock_ranges.specs.Tables.{HasTable, records_of_head, TableView, table_of_head, bytes_of_head, AreRecords, AreTables, ArePlainRecords}
 
 -- the head of a table at this address without records
 abbrev pub first_head : ℕ → Head
@@ -21,7 +21,7 @@ no_records s place = refl
 none_known : AreRecords []
 none_known = record { runs = tt; within = λ x le. refl }
 
-none_noded : HaveNoNode []
+none_noded : ArePlainRecords []
 none_noded = λ x label is. cc is
 
 empty_table : (s : List ExtentView) (place : ℕ) → place + 24 * 128 < 2 ^ 64 → ((x : ℕ) → byte_of s x ≡ 0) →

@@ -13,7 +13,7 @@ use Rattle.memblock_model.proofs.TableLaws.{value_at-records}
 use Rattle.run_edits.proofs.AmendLaws.{amended_ends}
 use Rattle.memblock_model.specs.declared.owner.Which.TheVariants as which
 use Rattle.memblock_ranges.specs.declared.region.Head.{Head}
-use Rattle.memblock_ranges.specs.Tables.{HasTable, records_of_head, TablesView, OverlapsTable, table_of_head, bytes_of_head, TableView, UneditedPart, unedited_part, MovesTable, AreRecords, AreTables, HaveNoNode}
+use Rattle.memblock_ranges.specs.Tables.{HasTable, records_of_head, TablesView, OverlapsTable, table_of_head, bytes_of_head, TableView, PartKeptByEdits, part_kept_by_edits, MovesTable, AreRecords, AreTables, ArePlainRecords}
 use Rattle.memblock_ranges.proofs.SpellLaws.{same_records}
 use Rattle.memblock_ranges.proofs.ByteEdits.{record_there}
 
@@ -47,14 +47,14 @@ stays s t h same ready table =
     )
 
 -- an edit of a table's records keeps its bytes' range, each byte outside it, and what is prepared
-same_bytes_by : (s t : List ExtentView) (g h : Head) → unedited_part t h ≡ unedited_part s g → bytes_of_head h ≡ bytes_of_head g
-same_bytes_by s t g h kept = ap (λ (o : UneditedPart). let r : RangeView = record { base = o.place; size = 24 * o.room } in r) kept
+same_bytes_by : (s t : List ExtentView) (g h : Head) → part_kept_by_edits t h ≡ part_kept_by_edits s g → bytes_of_head h ≡ bytes_of_head g
+same_bytes_by s t g h kept = ap (λ (o : PartKeptByEdits). let r : RangeView = record { base = o.place; size = 24 * o.room } in r) kept
 
-edited_at : (s t : List ExtentView) (g h : Head) → unedited_part t h ≡ unedited_part s g → (x : ℕ) → covers (bytes_of_head g) x ≡ false
+edited_at : (s t : List ExtentView) (g h : Head) → part_kept_by_edits t h ≡ part_kept_by_edits s g → (x : ℕ) → covers (bytes_of_head g) x ≡ false
     → byte_of t x ≡ byte_of s x
 edited_at s t g h kept x out =
     let e : (if covers (bytes_of_head h) x then 0 else byte_of t x) ≡ (if covers (bytes_of_head g) x then 0 else byte_of s x) =
-    ap (λ (o : UneditedPart). o.others x) kept in
+    ap (λ (o : PartKeptByEdits). o.others x) kept in
     rw (ap (λ (r : RangeView). covers r x) (same_bytes_by s t g h kept) ∙ out, out) at e
 
 -- the table of head g becomes that of head h with these records, and all else is unchanged
@@ -68,14 +68,14 @@ pub record EditsTable (s t : List ExtentView) (g h o : Head) (list : List (RunOf
 abbrev pub with_records : List ExtentView → Head → List (RunOf LabelView) → TableView
 with_records s h list = record (table_of_head s h) { records = list }
 
-edits : (s t : List ExtentView) (g h o : Head) (list : List (RunOf LabelView)) → unedited_part t h ≡ unedited_part s g
+edits : (s t : List ExtentView) (g h o : Head) (list : List (RunOf LabelView)) → part_kept_by_edits t h ≡ part_kept_by_edits s g
     → records_of_head t h ≡ list →
     table_of_head t o ≡ table_of_head s o → EditsTable s t g h o list
 edits s t g h o list kept is other = record {
-  table = rw (is, ap (λ (k : UneditedPart). k.place) kept, ap (λ (k : UneditedPart). k.room) kept) refl;
+  table = rw (is, ap (λ (k : PartKeptByEdits). k.place) kept, ap (λ (k : PartKeptByEdits). k.room) kept) refl;
   other = other;
   elsewhere = edited_at s t g h kept;
-  ready = λ x. ap (λ (k : UneditedPart). k.ready x) kept;
+  ready = λ x. ap (λ (k : PartKeptByEdits). k.ready x) kept;
 }
 
 -- the reserved table stays if it is apart from the edited memory table
@@ -98,22 +98,22 @@ beside_memory s t m r h both other table apart known =
     )
 
 pub memory_edited : (s t : List ExtentView) (m r h : Head) (list : List (RunOf LabelView)) → AreTables s m r → HasTable t h →
-    unedited_part t h ≡ unedited_part s m → AreRecords (records_of_head t h) × (records_of_head t h ≡ list)
+    part_kept_by_edits t h ≡ part_kept_by_edits s m → AreRecords (records_of_head t h) × (records_of_head t h ≡ list)
     → AreTables t h r × EditsTable s t m h r list
 memory_edited s t m r h list both table kept known =
     let other = stays s t r (λ x lies. edited_at s t m h kept x (beside (bytes_of_head m) (bytes_of_head r) x both.apart lies))
-    (λ x was. ap (λ (k : UneditedPart). k.ready x) kept ∙ was) both.reserved in
+    (λ x was. ap (λ (k : PartKeptByEdits). k.ready x) kept ∙ was) both.reserved in
     let pair = beside_memory s t m r h both other table
     (λ meet. both.apart (subst (λ (q : RangeView). Meet q (bytes_of_head r)) (same_bytes_by s t m h kept) meet)) known.0 in
     (pair.0, edits s t m h r list kept known.1 pair.1)
 
 pub reserved_edited : (s t : List ExtentView) (m r h : Head) (list : List (RunOf LabelView)) → AreTables s m r → HasTable t h →
-    unedited_part t h ≡ unedited_part s r → AreRecords (records_of_head t h) × (records_of_head t h ≡ list) → HaveNoNode list
+    part_kept_by_edits t h ≡ part_kept_by_edits s r → AreRecords (records_of_head t h) × (records_of_head t h ≡ list) → ArePlainRecords list
     → AreTables t m h × EditsTable s t r h m list
 reserved_edited s t m r h list both table kept known plain =
     let other = stays s t m (λ x lies. edited_at s t r h kept x
     (beside (bytes_of_head r) (bytes_of_head m) x (turned (bytes_of_head m) (bytes_of_head r) both.apart) lies))
-    (λ x was. ap (λ (k : UneditedPart). k.ready x) kept ∙ was) both.memory in
+    (λ x was. ap (λ (k : PartKeptByEdits). k.ready x) kept ∙ was) both.memory in
     let same : records_of_head t m ≡ records_of_head s m = ap (λ (q : TableView). q.records) other.1 in (
       record {
         memory = other.0;
@@ -130,8 +130,8 @@ reserved_edited s t m r h list both table kept known plain =
 plain_amended : (change : Option LabelView → Option LabelView)
     → ((o : Option LabelView) (label : LabelView) → ((l : LabelView) → o ≡ Some l → l ≡ plain_label) → change o ≡ Some label
     → label ≡ plain_label)
-    → (r : RangeView) (rs : List (RunOf LabelView)) → AreRecords rs → HaveNoNode rs → r.base + r.size ≤ 2 ^ 64 →
-    HaveNoNode (records_for (change_range change r (value_at rs)))
+    → (r : RangeView) (rs : List (RunOf LabelView)) → AreRecords rs → ArePlainRecords rs → r.base + r.size ≤ 2 ^ 64 →
+    ArePlainRecords (records_for (change_range change r (value_at rs)))
 plain_amended change written r rs known plain ends x label is =
     let f = value_at rs in
     let g = change_range change r f in
@@ -147,12 +147,12 @@ plain_or : (o : Option LabelView) (label : LabelView) → ((l : LabelView) → o
 plain_or None label plain is = sym (cc is)
 plain_or (Some l) label plain is = plain label is
 
-pub plain_covered : (r : RangeView) (rs : List (RunOf LabelView)) → AreRecords rs → HaveNoNode rs → r.base + r.size ≤ 2 ^ 64 →
-    HaveNoNode (records_for (cover_range r plain_label (value_at rs)))
+pub plain_covered : (r : RangeView) (rs : List (RunOf LabelView)) → AreRecords rs → ArePlainRecords rs → r.base + r.size ≤ 2 ^ 64 →
+    ArePlainRecords (records_for (cover_range r plain_label (value_at rs)))
 plain_covered = plain_amended (λ carried. Some (unwrap_or carried plain_label)) plain_or
 
-pub plain_uncovered : (r : RangeView) (rs : List (RunOf LabelView)) → AreRecords rs → HaveNoNode rs → r.base + r.size ≤ 2 ^ 64 →
-    HaveNoNode (records_for (uncover_range r (value_at rs)))
+pub plain_uncovered : (r : RangeView) (rs : List (RunOf LabelView)) → AreRecords rs → ArePlainRecords rs → r.base + r.size ≤ 2 ^ 64 →
+    ArePlainRecords (records_for (uncover_range r (value_at rs)))
 plain_uncovered = plain_amended (λ (carried : Option LabelView). None) (λ o label plain is. cc is)
 
 -- a table that moves, apart from the other

@@ -3,7 +3,7 @@ use Rattle.std.proofs.Common.{◌≡◌, ◌^◌, Option, Some, None, List, [], 
 use Rattle.std.specs.Prelude.{unwrap_or}
 use Rattle.std.specs.Option.{option_map}
 use Rattle.address_runs.specs.Runs.{RunOf, value_at}
-use Rattle.address_runs.specs.Edits.{NothingFrom}
+use Rattle.address_runs.specs.Edits.{IsEmptyFrom}
 use Rattle.run_edits.proofs.AmendLaws.{amended_ends}
 use Rattle.memblock_model.specs.declared.owner.Which.{Which}
 use Rattle.memblock_model.specs.declared.owner.Which.TheVariants as which
@@ -13,9 +13,9 @@ use Rattle.memblock_model.specs.Labels.{LabelView, Labels, plain_label, with_nod
 use Rattle.memblock_model.specs.Tables.{table_of, table_after, records_for, records_of}
 use Rattle.memblock_model.proofs.ItemLaws.{table_of-push}
 use Rattle.memblock_model.proofs.TableLaws.{records-edit, nothing-trimmed}
-use Rattle.memblock_ranges.specs.Steps.{EndsInSpace}
+use Rattle.memblock_ranges.specs.Steps.{RangeEndsInAddressSpace}
 
-pub edited-items : (w : Which) (items : List Item) (i : Item) (old new : List (RunOf LabelView)) → NothingFrom (2 ^ 64) (table_of w items) →
+pub edited-items : (w : Which) (items : List Item) (i : Item) (old new : List (RunOf LabelView)) → IsEmptyFrom (2 ^ 64) (table_of w items) →
     old ≡ records_of w items → new ≡ records_for (table_after w (value_at old) i) → new ≡ records_of w (items ++ i ∷ [])
 unfolding records_of
 edited-items w items i old new none was is =
@@ -26,7 +26,7 @@ pub untouched-items : (w : Which) (items : List Item) (i : Item) (old : List (Ru
 unfolding records_of
 untouched-items w items i old was same = was ∙ ap records_for (sym (table_of-push w items i ∙ same))
 
-after_within : (w : Which) (f : Labels) (i : Item) → EndsInSpace i → NothingFrom (2 ^ 64) f → NothingFrom (2 ^ 64) (table_after w f i)
+after_within : (w : Which) (f : Labels) (i : Item) → RangeEndsInAddressSpace i → IsEmptyFrom (2 ^ 64) f → IsEmptyFrom (2 ^ 64) (table_after w f i)
 after_within which.Memory f (item.Mem range) ends none =
     amended_ends (λ carried. Some (unwrap_or carried plain_label)) range f (2 ^ 64) ends none
 after_within which.Memory f item.Trim ends none = nothing-trimmed (2 ^ 64) f none
@@ -48,7 +48,7 @@ after_within which.Reserved f (item.Limit at) ends none = none
 after_within which.Reserved f (item.Upward on) ends none = none
 after_within which.Reserved f (item.Grown v place room) ends none = none
 
-pub items-within : (w : Which) (items : List Item) (i : Item) → EndsInSpace i → NothingFrom (2 ^ 64) (table_of w items) →
-    NothingFrom (2 ^ 64) (table_of w (items ++ i ∷ []))
+pub items-within : (w : Which) (items : List Item) (i : Item) → RangeEndsInAddressSpace i → IsEmptyFrom (2 ^ 64) (table_of w items) →
+    IsEmptyFrom (2 ^ 64) (table_of w (items ++ i ∷ []))
 items-within w items i ends none =
-    subst (λ (f : Labels). NothingFrom (2 ^ 64) f) (sym (table_of-push w items i)) (after_within w (table_of w items) i ends none)
+    subst (λ (f : Labels). IsEmptyFrom (2 ^ 64) f) (sym (table_of-push w items i)) (after_within w (table_of w items) i ends none)

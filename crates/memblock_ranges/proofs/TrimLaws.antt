@@ -4,7 +4,7 @@ use Rattle.std.proofs.lemmas.Bool.{cases_lt}
 use Rattle.std.proofs.lemmas.Bool.Decides.{nat_tests}
 use Rattle.address_runs.specs.Runs.{RunOf, run_end, value_at, AreRuns, IsRunsOf}
 use Rattle.address_runs.specs.Sweep.{StartAtOrPast, IsSweptTo}
-use Rattle.address_runs.proofs.RunsLaws.{inside, behind, none_below, rest_from, other_behind, start_zero}
+use Rattle.address_runs.proofs.RunsLaws.{inside, behind, none_below, rest_from, another_value_at_run_end, start_zero}
 use Rattle.address_runs.proofs.SweepLaws.{swept_over, swept_all}
 use Rattle.run_edits.specs.Records.{stretch}
 use Rattle.run_edits.proofs.JoinLaws.{swept_stretch}
@@ -53,7 +53,7 @@ module _ (f : Labels) (at : ℕ) (r : RunOf LabelView) (rs : List (RunOf LabelVi
       sym off ∙ turns.each x (omega arith)
 
   end_other : f (run_end r) ≢ Some r.value
-  end_other same = other_behind r rs turns.runs (behind_run (run_end r) (omega arith) ∙ same)
+  end_other same = another_value_at_run_end r rs turns.runs (behind_run (run_end r) (omega arith) ∙ same)
 
   first_other : 0 < r.base → f (r.base - 1) ≢ f r.base
   first_other some =

@@ -5,10 +5,10 @@ use Rattle.memblock_model.specs.declared.item.Item.{Item}
 use Rattle.memblock_model.specs.declared.item.Item.TheVariants as item
 
 -- the item's range, if it has one, ends at or below 2^64
-abbrev pub EndsInSpace : Item → Type 0
-EndsInSpace (item.Mem range) = end_of range ≤ 2 ^ 64
-EndsInSpace (item.Node range node) = end_of range ≤ 2 ^ 64
-EndsInSpace (item.Mirror range) = end_of range ≤ 2 ^ 64
-EndsInSpace (item.Claim range owner) = end_of range ≤ 2 ^ 64
-EndsInSpace (item.Free range) = end_of range ≤ 2 ^ 64
-EndsInSpace i = Unit {0}
+abbrev pub RangeEndsInAddressSpace : Item → Type 0
+RangeEndsInAddressSpace (item.Mem range) = end_of range ≤ 2 ^ 64
+RangeEndsInAddressSpace (item.Node range node) = end_of range ≤ 2 ^ 64
+RangeEndsInAddressSpace (item.Mirror range) = end_of range ≤ 2 ^ 64
+RangeEndsInAddressSpace (item.Claim range owner) = end_of range ≤ 2 ^ 64
+RangeEndsInAddressSpace (item.Free range) = end_of range ≤ 2 ^ 64
+RangeEndsInAddressSpace i = Unit {0}

@@ -3,7 +3,7 @@ use Rattle.std.specs.Prelude.{◌≡◌, ℕ, ◌+◌, ◌*◌, ◌^◌, ◌<◌
 use Rattle.bm_base.specs.Range.{RangeView, covers, Meet}
 use Rattle.phys_store.specs.Bytes.{ExtentView, byte_of, is_prepared_at, ArePrepared, bytes_at}
 use Rattle.address_runs.specs.Runs.{RunOf, AreRuns, value_at}
-use Rattle.address_runs.specs.Edits.{NothingFrom}
+use Rattle.address_runs.specs.Edits.{IsEmptyFrom}
 use Rattle.memblock_model.specs.Labels.{LabelView, plain_label}
 use Rattle.memblock_model.specs.declared.owner.Which.{Which}
 use Rattle.memblock_model.specs.declared.owner.Which.TheVariants as which
@@ -25,14 +25,14 @@ bytes_outside_table f place room x = if covers (record { base = place; size = 24
 
 -- what an edit of a table's records keeps: its address and room, the bytes outside it, and which
 -- addresses are prepared
-pub record UneditedPart : Type 0 where
+pub record PartKeptByEdits : Type 0 where
   pub place : ℕ
   pub room : ℕ
   pub others : ℕ → ℕ
   pub ready : ℕ → Bool
 
-abbrev pub unedited_part : List ExtentView → Head → UneditedPart
-unedited_part s h =
+abbrev pub part_kept_by_edits : List ExtentView → Head → PartKeptByEdits
+part_kept_by_edits s h =
     record { place = h.place; room = h.room; others = bytes_outside_table (byte_of s) h.place h.room; ready = is_prepared_at s }
 
 -- the table of a head in a store
@@ -45,7 +45,7 @@ HasTable s h = IsTable (byte_of s) (is_prepared_at s) h.place h.room h.count
 -- records in order: none is empty, no two that touch have the same label, and none ends past 2^64
 pub record AreRecords (rs : List (RunOf LabelView)) : Type 0 where
   pub runs : AreRuns rs
-  pub within : NothingFrom (2 ^ 64) (value_at rs)
+  pub within : IsEmptyFrom (2 ^ 64) (value_at rs)
 
 -- a table as contracts see it: its records as runs, its address, and the number of records that it
 -- has room for
@@ -64,9 +64,9 @@ abbrev pub table_in : Which → TablesView → TableView
 table_in which.Memory t = t.memory
 table_in which.Reserved t = t.reserved
 
-abbrev pub other_in : Which → TablesView → TableView
-other_in which.Memory t = t.reserved
-other_in which.Reserved t = t.memory
+abbrev pub other_table_in : Which → TablesView → TableView
+other_table_in which.Memory t = t.reserved
+other_table_in which.Reserved t = t.memory
 
 abbrev pub records_in : Which → TablesView → List (RunOf LabelView)
 records_in w t = (table_in w t).records
@@ -81,12 +81,12 @@ room_in w t = (table_in w t).room
 abbrev pub bytes_of : TableView → RangeView
 bytes_of t = record { base = t.place; size = 24 * t.room }
 
-abbrev pub bytes_in : Which → TablesView → RangeView
-bytes_in w t = bytes_of (table_in w t)
+abbrev pub table_range_in : Which → TablesView → RangeView
+table_range_in w t = bytes_of (table_in w t)
 
 -- some address of the range belongs to a table
 abbrev pub OverlapsTable : TablesView → RangeView → Type 0
-OverlapsTable t r = (w : Which) × Meet (bytes_in w t) r
+OverlapsTable t r = (w : Which) × Meet (table_range_in w t) r
 
 -- where a table lies, and how many records it has
 abbrev pub head_of : TableView → Head
@@ -105,13 +105,13 @@ pub record IsInStore (t : TableView) (store : List ExtentView) : Type 0 where
 
 -- the node fields that a new record may have: in the reserved table only 1,024, so none
 -- (`memblock_add_range` with `MAX_NUMNODES`)
-abbrev pub IsNodeOf : Which → ℕ → Type 0
-IsNodeOf which.Memory node = node ≤ 1024
-IsNodeOf which.Reserved node = node ≡ 1024
+abbrev pub MayBeNodeField : Which → ℕ → Type 0
+MayBeNodeField which.Memory node = node ≤ 1024
+MayBeNodeField which.Reserved node = node ≡ 1024
 
 -- no record has a node, and none is mirrored
-abbrev pub HaveNoNode : List (RunOf LabelView) → Type 0
-HaveNoNode rs = (x : ℕ) (label : LabelView) → value_at rs x ≡ Some label → label ≡ plain_label
+abbrev pub ArePlainRecords : List (RunOf LabelView) → Type 0
+ArePlainRecords rs = (x : ℕ) (label : LabelView) → value_at rs x ≡ Some label → label ≡ plain_label
 
 -- the table of a head, as contracts see it
 abbrev pub table_of_head : List ExtentView → Head → TableView
@@ -127,7 +127,7 @@ pub record AreTables (s : List ExtentView) (m r : Head) : Type 0 where
   pub apart : ¬ Meet (bytes_of_head m) (bytes_of_head r)
   pub memory_records : AreRecords (records_of_head s m)
   pub reserved_records : AreRecords (records_of_head s r)
-  pub plain : HaveNoNode (records_of_head s r)
+  pub plain : ArePlainRecords (records_of_head s r)
 
 -- the table of head g moves to `place` with twice the room; its old bytes are 0, and nothing else
 -- changes

@@ -75,13 +75,13 @@ impl Rows<Record> for TableMut<'_> {
 impl Slots<Record> for TableMut<'_> {
     ghost use Rattle.std.specs.Prelude.{◌≡◌, ◌≤◌, [], ◌∷◌, ℕ};
     ghost use Rattle.std.proofs.Common.{refl, sym, ◌∙◌, subst};
-    ghost use Rattle.memblock_ranges.specs.Tables.{UneditedPart, unedited_part};
+    ghost use Rattle.memblock_ranges.specs.Tables.{PartKeptByEdits, part_kept_by_edits};
 
     ghost room = { λ l. l.head.now.room };
 
     ghost keeps = { λ l m. (m.store.ghost_name ≡ l.store.ghost_name)
         × (m.head.ghost_name ≡ l.head.ghost_name)
-        × (unedited_part m.store.now m.head.now ≡ unedited_part l.store.now l.head.now) };
+        × (part_kept_by_edits m.store.now m.head.now ≡ part_kept_by_edits l.store.now l.head.now) };
 
     fn put(&mut self, i: u64, item: Record) {
         self.store
@@ -120,5 +120,5 @@ impl Slots<Record> for TableMut<'_> {
         (second.0 ∙ first.0, second.1 ∙ first.1, second.2 ∙ first.2) };
 
     ghost keeps_room = { λ l m kept k few.
-        subst (λ (o : UneditedPart). k ≤ o.room) (sym kept.2) few };
+        subst (λ (o : PartKeptByEdits). k ≤ o.room) (sym kept.2) few };
 }

@@ -39,7 +39,7 @@ mod region;
 mod tables;
 mod trim;
 
-pub use laws::{edits_add_few_records, edits_follow_the_items, pieces_are_few};
+pub use laws::{edits_add_few_records, edited_tables_match_items, uncovered_pieces_are_few};
 pub use record::{NO_NODE, label_of, node_field, node_of_field};
 pub use records::Records;
 pub use region::{Head, Heads, Region, region_at};

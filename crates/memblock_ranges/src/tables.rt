@@ -11,7 +11,7 @@ ghost use Rattle.memblock_model.specs.Labels.{LabelView, with_node, with_mirror}
 ghost use Rattle.memblock_model.specs.Items.{trim_frames};
 ghost use Rattle.memblock_model.specs.Tables.{records_for, uncovered_run_count, built_in_place};
 ghost use Rattle.memblock_ranges.specs.Encoding.{label_of, region_of, FitsRecord};
-ghost use Rattle.memblock_ranges.specs.Tables.{table_in, other_in, records_in, room_in, bytes_of, bytes_in, head_of, OverlapsTable, IsInStore, IsNodeOf, HaveNoNode};
+ghost use Rattle.memblock_ranges.specs.Tables.{table_in, other_table_in, records_in, room_in, bytes_of, table_range_in, head_of, OverlapsTable, IsInStore, MayBeNodeField, ArePlainRecords};
 
 use crate::borrowed_table::{TableMut, TableRef};
 use crate::changes::{SetMirror, SetNode};
@@ -24,7 +24,7 @@ use crate::trim::trim;
 use bm_base::{FRAME_SIZE, Memory, Range};
 use memblock_model::Which;
 use phys_store::Store;
-use run_edits::{Cover, Uncover, amend, range_end_fits, rewrite};
+use run_edits::{Cover, Uncover, edit_without_cover, range_end_fits, edit_range};
 use std::alloc::Global;
 use std::marker::Model;
 
@@ -69,11 +69,12 @@ impl Tables {
         ensures bytes { IfOk result (λ t. (x : ℕ) → byte_of t.store x ≡ 0) }
         ensures ready { IfOk result (λ t. (x : ℕ) →
             is_prepared_at t.store x
-            ≡ (covers (bytes_in which.Reserved t) x || covers (bytes_in which.Memory t) x)) }
+            ≡ (covers (table_range_in which.Reserved t) x || covers (table_range_in which.Memory
+            t) x)) }
     {
         let heads = Heads {
-            memory: built_in(kernel, 2),
-            reserved: built_in(kernel, 1),
+            memory: empty_built_in_head(kernel, 2),
+            reserved: empty_built_in_head(kernel, 1),
         };
         let mut store = Store::new(alloc);
         store.prepare(head_table::bytes(&heads.memory))?;
@@ -87,7 +88,7 @@ impl Tables {
         ensures head { result ≡ head_of (table_in which self.now) }
         ensures table { IsInStore (table_in which self.now) self.now.store }
         ensures apart { ¬ Meet (bytes_of self.now.memory) (bytes_of self.now.reserved) }
-        ensures plain { HaveNoNode self.now.reserved.records }
+        ensures plain { ArePlainRecords self.now.reserved.records }
     {
         match which {
             Which::Memory => self.heads.memory,
@@ -148,15 +149,15 @@ impl Tables {
     /// range must not be empty, and the table must have room for its pieces ([`Tables::pieces`]).
     pub fn insert(&mut self, which: Which, range: Range, node: u32)
         requires some { 0 < range.size }
-        requires node { IsNodeOf which node }
+        requires node { MayBeNodeField which node }
         requires room { length (records_in which self.old) + uncovered_run_count range
             (value_at (records_in which self.old)) ≤ room_in which self.old }
         ensures table { table_in which self.new ≡ record (table_in which self.old) {
           records = records_for
               (cover_range range (label_of 0 node) (value_at (records_in which self.old)));
         } }
-        ensures other { other_in which self.new ≡ other_in which self.old }
-        ensures elsewhere { (x : ℕ) → covers (bytes_in which self.old) x ≡ false
+        ensures other { other_table_in which self.new ≡ other_table_in which self.old }
+        ensures elsewhere { (x : ℕ) → covers (table_range_in which self.old) x ≡ false
             → byte_of self.new.store x ≡ byte_of self.old.store x }
         ensures ready { (x : ℕ)
             → is_prepared_at self.new.store x ≡ is_prepared_at self.old.store x }
@@ -169,14 +170,14 @@ impl Tables {
                     store: &mut self.store,
                     head: &mut self.heads.memory,
                 };
-                rewrite(&mut live, &range, change);
+                edit_range(&mut live, &range, change);
             }
             Which::Reserved => {
                 let mut live = TableMut {
                     store: &mut self.store,
                     head: &mut self.heads.reserved,
                 };
-                rewrite(&mut live, &range, change);
+                edit_range(&mut live, &range, change);
             }
         }
     }
@@ -189,8 +190,8 @@ impl Tables {
         ensures table { table_in which self.new ≡ record (table_in which self.old) {
           records = records_for (uncover_range range (value_at (records_in which self.old)));
         } }
-        ensures other { other_in which self.new ≡ other_in which self.old }
-        ensures elsewhere { (x : ℕ) → covers (bytes_in which self.old) x ≡ false
+        ensures other { other_table_in which self.new ≡ other_table_in which self.old }
+        ensures elsewhere { (x : ℕ) → covers (table_range_in which self.old) x ≡ false
             → byte_of self.new.store x ≡ byte_of self.old.store x }
         ensures ready { (x : ℕ)
             → is_prepared_at self.new.store x ≡ is_prepared_at self.old.store x }
@@ -205,7 +206,7 @@ impl Tables {
                 if range.size == 0 {
                     return;
                 }
-                amend(&mut live, &range, Uncover);
+                edit_without_cover(&mut live, &range, Uncover);
             }
             Which::Reserved => {
                 let head = &mut self.heads.reserved;
@@ -216,7 +217,7 @@ impl Tables {
                 if range.size == 0 {
                     return;
                 }
-                amend(&mut live, &range, Uncover);
+                edit_without_cover(&mut live, &range, Uncover);
             }
         }
     }
@@ -244,7 +245,7 @@ impl Tables {
         if range.size == 0 {
             return;
         }
-        amend(&mut live, &range, SetNode { node });
+        edit_without_cover(&mut live, &range, SetNode { node });
     }
 
     /// Marks the memory of the range as mirrored; it keeps its node (`memblock_mark_mirror`). The
@@ -269,7 +270,7 @@ impl Tables {
         if range.size == 0 {
             return;
         }
-        amend(&mut live, &range, SetMirror);
+        edit_without_cover(&mut live, &range, SetMirror);
     }
 
     /// Cuts memory to whole frames: a byte keeps its label if all bytes of its frame have it, and
@@ -321,11 +322,11 @@ impl Tables {
             (record { base = place; size = 48 * room_in which self.old }) }
         ensures table { table_in which self.new ≡ record
             (table_in which self.old) { place = place; room = 2 * room_in which self.old } }
-        ensures other { other_in which self.new ≡ other_in which self.old }
-        ensures left { (x : ℕ) → covers (bytes_in which self.old) x ≡ true
+        ensures other { other_table_in which self.new ≡ other_table_in which self.old }
+        ensures left { (x : ℕ) → covers (table_range_in which self.old) x ≡ true
             → byte_of self.new.store x ≡ 0 }
-        ensures elsewhere { (x : ℕ) → covers (bytes_in which self.new) x ≡ false
-            → covers (bytes_in which self.old) x ≡ false →
+        ensures elsewhere { (x : ℕ) → covers (table_range_in which self.new) x ≡ false
+            → covers (table_range_in which self.old) x ≡ false →
             byte_of self.new.store x ≡ byte_of self.old.store x }
         ensures ready { (x : ℕ)
             → is_prepared_at self.new.store x ≡ is_prepared_at self.old.store x }
@@ -378,7 +379,7 @@ impl Tables {
             ≡ record { memory = head_of self.memory; reserved = head_of self.reserved } }
         ensures memory { IsInStore self.memory result.0 }
         ensures reserved { IsInStore self.reserved result.0 }
-        ensures plain { HaveNoNode self.reserved.records }
+        ensures plain { ArePlainRecords self.reserved.records }
     {
         let Tables { store, heads } = self;
         (store, heads)
@@ -387,7 +388,7 @@ impl Tables {
 
 /// Returns the head of an empty table at the start of one of the last frames of the kernel's
 /// image: `frames` frames before its end.
-fn built_in(kernel: Range, frames: u64) -> Head
+fn empty_built_in_head(kernel: Range, frames: u64) -> Head
     requires size { 8192 ≤ kernel.size }
     requires frames { frames ≤ 2 }
     ensures head { result

@@ -10,7 +10,7 @@ ghost use Rattle.memblock_ranges.specs.Tables.{AreRecords};
 use crate::record::Record;
 use address_runs::Stretch;
 use bm_base::{FRAME_SIZE, Range};
-use run_edits::{Slots, emit};
+use run_edits::{Slots, write_run};
 
 /// Returns where the whole frames of the range begin and end. If it has none, the first address
 /// isn't below the second.
@@ -41,7 +41,7 @@ pub fn trim<T: Slots<Record>>(table: &mut T)
     while read < table.count() {
         let record = table.get(read);
         let (start, until) = whole_frame_bounds(&record.range());
-        (write, read) = emit(table, write, read + 1, start, until, Some(record.value()));
+        (write, read) = write_run(table, write, read + 1, start, until, Some(record.value()));
     }
     table.close(write, read - write);
 }

@@ -3,7 +3,7 @@ use Rattle.std.proofs.Common.{◌≡◌, ◌^◌, ◌<◌, ℕ, Bool, is_some, O
 use Rattle.std.proofs.lemmas.List.Elements.{All-cons}
 use Rattle.bm_base.specs.Range.{RangeView}
 use Rattle.address_runs.specs.Runs.{RunOf, value_at}
-use Rattle.address_runs.specs.Edits.{NothingFrom}
+use Rattle.address_runs.specs.Edits.{IsEmptyFrom}
 use Rattle.memblock_model.specs.declared.owner.Which.TheVariants as which
 use Rattle.memblock_model.specs.declared.item.Item.{Item}
 use Rattle.memblock_model.specs.Items.{limit_of, memory_of}
@@ -11,7 +11,7 @@ use Rattle.memblock_model.specs.Labels.{LabelView, Labels}
 use Rattle.memblock_model.specs.Tables.{records_of}
 use Rattle.memblock_model.proofs.TableLaws.{value_at-records}
 use Rattle.memblock_ranges.specs.Tables.{TableView}
-use Rattle.growth_model.specs.Bytes.{table_for}
+use Rattle.growth_model.specs.Bytes.{table_from_items}
 use Rattle.srat_reader.specs.Table.{SratView}
 use Rattle.srat_nodes.specs.declared.reasons.Why.{Why}
 use Rattle.srat_nodes.specs.declared.reasons.Why.TheVariants as why
@@ -21,10 +21,10 @@ use Rattle.srat_nodes.specs.Kept.{is_in_any_range}
 use Rattle.srat_nodes.proofs.GivenLaws.{given-small}
 use Rattle.memblock_grow.specs.declared.stop.StageStop.{StageStop}
 use Rattle.memblock_grow.specs.declared.stop.StageStop.TheVariants as stop
-use Rattle.stage_steps.specs.Causes.{StageCause, stage_stop}
-use Rattle.stage_steps.specs.Steps.{StageStep, EndsAsStage, fold_steps, view_of_result, return_value, read_into_list, ◌>>=◌}
+use Rattle.stage_steps.specs.Causes.{StageCause, error_of_stage_cause}
+use Rattle.stage_steps.specs.Steps.{StageStep, EndsAsStage, fold_steps, view_of_result, return_value, read_items_allocating, ◌>>=◌}
 use Rattle.stage_steps.proofs.DoingLaws.{ends-first, ends-listed, ends-second, ends-wanting}
-use Rattle.numa_nodes.specs.Assignment.{NodesView, assign_nodes, assign_nodes_by, place_node_data, set_block_node, is_memory_byte, nodes_by_judgement, nodes_with_memory, node_ranges_by, node_ranges, place_data_of_nodes}
+use Rattle.numa_nodes.specs.Assignment.{NodesView, assign_nodes, assign_nodes_by, place_node_data, set_block_node, is_memory_byte, nodes_view_from_judgement, nodes_with_memory, node_ranges_by, node_ranges, place_data_of_nodes}
 use Rattle.numa_nodes.specs.Steps.{CanGetNodes}
 
 -- the list of ranges, what follows them, and what follows the nodes that have memory
@@ -32,7 +32,7 @@ abbrev ranges_in : SratNodesView → List Item → List NumaBlock
 ranges_in found items = node_ranges (limit_of items) found
 
 abbrev pub behind : SratNodesView → Unit {0} → StageStep StageCause NodesView
-behind found done = read_into_list (λ items. nodes_with_memory (memory_of items)) >>= λ nodes. place_data_of_nodes found nodes
+behind found done = read_items_allocating (λ items. nodes_with_memory (memory_of items)) >>= λ nodes. place_data_of_nodes found nodes
 
 abbrev by_ranges : SratNodesView → List NumaBlock → StageStep StageCause NodesView
 by_ranges found ranges = fold_steps set_block_node tt ranges >>= behind found
@@ -42,63 +42,63 @@ nodes_in items = nodes_with_memory (memory_of items)
 
 -- out of memory before anything was written
 pub by-wanting : (items : List Item) (found : SratNodesView)
-    → EndsAsStage {A = NodesView} (assign_nodes_by found) stage_stop (Err stop.Memory) items items
+    → EndsAsStage {A = NodesView} (assign_nodes_by found) error_of_stage_cause (Err stop.Memory) items items
 unfolding assign_nodes_by
 by-wanting items found =
-    ends-first stop.Memory stage_stop items items (read_into_list (ranges_in found)) (by_ranges found)
-    (ends-wanting (ranges_in found) stage_stop items)
+    ends-first stop.Memory error_of_stage_cause items items (read_items_allocating (ranges_in found)) (by_ranges found)
+    (ends-wanting (ranges_in found) error_of_stage_cause items)
 
 -- the stage ends as what follows the list of ranges
 by-listed : (r : Result NodesView StageStop) (old new : List Item) (found : SratNodesView)
-    → EndsAsStage (by_ranges found (ranges_in found old)) stage_stop r old new → EndsAsStage (assign_nodes_by found) stage_stop r old new
+    → EndsAsStage (by_ranges found (ranges_in found old)) error_of_stage_cause r old new → EndsAsStage (assign_nodes_by found) error_of_stage_cause r old new
 unfolding assign_nodes_by
 by-listed r old new found rest =
-    ends-second (ranges_in found old) r stage_stop old old new (read_into_list (ranges_in found)) (by_ranges found)
-    (ends-listed (ranges_in found) stage_stop old) rest
+    ends-second (ranges_in found old) r error_of_stage_cause old old new (read_items_allocating (ranges_in found)) (by_ranges found)
+    (ends-listed (ranges_in found) error_of_stage_cause old) rest
 
 pub by-ranges : (e : StageStop) (old new : List Item) (found : SratNodesView)
-    → EndsAsStage {A = Unit {0}} (fold_steps set_block_node tt (node_ranges (limit_of old) found)) stage_stop (Err e) old new
-    → EndsAsStage {A = NodesView} (assign_nodes_by found) stage_stop (Err e) old new
+    → EndsAsStage {A = Unit {0}} (fold_steps set_block_node tt (node_ranges (limit_of old) found)) error_of_stage_cause (Err e) old new
+    → EndsAsStage {A = NodesView} (assign_nodes_by found) error_of_stage_cause (Err e) old new
 by-ranges e old new found was =
     by-listed (Err e) old new found
-    (ends-first e stage_stop old new (fold_steps set_block_node tt (ranges_in found old)) (behind found) was)
+    (ends-first e error_of_stage_cause old new (fold_steps set_block_node tt (ranges_in found old)) (behind found) was)
 
 -- after the ranges
 module _ (old mid : List Item) (found : SratNodesView)
-    (was : EndsAsStage {A = Unit {0}} (fold_steps set_block_node tt (node_ranges (limit_of old) found)) stage_stop (Ok tt) old mid) where
-  by-behind : (r : Result NodesView StageStop) (new : List Item) → EndsAsStage (behind found tt) stage_stop r mid new
-      → EndsAsStage (assign_nodes_by found) stage_stop r old new
+    (was : EndsAsStage {A = Unit {0}} (fold_steps set_block_node tt (node_ranges (limit_of old) found)) error_of_stage_cause (Ok tt) old mid) where
+  by-behind : (r : Result NodesView StageStop) (new : List Item) → EndsAsStage (behind found tt) error_of_stage_cause r mid new
+      → EndsAsStage (assign_nodes_by found) error_of_stage_cause r old new
   by-behind r new rest =
       by-listed r old new found
-      (ends-second tt r stage_stop old mid new (fold_steps set_block_node tt (ranges_in found old)) (behind found) was rest)
+      (ends-second tt r error_of_stage_cause old mid new (fold_steps set_block_node tt (ranges_in found old)) (behind found) was rest)
 
   -- out of memory for the nodes that have memory
-  pub data-wanting : EndsAsStage {A = NodesView} (assign_nodes_by found) stage_stop (Err stop.Memory) old mid
+  pub data-wanting : EndsAsStage {A = NodesView} (assign_nodes_by found) error_of_stage_cause (Err stop.Memory) old mid
   data-wanting =
       by-behind (Err stop.Memory) mid
-      (ends-first stop.Memory stage_stop mid mid (read_into_list nodes_in) (place_data_of_nodes found)
-      (ends-wanting nodes_in stage_stop mid))
+      (ends-first stop.Memory error_of_stage_cause mid mid (read_items_allocating nodes_in) (place_data_of_nodes found)
+      (ends-wanting nodes_in error_of_stage_cause mid))
 
   -- the data of those nodes is placed
-  by-data : (r : Result NodesView StageStop) (new : List Item) → EndsAsStage (place_data_of_nodes found (nodes_in mid)) stage_stop r mid new
-      → EndsAsStage (assign_nodes_by found) stage_stop r old new
+  by-data : (r : Result NodesView StageStop) (new : List Item) → EndsAsStage (place_data_of_nodes found (nodes_in mid)) error_of_stage_cause r mid new
+      → EndsAsStage (assign_nodes_by found) error_of_stage_cause r old new
   by-data r new rest =
       by-behind r new
-      (ends-second (nodes_in mid) r stage_stop mid mid new (read_into_list nodes_in) (place_data_of_nodes found)
-      (ends-listed nodes_in stage_stop mid) rest)
+      (ends-second (nodes_in mid) r error_of_stage_cause mid mid new (read_items_allocating nodes_in) (place_data_of_nodes found)
+      (ends-listed nodes_in error_of_stage_cause mid) rest)
 
   pub data-told : (r : Result (Unit {0}) StageStop) (new : List Item)
-      → EndsAsStage (fold_steps place_node_data tt (nodes_with_memory (memory_of mid))) stage_stop r mid new
-      → EndsAsStage (assign_nodes_by found) stage_stop
-      (view_of_result (λ done. nodes_by_judgement found (nodes_with_memory (memory_of mid))) r) old new
+      → EndsAsStage (fold_steps place_node_data tt (nodes_with_memory (memory_of mid))) error_of_stage_cause r mid new
+      → EndsAsStage (assign_nodes_by found) error_of_stage_cause
+      (view_of_result (λ done. nodes_view_from_judgement found (nodes_with_memory (memory_of mid))) r) old new
   data-told (Ok done) new placed =
-      by-data (Ok (nodes_by_judgement found (nodes_in mid))) new
-      (ends-second tt (Ok (nodes_by_judgement found (nodes_in mid))) stage_stop mid new new (fold_steps place_node_data tt (nodes_in mid))
-      (λ done. return_value (nodes_by_judgement found (nodes_in mid))) placed (refl, refl))
+      by-data (Ok (nodes_view_from_judgement found (nodes_in mid))) new
+      (ends-second tt (Ok (nodes_view_from_judgement found (nodes_in mid))) error_of_stage_cause mid new new (fold_steps place_node_data tt (nodes_in mid))
+      (λ done. return_value (nodes_view_from_judgement found (nodes_in mid))) placed (refl, refl))
   data-told (Err e) new placed =
       by-data (Err e) new
-      (ends-first e stage_stop mid new (fold_steps place_node_data tt (nodes_in mid)) (λ done.
-      return_value (nodes_by_judgement found (nodes_in mid))) placed)
+      (ends-first e error_of_stage_cause mid new (fold_steps place_node_data tt (nodes_in mid)) (λ done.
+      return_value (nodes_view_from_judgement found (nodes_in mid))) placed)
 
 -- the stage by its judgement
 pub assign_nodes-is : (table : Option SratView) (off : Bool) (items : List Item)
@@ -108,7 +108,7 @@ assign_nodes-is table off items = refl
 
 -- the records of the memory table give each byte the label that the items give it
 pub records-tell : (kernel : RangeView) (items : List Item) (records : List (RunOf LabelView)) (t : TableView) → records ≡ t.records
-    → t ≡ table_for which.Memory kernel items → NothingFrom (2 ^ 64) (memory_of items) → value_at records ≡ memory_of items
+    → t ≡ table_from_items which.Memory kernel items → IsEmptyFrom (2 ^ 64) (memory_of items) → value_at records ≡ memory_of items
 unfolding records_of
 records-tell kernel items records t is table within =
     ap value_at (is ∙ ap (λ (s : TableView). s.records) table) ∙ value_at-records (memory_of items) within

@@ -6,7 +6,7 @@ use Rattle.std.proofs.lemmas.List.{append-nil}
 use Rattle.std.proofs.lemmas.List.Sums.{fold-append}
 use Rattle.bm_base.specs.Range.{RangeView, covers}
 use Rattle.address_runs.specs.Edits.{relabel_range}
-use Rattle.address_runs.specs.Runs.{extent_of}
+use Rattle.address_runs.specs.Runs.{range_of_run}
 use Rattle.srat_reader.specs.Table.{SratView}
 use Rattle.memblock_model.specs.declared.owner.Which.TheVariants as which
 use Rattle.memblock_model.specs.declared.item.Item.{Item}
@@ -15,7 +15,7 @@ use Rattle.memblock_model.specs.declared.owner.Owner.TheVariants as owner
 use Rattle.memblock_model.specs.Items.{limit_after, limit_of, memory_after, memory_of, no_memory}
 use Rattle.memblock_model.specs.Labels.{LabelView, Labels, with_node}
 use Rattle.growth_model.specs.Requests.{StepsKeepMemory}
-use Rattle.growth_model.specs.Growth.{make_table_room, memory_growth, set_range_node, split_record_count}
+use Rattle.growth_model.specs.Growth.{make_table_room, memory_growth, set_range_node, max_records_added_by_split}
 use Rattle.growth_model.specs.Change.{ChangeEffect, RefusedGrowth, followed_by, write_item}
 use Rattle.growth_model.specs.Change.{items_after_change}
 use Rattle.growth_model.proofs.QuietLaws.{memory_growth-quiet, quiet-grown}
@@ -28,15 +28,15 @@ use Rattle.stage_steps.proofs.DoingLaws.{append_groups-append}
 use Rattle.stage_steps.proofs.QuietLaws.{quiet-appended_limit, quiet-appended_memory, quiet-bind, quiet-placed, quiet-returns, quiet-listed, quiet-turn}
 use Rattle.srat_nodes.specs.NodeAt.{NumaBlock}
 use Rattle.srat_nodes.specs.SratNodesView.{SratNodesView, judge_srat}
-use Rattle.numa_nodes.specs.Assignment.{NodesView, assign_nodes, assign_nodes_by, place_node_data, set_block_node, is_memory_byte, node_data_request, nodes_by_judgement, nodes_with_memory, node_ranges, place_data_of_nodes}
+use Rattle.numa_nodes.specs.Assignment.{NodesView, assign_nodes, assign_nodes_by, place_node_data, set_block_node, is_memory_byte, node_data_request, nodes_view_from_judgement, nodes_with_memory, node_ranges, place_data_of_nodes}
 use Rattle.numa_nodes.proofs.AssignLaws.{behind}
 
 -- the growth that may come before
 abbrev growth : List Item → ChangeEffect
-growth items = make_table_room which.Memory split_record_count memory_growth items
+growth items = make_table_room which.Memory max_records_added_by_split memory_growth items
 
 growth-quiet : (items : List Item) → StepsKeepMemory (growth items).steps
-growth-quiet items = (quiet-grown which.Memory split_record_count memory_growth memory_growth-quiet).each items
+growth-quiet items = (quiet-grown which.Memory max_records_added_by_split memory_growth memory_growth-quiet).each items
 
 -- a range that gets its node is an item after the growth, or only the growth if that was refused
 set_block_node-cases : (P : List Item → Type 0) (first : ChangeEffect) (r : Option RefusedGrowth) (items others : List Item) (node : Item)
@@ -46,13 +46,13 @@ set_block_node-cases P first None items others node whole refused = rw (append_g
 set_block_node-cases P first (Some r) items others node whole refused = refused (λ is. cc)
 
 set_block_node-by : (P : List Item → Type 0) (b : NumaBlock) (items : List Item)
-    → P (append_groups items (growth items).steps ++ item.Node (extent_of b) b.value ∷ [])
+    → P (append_groups items (growth items).steps ++ item.Node (range_of_run b) b.value ∷ [])
     → ((growth items).refused ≢ None → P (append_groups items (growth items).steps))
     → P (items_after_step items (set_block_node tt b items))
 unfolding set_range_node
 set_block_node-by P b items =
     set_block_node-cases P (growth items) (growth items).refused items (items_after_change items (growth items))
-    (item.Node (extent_of b) b.value)
+    (item.Node (range_of_run b) b.value)
 
 none-refused : (first second : ChangeEffect) (r : Option RefusedGrowth) → first.refused ≡ r
     → stop_if_refused (followed_by first r second).refused ≡ Ok tt → r ≡ None
@@ -62,24 +62,24 @@ none-refused first second (Some r) is answered = let clash = rw is at answered i
 -- memory after each range got its node
 unfoldable pub noded_all : List NumaBlock → Labels → Labels
 noded_all [] f = f
-noded_all (r ∷ rs) f = noded_all rs (relabel_range (extent_of r) (with_node (Some r.value)) f)
+noded_all (r ∷ rs) f = noded_all rs (relabel_range (range_of_run r) (with_node (Some r.value)) f)
 
 node-item : (b : NumaBlock) (items : List Item)
-    → memory_of (append_groups items (growth items).steps ++ item.Node (extent_of b) b.value ∷ [])
-    ≡ relabel_range (extent_of b) (with_node (Some b.value)) (memory_of items)
+    → memory_of (append_groups items (growth items).steps ++ item.Node (range_of_run b) b.value ∷ [])
+    ≡ relabel_range (range_of_run b) (with_node (Some b.value)) (memory_of items)
 node-item b items =
-    fold-append memory_after no_memory (append_groups items (growth items).steps) (item.Node (extent_of b) b.value ∷ [])
-    ∙ ap (relabel_range (extent_of b) (with_node (Some b.value))) (quiet-appended_memory items (growth items).steps (growth-quiet items))
+    fold-append memory_after no_memory (append_groups items (growth items).steps) (item.Node (range_of_run b) b.value ∷ [])
+    ∙ ap (relabel_range (range_of_run b) (with_node (Some b.value))) (quiet-appended_memory items (growth items).steps (growth-quiet items))
 
 set_block_node-memory : (b : NumaBlock) (items : List Item) → (set_block_node tt b items).answer ≡ Ok tt
     → memory_of (items_after_step items (set_block_node tt b items))
-    ≡ relabel_range (extent_of b) (with_node (Some b.value)) (memory_of items)
+    ≡ relabel_range (range_of_run b) (with_node (Some b.value)) (memory_of items)
 unfolding set_range_node
 set_block_node-memory b items answered =
-    set_block_node-by (λ (is : List Item). memory_of is ≡ relabel_range (extent_of b) (with_node (Some b.value)) (memory_of items)) b items
+    set_block_node-by (λ (is : List Item). memory_of is ≡ relabel_range (range_of_run b) (with_node (Some b.value)) (memory_of items)) b items
     (node-item b items)
     (λ refused. absurd (refused (none-refused (growth items)
-    (write_item (item.Node (extent_of b) b.value) (items_after_change items (growth items))) (growth items).refused refl answered)))
+    (write_item (item.Node (range_of_run b) b.value) (items_after_change items (growth items))) (growth items).refused refl answered)))
 
 map-some : (change : LabelView → LabelView) (o : Option LabelView) → is_some (option_map change o) ≡ is_some o
 map-some change None = refl
@@ -97,14 +97,14 @@ set_block_node-some : (x : ℕ) (b : NumaBlock) (items : List Item)
     → is_some (memory_of (items_after_step items (set_block_node tt b items)) x) ≡ is_some (memory_of items x)
 set_block_node-some x b items =
     set_block_node-by (λ (is : List Item). is_some (memory_of is x) ≡ is_some (memory_of items x)) b items
-    (rw (node-item b items) (relabel_range-some (extent_of b) (with_node (Some b.value)) (memory_of items) x))
+    (rw (node-item b items) (relabel_range-some (range_of_run b) (with_node (Some b.value)) (memory_of items) x))
     (λ refused. rw (quiet-appended_memory items (growth items).steps (growth-quiet items)) refl)
 
 set_block_node-limit : (b : NumaBlock) (items : List Item) → limit_of (items_after_step items (set_block_node tt b items)) ≡ limit_of items
 set_block_node-limit b items =
     let same = quiet-appended_limit items (growth items).steps (growth-quiet items) in
     set_block_node-by (λ (is : List Item). limit_of is ≡ limit_of items) b items
-    (fold-append limit_after 0 (append_groups items (growth items).steps) (item.Node (extent_of b) b.value ∷ []) ∙ same) (λ refused. same)
+    (fold-append limit_after 0 (append_groups items (growth items).steps) (item.Node (range_of_run b) b.value ∷ []) ∙ same) (λ refused. same)
 
 -- node data doesn't change memory
 quiet-data : (done : Unit {0}) (n : ℕ) → KeepsMemory (place_node_data done n)
@@ -113,7 +113,7 @@ quiet-data done n =
 
 quiet-with_data : (found : SratNodesView) (nodes : List ℕ) → KeepsMemory (place_data_of_nodes found nodes)
 quiet-with_data found nodes =
-    quiet-bind _ _ (quiet-turn place_node_data quiet-data tt nodes) (λ done. quiet-returns (nodes_by_judgement found nodes))
+    quiet-bind _ _ (quiet-turn place_node_data quiet-data tt nodes) (λ done. quiet-returns (nodes_view_from_judgement found nodes))
 
 quiet-behind : (found : SratNodesView) (done : Unit {0}) → KeepsMemory (behind found done)
 quiet-behind found done =
@@ -193,8 +193,8 @@ data-nodes : (found : SratNodesView) (nodes : List ℕ) (items : List Item) (set
 data-nodes found nodes items set_range_node answered =
     let d : StepEffect StageCause (Unit {0}) = fold_steps place_node_data tt nodes items in
     let first = went-on d.steps d.answer (λ a.
-    return_value (nodes_by_judgement found nodes) (items_after_step items d)) set_range_node answered in
-    let same : nodes_by_judgement found nodes ≡ set_range_node = cc (rw first.1 at answered) in
+    return_value (nodes_view_from_judgement found nodes) (items_after_step items d)) set_range_node answered in
+    let same : nodes_view_from_judgement found nodes ≡ set_range_node = cc (rw first.1 at answered) in
     ap (λ (n : NodesView). n.with_memory) (sym same)
 
 ended-by : (items : List Item) (found : SratNodesView) (set_range_node : NodesView) (d : StepEffect StageCause (Unit {0}))

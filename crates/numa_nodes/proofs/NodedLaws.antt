@@ -8,8 +8,8 @@ use Rattle.std.proofs.lemmas.List.Elements.{All-drop, All-tail, All-take}
 use Rattle.std.proofs.lemmas.Option.{none-some, same_Some}
 use Rattle.std.specs.Option.{option_map, option_or}
 use Rattle.bm_base.specs.Range.{covers}
-use Rattle.address_runs.specs.Edits.{NothingFrom, relabel_range}
-use Rattle.address_runs.specs.Runs.{AreRuns, extent_of, lies_in, run_end, value_at}
+use Rattle.address_runs.specs.Edits.{IsEmptyFrom, relabel_range}
+use Rattle.address_runs.specs.Runs.{AreRuns, range_of_run, lies_in, run_end, value_at}
 use Rattle.address_runs.proofs.RunsLaws.{none_below, rest_from}
 use Rattle.srat_reader.specs.Table.{SratView}
 use Rattle.memblock_model.specs.declared.item.Item.{Item}
@@ -21,7 +21,7 @@ use Rattle.srat_nodes.specs.SratNodesView.{SratNodesView, judge_srat}
 use Rattle.srat_nodes.specs.Kept.{frame_base}
 use Rattle.srat_nodes.proofs.GivenLaws.{given-covers, given-frames, given-runs, given-small}
 use Rattle.stage_steps.specs.Steps.{items_after_step}
-use Rattle.stage_steps.specs.Nodes.{IsSameInFrames, HasNodes}
+use Rattle.stage_steps.specs.Nodes.{IsConstantInFrames, IsMemoryWithNodes}
 use Rattle.numa_nodes.specs.Assignment.{NodesView, assign_nodes, node_ranges}
 use Rattle.numa_nodes.specs.Steps.{CanGetNodes}
 use Rattle.numa_nodes.proofs.AssignLaws.{ranges-cases}
@@ -37,7 +37,7 @@ noded-runs : (rs : List NumaBlock) (f : Labels) (x : ℕ) → AreRuns rs → nod
 unfolding noded_all
 noded-runs [] f x runs = refl
 noded-runs (r ∷ rs) f x runs =
-    let g : Labels = relabel_range (extent_of r) (with_node (Some r.value)) f in
+    let g : Labels = relabel_range (range_of_run r) (with_node (Some r.value)) f in
     elim (cases_Bool (lies_in r x)) as (λ _. noded_all (r ∷ rs) f x ≡ relabel (value_at (r ∷ rs) x) (f x)) [
       | inl here ↦
           let before : x < run_end r = grind (arith, nat_tests) in
@@ -49,7 +49,7 @@ noded-runs (r ∷ rs) f x runs =
 noded-append : (rs ss : List NumaBlock) (f : Labels) → noded_all (rs ++ ss) f ≡ noded_all ss (noded_all rs f)
 unfolding noded_all
 noded-append [] ss f = refl
-noded-append (r ∷ rs) ss f = noded-append rs ss (relabel_range (extent_of r) (with_node (Some r.value)) f)
+noded-append (r ∷ rs) ss f = noded-append rs ss (relabel_range (range_of_run r) (with_node (Some r.value)) f)
 
 -- if one of two lists gives a node, the label has that node
 abbrev labelled : Option ℕ → Option LabelView → Option LabelView
@@ -86,8 +86,8 @@ label-node n None label at = absurd (none-some label at)
 label-node n (Some l) label at = (refl, ap (λ (k : LabelView). k.node) (sym (same_Some (with_node n l) label at)))
 
 -- so memory satisfies IsNoded
-is-noded : (limit : ℕ) (f g : Labels) (nodes : ℕ → Option ℕ) → IsGiven limit f g nodes → IsSameInFrames f
-    → NothingFrom limit f → HasNodes limit g
+is-noded : (limit : ℕ) (f g : Labels) (nodes : ℕ → Option ℕ) → IsGiven limit f g nodes → IsConstantInFrames f
+    → IsEmptyFrom limit f → IsMemoryWithNodes limit g
 is-noded limit f g nodes by frames within = record {
   frames = λ x. elim (cases_lt x limit) as (λ _. g x ≡ g (4096 * (x / 4096))) [
     | inl near ↦ rw (by.given x, by.frames x near, frames x) (sym (by.given (4096 * (x / 4096))))
@@ -121,7 +121,7 @@ module _ (f : Labels) (off : Bool) (table : Option SratView) where
   abbrev nodes_found : ℕ → Option ℕ
   nodes_found x = option_or (value_at found.rest x) (value_at found.joined x)
 
-  used-given : (limit : ℕ) → limit ≤ 2 ^ 64 → NothingFrom limit f → IsSameInFrames (λ x. is_some (f x)) → found.why ≡ why.Used
+  used-given : (limit : ℕ) → limit ≤ 2 ^ 64 → IsEmptyFrom limit f → IsConstantInFrames (λ x. is_some (f x)) → found.why ≡ why.Used
       → IsGiven limit f (noded_all (found.joined ++ found.rest) f) nodes_found
   used-given limit reach within frames used =
       let memory : ℕ → Bool = λ x. is_some (f x) in
@@ -154,7 +154,7 @@ module _ (f : Labels) (off : Bool) (table : Option SratView) where
       }
 
 -- and without one: all memory is below the limit
-below-given : (reach limit : ℕ) (f : Labels) → NothingFrom limit f
+below-given : (reach limit : ℕ) (f : Labels) → IsEmptyFrom limit f
     → IsGiven reach f (noded_all (record { base = 0; size = limit; value = 0 } ∷ []) f) (λ x. Some 0)
 unfolding noded_all
 below-given reach limit f within = record {
@@ -173,21 +173,21 @@ below-given reach limit f within = record {
 }
 
 -- from any judgement
-given-noded : (reach limit : ℕ) (f : Labels) (off : Bool) (table : Option SratView) → reach ≤ 2 ^ 64 → IsSameInFrames f
-    → NothingFrom reach f → NothingFrom limit f
-    → HasNodes reach (noded_all (node_ranges limit (judge_srat (λ x. is_some (f x)) off table)) f)
+given-noded : (reach limit : ℕ) (f : Labels) (off : Bool) (table : Option SratView) → reach ≤ 2 ^ 64 → IsConstantInFrames f
+    → IsEmptyFrom reach f → IsEmptyFrom limit f
+    → IsMemoryWithNodes reach (noded_all (node_ranges limit (judge_srat (λ x. is_some (f x)) off table)) f)
 given-noded reach limit f off table near frames within low =
     let j : SratNodesView = judge_srat (λ x. is_some (f x)) off table in
     let below : List NumaBlock = record { base = 0; size = limit; value = 0 } ∷ [] in
-    ranges-cases (λ rs. HasNodes reach (noded_all rs f)) j.why limit j
+    ranges-cases (λ rs. IsMemoryWithNodes reach (noded_all rs f)) j.why limit j
     (λ used. is-noded reach f (noded_all (j.joined ++ j.rest) f) (nodes_found f off table)
     (used-given f off table reach near within (λ x. ap is_some (frames x)) used) frames within)
     (is-noded reach f (noded_all below f) (λ x. Some 0) (below-given reach limit f low) frames within)
 
 pub answer-noded : (reach : ℕ) (table : Option SratView) (off : Bool) (items : List Item) (noded : NodesView)
-    → (assign_nodes table off items).answer ≡ Ok noded → reach ≤ 2 ^ 64 → IsSameInFrames (memory_of items)
-    → NothingFrom reach (memory_of items) → NothingFrom (limit_of items) (memory_of items)
-    → HasNodes reach (memory_of (items_after_step items (assign_nodes table off items)))
+    → (assign_nodes table off items).answer ≡ Ok noded → reach ≤ 2 ^ 64 → IsConstantInFrames (memory_of items)
+    → IsEmptyFrom reach (memory_of items) → IsEmptyFrom (limit_of items) (memory_of items)
+    → IsMemoryWithNodes reach (memory_of (items_after_step items (assign_nodes table off items)))
 answer-noded reach table off items noded answered near frames within low =
     rw (behind-answer table off items noded answered).memory
     (given-noded reach (limit_of items) (memory_of items) off table near frames within low)

@@ -2,7 +2,7 @@
 -- `alloc_node_data`).
 use Rattle.std.specs.Prelude.{ℕ, zero, suc, ◌+◌, ◌^◌, Bool, false, not, is_some, if◌then◌else◌, Option, Some, None, List, [], ◌∷◌, ◌++◌}
 use Rattle.bm_base.specs.Each.{each_from}
-use Rattle.address_runs.specs.Runs.{extent_of}
+use Rattle.address_runs.specs.Runs.{range_of_run}
 use Rattle.memblock_model.specs.declared.item.Item.{Item}
 use Rattle.memblock_model.specs.declared.owner.Owner.TheVariants as owner
 use Rattle.memblock_model.specs.Items.{memory_of, limit_of}
@@ -18,7 +18,7 @@ use Rattle.memblock_model.specs.declared.query.Request.{Request}
 use Rattle.growth_model.specs.Growth.{set_range_node}
 use Rattle.memblock_grow.specs.declared.stop.What.TheVariants as what
 use Rattle.stage_steps.specs.Causes.{StageCause}
-use Rattle.stage_steps.specs.Steps.{StageStep, ◌>>=◌, return_value, read_items, read_into_list, fold_steps}
+use Rattle.stage_steps.specs.Steps.{StageStep, ◌>>=◌, return_value, read_items, read_items_allocating, fold_steps}
 use Rattle.stage_steps.specs.Requests.{change_or_stop, place_or_stop}
 use Rattle.numa_nodes.specs.declared.stage.Nodes.{Nodes}
 
@@ -38,7 +38,7 @@ node_ranges limit found = node_ranges_by found.why limit found
 
 -- each range gets its node (`memblock_set_node`)
 abbrev pub set_block_node : Unit {0} → NumaBlock → StageStep StageCause (Unit {0})
-set_block_node done r = change_or_stop (set_range_node (extent_of r) r.value)
+set_block_node done r = change_or_stop (set_range_node (range_of_run r) r.value)
 
 -- whether the byte is memory of the node
 abbrev pub is_of_node : ℕ → Option LabelView → Bool
@@ -77,18 +77,18 @@ pub record NodesView : Type 0 where
 abbrev pub nodes_view : Nodes → NodesView
 nodes_view n = record { why = n.why; domains = n.domains.items; uncovered = n.uncovered; with_memory = n.with_memory.items }
 
-abbrev pub nodes_by_judgement : SratNodesView → List ℕ → NodesView
-nodes_by_judgement found nodes = record { why = found.why; domains = found.domains; uncovered = found.uncovered; with_memory = nodes }
+abbrev pub nodes_view_from_judgement : SratNodesView → List ℕ → NodesView
+nodes_view_from_judgement found nodes = record { why = found.why; domains = found.domains; uncovered = found.uncovered; with_memory = nodes }
 
 -- the data of each node that has memory
 abbrev pub place_data_of_nodes : SratNodesView → List ℕ → StageStep StageCause NodesView
-place_data_of_nodes found nodes = fold_steps place_node_data tt nodes >>= λ done. return_value (nodes_by_judgement found nodes)
+place_data_of_nodes found nodes = fold_steps place_node_data tt nodes >>= λ done. return_value (nodes_view_from_judgement found nodes)
 
 -- the whole stage, once it is known whether the table of domains is used
 unfoldable pub assign_nodes_by : SratNodesView → StageStep StageCause NodesView
 assign_nodes_by found =
-    read_into_list (λ items. node_ranges (limit_of items) found) >>= λ ranges. (fold_steps set_block_node tt ranges
-    >>= λ done. (read_into_list (λ items. nodes_with_memory (memory_of items)) >>= λ nodes. place_data_of_nodes found nodes))
+    read_items_allocating (λ items. node_ranges (limit_of items) found) >>= λ ranges. (fold_steps set_block_node tt ranges
+    >>= λ done. (read_items_allocating (λ items. nodes_with_memory (memory_of items)) >>= λ nodes. place_data_of_nodes found nodes))
 
 -- the whole stage for a table and `numa=off`: whether the table is used is decided, from the
 -- machine's memory, before the first range gets its node

@@ -9,13 +9,13 @@ use Rattle.memblock_grow.specs.Continues.{ContinuesMemblock}
 use Rattle.srat_nodes.specs.NodeAt.{NumaBlock}
 
 -- a record of the table has the node
-abbrev pub has_record : List (RunOf LabelView) → ℕ → Bool
-has_record records node = list_any (λ (r : RunOf LabelView). same_node_or_none r.value.node (Some node)) records
+abbrev pub has_record_of_node : List (RunOf LabelView) → ℕ → Bool
+has_record_of_node records node = list_any (λ (r : RunOf LabelView). same_node_or_none r.value.node (Some node)) records
 
 -- each range has an address, and its node is below 1,024
 abbrev pub CanGetNodes : List NumaBlock → Type 0
 CanGetNodes ranges = All (λ (r : NumaBlock). (0 < r.size) × (r.value < 1024)) ranges
 
 -- if `ContinuesMemblock` holds from some start to `old`, it holds from that start to `new`
-abbrev pub GoesFurther : MemblockView → MemblockView → Type 0
-GoesFurther old new = (start : MemblockView) → ContinuesMemblock start old → ContinuesMemblock start new
+abbrev pub KeepsContinuesMemblock : MemblockView → MemblockView → Type 0
+KeepsContinuesMemblock old new = (start : MemblockView) → ContinuesMemblock start old → ContinuesMemblock start new

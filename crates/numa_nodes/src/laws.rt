@@ -2,13 +2,13 @@
 //! byte of memory: that it has a node, which is the same for all bytes of its frame.
 ghost use Rattle.std.specs.Prelude.{◌≡◌, ◌↔◌, ℕ, ◌^◌, ◌<◌, ◌≤◌, Bool, true, is_some, Option, List, length, get_or, Ok};
 ghost use Rattle.std.specs.List.{Contains};
-ghost use Rattle.address_runs.specs.Edits.{NothingFrom};
+ghost use Rattle.address_runs.specs.Edits.{IsEmptyFrom};
 ghost use Rattle.srat_reader.specs.Table.{SratView};
 ghost use Rattle.memblock_model.specs.declared.item.Item.{Item as AnyItem};
 ghost use Rattle.memblock_model.specs.Items.{memory_of, limit_of};
 ghost use Rattle.memblock_model.specs.Labels.{Labels};
 ghost use Rattle.stage_steps.specs.Steps.{items_after_step};
-ghost use Rattle.stage_steps.specs.Nodes.{IsSameInFrames, HasNodes};
+ghost use Rattle.stage_steps.specs.Nodes.{IsConstantInFrames, IsMemoryWithNodes};
 ghost use Rattle.numa_nodes.specs.Assignment.{NodesView, assign_nodes, is_of_node, nodes_with_memory};
 
 /// Law: no byte becomes memory or stops being memory, and the limit is unchanged, whatever the
@@ -28,9 +28,10 @@ pub fn all_memory_gets_nodes()
     ensures noded { (reach : ℕ) (table : Option SratView) (off : Bool) (items : List AnyItem)
         (noded : NodesView) →
         (assign_nodes table off items).answer ≡ Ok noded → reach ≤ 2 ^ 64
-        → IsSameInFrames (memory_of items) →
-        NothingFrom reach (memory_of items) → NothingFrom (limit_of items) (memory_of items) →
-        HasNodes reach (memory_of (items_after_step items (assign_nodes table off items))) }
+        → IsConstantInFrames (memory_of items) →
+        IsEmptyFrom reach (memory_of items) → IsEmptyFrom (limit_of items) (memory_of items) →
+        IsMemoryWithNodes reach (memory_of (items_after_step items (assign_nodes table off
+        items))) }
     ensures nodes { (table : Option SratView) (off : Bool) (items : List AnyItem)
         (noded : NodesView) →
         (assign_nodes table off items).answer ≡ Ok noded →

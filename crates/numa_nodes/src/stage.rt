@@ -6,13 +6,13 @@ ghost use Rattle.std.specs.Prelude.{◌≡◌, ◌^◌, ◌<◌, length, IfOk};
 ghost use Rattle.std.specs.Option.{ForSome, option_map, option_copied};
 ghost use Rattle.memblock_model.specs.Items.{limit_of};
 ghost use Rattle.srat_reader.specs.Table.{srat_view};
-ghost use Rattle.growth_model.specs.Tables.{HasBegun};
-ghost use Rattle.stage_steps.specs.Causes.{stage_stop};
+ghost use Rattle.growth_model.specs.Tables.{HasFirstItem};
+ghost use Rattle.stage_steps.specs.Causes.{error_of_stage_cause};
 ghost use Rattle.stage_steps.specs.Steps.{EndsAsStage, fold_steps, view_of_result};
 ghost use Rattle.memblock_grow.specs.Continues.{ContinuesMemblock};
 ghost use Rattle.srat_nodes.specs.SratNodesView.{srat_nodes_view};
 ghost use Rattle.numa_nodes.specs.Assignment.{assign_nodes, assign_nodes_by, place_node_data, set_block_node, node_data_request, nodes_view, node_ranges};
-ghost use Rattle.numa_nodes.specs.Steps.{CanGetNodes, GoesFurther};
+ghost use Rattle.numa_nodes.specs.Steps.{CanGetNodes, KeepsContinuesMemblock};
 
 use crate::memory::{limit_of, memory_ranges, nodes_with_memory};
 use bm_base::{Memory, Range};
@@ -62,11 +62,11 @@ pub fn assign(
     srat: Option<&Srat>,
     off: bool,
 ) -> Result<Nodes, StageStop>
-    requires begun { HasBegun memblock.old.journal.items }
+    requires begun { HasFirstItem memblock.old.journal.items }
     requires limit { 0 < limit_of memblock.old.journal.items }
     requires few { ForSome srat (λ table. length table.now.blocks.items < 2 ^ 32) }
     ensures ends { EndsAsStage (assign_nodes (option_map srat_view (option_copied srat.entry)) off)
-        stage_stop (view_of_result nodes_view result)
+        error_of_stage_cause (view_of_result nodes_view result)
         memblock.old.journal.items memblock.new.journal.items }
     ensures goes_on { ContinuesMemblock memblock.old memblock.new }
 {
@@ -81,17 +81,17 @@ fn assign_nodes_by(
     memblock: &mut Memblock,
     found: SratNodes,
 ) -> Result<Nodes, StageStop>
-    requires begun { HasBegun memblock.old.journal.items }
+    requires begun { HasFirstItem memblock.old.journal.items }
     requires ranges { CanGetNodes
         (node_ranges (limit_of memblock.old.journal.items) (srat_nodes_view found)) }
-    ensures ends { EndsAsStage (assign_nodes_by (srat_nodes_view found)) stage_stop
+    ensures ends { EndsAsStage (assign_nodes_by (srat_nodes_view found)) error_of_stage_cause
         (view_of_result nodes_view result)
         memblock.old.journal.items memblock.new.journal.items }
-    ensures goes_on { GoesFurther memblock.old memblock.new }
+    ensures goes_on { KeepsContinuesMemblock memblock.old memblock.new }
 {
     let limit = limit_of(memblock.journal().items());
     let ranges = node_ranges(alloc, limit, &found)?;
-    give_nodes(memblock, &ranges)?;
+    set_block_nodes(memblock, &ranges)?;
     let with_memory = nodes_with_memory(alloc, &memblock.tables().records(Which::Memory))?;
     place_each_node_data(memblock, &with_memory)?;
     let SratNodes {
@@ -133,12 +133,12 @@ fn node_ranges(alloc: Global, limit: u64, found: &SratNodes) -> Result<Vec<NodeR
 }
 
 /// Gives each range its node.
-fn give_nodes(memblock: &mut Memblock, ranges: &[NodeRange]) -> Result<(), StageStop>
-    requires begun { HasBegun memblock.old.journal.items }
+fn set_block_nodes(memblock: &mut Memblock, ranges: &[NodeRange]) -> Result<(), StageStop>
+    requires begun { HasFirstItem memblock.old.journal.items }
     requires ranges { CanGetNodes ranges.now }
-    ensures ends { EndsAsStage (fold_steps set_block_node tt ranges.now) stage_stop result
+    ensures ends { EndsAsStage (fold_steps set_block_node tt ranges.now) error_of_stage_cause result
         memblock.old.journal.items memblock.new.journal.items }
-    ensures goes_on { GoesFurther memblock.old memblock.new }
+    ensures goes_on { KeepsContinuesMemblock memblock.old memblock.new }
 {
     for run in ranges {
         set_node_or_stop(memblock, run.range, run.value)?;
@@ -148,10 +148,10 @@ fn give_nodes(memblock: &mut Memblock, ranges: &[NodeRange]) -> Result<(), Stage
 
 /// Allocates the data of each node.
 fn place_each_node_data(memblock: &mut Memblock, nodes: &[u32]) -> Result<(), StageStop>
-    requires begun { HasBegun memblock.old.journal.items }
-    ensures ends { EndsAsStage (fold_steps place_node_data tt nodes.now) stage_stop result
+    requires begun { HasFirstItem memblock.old.journal.items }
+    ensures ends { EndsAsStage (fold_steps place_node_data tt nodes.now) error_of_stage_cause result
         memblock.old.journal.items memblock.new.journal.items }
-    ensures goes_on { GoesFurther memblock.old memblock.new }
+    ensures goes_on { KeepsContinuesMemblock memblock.old memblock.new }
 {
     for node in nodes {
         let request = node_data_request(*node);

@@ -9,7 +9,7 @@ use Rattle.std.specs.BTreeMap.{is_at, insert_entry}
 use Rattle.bm_base.specs.declared.range.TheConstants.{FRAME_SIZE}
 use Rattle.bm_base.specs.declared.zone.Zone.{Zone}
 use Rattle.address_runs.specs.Runs.{IsRunsOf}
-use Rattle.buddy_handover.specs.BuddyView.{buddy_frames}
+use Rattle.buddy_handover.specs.BuddyView.{node_of_free_frame}
 use Rattle.buddy_blocks.specs.Frames.{Frames}
 use Rattle.buddy_blocks.specs.PickedBlock.{picked_first_frame}
 use Rattle.buddy_blocks.specs.Buddies.{without_set}
@@ -18,9 +18,9 @@ use Rattle.page_alloc.specs.declared.act.PageAct.TheVariants as acts
 use Rattle.page_alloc.specs.declared.outcome.Held.{Held}
 use Rattle.page_alloc.specs.declared.outcome.PageOutcome.{PageOutcome}
 use Rattle.page_alloc.specs.declared.outcome.PageOutcome.TheVariants as outcomes
-use Rattle.page_alloc.specs.PagesView.{PagesView, held_in, page_state_of}
-use Rattle.page_alloc.specs.FramePlaces.{AreHeldApart}
-use Rattle.page_alloc.specs.Pages.{PageState, with_held, allocate_frames, allocate_unless_taken, page_step, HasValidOrder, NeedsMemory}
+use Rattle.page_alloc.specs.PagesView.{PagesView, frames_held_by, page_state_of}
+use Rattle.page_alloc.specs.FramePlaces.{IsValidPageState}
+use Rattle.page_alloc.specs.Pages.{PageState, with_held_frames, allocate_frames, allocate_unless_id_holds, page_step, HasValidOrder, NeedsMemory}
 use Rattle.page_alloc.proofs.KeptLaws.{step_kept}
 use Rattle.free_areas.proofs.OrderLaws.{number_equal}
 
@@ -34,7 +34,7 @@ pub key_is : (id q : ℕ) → is_at (nat_cmp id) q ≡ (id == q)
 key_is id q = grind (arith, nat_tests)
 
 pub changed : (id q : ℕ) (what : Option Held) (held : ℕ → Option Held) (o : Option Held) → o ≡ cond (is_at (nat_cmp id) q) what (held q)
-    → o ≡ with_held id what held q
+    → o ≡ with_held_frames id what held q
 changed id q what held o is = is ∙ ap (λ b. cond b what (held q)) (key_is id q)
 
 cmp_self : (n : ℕ) → nat_cmp n n ≡ Equal
@@ -54,21 +54,21 @@ found : (q id : ℕ) → is_at (nat_cmp q) id ≡ true → q ≡ id
 found q id is = eqb-true q id (sym (key_is q id) ∙ is)
 
 put_in : (id q : ℕ) (what : Held) (es : List (ℕ × Held))
-    → held_in (insert_entry nat_cmp es id what) q ≡ cond (is_at (nat_cmp q) id) (Some what) (held_in es q)
+    → frames_held_by (insert_entry nat_cmp es id what) q ≡ cond (is_at (nat_cmp q) id) (Some what) (frames_held_by es q)
 put_in id q what [] = refl
 put_in id q what (e ∷ es) = by (nat_cmp id e.0) refl (put_in id q what es)
   where
     by : (r : Ordering) → nat_cmp id e.0 ≡ r
-        → held_in (insert_entry nat_cmp es id what) q ≡ cond (is_at (nat_cmp q) id) (Some what) (held_in es q)
-        → held_in (match_ordering r ((id, what) ∷ e ∷ es) ((e.0, what) ∷ es) (e ∷ insert_entry nat_cmp es id what)) q
-        ≡ cond (is_at (nat_cmp q) id) (Some what) (held_in (e ∷ es) q)
+        → frames_held_by (insert_entry nat_cmp es id what) q ≡ cond (is_at (nat_cmp q) id) (Some what) (frames_held_by es q)
+        → frames_held_by (match_ordering r ((id, what) ∷ e ∷ es) ((e.0, what) ∷ es) (e ∷ insert_entry nat_cmp es id what)) q
+        ≡ cond (is_at (nat_cmp q) id) (Some what) (frames_held_by (e ∷ es) q)
     by Less is later = refl
     by Equal is later =
-        over (is_at (nat_cmp q) e.0) (Some what) (Some e.1) (held_in es q)
-        ∙ ap (λ k. cond (is_at (nat_cmp q) k) (Some what) (held_in (e ∷ es) q)) (sym (number_equal id e.0 is))
+        over (is_at (nat_cmp q) e.0) (Some what) (Some e.1) (frames_held_by es q)
+        ∙ ap (λ k. cond (is_at (nat_cmp q) k) (Some what) (frames_held_by (e ∷ es) q)) (sym (number_equal id e.0 is))
     by Greater is later =
         ap (λ (o : Option Held). cond (is_at (nat_cmp q) e.0) (Some e.1) o) later
-        ∙ swapped (is_at (nat_cmp q) e.0) (is_at (nat_cmp q) id) (Some e.1) (Some what) (held_in es q)
+        ∙ swapped (is_at (nat_cmp q) e.0) (is_at (nat_cmp q) id) (Some e.1) (Some what) (frames_held_by es q)
         (λ at_e at_id.
         let same : id ≡ e.0 = sym (found q id at_id) ∙ found q e.0 at_e in
         cc (is, cmp_self e.0, ap (λ k. nat_cmp k e.0) same))
@@ -77,35 +77,35 @@ tests_alike : (id q : ℕ) → is_at (nat_cmp q) id ≡ is_at (nat_cmp id) q
 tests_alike id q = grind (arith, nat_tests)
 
 -- the state after a request that is served
-pub took : (b new : PagesView) (id order node : ℕ) (zone : Zone) (first : ℕ) → held_in b.ids id ≡ None
-    → picked_first_frame (buddy_frames b.buddy) node zone order ≡ Some first
-    → IsRunsOf (without_set order first (buddy_frames b.buddy)) new.buddy.runs
+pub took : (b new : PagesView) (id order node : ℕ) (zone : Zone) (first : ℕ) → frames_held_by b.ids id ≡ None
+    → picked_first_frame (node_of_free_frame b.buddy) node zone order ≡ Some first
+    → IsRunsOf (without_set order first (node_of_free_frame b.buddy)) new.buddy.runs
     → new.ids ≡ insert_entry nat_cmp b.ids id (record { first = first; order = order; node = node })
     → (let p : PageOutcome × PageState = (outcomes.At (FRAME_SIZE * first), page_state_of new) in p)
     ≡ page_step (page_state_of b) (acts.Pages id order node zone)
 took b new id order node zone first none picked runs ids =
     let what : Held = record { first = first; order = order; node = node } in
     let same : page_state_of new ≡ (let t : PageState = record {
-      frames = without_set order first (buddy_frames b.buddy);
-      held = with_held id (Some what) (held_in b.ids);
+      frames = without_set order first (node_of_free_frame b.buddy);
+      held = with_held_frames id (Some what) (frames_held_by b.ids);
     } in t) =
-    state_is (buddy_frames new.buddy) (without_set order first (buddy_frames b.buddy)) (held_in new.ids)
-    (with_held id (Some what) (held_in b.ids)) runs.each
-    (λ q. changed id q (Some what) (held_in b.ids) (held_in new.ids q)
-    (ap (λ (es : List (ℕ × Held)). held_in es q) ids ∙ put_in id q what b.ids
-    ∙ ap (λ t. cond t (Some what) (held_in b.ids q)) (tests_alike id q))) in
+    state_is (node_of_free_frame new.buddy) (without_set order first (node_of_free_frame b.buddy)) (frames_held_by new.ids)
+    (with_held_frames id (Some what) (frames_held_by b.ids)) runs.each
+    (λ q. changed id q (Some what) (frames_held_by b.ids) (frames_held_by new.ids q)
+    (ap (λ (es : List (ℕ × Held)). frames_held_by es q) ids ∙ put_in id q what b.ids
+    ∙ ap (λ t. cond t (Some what) (frames_held_by b.ids q)) (tests_alike id q))) in
     ap (λ (s : PageState). let p : PageOutcome × PageState = (outcomes.At (FRAME_SIZE * first), s) in p) same
-    ∙ sym (ap (allocate_unless_taken (page_state_of b) id order node zone) none
+    ∙ sym (ap (allocate_unless_id_holds (page_state_of b) id order node zone) none
     ∙ ap (allocate_frames (page_state_of b) id order node) picked)
 
 -- the state after a request that isn't served
-pub took_none : (b new : PagesView) (id order node : ℕ) (zone : Zone) → held_in b.ids id ≡ None
-    → picked_first_frame (buddy_frames b.buddy) node zone order ≡ None → new ≡ b
+pub took_none : (b new : PagesView) (id order node : ℕ) (zone : Zone) → frames_held_by b.ids id ≡ None
+    → picked_first_frame (node_of_free_frame b.buddy) node zone order ≡ None → new ≡ b
     → (let p : PageOutcome × PageState = (outcomes.NoBlock, page_state_of new) in p)
     ≡ page_step (page_state_of b) (acts.Pages id order node zone)
 took_none b new id order node zone none picked is =
     ap (λ (d : PagesView). let p : PageOutcome × PageState = (outcomes.NoBlock, page_state_of d) in p) is
-    ∙ sym (ap (allocate_unless_taken (page_state_of b) id order node zone) none
+    ∙ sym (ap (allocate_unless_id_holds (page_state_of b) id order node zone) none
     ∙ ap (allocate_frames (page_state_of b) id order node) picked)
 
 -- a request that is served needs memory
@@ -117,7 +117,7 @@ pub served_takes : (s : PageState) (id order node : ℕ) (zone : Zone) → s.hel
     → IsSome (picked_first_frame s.frames node zone order)
     → NeedsMemory (page_step s (acts.Pages id order node zone)).0
 served_takes s id order node zone none some =
-    subst (λ (o : Option Held). NeedsMemory (allocate_unless_taken s id order node zone o).0) (sym none)
+    subst (λ (o : Option Held). NeedsMemory (allocate_unless_id_holds s id order node zone o).0) (sym none)
     (takes_by s id order node (picked_first_frame s.frames node zone order) some)
 
 pub nothing_is : (o : Option ℕ) → is_some o ≡ false → o ≡ None
@@ -125,8 +125,8 @@ nothing_is None is = refl
 nothing_is (Some first) is = cc is
 
 -- each line keeps what is always true of the state
-pub kept_by : (b new : PagesView) (o : PageOutcome) (act : PageAct) → HasValidOrder act → AreHeldApart (page_state_of b)
-    → (let p : PageOutcome × PageState = (o, page_state_of new) in p) ≡ page_step (page_state_of b) act → AreHeldApart (page_state_of new)
+pub kept_by : (b new : PagesView) (o : PageOutcome) (act : PageAct) → HasValidOrder act → IsValidPageState (page_state_of b)
+    → (let p : PageOutcome × PageState = (o, page_state_of new) in p) ≡ page_step (page_state_of b) act → IsValidPageState (page_state_of new)
 kept_by b new o act small keeps is =
-    subst (λ (s : PageState). AreHeldApart s) (sym (ap (λ (p : PageOutcome × PageState). p.1) is))
+    subst (λ (s : PageState). IsValidPageState s) (sym (ap (λ (p : PageOutcome × PageState). p.1) is))
     (step_kept (page_state_of b) act small keeps)

@@ -4,7 +4,7 @@ use Rattle.std.proofs.lemmas.Bool.Decides.{nat_tests}
 use Rattle.std.proofs.Math.Nat.{div-one}
 use Rattle.std.proofs.lemmas.Bool.{cases_Bool}
 use Rattle.std.specs.Option.{option_map}
-use Rattle.address_runs.specs.Edits.{NothingFrom}
+use Rattle.address_runs.specs.Edits.{IsEmptyFrom}
 use Rattle.bm_base.specs.declared.zone.Zone.TheVariants as zones
 use Rattle.bm_base.specs.Zones.{zone_of}
 use Rattle.text_words.specs.Words.{words_in}
@@ -16,7 +16,7 @@ use Rattle.buddy_blocks.specs.PickedBlock.{IsPicked, picked_first_frame}
 use Rattle.buddy_blocks.specs.Buddies.{without_set}
 use Rattle.buddy_blocks.proofs.BuddyLaws.{one_at, without_is, in_set_or_not}
 use Rattle.buddy_blocks.proofs.PickLaws.{picked_is, picked_none}
-use Rattle.script_reader.specs.declared.fault.Wrong.TheVariants as wrong
+use Rattle.script_reader.specs.declared.fault.ScriptLineFault.TheVariants as wrong
 use Rattle.script_reader.specs.Numbers.{Words}
 use Rattle.script_reader.specs.Lines.{read_line}
 use Rattle.script_reader.specs.Grammar.{HasLineForm, SpellsNumbers, NeverFails, HasWordsFault}
@@ -26,10 +26,10 @@ use Rattle.page_alloc.specs.declared.reading.PageFault.TheVariants as faults
 use Rattle.page_alloc.specs.declared.outcome.Held.{Held}
 use Rattle.page_alloc.specs.declared.outcome.PageOutcome.{PageOutcome}
 use Rattle.page_alloc.specs.declared.outcome.PageOutcome.TheVariants as outcomes
-use Rattle.page_alloc.specs.Forms.{zone_named, pages_line, give_line}
+use Rattle.page_alloc.specs.Forms.{zone_by_name, pages_line, give_line}
 use Rattle.page_alloc.specs.Spelling.{pages as pages_form, give as give_form, zone_word, page_words_of, HasPageScriptNumbers, page_grammar}
-use Rattle.page_alloc.specs.FramePlaces.{HoldsFrame, IsInOneBlockOrHeld, IsInNoBlockNorHeld, AreHeldApart}
-use Rattle.page_alloc.specs.Pages.{PageState, first_page_state, with_held, allocate_frames, free_held_frames, page_step, HasValidOrder, HaveValidOrders}
+use Rattle.page_alloc.specs.FramePlaces.{HoldsFrame, IsInOneBlockOrHeld, IsInNoBlockNorHeld, IsValidPageState}
+use Rattle.page_alloc.specs.Pages.{PageState, first_page_state, with_held_frames, allocate_frames, free_held_frames, page_step, HasValidOrder, HaveValidOrders}
 use Rattle.page_alloc.specs.Reading.{page_lines, page_lines_of}
 use Rattle.page_alloc.proofs.KeptLaws.{Goes, in_one, in_none, begun_goes, begun_kept, step_goes, step_kept}
 
@@ -44,7 +44,7 @@ lone_at x n is =
       | inr off ↦ let none : None ≡ Some n = sym (rw off refl) ∙ is in cc
     ]
 
-lone_low : NothingFrom MAX_FRAMES lone
+lone_low : IsEmptyFrom MAX_FRAMES lone
 lone_low x high = let off : (nat_le 5 x && nat_lt x 6) ≡ false = grind (arith, nat_tests) in rw off refl
 
 -- it is the block that is picked for one frame
@@ -98,7 +98,7 @@ five = record { first = 5; order = 0; node = 7 }
 
 -- the state while ID 1 holds the frame
 abbrev taken : PageState
-taken = record { frames = without_set 0 5 lone; held = with_held 1 (Some five) (λ id. None) }
+taken = record { frames = without_set 0 5 lone; held = with_held_frames 1 (Some five) (λ id. None) }
 
 abbrev at_five : PageOutcome × PageState
 at_five = (outcomes.At 20480, taken)
@@ -140,11 +140,11 @@ in_one_examples = (
 in_none_examples : IsInNoBlockNorHeld (first_page_state lone) 4
 in_none_examples = in_none lone (first_page_state lone) 4 (begun_goes lone lone_low) refl
 
-kept_examples : AreHeldApart (first_page_state lone) × AreHeldApart taken
-    × (AreHeldApart (record { frames = lone; held = with_held 1 (Some five) (λ id. None) }) → ⊥)
+kept_examples : IsValidPageState (first_page_state lone) × IsValidPageState taken
+    × (IsValidPageState (record { frames = lone; held = with_held_frames 1 (Some five) (λ id. None) }) → ⊥)
 kept_examples = (
   begun_kept lone lone_low,
-  subst (λ (p : PageOutcome × PageState). AreHeldApart p.1) step_examples.0
+  subst (λ (p : PageOutcome × PageState). IsValidPageState p.1) step_examples.0
       (step_kept (first_page_state lone) (acts.Pages 1 0 7 zones.Dma) (omega arith) (begun_kept lone lone_low)),
   λ kept. let none : Some 7 ≡ None = (kept.well 1 five refl).taken 5 refl in cc none,
 )
@@ -153,8 +153,8 @@ kept_examples = (
 abbrev in_words : List ℕ → Words
 in_words text = words_in separators.Script text
 
-zone_examples : (zone_named (codes "DMA") ≡ Ok zones.Dma) × (zone_named (codes "DMA32") ≡ Ok zones.Dma32)
-    × (zone_named (codes "Normal") ≡ Ok zones.Normal) × (zone_named (codes "normal") ≡ Err wrong.Form)
+zone_examples : (zone_by_name (codes "DMA") ≡ Ok zones.Dma) × (zone_by_name (codes "DMA32") ≡ Ok zones.Dma32)
+    × (zone_by_name (codes "Normal") ≡ Ok zones.Normal) × (zone_by_name (codes "normal") ≡ Err wrong.Form)
 zone_examples = (refl, refl, refl, refl)
 
 -- a request; the form is checked before the numbers, and the name of the zone belongs to the form

@@ -4,7 +4,7 @@ use Rattle.std.proofs.lemmas.Bool.{cases_lt, cases_Bool, eqb-true, eq-eqb}
 use Rattle.std.proofs.lemmas.Nat.{pow_pos}
 use Rattle.std.specs.Option.{option_map}
 use Rattle.bm_base.specs.declared.zone.Zone.{Zone}
-use Rattle.address_runs.specs.Edits.{NothingFrom}
+use Rattle.address_runs.specs.Edits.{IsEmptyFrom}
 use Rattle.buddy_blocks.specs.declared.block.Block.{Block}
 use Rattle.buddy_blocks.specs.declared.run.TheConstants.{MAX_FRAMES}
 use Rattle.buddy_blocks.specs.Frames.{Frames, IsInSet, IsInBlock}
@@ -17,8 +17,8 @@ use Rattle.buddy_blocks.proofs.PickLaws.{picked_tells}
 use Rattle.page_alloc.specs.declared.act.PageAct.{PageAct}
 use Rattle.page_alloc.specs.declared.act.PageAct.TheVariants as acts
 use Rattle.page_alloc.specs.declared.outcome.Held.{Held}
-use Rattle.page_alloc.specs.Pages.{PageState, first_page_state, with_held, allocate_frames, allocate_unless_taken, free_held_frames, page_step, HasValidOrder}
-use Rattle.page_alloc.specs.FramePlaces.{HoldsFrame, IsInOneBlockOrHeld, IsInNoBlockNorHeld, IsAlignedAndTaken, AreHeldApart}
+use Rattle.page_alloc.specs.Pages.{PageState, first_page_state, with_held_frames, allocate_frames, allocate_unless_id_holds, free_held_frames, page_step, HasValidOrder}
+use Rattle.page_alloc.specs.FramePlaces.{HoldsFrame, IsInOneBlockOrHeld, IsInNoBlockNorHeld, IsAlignedAndNotFree, IsValidPageState}
 
 -- the free and held frames of the state were free in f, on the same nodes; and each free frame of
 -- f is free or held in the state
@@ -28,7 +28,7 @@ pub record Shares (f : Frames) (s : PageState) : Type 0 where
   pub all : (x n : ℕ) → f x ≡ Some n → (s.frames x ≡ Some n) ⊎ ((id : ℕ) × HoldsFrame s id x)
 
 pub record Goes (f : Frames) (s : PageState) : Type 0 where
-  pub kept : AreHeldApart s
+  pub kept : IsValidPageState s
   pub shares : Shares f s
 
 -- each free frame of f is in one block or held by one ID, and no other frame is
@@ -67,7 +67,7 @@ in_none f s x goes none = (
 )
 
 -- the first state
-pub begun_goes : (f : Frames) → NothingFrom MAX_FRAMES f → Goes f (first_page_state f)
+pub begun_goes : (f : Frames) → IsEmptyFrom MAX_FRAMES f → Goes f (first_page_state f)
 begun_goes f low = record {
   kept = record { low = low; well = λ id what is. cc; apart = λ i j g h is other x one two. cc };
   shares = record { free = λ x n is. is; held = λ id what is x inside. cc; all = λ x n is. inl is };
@@ -80,22 +80,22 @@ with_or_not id i = elim (cases_Bool (id == i)) as (λ _. (id ≡ i) ⊎ ((id == 
   | inr off ↦ inr off
 ]
 
-with_here : (id : ℕ) (what : Option Held) (held : ℕ → Option Held) → with_held id what held id ≡ what
+with_here : (id : ℕ) (what : Option Held) (held : ℕ → Option Held) → with_held_frames id what held id ≡ what
 with_here id what held = rw (eq-eqb id id refl) refl
 
-with_there : (id i : ℕ) (what : Option Held) (held : ℕ → Option Held) → (id == i) ≡ false → with_held id what held i ≡ held i
+with_there : (id i : ℕ) (what : Option Held) (held : ℕ → Option Held) → (id == i) ≡ false → with_held_frames id what held i ≡ held i
 with_there id i what held off = rw off refl
 
 -- an ID holds what the change gives it, or what it held before
 record Had (id i : ℕ) (what : Option Held) (held : ℕ → Option Held) (h : Held) : Type 0 where
   pub either : ((id ≡ i) × (what ≡ Some h)) ⊎ (((id == i) ≡ false) × (held i ≡ Some h))
 
-had : (id i : ℕ) (what : Option Held) (held : ℕ → Option Held) (h : Held) → with_held id what held i ≡ Some h → Had id i what held h
+had : (id i : ℕ) (what : Option Held) (held : ℕ → Option Held) (h : Held) → with_held_frames id what held i ≡ Some h → Had id i what held h
 had id i what held h is = elim (with_or_not id i) as (λ _. Had id i what held h) [
   | inl same ↦ record {
     either = inl (
       same,
-      let here : with_held id what held i ≡ what = ap (with_held id what held) (sym same) ∙ with_here id what held in sym here ∙ is,
+      let here : with_held_frames id what held i ≡ what = ap (with_held_frames id what held) (sym same) ∙ with_here id what held in sym here ∙ is,
     );
   }
   | inr other ↦ record { either = inr (other, sym (with_there id i what held other) ∙ is) }
@@ -110,7 +110,7 @@ pub record IsFreeSet (f : Frames) (order first node : ℕ) : Type 0 where
   pub low : first + 2 ^ order ≤ MAX_FRAMES
   pub free : (x : ℕ) → IsInSet order first x → f x ≡ Some node
 
-pub picked_set : (f : Frames) (order first node : ℕ) (zone : Zone) → NothingFrom MAX_FRAMES f
+pub picked_set : (f : Frames) (order first node : ℕ) (zone : Zone) → IsEmptyFrom MAX_FRAMES f
     → picked_first_frame f node zone order ≡ Some first
     → IsFreeSet f order first node
 picked_set f order first node zone low is = elim (found_or_none (picked_block f node zone order)) as (λ _. IsFreeSet f order first node) [
@@ -148,12 +148,12 @@ module _ (s : PageState) (id order first node : ℕ) where
   made = record { first = first; order = order; node = node }
 
   abbrev taken : PageState
-  taken = record { frames = without_set order first s.frames; held = with_held id (Some made) s.held }
+  taken = record { frames = without_set order first s.frames; held = with_held_frames id (Some made) s.held }
 
   in_made : (h : Held) (x : ℕ) → Some made ≡ Some h → IsInSet h.order h.first x → IsInSet order first x
   in_made h x is inside = let same : made ≡ h = cc in subst (λ (k : Held). IsInSet k.order k.first x) (sym same) inside
 
-  taken_kept : order ≤ 10 → AreHeldApart s → IsFreeSet s.frames order first node → AreHeldApart taken
+  taken_kept : order ≤ 10 → IsValidPageState s → IsFreeSet s.frames order first node → IsValidPageState taken
   taken_kept small keeps set =
       let without = without_is order first s.frames in
       let stays_none : (x : ℕ) → s.frames x ≡ None → taken.frames x ≡ None =
@@ -168,8 +168,8 @@ module _ (s : PageState) (id order first node : ℕ) where
         well = λ i h is. ⊎_elim
             (λ (mine : (id ≡ i) × (Some made ≡ Some h)).
             let same : made ≡ h = let both = mine.1 in cc in
-            subst (λ (g : Held). IsAlignedAndTaken taken g) same
-            (let it : IsAlignedAndTaken taken made = record {
+            subst (λ (g : Held). IsAlignedAndNotFree taken g) same
+            (let it : IsAlignedAndNotFree taken made = record {
               small = small;
               aligned = set.aligned;
               low = set.low;
@@ -177,7 +177,7 @@ module _ (s : PageState) (id order first node : ℕ) where
             } in it))
             (λ (other : ((id == i) ≡ false) × (s.held i ≡ Some h)).
             let was = keeps.well i h other.1 in
-            let it : IsAlignedAndTaken taken h = record {
+            let it : IsAlignedAndNotFree taken h = record {
               small = was.small;
               aligned = was.aligned;
               low = was.low;
@@ -244,7 +244,7 @@ module _ (s : PageState) (id order first node : ℕ) where
 -- the frames that an ID holds are freed
 module _ (s : PageState) (id : ℕ) (what : Held) where
   abbrev given : PageState
-  given = record { frames = with_set what.order what.first what.node s.frames; held = with_held id None s.held }
+  given = record { frames = with_set what.order what.first what.node s.frames; held = with_held_frames id None s.held }
 
   back : (x : ℕ) → IsInSet what.order what.first x → given.frames x ≡ Some what.node
   back x inside = rw (set_covers what.order what.first x inside) refl
@@ -258,7 +258,7 @@ module _ (s : PageState) (id : ℕ) (what : Held) where
       (λ (other : ((id == i) ≡ false) × (s.held i ≡ Some h)). other)
       (had id i None s.held h is).either
 
-  given_kept : AreHeldApart s → s.held id ≡ Some what → AreHeldApart given
+  given_kept : IsValidPageState s → s.held id ≡ Some what → IsValidPageState given
   given_kept keeps is_held =
       let well = keeps.well id what is_held in
       record {
@@ -273,7 +273,7 @@ module _ (s : PageState) (id : ℕ) (what : Held) where
         well = λ i h is.
             let other = still i h is in
             let was = keeps.well i h other.1 in
-            let it : IsAlignedAndTaken given h = record {
+            let it : IsAlignedAndNotFree given h = record {
               small = was.small;
               aligned = was.aligned;
               low = was.low;
@@ -324,7 +324,7 @@ served_goes f s id order node zone (Some first) small goes none is =
     taken_goes s id order first node f small goes none (picked_set s.frames order first node zone goes.kept.low is)
 
 asked_goes : (f : Frames) (s : PageState) (id order node : ℕ) (zone : Zone) (o : Option Held) → order ≤ 10 → Goes f s → s.held id ≡ o
-    → Goes f (allocate_unless_taken s id order node zone o).1
+    → Goes f (allocate_unless_id_holds s id order node zone o).1
 asked_goes f s id order node zone (Some what) small goes is = goes
 asked_goes f s id order node zone None small goes is =
     served_goes f s id order node zone (picked_first_frame s.frames node zone order) small goes is refl
@@ -339,26 +339,26 @@ step_goes f s (acts.Near id order node) small goes = goes
 step_goes f s (acts.Give id) small goes = back_goes f s id (s.held id) goes refl
 
 -- a state by itself
-served_kept : (s : PageState) (id order node : ℕ) (zone : Zone) (o : Option ℕ) → order ≤ 10 → AreHeldApart s
-    → picked_first_frame s.frames node zone order ≡ o → AreHeldApart (allocate_frames s id order node o).1
+served_kept : (s : PageState) (id order node : ℕ) (zone : Zone) (o : Option ℕ) → order ≤ 10 → IsValidPageState s
+    → picked_first_frame s.frames node zone order ≡ o → IsValidPageState (allocate_frames s id order node o).1
 served_kept s id order node zone None small keeps is = keeps
 served_kept s id order node zone (Some first) small keeps is =
     taken_kept s id order first node small keeps (picked_set s.frames order first node zone keeps.low is)
 
-asked_kept : (s : PageState) (id order node : ℕ) (zone : Zone) (o : Option Held) → order ≤ 10 → AreHeldApart s
-    → AreHeldApart (allocate_unless_taken s id order node zone o).1
+asked_kept : (s : PageState) (id order node : ℕ) (zone : Zone) (o : Option Held) → order ≤ 10 → IsValidPageState s
+    → IsValidPageState (allocate_unless_id_holds s id order node zone o).1
 asked_kept s id order node zone (Some what) small keeps = keeps
 asked_kept s id order node zone None small keeps =
     served_kept s id order node zone (picked_first_frame s.frames node zone order) small keeps refl
 
-back_kept : (s : PageState) (id : ℕ) (o : Option Held) → AreHeldApart s → s.held id ≡ o → AreHeldApart (free_held_frames s id o).1
+back_kept : (s : PageState) (id : ℕ) (o : Option Held) → IsValidPageState s → s.held id ≡ o → IsValidPageState (free_held_frames s id o).1
 back_kept s id None keeps is = keeps
 back_kept s id (Some what) keeps is = given_kept s id what keeps is
 
-pub step_kept : (s : PageState) (act : PageAct) → HasValidOrder act → AreHeldApart s → AreHeldApart (page_step s act).1
+pub step_kept : (s : PageState) (act : PageAct) → HasValidOrder act → IsValidPageState s → IsValidPageState (page_step s act).1
 step_kept s (acts.Pages id order node zone) small keeps = asked_kept s id order node zone (s.held id) small keeps
 step_kept s (acts.Near id order node) small keeps = keeps
 step_kept s (acts.Give id) small keeps = back_kept s id (s.held id) keeps refl
 
-pub begun_kept : (f : Frames) → NothingFrom MAX_FRAMES f → AreHeldApart (first_page_state f)
+pub begun_kept : (f : Frames) → IsEmptyFrom MAX_FRAMES f → IsValidPageState (first_page_state f)
 begun_kept f low = (begun_goes f low).kept

@@ -3,7 +3,7 @@
 use Rattle.std.proofs.Common.{◌≡◌, ℕ, List, [], ◌∷◌, codes, Some, Ok, Err, refl, ◌⊎◌, inl, inr}
 use Rattle.bm_base.specs.declared.zone.Zone.{Zone}
 use Rattle.bm_base.specs.declared.zone.Zone.TheVariants as zones
-use Rattle.script_reader.specs.declared.fault.Wrong.TheVariants as wrong
+use Rattle.script_reader.specs.declared.fault.ScriptLineFault.TheVariants as wrong
 use Rattle.script_reader.specs.Numbers.{Words}
 use Rattle.script_reader.specs.Forms.{greatest_id, greatest_node}
 use Rattle.script_reader.specs.Lines.{act_by_forms}
@@ -11,11 +11,11 @@ use Rattle.script_reader.specs.Grammar.{HasLineForm, NeverFails}
 use Rattle.script_reader.proofs.GrammarLaws.{Reads}
 use Rattle.script_reader.proofs.StepLaws.{within_or, is_key, one_or}
 use Rattle.page_alloc.specs.declared.act.PageAct.{PageAct}
-use Rattle.page_alloc.specs.Forms.{greatest_order, zone_named, pages_line, near_line, give_line, page_act_by_name}
+use Rattle.page_alloc.specs.Forms.{greatest_order, zone_by_name, pages_line, near_line, give_line, page_act_by_name}
 use Rattle.page_alloc.specs.Spelling.{PageForm, pages, near, give, zone_word, page_words_of, HasPageScriptNumbers, page_act_of, page_grammar}
 
 -- a zone, by its word
-zone_or : (word : List ℕ) → ((zone : Zone) × (word ≡ zone_word zone)) ⊎ (zone_named word ≡ Err wrong.Form)
+zone_or : (word : List ℕ) → ((zone : Zone) × (word ≡ zone_word zone)) ⊎ (zone_by_name word ≡ Err wrong.Form)
 zone_or word =
     elim (is_key word (codes "DMA")) [
       | inl is ↦ inl (zones.Dma, is)
@@ -28,7 +28,7 @@ zone_or word =
       ]
     ]
 
-zone_read : (zone : Zone) → zone_named (zone_word zone) ≡ Ok zone
+zone_read : (zone : Zone) → zone_by_name (zone_word zone) ≡ Ok zone
 zone_read zones.Dma = refl
 zone_read zones.Dma32 = refl
 zone_read zones.Normal = refl

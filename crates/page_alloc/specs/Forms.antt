@@ -5,8 +5,8 @@ use Rattle.std.specs.Str.{bytes_eq}
 use Rattle.bm_base.specs.declared.zone.Zone.{Zone}
 use Rattle.bm_base.specs.declared.zone.Zone.TheVariants as zones
 use Rattle.bm_base.specs.ResultSteps.{◌>>=◌}
-use Rattle.script_reader.specs.declared.fault.Wrong.{Wrong}
-use Rattle.script_reader.specs.declared.fault.Wrong.TheVariants as wrong
+use Rattle.script_reader.specs.declared.fault.ScriptLineFault.{ScriptLineFault}
+use Rattle.script_reader.specs.declared.fault.ScriptLineFault.TheVariants as wrong
 use Rattle.script_reader.specs.Numbers.{Words, first_word, one_word, number_within}
 use Rattle.script_reader.specs.Forms.{greatest_id, greatest_node}
 use Rattle.page_alloc.specs.declared.act.PageAct.{PageAct}
@@ -17,27 +17,27 @@ abbrev pub greatest_order : ℕ
 greatest_order = 10
 
 -- a zone, by the kernel's name for it
-abbrev pub zone_named : List ℕ → Result Zone Wrong
-zone_named word =
+abbrev pub zone_by_name : List ℕ → Result Zone ScriptLineFault
+zone_by_name word =
     if bytes_eq word (codes "DMA") then Ok zones.Dma else
     (if bytes_eq word (codes "DMA32") then Ok zones.Dma32 else
     (if bytes_eq word (codes "Normal") then Ok zones.Normal else Err wrong.Form))
 
 -- pages ID ORDER NODE ZONE
-abbrev pub pages_line : Words → Result PageAct Wrong
+abbrev pub pages_line : Words → Result PageAct ScriptLineFault
 pages_line words = do
   id ← first_word words
   order ← first_word id.1
   node ← first_word order.1
   name ← one_word node.1
-  zone ← zone_named name
+  zone ← zone_by_name name
   of_id ← number_within greatest_id id.0
   of_order ← number_within greatest_order order.0
   of_node ← number_within greatest_node node.0
   Ok (acts.Pages of_id of_order of_node zone)
 
 -- near ID ORDER NODE
-abbrev pub near_line : Words → Result PageAct Wrong
+abbrev pub near_line : Words → Result PageAct ScriptLineFault
 near_line words = do
   id ← first_word words
   order ← first_word id.1
@@ -48,14 +48,14 @@ near_line words = do
   Ok (acts.Near of_id of_order of_node)
 
 -- give ID
-abbrev pub give_line : Words → Result PageAct Wrong
+abbrev pub give_line : Words → Result PageAct ScriptLineFault
 give_line words = do
   said ← one_word words
   id ← number_within greatest_id said
   Ok (acts.Give id)
 
 -- the act of a line, by its first word
-abbrev pub page_act_by_name : List ℕ → Words → Result PageAct Wrong
+abbrev pub page_act_by_name : List ℕ → Words → Result PageAct ScriptLineFault
 page_act_by_name name words =
     if bytes_eq name (codes "pages") then pages_line words else
     (if bytes_eq name (codes "near") then near_line words else

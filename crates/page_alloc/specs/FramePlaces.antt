@@ -1,7 +1,7 @@
 -- Where a frame is: in a block of the free frames, or in what an ID holds; and that no frame is in
 -- both.
 use Rattle.std.specs.Prelude.{◌≡◌, ◌⊎◌, ℕ, ◌+◌, ◌%◌, ◌^◌, ◌≤◌, Some, None}
-use Rattle.address_runs.specs.Edits.{NothingFrom}
+use Rattle.address_runs.specs.Edits.{IsEmptyFrom}
 use Rattle.buddy_blocks.specs.declared.block.Block.{Block}
 use Rattle.buddy_blocks.specs.declared.run.TheConstants.{MAX_FRAMES}
 use Rattle.buddy_blocks.specs.Frames.{IsInSet, IsBlock, IsInBlock}
@@ -42,7 +42,7 @@ abbrev pub IsInNoBlockNorHeld : PageState → ℕ → Type 0
 IsInNoBlockNorHeld s x = IsInNoBlock s x × IsHeldByNone s x
 
 -- held frames are an aligned set of frames that aren't free
-pub record IsAlignedAndTaken (s : PageState) (what : Held) : Type 0 where
+pub record IsAlignedAndNotFree (s : PageState) (what : Held) : Type 0 where
   pub small : what.order ≤ 10
   pub aligned : what.first % 2 ^ what.order ≡ 0
   pub low : what.first + 2 ^ what.order ≤ MAX_FRAMES
@@ -50,8 +50,8 @@ pub record IsAlignedAndTaken (s : PageState) (what : Held) : Type 0 where
 
 -- all frames that IDs hold are such sets, no two IDs hold the same frame, and all free frames are
 -- below the limit
-pub record AreHeldApart (s : PageState) : Type 0 where
-  pub low : NothingFrom MAX_FRAMES s.frames
-  pub well : (id : ℕ) (what : Held) → s.held id ≡ Some what → IsAlignedAndTaken s what
+pub record IsValidPageState (s : PageState) : Type 0 where
+  pub low : IsEmptyFrom MAX_FRAMES s.frames
+  pub well : (id : ℕ) (what : Held) → s.held id ≡ Some what → IsAlignedAndNotFree s what
   pub apart : (i j : ℕ) (g h : Held) → s.held i ≡ Some g → s.held j ≡ Some h → (x : ℕ) → IsInSet g.order g.first x
       → IsInSet h.order h.first x → i ≡ j

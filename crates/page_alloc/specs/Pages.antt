@@ -23,8 +23,8 @@ abbrev pub first_page_state : Frames → PageState
 first_page_state f = record { frames = f; held = λ id. None }
 
 -- one ID holds this, or nothing; the others hold what they held before
-abbrev pub with_held : ℕ → Option Held → (ℕ → Option Held) → ℕ → Option Held
-with_held id what held i = if id == i then what else held i
+abbrev pub with_held_frames : ℕ → Option Held → (ℕ → Option Held) → ℕ → Option Held
+with_held_frames id what held i = if id == i then what else held i
 
 -- a request for 2^order frames, if `first` is the first frame of the block from which it is served:
 -- the first 2^order frames of that block are allocated, and the ID holds them
@@ -34,14 +34,14 @@ allocate_frames s id order node (Some first) = (
   outcomes.At (FRAME_SIZE * first),
   record {
     frames = without_set order first s.frames;
-    held = with_held id (Some (record { first = first; order = order; node = node })) s.held;
+    held = with_held_frames id (Some (record { first = first; order = order; node = node })) s.held;
   },
 )
 
 -- a request is refused if the ID already holds frames
-abbrev pub allocate_unless_taken : PageState → ℕ → ℕ → ℕ → Zone → Option Held → PageOutcome × PageState
-allocate_unless_taken s id order node zone (Some what) = (outcomes.Taken, s)
-allocate_unless_taken s id order node zone None = allocate_frames s id order node (picked_first_frame s.frames node zone order)
+abbrev pub allocate_unless_id_holds : PageState → ℕ → ℕ → ℕ → Zone → Option Held → PageOutcome × PageState
+allocate_unless_id_holds s id order node zone (Some what) = (outcomes.Taken, s)
+allocate_unless_id_holds s id order node zone None = allocate_frames s id order node (picked_first_frame s.frames node zone order)
 
 -- the frames that an ID holds become free on their node, and the ID holds nothing. If it held
 -- nothing before, the outcome is `Unknown` and nothing changes
@@ -51,14 +51,14 @@ free_held_frames s id (Some what) = (
   outcomes.Done,
   record {
     frames = with_set what.order what.first what.node s.frames;
-    held = with_held id None s.held;
+    held = with_held_frames id None s.held;
   },
 )
 
 -- the outcome of a `pages` or `give` line, and the state after it. A `near` line is carried out by
 -- the layer above; here it gets no block.
 abbrev pub page_step : PageState → PageAct → PageOutcome × PageState
-page_step s (acts.Pages id order node zone) = allocate_unless_taken s id order node zone (s.held id)
+page_step s (acts.Pages id order node zone) = allocate_unless_id_holds s id order node zone (s.held id)
 page_step s (acts.Near id order node) = (outcomes.NoBlock, s)
 page_step s (acts.Give id) = free_held_frames s id (s.held id)
 

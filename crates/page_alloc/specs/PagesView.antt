@@ -3,7 +3,7 @@ use Rattle.std.specs.Prelude.{ℕ, Option, List}
 use Rattle.std.specs.Ordering.{nat_cmp}
 use Rattle.std.specs.Map.{lookup}
 use Rattle.std.specs.BTreeMap.{is_at}
-use Rattle.buddy_handover.specs.BuddyView.{BuddyView, buddy_frames}
+use Rattle.buddy_handover.specs.BuddyView.{BuddyView, node_of_free_frame}
 use Rattle.page_alloc.specs.declared.outcome.Held.{Held}
 use Rattle.page_alloc.specs.Pages.{PageState}
 
@@ -13,9 +13,9 @@ pub record PagesView : Type 0 where
   pub ids : List (ℕ × Held)
 
 -- the frames that an ID holds
-abbrev pub held_in : List (ℕ × Held) → ℕ → Option Held
-held_in ids id = lookup (is_at (nat_cmp id)) ids
+abbrev pub frames_held_by : List (ℕ × Held) → ℕ → Option Held
+frames_held_by ids id = lookup (is_at (nat_cmp id)) ids
 
 -- the same facts as a state
 abbrev pub page_state_of : PagesView → PageState
-page_state_of b = record { frames = buddy_frames b.buddy; held = held_in b.ids }
+page_state_of b = record { frames = node_of_free_frame b.buddy; held = frames_held_by b.ids }

@@ -1,8 +1,8 @@
 -- A whole page script: its lines, or the fault of the lowest line that has one.
 use Rattle.std.specs.Prelude.{ℕ, false, List, Result}
-use Rattle.bm_base.specs.ResultSteps.{with_error}
-use Rattle.script_reader.specs.declared.fault.Wrong.{Wrong}
-use Rattle.script_reader.specs.declared.fault.Wrong.TheVariants as wrong
+use Rattle.bm_base.specs.ResultSteps.{map_error}
+use Rattle.script_reader.specs.declared.fault.ScriptLineFault.{ScriptLineFault}
+use Rattle.script_reader.specs.declared.fault.ScriptLineFault.TheVariants as wrong
 use Rattle.script_reader.specs.Lines.{ScriptKind, lines_of}
 use Rattle.page_alloc.specs.declared.act.PageAct.{PageAct}
 use Rattle.page_alloc.specs.declared.act.PageLine.{PageLine}
@@ -11,7 +11,7 @@ use Rattle.page_alloc.specs.declared.reading.PageFault.TheVariants as faults
 use Rattle.page_alloc.specs.Forms.{page_act_by_name}
 
 -- the fault of a script whose line of this number has the fault `wrong`: its form, or else a number
-abbrev pub page_script_fault_at : ℕ → Wrong → PageFault
+abbrev pub page_script_fault_at : ℕ → ScriptLineFault → PageFault
 page_script_fault_at line wrong.Form = faults.BadLine line
 page_script_fault_at line other = faults.BadNumber line
 
@@ -21,4 +21,4 @@ page_lines = record { forms = λ seen. page_act_by_name; is_once = λ act. false
 
 -- the lines of a page script, or the fault of the lowest line that has one
 abbrev pub page_lines_of : List ℕ → Result (List PageLine) PageFault
-page_lines_of bytes = with_error (λ at. page_script_fault_at at.0 at.1) (lines_of page_lines bytes)
+page_lines_of bytes = map_error (λ at. page_script_fault_at at.0 at.1) (lines_of page_lines bytes)

@@ -2,15 +2,15 @@
 //! of the faults.
 
 ghost use Rattle.std.specs.Prelude.{◌≡◌, IfOk, IfErr};
-ghost use Rattle.script_reader.specs.Numbers.{IsOfWords};
+ghost use Rattle.script_reader.specs.Numbers.{IsWordFault};
 ghost use Rattle.text_words.specs.Words.{words_in};
 ghost use Rattle.text_words.specs.declared.separators.Separators.TheVariants as separators;
-ghost use Rattle.page_alloc.specs.Forms.{zone_named, pages_line, near_line, give_line, page_act_by_name};
+ghost use Rattle.page_alloc.specs.Forms.{zone_by_name, pages_line, near_line, give_line, page_act_by_name};
 ghost use Rattle.page_alloc.specs.Pages.{HasValidOrder};
 
 use crate::act::PageAct;
 use bm_base::Zone;
-use script_reader::{GREATEST_ID, GREATEST_NODE, Wrong, first_word, number_within, one_word};
+use script_reader::{GREATEST_ID, GREATEST_NODE, ScriptLineFault, first_word, number_within, one_word};
 
 /// The largest order of a block.
 const GREATEST_ORDER: u64 = 10;
@@ -21,10 +21,10 @@ const GREATEST_ORDER: u64 = 10;
 ///
 /// - `Form`: the words have no form.
 /// - `Number`: the words have a form, but a number is malformed or above its limit.
-pub fn page_act_by_name(name: &[u8], rest: &[u8]) -> Result<PageAct, Wrong>
+pub fn page_act_by_name(name: &[u8], rest: &[u8]) -> Result<PageAct, ScriptLineFault>
     ensures value { result ≡ page_act_by_name name.now (words_in separators.Script rest.now) }
     ensures order { IfOk result HasValidOrder }
-    ensures of_words { IfErr result IsOfWords }
+    ensures of_words { IfErr result IsWordFault }
 {
     if name == b"pages".as_slice() {
         return pages_line(rest);
@@ -35,7 +35,7 @@ pub fn page_act_by_name(name: &[u8], rest: &[u8]) -> Result<PageAct, Wrong>
     if name == b"give".as_slice() {
         return give_line(rest);
     }
-    Err(Wrong::Form)
+    Err(ScriptLineFault::Form)
 }
 
 /// Returns the zone with this name.
@@ -43,9 +43,9 @@ pub fn page_act_by_name(name: &[u8], rest: &[u8]) -> Result<PageAct, Wrong>
 /// # Errors
 ///
 /// - `Form`: there is no zone of this name.
-fn zone_named(word: &[u8]) -> Result<Zone, Wrong>
-    ensures value { result ≡ zone_named word.now }
-    ensures of_words { IfErr result IsOfWords }
+fn zone_by_name(word: &[u8]) -> Result<Zone, ScriptLineFault>
+    ensures value { result ≡ zone_by_name word.now }
+    ensures of_words { IfErr result IsWordFault }
 {
     if word == b"DMA".as_slice() {
         return Ok(Zone::Dma);
@@ -56,19 +56,19 @@ fn zone_named(word: &[u8]) -> Result<Zone, Wrong>
     if word == b"Normal".as_slice() {
         return Ok(Zone::Normal);
     }
-    Err(Wrong::Form)
+    Err(ScriptLineFault::Form)
 }
 
 /// Reads `ID ORDER NODE ZONE`, the words of a `pages` line after the first.
-fn pages_line(text: &[u8]) -> Result<PageAct, Wrong>
+fn pages_line(text: &[u8]) -> Result<PageAct, ScriptLineFault>
     ensures value { result ≡ pages_line (words_in separators.Script text.now) }
     ensures order { IfOk result HasValidOrder }
-    ensures of_words { IfErr result IsOfWords }
+    ensures of_words { IfErr result IsWordFault }
 {
     let (id, rest) = first_word(text)?;
     let (order, rest) = first_word(rest)?;
     let (node, rest) = first_word(rest)?;
-    let zone = zone_named(one_word(rest)?)?;
+    let zone = zone_by_name(one_word(rest)?)?;
     let id = number_within(GREATEST_ID, id)? as u32;
     let order = number_within(GREATEST_ORDER, order)? as u32;
     let node = number_within(GREATEST_NODE, node)? as u32;
@@ -81,10 +81,10 @@ fn pages_line(text: &[u8]) -> Result<PageAct, Wrong>
 }
 
 /// Reads `ID ORDER NODE`, the words of a `near` line after the first.
-fn near_line(text: &[u8]) -> Result<PageAct, Wrong>
+fn near_line(text: &[u8]) -> Result<PageAct, ScriptLineFault>
     ensures value { result ≡ near_line (words_in separators.Script text.now) }
     ensures order { IfOk result HasValidOrder }
-    ensures of_words { IfErr result IsOfWords }
+    ensures of_words { IfErr result IsWordFault }
 {
     let (id, rest) = first_word(text)?;
     let (order, rest) = first_word(rest)?;
@@ -96,10 +96,10 @@ fn near_line(text: &[u8]) -> Result<PageAct, Wrong>
 }
 
 /// Reads `ID`, the only word of a `give` line after the first.
-fn give_line(text: &[u8]) -> Result<PageAct, Wrong>
+fn give_line(text: &[u8]) -> Result<PageAct, ScriptLineFault>
     ensures value { result ≡ give_line (words_in separators.Script text.now) }
     ensures order { IfOk result HasValidOrder }
-    ensures of_words { IfErr result IsOfWords }
+    ensures of_words { IfErr result IsWordFault }
 {
     let id = number_within(GREATEST_ID, one_word(text)?)? as u32;
     Ok(PageAct::Give { id })

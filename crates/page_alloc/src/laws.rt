@@ -3,7 +3,7 @@
 ghost use Rattle.std.specs.Prelude.{◌≡◌, ◌↔◌, ℕ, Bool, List, Some, None, Ok, Err};
 ghost use Rattle.text_words.specs.Spelling.{HasWords};
 ghost use Rattle.text_words.specs.declared.separators.Separators.TheVariants.{Script};
-ghost use Rattle.script_reader.specs.declared.fault.Wrong.{Wrong as AnyWrong};
+ghost use Rattle.script_reader.specs.declared.fault.ScriptLineFault.{ScriptLineFault as AnyWrong};
 ghost use Rattle.script_reader.specs.Numbers.{Words};
 ghost use Rattle.script_reader.specs.Lines.{read_line};
 ghost use Rattle.script_reader.specs.Grammar.{HasNoCommand, SpellsNumbers, NeverFails, HasWordsFault};
@@ -14,7 +14,7 @@ ghost use Rattle.page_alloc.specs.Spelling.{page_grammar};
 /// Law: a line of a page script is read as an act exactly if its words spell that act. It has no
 /// command exactly if it has no words or is a comment. Its fault is the first condition of the
 /// grammar that its words break.
-pub fn page_lines_of_spelling()
+pub fn page_lines_are_read_as_spelled()
     ensures act { (seen : Bool) (text : List ℕ) (words : Words) (act : AnyAct) →
         HasWords Script text words →
         ((read_line page_lines seen text ≡ Ok (Some act)) ↔ SpellsNumbers page_grammar words act) }

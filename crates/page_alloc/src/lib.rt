@@ -20,10 +20,10 @@
 //! - `Pages.antt`: what each line does to the free frames and to what the IDs hold
 //! - `FramePlaces.antt`: what stays true of that state
 //!
-//! A law is an empty function whose contract is a proven fact. By [`page_lines_of_spelling`] a line
-//! is read exactly as what its words spell. The layer above proves, with `FramePlaces.antt`, that
-//! no line loses a frame. Each frame that was free at first is in exactly one block, or held by
-//! exactly one ID, and no other frame is.
+//! A law is an empty function whose contract is a proven fact. By
+//! [`page_lines_are_read_as_spelled`] a line is read exactly as what its words spell. The layer
+//! above proves, with `FramePlaces.antt`, that no line loses a frame. Each frame that was free at
+//! first is in exactly one block, or held by exactly one ID, and no other frame is.
 #![tactic(auto)]
 
 mod act;
@@ -34,7 +34,7 @@ mod pages;
 mod reading;
 
 pub use act::{PageAct, PageLine};
-pub use laws::page_lines_of_spelling;
+pub use laws::page_lines_are_read_as_spelled;
 pub use outcome::{Held, PageAnswer, PageOutcome};
 pub use pages::Pages;
 pub use reading::{PageFault, read_pages};

@@ -1,7 +1,7 @@
 //! The buddy lists, and which ID holds which frames from them.
 
 ghost use Rattle.std.specs.Prelude.{◌≡◌, ◌⊎◌, ◌+◌, ◌*◌, ◌^◌, ◌<◌, ◌≤◌, IfOk, OnErr};
-ghost use Rattle.buddy_handover.specs.BuddyView.{buddy_frames};
+ghost use Rattle.buddy_handover.specs.BuddyView.{node_of_free_frame};
 ghost use Rattle.page_alloc.specs.declared.act.PageAct.TheVariants as act;
 ghost use Rattle.page_alloc.specs.PagesView.{page_state_of};
 ghost use Rattle.page_alloc.specs.Pages.{first_page_state, page_step, HasValidOrder, IsPagesOrGive, NeedsMemory};
@@ -25,20 +25,20 @@ pub struct Pages {
 
 impl Model for Pages {
     ghost use Rattle.page_alloc.specs.PagesView.{PagesView, page_state_of};
-    ghost use Rattle.page_alloc.specs.FramePlaces.{AreHeldApart};
+    ghost use Rattle.page_alloc.specs.FramePlaces.{IsValidPageState};
 
     ghost Value = { PagesView };
 
     ghost view = { λ p. record { buddy = p.buddy; ids = p.ids.entries } };
 
     ghost invariant = { λ p.
-        AreHeldApart (page_state_of (record { buddy = p.buddy; ids = p.ids.entries })) };
+        IsValidPageState (page_state_of (record { buddy = p.buddy; ids = p.ids.entries })) };
 }
 
 impl Pages {
     /// Returns the state in which the frames of the lists are free, and no ID holds anything.
     pub fn new(alloc: Global, buddy: Buddy) -> Pages
-        ensures { page_state_of result ≡ first_page_state (buddy_frames buddy) }
+        ensures { page_state_of result ≡ first_page_state (node_of_free_frame buddy) }
     {
         buddy.free_frames_are_below_limit();
         Pages {

@@ -2,13 +2,13 @@
 
 ghost use Rattle.std.specs.Prelude.{◌≡◌, ◌<◌, ◌^◌, length, Err, IfOk, IsOkAnd};
 ghost use Rattle.bm_base.specs.Answers.{Answers};
-ghost use Rattle.script_reader.specs.Numbers.{IsOfWords};
+ghost use Rattle.script_reader.specs.Numbers.{IsWordFault};
 ghost use Rattle.page_alloc.specs.Pages.{HaveValidOrders};
 ghost use Rattle.page_alloc.specs.Reading.{page_script_fault_at, page_lines_of};
 
 use crate::act::{PageAct, PageLine};
 use crate::forms::page_act_by_name;
-use script_reader::{LinesError, ScriptLine, Wrong, read_lines};
+use script_reader::{LinesError, ScriptLine, ScriptLineFault, read_lines};
 use std::alloc::Global;
 
 /// The reason why a page script is refused. `line` is the number of the lowest line that has a
@@ -25,7 +25,7 @@ pub enum PageFault {
 }
 
 impl ScriptLine for PageLine {
-    ghost use Rattle.script_reader.specs.Numbers.{IsOfWords};
+    ghost use Rattle.script_reader.specs.Numbers.{IsWordFault};
     ghost use Rattle.page_alloc.specs.Pages.{HasValidOrder};
     ghost use Rattle.page_alloc.specs.Reading.{page_lines};
 
@@ -35,9 +35,9 @@ impl ScriptLine for PageLine {
 
     ghost IsWithinLimits = { λ line. HasValidOrder line.act };
 
-    ghost MayBeWrong = { IsOfWords };
+    ghost MayBeWrong = { IsWordFault };
 
-    fn by_name(_seen: bool, name: &[u8], rest: &[u8]) -> Result<PageAct, Wrong> {
+    fn by_name(_seen: bool, name: &[u8], rest: &[u8]) -> Result<PageAct, ScriptLineFault> {
         page_act_by_name(name, rest)
     }
 
@@ -78,13 +78,13 @@ pub fn read_pages(alloc: Global, bytes: &[u8]) -> Result<Vec<PageLine>, PageFaul
 
 /// Returns the fault of a script whose line of this number has the fault `wrong`. Only `Form` and
 /// `Number` can be wrong.
-fn page_script_fault_at(line: u32, wrong: Wrong) -> PageFault
-    requires { IsOfWords wrong }
+fn page_script_fault_at(line: u32, wrong: ScriptLineFault) -> PageFault
+    requires { IsWordFault wrong }
     ensures { result ≡ page_script_fault_at line wrong }
 {
     match wrong {
-        Wrong::Form => PageFault::BadLine { line },
-        Wrong::Number => PageFault::BadNumber { line },
+        ScriptLineFault::Form => PageFault::BadLine { line },
+        ScriptLineFault::Number => PageFault::BadNumber { line },
         _ => unreachable!(),
     }
 }

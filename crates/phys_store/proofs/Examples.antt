@@ -3,7 +3,7 @@ use Rattle.std.proofs.Common.{◌≡◌, ℕ, ◌<◌, ◌≤◌, zero, suc, ◌
 use Rattle.std.proofs.lemmas.Bool.{false≢true}
 use Rattle.std.proofs.lemmas.Bool.Decides.{nat_tests}
 use Rattle.phys_store.specs.Bytes.{ExtentView, end_of_extent, byte_of, is_prepared_at, ArePrepared, WritesBytes}
-use Rattle.phys_store.specs.Extents.{AreApart, nth_extent, TouchRange}
+use Rattle.phys_store.specs.Extents.{AreSortedAndApart, nth_extent, AreTouchedExtents}
 use Rattle.phys_store.proofs.Writes.{wrote-set}
 
 -- bytes 1, 2, 3 from address 4 on, and byte 9 at address 8
@@ -48,7 +48,7 @@ one_written =
     (λ k below. let none : k ≡ 0 = omega arith in rw none refl) beside).1
 
 -- two extents with a gap of one byte don't touch; extents without a gap do
-apart_examples : AreApart 0 store × ¬ AreApart 5 store × ¬ AreApart 0 (low ∷ record { base = 7; bytes = 9 ∷ [] } ∷ [])
+apart_examples : AreSortedAndApart 0 store × ¬ AreSortedAndApart 5 store × ¬ AreSortedAndApart 0 (low ∷ record { base = 7; bytes = 9 ∷ [] } ∷ [])
 apart_examples = (
   (omega arith, omega arith, omega arith, (omega arith, omega arith, omega arith, tt)),
   (λ no. absurd (omega (arith, no.0))),
@@ -61,7 +61,7 @@ within zero less = (omega arith, omega arith)
 within (suc zero) less = (omega arith, omega arith)
 within (suc (suc i)) less = absurd (omega arith)
 
-gap_joins : TouchRange store 0 2 4 9
+gap_joins : AreTouchedExtents store 0 2 4 9
 gap_joins = record {
   order = omega arith;
   most = omega arith;

@@ -7,7 +7,7 @@ use Rattle.std.specs.List.{remove}
 use Rattle.bm_base.specs.Range.{RangeView, end_of, covers}
 use Rattle.phys_store.specs.declared.extents.Extent.{Extent}
 use Rattle.phys_store.specs.Bytes.{ExtentView, end_of_extent, is_in_extent, byte_of, is_prepared_at, ArePrepared}
-use Rattle.phys_store.specs.Extents.{extent_view, AreApart, nth_extent, TouchRange, merged_extent, merge_extents}
+use Rattle.phys_store.specs.Extents.{extent_view, AreSortedAndApart, nth_extent, AreTouchedExtents, extent_with_bytes_of, merge_extents}
 use Rattle.phys_store.proofs.ByteLists.{length-bytes_at, get-bytes_at}
 use Rattle.phys_store.proofs.Lookup.{is_in_extent-low, is_in_extent-high, ready-below, byte-unready, placed, read-at}
 
@@ -17,7 +17,7 @@ pub nth_piece : (es : List Extent) (i : ℕ) (e : Extent) → i < length es → 
 nth_piece es i e count is = get_or-map extent_view es i e (record { base = 0; bytes = [] }) count ∙ ap extent_view (sym is)
 
 -- an earlier extent ends below the start of a later one
-pub before : (e : ℕ) (ps : List ExtentView) (i j : ℕ) → AreApart e ps → i < j → j < length ps
+pub before : (e : ℕ) (ps : List ExtentView) (i j : ℕ) → AreSortedAndApart e ps → i < j → j < length ps
     → end_of_extent (nth_extent ps i) < (nth_extent ps j).base
 before e [] i j apart less count = absurd (omega arith)
 before e (q ∷ ps) i zero apart less count = absurd (omega arith)
@@ -42,7 +42,7 @@ outside_front p (suc n) (q ∷ ps) low high x out =
     rw off rest
 
 -- for an address below `h`, only the first n extents count if all others begin above `h`
-in_front : (e n h x : ℕ) (ps : List ExtentView) → AreApart e ps → ((i : ℕ) → n ≤ i → i < length ps → h < (nth_extent ps i).base) → x < h →
+in_front : (e n h x : ℕ) (ps : List ExtentView) → AreSortedAndApart e ps → ((i : ℕ) → n ≤ i → i < length ps → h < (nth_extent ps i).base) → x < h →
     byte_of (take n ps) x ≡ byte_of ps x
 in_front e zero h x [] apart above below = refl
 in_front e zero h x (q ∷ ps) apart above below =
@@ -54,8 +54,8 @@ in_front e (suc n) h x (q ∷ ps) apart above below =
     rw (in_front (end_of_extent q + 1) n h x ps apart.3 (λ i from count. above (suc i) (omega arith) (omega arith)) below) refl
 
 -- the extents after the first n don't touch anything that ends below them
-apart_left : (e n h : ℕ) (ps : List ExtentView) → AreApart e ps → ((i : ℕ) → n ≤ i → i < length ps → h < (nth_extent ps i).base) →
-    AreApart (h + 1) (drop n ps)
+apart_left : (e n h : ℕ) (ps : List ExtentView) → AreSortedAndApart e ps → ((i : ℕ) → n ≤ i → i < length ps → h < (nth_extent ps i).base) →
+    AreSortedAndApart (h + 1) (drop n ps)
 apart_left e zero h [] apart above = tt
 apart_left e zero h (q ∷ ps) apart above =
     let first : h < q.base = above 0 (omega arith) (omega arith) in
@@ -66,13 +66,13 @@ apart_left e (suc n) h (q ∷ ps) apart above = apart_left (end_of_extent q + 1)
 
 -- what is true after the extent `p` has replaced those that it covers
 pub record Joined (e : ℕ) (ps : List ExtentView) (p : ExtentView) (new : List ExtentView) : Type 0 where
-  pub apart : AreApart e new
+  pub apart : AreSortedAndApart e new
   pub bytes : (x : ℕ) → byte_of new x ≡ byte_of ps x
   pub ready : (x : ℕ) → is_prepared_at new x ≡ (is_in_extent p x || is_prepared_at ps x)
 
-joined_first : (e n : ℕ) (ps : List ExtentView) (p : ExtentView) → AreApart e ps → e ≤ p.base → 0 < length p.bytes
+joined_first : (e n : ℕ) (ps : List ExtentView) (p : ExtentView) → AreSortedAndApart e ps → e ≤ p.base → 0 < length p.bytes
     → end_of_extent p < 2 ^ 64 →
-    TouchRange ps 0 n p.base (end_of_extent p) →
+    AreTouchedExtents ps 0 n p.base (end_of_extent p) →
     ((x : ℕ) → p.base ≤ x → x < end_of_extent p → get_or p.bytes (x - p.base) 0 ≡ byte_of (take n ps) x) →
     Joined e ps p (p ∷ drop n ps)
 joined_first e n ps p apart low some small joins told =
@@ -97,9 +97,9 @@ swapped true false c = refl
 swapped false true c = refl
 swapped false false c = refl
 
-pub joined : (f e b n : ℕ) (ps : List ExtentView) (p : ExtentView) → AreApart e ps → e ≤ p.base → 0 < length p.bytes
+pub joined : (f e b n : ℕ) (ps : List ExtentView) (p : ExtentView) → AreSortedAndApart e ps → e ≤ p.base → 0 < length p.bytes
     → end_of_extent p < 2 ^ 64 → b ≡ f + n →
-    TouchRange ps f b p.base (end_of_extent p) →
+    AreTouchedExtents ps f b p.base (end_of_extent p) →
     ((x : ℕ) → p.base ≤ x → x < end_of_extent p → get_or p.bytes (x - p.base) 0 ≡ byte_of (take n (drop f ps)) x) →
     Joined e ps p (take f ps ++ p ∷ drop b ps)
 joined zero e b n ps p apart low some small count joins told =
@@ -129,7 +129,7 @@ joined (suc f) e (suc b) n (q ∷ ps) p apart low some small count joins told =
 pub there : (ps : List ExtentView) (i : ℕ) → i < length ps → get_or ps i (nth_extent ps i) ≡ nth_extent ps i
 there ps i count = get_or_default ps i (nth_extent ps i) (record { base = 0; bytes = [] }) count
 
-pub nth_extent-fits : (ps : List ExtentView) (i : ℕ) → AreApart 0 ps → i < length ps → end_of_extent (nth_extent ps i) < 2 ^ 64
+pub nth_extent-fits : (ps : List ExtentView) (i : ℕ) → AreSortedAndApart 0 ps → i < length ps → end_of_extent (nth_extent ps i) < 2 ^ 64
 nth_extent-fits ps i apart count = (placed 0 ps i (nth_extent ps i) apart count (there ps i count)).2
 
 -- the extents so far, and the addresses that they and the range make up
@@ -145,7 +145,7 @@ pub record Hull (ps : List ExtentView) (r : RangeView) (first behind from to : �
   pub ready : (x : ℕ) → from ≤ x → x < to → IsTrue (covers r x || is_prepared_at ps x)
 
 -- an earlier extent ends at or below the end of a later one
-pub ends_rise : (ps : List ExtentView) (i j : ℕ) → AreApart 0 ps → i ≤ j → j < length ps
+pub ends_rise : (ps : List ExtentView) (i j : ℕ) → AreSortedAndApart 0 ps → i ≤ j → j < length ps
     → end_of_extent (nth_extent ps i) ≤ end_of_extent (nth_extent ps j)
 ends_rise ps i j apart order count =
     elim (cases_lt i j) [
@@ -154,7 +154,7 @@ ends_rise ps i j apart order count =
     ]
 
 -- the next extent is joined to those so far if it begins at or below their end
-pub hull_more : (ps : List ExtentView) (r : RangeView) (first behind from to : ℕ) → AreApart 0 ps → behind < length ps →
+pub hull_more : (ps : List ExtentView) (r : RangeView) (first behind from to : ℕ) → AreSortedAndApart 0 ps → behind < length ps →
     r.base ≤ end_of_extent (nth_extent ps first) → (nth_extent ps behind).base ≤ to → Hull ps r first behind from to →
     Hull ps r first (behind + 1) (min from (nth_extent ps behind).base) (max to (end_of_extent (nth_extent ps behind)))
 hull_more ps r first behind from to apart count reach touches h =
@@ -188,8 +188,8 @@ hull_more ps r first behind from to apart count reach touches h =
     }
 
 -- if no further extent is joined, they are those that the range overlaps or touches
-pub hull_joins : (ps : List ExtentView) (r : RangeView) (first behind from to : ℕ) → AreApart 0 ps → Hull ps r first behind from to →
-    (behind < length ps → to < (nth_extent ps behind).base) → TouchRange ps first behind from to
+pub hull_joins : (ps : List ExtentView) (r : RangeView) (first behind from to : ℕ) → AreSortedAndApart 0 ps → Hull ps r first behind from to →
+    (behind < length ps → to < (nth_extent ps behind).base) → AreTouchedExtents ps first behind from to
 hull_joins ps r first behind from to apart h stop = record {
   order = h.order;
   most = h.most;
@@ -229,7 +229,7 @@ removed_behind es new now x f k most was is =
 
 -- what is true after a range has been prepared
 pub record Prepared (ps new : List ExtentView) (r : RangeView) : Type 0 where
-  pub apart : AreApart 0 new
+  pub apart : AreSortedAndApart 0 new
   pub bytes : (x : ℕ) → byte_of new x ≡ byte_of ps x
   pub ready : (x : ℕ) → is_prepared_at new x ≡ (covers r x || is_prepared_at ps x)
 
@@ -245,20 +245,20 @@ exact ps r p low high ready x = elim (cases_Bool (is_in_extent p x)) [
   | inr out ↦ let off : covers r x ≡ false = grind (arith, nat_tests) in rw (out, off) refl
 ]
 
-pub prepared : (ps new : List ExtentView) (r : RangeView) (f b from to : ℕ) → AreApart 0 ps → TouchRange ps f b from to →
+pub prepared : (ps new : List ExtentView) (r : RangeView) (f b from to : ℕ) → AreSortedAndApart 0 ps → AreTouchedExtents ps f b from to →
     from ≤ r.base → end_of r ≤ to → to < 2 ^ 64 → (ArePrepared ps r.base r.size → ⊥) →
     ((x : ℕ) → from ≤ x → x < to → IsTrue (covers r x || is_prepared_at ps x)) →
     new ≡ merge_extents ps f b from to → Prepared ps new r
 prepared ps new r f b from to apart joins low high small not_ready ready is =
     let some : 0 < r.size = some_size ps r not_ready in
     let g : ℕ → ℕ = byte_of (take (b - f) (drop f ps)) in
-    let e : ExtentView = merged_extent (take (b - f) (drop f ps)) from to in
+    let e : ExtentView = extent_with_bytes_of (take (b - f) (drop f ps)) from to in
     let len : length e.bytes ≡ to - from = length-bytes_at g from (to - from) in
     let end : end_of_extent e ≡ to = omega (arith, len, low, high, some) in
     let j = joined f 0 b (b - f) ps e apart (omega arith) (omega (arith, len, low, high, some))
     (omega (arith, end, small))
     (omega (arith, joins.order))
-    (subst (λ m. TouchRange ps f b from m) (sym end) joins)
+    (subst (λ m. AreTouchedExtents ps f b from m) (sym end) joins)
     (λ x least below. get-bytes_at g from (to - from) (x - from) (omega (arith, least, below, end)) ∙ ap g (omega (arith, least))) in
     record {
       apart = rw is j.apart;

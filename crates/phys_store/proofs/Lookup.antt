@@ -9,7 +9,7 @@ use Rattle.std.proofs.lemmas.Option.{none-some}
 use Rattle.std.specs.List.{position, position_or_len}
 use Rattle.phys_store.specs.declared.extents.Extent.{Extent}
 use Rattle.phys_store.specs.Bytes.{ExtentView, end_of_extent, is_in_extent, byte_of, is_prepared_at, ArePrepared}
-use Rattle.phys_store.specs.Extents.{extent_view, AreApart}
+use Rattle.phys_store.specs.Extents.{extent_view, AreSortedAndApart}
 
 -- an address inside an extent, below it and above it
 pub is_in_extent-in : (p : ExtentView) (x : ℕ) → p.base ≤ x → x < end_of_extent p → is_in_extent p x ≡ true
@@ -28,7 +28,7 @@ pub is_in_extent-high : (p : ExtentView) (x : ℕ) → is_in_extent p x ≡ true
 is_in_extent-high p x lies = grind (arith, nat_tests)
 
 -- nothing is prepared below the first extent
-pub ready-below : (e : ℕ) (ps : List ExtentView) (x : ℕ) → AreApart e ps → x < e → is_prepared_at ps x ≡ false
+pub ready-below : (e : ℕ) (ps : List ExtentView) (x : ℕ) → AreSortedAndApart e ps → x < e → is_prepared_at ps x ≡ false
 ready-below e [] x apart below = refl
 ready-below e (p ∷ ps) x apart below =
     let low : e ≤ p.base = apart.0 in
@@ -43,7 +43,7 @@ byte-unready (p ∷ ps) x none = elim (cases_Bool (is_in_extent p x)) [
 ]
 
 -- each extent begins at or above the bound, has bytes, and ends in the address space
-pub placed : (e : ℕ) (ps : List ExtentView) (i : ℕ) (p : ExtentView) → AreApart e ps → i < length ps → get_or ps i p ≡ p →
+pub placed : (e : ℕ) (ps : List ExtentView) (i : ℕ) (p : ExtentView) → AreSortedAndApart e ps → i < length ps → get_or ps i p ≡ p →
     (e ≤ p.base) × (0 < length p.bytes) × (end_of_extent p < 2 ^ 64)
 placed e [] i p apart count there = absurd (omega arith)
 placed e (q ∷ ps) zero p apart count there =
@@ -53,7 +53,7 @@ placed e (q ∷ ps) (suc i) p apart count there =
     (omega (arith, rest.0, apart.0), rest.1, rest.2)
 
 -- the address after an extent isn't prepared
-pub unready-past : (e : ℕ) (ps : List ExtentView) (i : ℕ) (p : ExtentView) → AreApart e ps → i < length ps → get_or ps i p ≡ p →
+pub unready-past : (e : ℕ) (ps : List ExtentView) (i : ℕ) (p : ExtentView) → AreSortedAndApart e ps → i < length ps → get_or ps i p ≡ p →
     is_prepared_at ps (end_of_extent p) ≡ false
 unready-past e [] i p apart count there = absurd (omega arith)
 unready-past e (q ∷ ps) zero p apart count there =
@@ -66,7 +66,7 @@ unready-past e (q ∷ ps) (suc i) p apart count there =
     (unready-past (end_of_extent q + 1) ps i p apart.3 (omega arith) there)
 
 -- a prepared range that begins in an extent is entirely in it
-pub whole : (e : ℕ) (ps : List ExtentView) (i : ℕ) (p : ExtentView) (a n : ℕ) → AreApart e ps → i < length ps → get_or ps i p ≡ p →
+pub whole : (e : ℕ) (ps : List ExtentView) (i : ℕ) (p : ExtentView) (a n : ℕ) → AreSortedAndApart e ps → i < length ps → get_or ps i p ≡ p →
     p.base ≤ a → a < end_of_extent p → ArePrepared ps a n → a + n ≤ end_of_extent p
 whole e ps i p a n apart count there low high ready =
     elim (cases_lt (end_of_extent p) (a + n)) [
@@ -75,7 +75,7 @@ whole e ps i p a n apart count there low high ready =
     ]
 
 -- an address in an extent is prepared, and its byte is that of the extent
-pub read-at : (e : ℕ) (ps : List ExtentView) (i : ℕ) (p : ExtentView) (x : ℕ) → AreApart e ps → i < length ps → get_or ps i p ≡ p →
+pub read-at : (e : ℕ) (ps : List ExtentView) (i : ℕ) (p : ExtentView) (x : ℕ) → AreSortedAndApart e ps → i < length ps → get_or ps i p ≡ p →
     p.base ≤ x → x < end_of_extent p → (byte_of ps x ≡ get_or p.bytes (x - p.base) 0) × (is_prepared_at ps x ≡ true)
 read-at e [] i p x apart count there low high = absurd (omega arith)
 read-at e (q ∷ ps) zero p x apart count there low high =
@@ -100,7 +100,7 @@ pub record Holds (es : List Extent) (a n i : ℕ) (e : Extent) : Type 0 where
   pub room : e.front + (a - e.base) + n ≤ length e.bytes.items
 
 -- the extent that the search finds has the whole of a prepared range
-pub holds : (es : List Extent) (a n i : ℕ) (e : Extent) → AreApart 0 (map extent_view es) → ArePrepared (map extent_view es) a n →
+pub holds : (es : List Extent) (a n i : ℕ) (e : Extent) → AreSortedAndApart 0 (map extent_view es) → ArePrepared (map extent_view es) a n →
     position (λ d. is_in_extent (extent_view d) a) es ≡ Some i → e ≡ get_or es i e → Holds es a n i e
 holds es a n i e apart ready found is =
     let at = position-Some (λ d. is_in_extent (extent_view d) a) es i e found in
@@ -126,7 +126,7 @@ holds es a n i e apart ready found is =
     }
 
 -- the extent that the search finds has the one byte at the address
-pub holds_one : (es : List Extent) (a i : ℕ) (e : Extent) → AreApart 0 (map extent_view es) →
+pub holds_one : (es : List Extent) (a i : ℕ) (e : Extent) → AreSortedAndApart 0 (map extent_view es) →
     position (λ d. is_in_extent (extent_view d) a) es ≡ Some i → e ≡ get_or es i e → Holds es a 0 i e
 holds_one es a i e apart found is = holds es a 0 i e apart (λ x low high. absurd (omega arith)) found is
 
@@ -162,14 +162,14 @@ none_ready es a (suc n) none ready =
     absurd (false≢true (sym (none-found es a none) ∙ ready a (omega arith) (omega arith)))
 
 -- a prepared address is below 2^64 - 1
-ready-small : (e : ℕ) (ps : List ExtentView) (x : ℕ) → AreApart e ps → is_prepared_at ps x ≡ true → x + 1 < 2 ^ 64
+ready-small : (e : ℕ) (ps : List ExtentView) (x : ℕ) → AreSortedAndApart e ps → is_prepared_at ps x ≡ true → x + 1 < 2 ^ 64
 ready-small e [] x apart ready = absurd (false≢true ready)
 ready-small e (p ∷ ps) x apart ready = elim (cases_Bool (is_in_extent p x)) [
   | inl lies ↦ let high = is_in_extent-high p x lies in omega (arith, high, apart.2)
   | inr out ↦ ready-small (end_of_extent p + 1) ps x apart.3 (sym (rw out refl) ∙ ready)
 ]
 
-pub prepared-small : (ps : List ExtentView) (a n : ℕ) → AreApart 0 ps → ArePrepared ps a n → 0 < n → a + n < 2 ^ 64
+pub prepared-small : (ps : List ExtentView) (a n : ℕ) → AreSortedAndApart 0 ps → ArePrepared ps a n → 0 < n → a + n < 2 ^ 64
 prepared-small ps a n apart ready some =
     let last = ready-small 0 ps (a + n - 1) apart (ready (a + n - 1) (omega arith) (omega arith)) in
     omega (arith, last)

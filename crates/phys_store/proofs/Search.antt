@@ -7,12 +7,12 @@ use Rattle.std.proofs.lemmas.List.Sums.{position_or_len_is}
 use Rattle.std.specs.List.{position, position_or_len}
 use Rattle.phys_store.specs.declared.extents.Extent.{Extent}
 use Rattle.phys_store.specs.Bytes.{ExtentView, end_of_extent, is_in_extent}
-use Rattle.phys_store.specs.Extents.{extent_view, nth_extent, AreApart}
+use Rattle.phys_store.specs.Extents.{extent_view, nth_extent, AreSortedAndApart}
 use Rattle.phys_store.proofs.Lookup.{is_in_extent-below, is_in_extent-above}
 use Rattle.phys_store.proofs.Joining.{before}
 
 -- only the first extent that ends at or above an address can have it
-others_out : (ps : List ExtentView) (a i k : ℕ) → AreApart 0 ps → ((j : ℕ) → j < i → end_of_extent (nth_extent ps j) < a) →
+others_out : (ps : List ExtentView) (a i k : ℕ) → AreSortedAndApart 0 ps → ((j : ℕ) → j < i → end_of_extent (nth_extent ps j) < a) →
     (i < length ps → a ≤ end_of_extent (nth_extent ps i)) → (i < length ps → is_in_extent (nth_extent ps i) a ≡ false) → k < length ps
     → is_in_extent (nth_extent ps k) a ≡ false
 others_out ps a i k apart below reaches out count =
@@ -53,7 +53,7 @@ first_has es a i e below count is lies =
     let some : nat_lt i (length es) ≡ true = grind (arith, nat_tests) in
     sym (rw (at, some) refl)
 
-pub first_has_not : (es : List Extent) (a i : ℕ) → AreApart 0 (map extent_view es)
+pub first_has_not : (es : List Extent) (a i : ℕ) → AreSortedAndApart 0 (map extent_view es)
     → ((j : ℕ) → j < i → end_of_extent (nth_extent (map extent_view es) j) < a) →
     (i < length es → a ≤ end_of_extent (nth_extent (map extent_view es) i))
     → (i < length es → is_in_extent (nth_extent (map extent_view es) i) a ≡ false) →

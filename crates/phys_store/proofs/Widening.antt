@@ -8,7 +8,7 @@ use Rattle.std.specs.List.{CopiedTo, SameFrom, slice_range}
 use borrow.Rule.Slice.PartMut.{put_mid}
 use Rattle.phys_store.specs.declared.extents.Extent.{Extent}
 use Rattle.phys_store.specs.Bytes.{ExtentView, end_of_extent, is_in_extent, byte_of, is_prepared_at, bytes_at}
-use Rattle.phys_store.specs.Extents.{extent_view, AreApart, nth_extent, TouchRange, merged_extent, merge_extents}
+use Rattle.phys_store.specs.Extents.{extent_view, AreSortedAndApart, nth_extent, AreTouchedExtents, extent_with_bytes_of, merge_extents}
 use Rattle.phys_store.proofs.Joining.{nth_part, nth_piece, there}
 use Rattle.phys_store.proofs.ByteLists.{length-bytes_at, get-bytes_at, told_bytes}
 use Rattle.phys_store.proofs.Lookup.{is_in_extent-in, is_in_extent-below, is_in_extent-above, is_in_extent-low, is_in_extent-high, ready-below, placed}
@@ -23,10 +23,10 @@ same_piece b c xs ys base bytes = rw (base, bytes) refl
 
 -- the list after one extent has replaced several, as contracts see it
 pub stands : (es new : List Extent) (e : Extent) (f b from to : ℕ) → new ≡ take f es ++ e ∷ drop b es →
-    extent_view e ≡ merged_extent (take (b - f) (drop f (map extent_view es))) from to
+    extent_view e ≡ extent_with_bytes_of (take (b - f) (drop f (map extent_view es))) from to
     → map extent_view new ≡ merge_extents (map extent_view es) f b from to
 stands es new e f b from to is whole =
-    let c : ExtentView = merged_extent (take (b - f) (drop f (map extent_view es))) from to in
+    let c : ExtentView = extent_with_bytes_of (take (b - f) (drop f (map extent_view es))) from to in
     ap (map extent_view) is ∙ map-append extent_view (take f es) (e ∷ drop b es)
     ∙ ap (λ (q : ExtentView). map extent_view (take f es) ++ q ∷ map extent_view (drop b es)) whole
     ∙ ap (λ (l : List ExtentView). l ++ c ∷ map extent_view (drop b es)) (sym (take-map extent_view f es))
@@ -124,22 +124,22 @@ absorbed ps tail i from to f k m bs ys count len low high at long is told x leas
     ])
 
 -- parts of a list of extents that don't touch don't touch
-apart_from : (d e : ℕ) (ps : List ExtentView) → d ≤ e → AreApart e ps → AreApart d ps
+apart_from : (d e : ℕ) (ps : List ExtentView) → d ≤ e → AreSortedAndApart e ps → AreSortedAndApart d ps
 apart_from d e [] less apart = tt
 apart_from d e (q ∷ ps) less apart = (omega (arith, apart.0), apart.1, apart.2, apart.3)
 
-apart_take : (e n : ℕ) (ps : List ExtentView) → AreApart e ps → AreApart e (take n ps)
+apart_take : (e n : ℕ) (ps : List ExtentView) → AreSortedAndApart e ps → AreSortedAndApart e (take n ps)
 apart_take e zero ps apart = tt
 apart_take e (suc n) [] apart = tt
 apart_take e (suc n) (q ∷ ps) apart = (apart.0, apart.1, apart.2, apart_take (end_of_extent q + 1) n ps apart.3)
 
-apart_drop : (e n : ℕ) (ps : List ExtentView) → AreApart e ps → AreApart e (drop n ps)
+apart_drop : (e n : ℕ) (ps : List ExtentView) → AreSortedAndApart e ps → AreSortedAndApart e (drop n ps)
 apart_drop e zero ps apart = apart
 apart_drop e (suc n) [] apart = tt
 apart_drop e (suc n) (q ∷ ps) apart =
     apart_from e (end_of_extent q + 1) (drop n ps) (omega (arith, apart.0)) (apart_drop (end_of_extent q + 1) n ps apart.3)
 
-pub apart_part : (f n : ℕ) (ps : List ExtentView) → AreApart 0 ps → AreApart 0 (take n (drop f ps))
+pub apart_part : (f n : ℕ) (ps : List ExtentView) → AreSortedAndApart 0 ps → AreSortedAndApart 0 (take n (drop f ps))
 apart_part f n ps apart = apart_take 0 n (drop f ps) (apart_drop 0 f ps apart)
 
 -- the last extent counts only for addresses that no other has
@@ -155,7 +155,7 @@ last_zero [] w x none = none
 last_zero (q ∷ ps) w x none = rw (last_zero ps w x none) refl
 
 -- taking an extent out of the list, and appending it in an extended form, changes no byte
-pub taken_out : (e : ℕ) (ps : List ExtentView) (i : ℕ) (p w none : ExtentView) → AreApart e ps → i < length ps → get_or ps i p ≡ p →
+pub taken_out : (e : ℕ) (ps : List ExtentView) (i : ℕ) (p w none : ExtentView) → AreSortedAndApart e ps → i < length ps → get_or ps i p ≡ p →
     length none.bytes ≡ 0 → (x : ℕ) → byte_of (w ∷ []) x ≡ byte_of (p ∷ []) x → byte_of (set ps i none ++ w ∷ []) x ≡ byte_of ps x
 taken_out e [] i p w none apart count there empty x same = absurd (omega arith)
 taken_out e (q ∷ ps) zero p w none apart count there empty x same =
@@ -170,10 +170,10 @@ taken_out e (q ∷ ps) (suc i) p w none apart count there empty x same =
     rw (taken_out (end_of_extent q + 1) ps i p w none apart.3 (omega arith) there empty x same) refl
 
 -- one extent has the bytes of the extents that it is made of
-covers_in : (ps : List ExtentView) (from to x : ℕ) → from ≤ x → x < to → byte_of (merged_extent ps from to ∷ []) x ≡ byte_of ps x
+covers_in : (ps : List ExtentView) (from to x : ℕ) → from ≤ x → x < to → byte_of (extent_with_bytes_of ps from to ∷ []) x ≡ byte_of ps x
 covers_in ps from to x low high =
     let long = length-bytes_at (byte_of ps) from (to - from) in
-    rw (is_in_extent-in (merged_extent ps from to) x low (omega (arith, long)))
+    rw (is_in_extent-in (extent_with_bytes_of ps from to) x low (omega (arith, long)))
     (get-bytes_at (byte_of ps) from (to - from) (x - from) (omega arith) ∙ ap (byte_of ps) (omega arith))
 
 -- two functions that agree on these addresses give the same bytes
@@ -184,10 +184,10 @@ same_bytes g h from n same =
 
 -- extending the largest of several extents, and copying the others into it, gives the one extent
 -- that replaces them all
-pub united : (es now ds new : List Extent) (p w none e : Extent) (f b k from to : ℕ) → AreApart 0 (map extent_view es) →
-    TouchRange (map extent_view es) f b from to → from ≤ to → f ≤ k → k < b → p ≡ get_or es k p → now ≡ set (set es k w) k none → ds ≡ now →
-    extent_view w ≡ merged_extent (extent_view p ∷ []) from to → length (extent_view none).bytes ≡ 0 →
-    extent_view e ≡ merged_extent (map extent_view (take (b - f) (drop f ds)) ++ extent_view w ∷ []) from to →
+pub united : (es now ds new : List Extent) (p w none e : Extent) (f b k from to : ℕ) → AreSortedAndApart 0 (map extent_view es) →
+    AreTouchedExtents (map extent_view es) f b from to → from ≤ to → f ≤ k → k < b → p ≡ get_or es k p → now ≡ set (set es k w) k none → ds ≡ now →
+    extent_view w ≡ extent_with_bytes_of (extent_view p ∷ []) from to → length (extent_view none).bytes ≡ 0 →
+    extent_view e ≡ extent_with_bytes_of (map extent_view (take (b - f) (drop f ds)) ++ extent_view w ∷ []) from to →
     new ≡ take f now ++ e ∷ drop b now → map extent_view new ≡ merge_extents (map extent_view es) f b from to
 united es now ds new p w none e f b k from to apart joins order least below value after same wide empty made is =
     let n : ℕ = b - f in
@@ -222,12 +222,12 @@ united es now ds new p w none e f b k from to apart joins order least below valu
     (same_bytes (byte_of (map extent_view (take n (drop f ds)) ++ extent_view w ∷ [])) (byte_of (take n (drop f ps))) from (to - from)
     (λ x low high. each x low (omega (arith, high, order)))))
 
-pub past_covering : (ps : List ExtentView) (from to : ℕ) → from ≤ to → end_of_extent (merged_extent ps from to) ≡ to
+pub past_covering : (ps : List ExtentView) (from to : ℕ) → from ≤ to → end_of_extent (extent_with_bytes_of ps from to) ≡ to
 past_covering ps from to order = let long = length-bytes_at (byte_of ps) from (to - from) in omega (arith, long, order)
 
 -- the others lie in the extended extent, and so does the empty one that is in the list in its
 -- place
-pub others_in : (es ds : List Extent) (none : Extent) (f b k from to : ℕ) → TouchRange (map extent_view es) f b from to → from ≤ to → k < b
+pub others_in : (es ds : List Extent) (none : Extent) (f b k from to : ℕ) → AreTouchedExtents (map extent_view es) f b from to → from ≤ to → k < b
     →
     ds ≡ set es k none → none.base ≡ from → length (extent_view none).bytes ≡ 0 →
     (i : ℕ) → i < length (take (b - f) (drop f ds)) →
@@ -261,8 +261,8 @@ pub record IsKept (es : List Extent) (p : Extent) (k from to : ℕ) : Type 0 whe
   pub low : from ≤ p.base
   pub high : end_of_extent (extent_view p) ≤ to
 
-pub kept_piece : (es : List Extent) (p : Extent) (f b k from to : ℕ) → AreApart 0 (map extent_view es)
-    → TouchRange (map extent_view es) f b from to
+pub kept_piece : (es : List Extent) (p : Extent) (f b k from to : ℕ) → AreSortedAndApart 0 (map extent_view es)
+    → AreTouchedExtents (map extent_view es) f b from to
     → f ≤ k → k < b → p ≡ get_or es k p → IsKept es p k from to
 kept_piece es p f b k from to apart joins least below value =
     let ps : List ExtentView = map extent_view es in

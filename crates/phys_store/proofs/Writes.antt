@@ -8,7 +8,7 @@ use Rattle.std.specs.List.{CopiedTo, SameBelow, SameFrom}
 use borrow.Rule.Slice.PartMut.{put_mid}
 use Rattle.phys_store.specs.Bytes.{ExtentView, end_of_extent, is_in_extent, byte_of, is_prepared_at, WritesBytes}
 use Rattle.phys_store.specs.declared.extents.Extent.{Extent}
-use Rattle.phys_store.specs.Extents.{extent_view, AreApart}
+use Rattle.phys_store.specs.Extents.{extent_view, AreSortedAndApart}
 use Rattle.phys_store.proofs.Lookup.{Holds, is_in_extent-low, is_in_extent-high, read-at}
 
 -- another extent of the same address and length
@@ -19,7 +19,7 @@ module _ (p q : ExtentView) (base : q.base ≡ p.base) (len : length q.bytes ≡
   same_past : end_of_extent q ≡ end_of_extent p
   same_past = omega (arith, base, len)
 
-  pub apart-set : (e : ℕ) (ps : List ExtentView) (i : ℕ) → AreApart e ps → get_or ps i p ≡ p → AreApart e (set ps i q)
+  pub apart-set : (e : ℕ) (ps : List ExtentView) (i : ℕ) → AreSortedAndApart e ps → get_or ps i p ≡ p → AreSortedAndApart e (set ps i q)
   apart-set e [] i apart there = tt
   apart-set e (r ∷ ps) zero apart there =
       let low : e ≤ p.base = subst (λ (s : ExtentView). e ≤ s.base) there apart.0 in
@@ -28,7 +28,7 @@ module _ (p q : ExtentView) (base : q.base ≡ p.base) (len : length q.bytes ≡
         omega (arith, low, base),
         omega (arith, some, len),
         omega (arith, small, base, len),
-        subst (λ m. AreApart (m + 1) ps) (sym same_past) (subst (λ (s : ExtentView). AreApart (end_of_extent s + 1) ps) there apart.3),
+        subst (λ m. AreSortedAndApart (m + 1) ps) (sym same_past) (subst (λ (s : ExtentView). AreSortedAndApart (end_of_extent s + 1) ps) there apart.3),
       )
   apart-set e (r ∷ ps) (suc i) apart there = (apart.0, apart.1, apart.2, apart-set (end_of_extent r + 1) ps i apart.3 there)
 
@@ -47,14 +47,14 @@ module _ (p q : ExtentView) (base : q.base ≡ p.base) (len : length q.bytes ≡
   byte-set_other (r ∷ ps) (suc i) x there out = rw (byte-set_other ps i x there out) refl
 
 -- the extent with index `i` gets bytes that are those of `g` in one part, and unchanged elsewhere
-pub wrote-set : (ps : List ExtentView) (i : ℕ) (p q : ExtentView) (a n : ℕ) (g : ℕ → ℕ) → AreApart 0 ps → i < length ps → get_or ps i p ≡ p
+pub wrote-set : (ps : List ExtentView) (i : ℕ) (p q : ExtentView) (a n : ℕ) (g : ℕ → ℕ) → AreSortedAndApart 0 ps → i < length ps → get_or ps i p ≡ p
     →
     q.base ≡ p.base → length q.bytes ≡ length p.bytes → p.base ≤ a → a + n ≤ end_of_extent p →
     ((k : ℕ) → k < n → get_or q.bytes (a - p.base + k) 0 ≡ g k) →
     ((j : ℕ) → IsTrue (nat_lt j (a - p.base) || nat_le (a - p.base + n) j) → get_or q.bytes j 0 ≡ get_or p.bytes j 0) →
-    AreApart 0 (set ps i q) × WritesBytes ps (set ps i q) a n g
+    AreSortedAndApart 0 (set ps i q) × WritesBytes ps (set ps i q) a n g
 wrote-set ps i p q a n g apart count there base len low high new old =
-    let after : AreApart 0 (set ps i q) = apart-set p q base len 0 ps i apart there in
+    let after : AreSortedAndApart 0 (set ps i q) = apart-set p q base len 0 ps i apart there in
     let count' : i < length (set ps i q) = rw length-set count in
     let there' : get_or (set ps i q) i q ≡ q = get_or-set_same ps i q q count in
     let at : (x : ℕ) → p.base ≤ x → x < end_of_extent p → byte_of (set ps i q) x ≡ get_or q.bytes (x - p.base) 0 =
@@ -85,11 +85,11 @@ pub mid-out : (k m : ℕ) (xs ys : List ℕ) (j : ℕ) → length ys ≡ m → k
 mid-out k m xs ys j len within off = grind (arith, places, nat_tests)
 
 -- overwriting the bytes of a range in the extent that has it
-pub wrote-mid : (es : List Extent) (a n i : ℕ) (e : Extent) (g : ℕ → ℕ) (k m : ℕ) (xs ys : List ℕ) → AreApart 0 (map extent_view es)
+pub wrote-mid : (es : List Extent) (a n i : ℕ) (e : Extent) (g : ℕ → ℕ) (k m : ℕ) (xs ys : List ℕ) → AreSortedAndApart 0 (map extent_view es)
     → Holds es a n i e →
     k ≡ e.front + (a - e.base) → m ≡ n → xs ≡ e.bytes.items → length ys ≡ n → ((j : ℕ) → j < n → get_or ys j 0 ≡ g j) →
     let new = set es i (record { base = e.base; front = e.front; bytes = with_items e.bytes (put_mid k m xs ys) }) in
-    AreApart 0 (map extent_view new) × WritesBytes (map extent_view es) (map extent_view new) a n g
+    AreSortedAndApart 0 (map extent_view new) × WritesBytes (map extent_view es) (map extent_view new) a n g
 wrote-mid es a n i e g k m xs ys apart h at count value len told =
     let f : ℕ = e.front in
     let d : Extent = record { base = e.base; front = f; bytes = with_items e.bytes (put_mid k m xs ys) } in
@@ -124,7 +124,7 @@ filled k m xs ys b within is =
     )
 
 -- copying one range of an extent to another
-pub wrote-copied : (es : List Extent) (a n i : ℕ) (e d : Extent) (from to count source target m : ℕ) → AreApart 0 (map extent_view es)
+pub wrote-copied : (es : List Extent) (a n i : ℕ) (e d : Extent) (from to count source target m : ℕ) → AreSortedAndApart 0 (map extent_view es)
     → Holds es a n i e →
     a ≤ from → a ≤ to → from + count ≤ a + n → to + count ≤ a + n → d.base ≡ e.base → d.front ≡ e.front →
     length d.bytes.items ≡ length e.bytes.items →
@@ -132,7 +132,7 @@ pub wrote-copied : (es : List Extent) (a n i : ℕ) (e d : Extent) (from to coun
     CopiedTo e.bytes.items d.bytes.items source target m →
     SameBelow e.bytes.items d.bytes.items target → SameFrom e.bytes.items d.bytes.items (target + m) →
     let new = set es i d in
-    AreApart 0 (map extent_view new)
+    AreSortedAndApart 0 (map extent_view new)
     × WritesBytes (map extent_view es) (map extent_view new) to count (λ k. byte_of (map extent_view es) (from + k))
 wrote-copied es a n i e d from to count source target m apart h from_low to_low from_high to_high base front len at_source at_target
     at copied below behind =

@@ -10,9 +10,9 @@ extent_view e = record { base = e.base; bytes = drop e.front e.bytes.items }
 
 -- the extents ascend from address `e` on, none is empty, none touches the next, and none ends
 -- above 2^64 - 1
-abbrev pub AreApart : ℕ → List ExtentView → Type 0
-AreApart e [] = Unit {0}
-AreApart e (p ∷ ps) = (e ≤ p.base) × (0 < length p.bytes) × (p.base + length p.bytes < 2 ^ 64) × AreApart (end_of_extent p + 1) ps
+abbrev pub AreSortedAndApart : ℕ → List ExtentView → Type 0
+AreSortedAndApart e [] = Unit {0}
+AreSortedAndApart e (p ∷ ps) = (e ≤ p.base) × (0 < length p.bytes) × (p.base + length p.bytes < 2 ^ 64) × AreSortedAndApart (end_of_extent p + 1) ps
 
 -- the extent with index `i`
 abbrev pub nth_extent : List ExtentView → ℕ → ExtentView
@@ -20,7 +20,7 @@ nth_extent ps i = slice_index_or ps i (record { base = 0; bytes = [] })
 
 -- the extents with the indices from `first` to just before `behind` are those that overlap or touch
 -- the addresses from `from` to below `to`, and they lie within these addresses
-pub record TouchRange (ps : List ExtentView) (first behind from to : ℕ) : Type 0 where
+pub record AreTouchedExtents (ps : List ExtentView) (first behind from to : ℕ) : Type 0 where
   pub order : first ≤ behind
   pub most : behind ≤ length ps
   pub below : (i : ℕ) → i < first → end_of_extent (nth_extent ps i) < from
@@ -30,10 +30,10 @@ pub record TouchRange (ps : List ExtentView) (first behind from to : ℕ) : Type
 
 -- an extent with the addresses from `from` to below `to` and the bytes of others; a byte that
 -- these don't have is 0
-abbrev pub merged_extent : List ExtentView → ℕ → ℕ → ExtentView
-merged_extent ps from to = record { base = from; bytes = bytes_at (byte_of ps) from (to - from) }
+abbrev pub extent_with_bytes_of : List ExtentView → ℕ → ℕ → ExtentView
+extent_with_bytes_of ps from to = record { base = from; bytes = bytes_at (byte_of ps) from (to - from) }
 
 -- the list with the extents from `first` to just before `behind` replaced by one, which has the
 -- addresses from `from` to below `to`
 abbrev pub merge_extents : List ExtentView → ℕ → ℕ → ℕ → ℕ → List ExtentView
-merge_extents ps first behind from to = take first ps ++ merged_extent (take (behind - first) (drop first ps)) from to ∷ drop behind ps
+merge_extents ps first behind from to = take first ps ++ extent_with_bytes_of (take (behind - first) (drop first ps)) from to ∷ drop behind ps

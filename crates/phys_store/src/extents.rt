@@ -3,7 +3,7 @@
 //! and no call continues in another extent.
 ghost use Rattle.std.specs.Prelude.{◌≡◌, MatchOption, Some, None, get_or, ℕ, ◌+◌, ◌-◌, ◌^◌, ◌<◌, ◌≤◌, ◌↔◌, true, ◌||◌, nat_le, min, max, map, length, slice_index, position, IsTrue};
 ghost use Rattle.phys_store.specs.Bytes.{end_of_extent, is_in_extent, byte_of, ArePrepared, WritesBytes, bytes_at};
-ghost use Rattle.phys_store.specs.Extents.{extent_view, nth_extent, AreApart};
+ghost use Rattle.phys_store.specs.Extents.{extent_view, nth_extent, AreSortedAndApart};
 
 use bm_base::Range;
 
@@ -44,8 +44,8 @@ fn is_in_extent(extent: &Extent, address: u64) -> bool
 
 /// Returns the index of the first extent that ends at or above `address` (the end is the address
 /// after the last byte), or the number of extents if there is none. It is found by binary search.
-pub fn first_reaching(extents: &[Extent], address: u64) -> usize
-    requires { AreApart 0 (map extent_view extents.now) }
+pub fn first_extent_ending_at_or_above(extents: &[Extent], address: u64) -> usize
+    requires { AreSortedAndApart 0 (map extent_view extents.now) }
     ensures most { result ≤ length extents.now }
     ensures below { (i : ℕ) → i < result
         → end_of_extent (nth_extent (map extent_view extents.now) i) < address }
@@ -66,14 +66,14 @@ pub fn first_reaching(extents: &[Extent], address: u64) -> usize
 }
 
 /// The number of extents up to which a linear search is used, which is faster for a few of them.
-const FEW: usize = 16;
+const MAX_LINEAR_SEARCH: usize = 16;
 
 /// Returns the index of the extent that has this address, or `None` if no extent has it.
 fn index_of_extent(extents: &[Extent], address: u64) -> Option<usize>
-    requires { AreApart 0 (map extent_view extents.now) }
+    requires { AreSortedAndApart 0 (map extent_view extents.now) }
     ensures { result ≡ position (λ e. is_in_extent (extent_view e) address) extents.now }
 {
-    if extents.len() > FEW {
+    if extents.len() > MAX_LINEAR_SEARCH {
         return index_by_binary_search(extents, address);
     }
     index_by_linear_search(extents, address)
@@ -91,10 +91,10 @@ fn index_by_linear_search(extents: &[Extent], address: u64) -> Option<usize>
 // A function of its own, so that the linear search is small enough to be inlined.
 #[inline(never)]
 fn index_by_binary_search(extents: &[Extent], address: u64) -> Option<usize>
-    requires { AreApart 0 (map extent_view extents.now) }
+    requires { AreSortedAndApart 0 (map extent_view extents.now) }
     ensures { result ≡ position (λ e. is_in_extent (extent_view e) address) extents.now }
 {
-    let i = first_reaching(extents, address);
+    let i = first_extent_ending_at_or_above(extents, address);
     if i < extents.len() && is_in_extent(&extents[i], address) {
         Some(i)
     } else {
@@ -104,13 +104,13 @@ fn index_by_binary_search(extents: &[Extent], address: u64) -> Option<usize>
 
 /// Returns the extent that has this address, or `None` if no extent has it.
 fn extent_at(extents: &[Extent], address: u64) -> Option<&Extent>
-    requires { AreApart 0 (map extent_view extents.now) }
+    requires { AreSortedAndApart 0 (map extent_view extents.now) }
     ensures { MatchOption result (position (λ e. is_in_extent (extent_view e) address) extents.now
         ≡ None) (λ e. (i : ℕ) ×
         (position (λ d. is_in_extent (extent_view d) address) extents.now ≡ Some i)
         × (e.now ≡ get_or extents.now i e.now)) }
 {
-    if extents.len() > FEW {
+    if extents.len() > MAX_LINEAR_SEARCH {
         return extent_by_binary_search(extents, address);
     }
     let i = index_by_linear_search(extents, address)?;
@@ -120,7 +120,7 @@ fn extent_at(extents: &[Extent], address: u64) -> Option<&Extent>
 /// Like [`extent_at`], by a binary search of the extents.
 #[inline(never)]
 fn extent_by_binary_search(extents: &[Extent], address: u64) -> Option<&Extent>
-    requires { AreApart 0 (map extent_view extents.now) }
+    requires { AreSortedAndApart 0 (map extent_view extents.now) }
     ensures { MatchOption result (position (λ e. is_in_extent (extent_view e) address) extents.now
         ≡ None) (λ e. (i : ℕ) ×
         (position (λ d. is_in_extent (extent_view d) address) extents.now ≡ Some i)
@@ -132,7 +132,7 @@ fn extent_by_binary_search(extents: &[Extent], address: u64) -> Option<&Extent>
 
 /// Tests whether each address of the range is prepared.
 pub fn are_prepared(extents: &[Extent], range: Range) -> bool
-    requires { AreApart 0 (map extent_view extents.now) }
+    requires { AreSortedAndApart 0 (map extent_view extents.now) }
     ensures { IsTrue result ↔ ArePrepared (map extent_view extents.now) range.base range.size }
 {
     if range.size == 0 {
@@ -146,7 +146,7 @@ pub fn are_prepared(extents: &[Extent], range: Range) -> bool
 
 /// Returns the byte at this address, or 0 if the address isn't prepared.
 pub fn byte_at(extents: &[Extent], address: u64) -> u8
-    requires { AreApart 0 (map extent_view extents.now) }
+    requires { AreSortedAndApart 0 (map extent_view extents.now) }
     ensures { result ≡ byte_of (map extent_view extents.now) address }
 {
     match extent_at(extents, address) {
@@ -157,7 +157,7 @@ pub fn byte_at(extents: &[Extent], address: u64) -> u8
 
 /// Returns the `count` bytes from address `at` on, without copying them. They must be prepared.
 pub fn slice(extents: &[Extent], at: u64, count: u64) -> &[u8]
-    requires apart { AreApart 0 (map extent_view extents.now) }
+    requires apart { AreSortedAndApart 0 (map extent_view extents.now) }
     requires prepared { ArePrepared (map extent_view extents.now) at count }
     ensures { result.now ≡ bytes_at (byte_of (map extent_view extents.now)) at count }
 {
@@ -172,9 +172,9 @@ pub fn slice(extents: &[Extent], at: u64, count: u64) -> &[u8]
 
 /// Writes `bytes` to the addresses from `at` on, which must be prepared.
 pub fn write(extents: &mut [Extent], at: u64, bytes: &[u8])
-    requires apart { AreApart 0 (map extent_view extents.old) }
+    requires apart { AreSortedAndApart 0 (map extent_view extents.old) }
     requires prepared { ArePrepared (map extent_view extents.old) at (length bytes.now) }
-    ensures apart { AreApart 0 (map extent_view extents.new) }
+    ensures apart { AreSortedAndApart 0 (map extent_view extents.new) }
     ensures wrote { WritesBytes (map extent_view extents.old) (map extent_view extents.new) at
         (length bytes.now) (slice_index bytes.now) }
 {
@@ -187,9 +187,9 @@ pub fn write(extents: &mut [Extent], at: u64, bytes: &[u8])
 
 /// Writes `byte` to each address of the range, which must be prepared.
 pub fn fill(extents: &mut [Extent], range: Range, byte: u8)
-    requires apart { AreApart 0 (map extent_view extents.old) }
+    requires apart { AreSortedAndApart 0 (map extent_view extents.old) }
     requires prepared { ArePrepared (map extent_view extents.old) range.base range.size }
-    ensures apart { AreApart 0 (map extent_view extents.new) }
+    ensures apart { AreSortedAndApart 0 (map extent_view extents.new) }
     ensures wrote { WritesBytes (map extent_view extents.old)
         (map extent_view extents.new) range.base range.size (λ _. byte) }
 {
@@ -203,10 +203,10 @@ pub fn fill(extents: &mut [Extent], range: Range, byte: u8)
 /// Copies the `count` bytes at address `from` to address `to`. The two ranges may overlap. All
 /// addresses of both ranges, and those between them, must be prepared.
 pub fn move_bytes(extents: &mut [Extent], from: u64, to: u64, count: u64)
-    requires apart { AreApart 0 (map extent_view extents.old) }
+    requires apart { AreSortedAndApart 0 (map extent_view extents.old) }
     requires prepared { ArePrepared (map extent_view extents.old) (min from to)
         (max from to - min from to + count) }
-    ensures apart { AreApart 0 (map extent_view extents.new) }
+    ensures apart { AreSortedAndApart 0 (map extent_view extents.new) }
     ensures wrote { WritesBytes (map extent_view extents.old) (map extent_view extents.new) to count
         (λ k. byte_of (map extent_view extents.old) (from + k)) }
 {
@@ -221,24 +221,24 @@ pub fn move_bytes(extents: &mut [Extent], from: u64, to: u64, count: u64)
 }
 
 /// The number of bytes that are copied at a time between two extents.
-const CHUNK: usize = 256;
+const COPY_CHUNK_BYTES: usize = 256;
 
 /// Copies the `count` bytes at address `from` to address `to`. The two ranges must not overlap,
 /// and must be prepared.
 #[tactic(auto, using(crate::proofs::ByteLists::byte_counts))]
 pub fn copy_bytes(extents: &mut [Extent], from: u64, to: u64, count: u64)
-    requires apart { AreApart 0 (map extent_view extents.old) }
+    requires apart { AreSortedAndApart 0 (map extent_view extents.old) }
     requires read { ArePrepared (map extent_view extents.old) from count }
     requires written { ArePrepared (map extent_view extents.old) to count }
     requires disjoint { IsTrue (nat_le (from + count) to || nat_le (to + count) from) }
-    ensures apart { AreApart 0 (map extent_view extents.new) }
+    ensures apart { AreSortedAndApart 0 (map extent_view extents.new) }
     ensures wrote { WritesBytes (map extent_view extents.old) (map extent_view extents.new) to count
         (λ k. byte_of (map extent_view extents.old) (from + k)) }
 {
-    let mut chunk = [0; CHUNK];
+    let mut chunk = [0; COPY_CHUNK_BYTES];
     let mut done = 0;
     while done < count {
-        let n = (count - done).min(CHUNK as u64);
+        let n = (count - done).min(COPY_CHUNK_BYTES as u64);
         let part = &mut chunk[..n as usize];
         part.copy_from_slice(slice(extents, from + done, n));
         write(extents, to + done, part);
@@ -250,7 +250,7 @@ pub fn copy_bytes(extents: &mut [Extent], from: u64, to: u64, count: u64)
 /// `at + into.len()` must be below 2^64.
 #[tactic(auto, using(crate::proofs::ByteLists::byte_counts))]
 pub fn read(extents: &[Extent], at: u64, into: &mut [u8])
-    requires apart { AreApart 0 (map extent_view extents.now) }
+    requires apart { AreSortedAndApart 0 (map extent_view extents.now) }
     requires small { at + length into.old < 2 ^ 64 }
     ensures { into.new ≡ bytes_at (byte_of (map extent_view extents.now)) at (length into.old) }
 {

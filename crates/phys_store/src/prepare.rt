@@ -8,9 +8,9 @@
 ghost use Rattle.std.specs.Prelude.{◌≡◌, ℕ, ◌+◌, ◌-◌, ◌^◌, ◌<◌, ◌≤◌, ◌||◌, IsTrue, ◌++◌, ◌∷◌, [], take, drop, map, replicate, length, slice_range, OnOk, OnErr};
 ghost use Rattle.bm_base.specs.Range.{end_of, covers};
 ghost use Rattle.phys_store.specs.Bytes.{end_of_extent, byte_of, is_prepared_at, ArePrepared};
-ghost use Rattle.phys_store.specs.Extents.{extent_view, nth_extent, AreApart, TouchRange, merged_extent, merge_extents};
+ghost use Rattle.phys_store.specs.Extents.{extent_view, nth_extent, AreSortedAndApart, AreTouchedExtents, extent_with_bytes_of, merge_extents};
 
-use crate::extents::{Extent, are_prepared, end_of_extent, first_reaching, size_of_extent};
+use crate::extents::{Extent, are_prepared, end_of_extent, first_extent_ending_at_or_above, size_of_extent};
 use bm_base::{Memory, Range};
 use std::mem;
 
@@ -26,8 +26,8 @@ struct TouchedExtents {
 /// Returns the extents that the range overlaps or touches, and the addresses that they and the
 /// range make up.
 fn touched_extents(extents: &[Extent], range: Range) -> TouchedExtents
-    requires { AreApart 0 (map extent_view extents.now) }
-    ensures joins { TouchRange
+    requires { AreSortedAndApart 0 (map extent_view extents.now) }
+    ensures joins { AreTouchedExtents
         (map extent_view extents.now) result.first result.behind result.low result.high }
     ensures low { result.low ≤ range.base }
     ensures high { end_of range ≤ result.high }
@@ -35,7 +35,7 @@ fn touched_extents(extents: &[Extent], range: Range) -> TouchedExtents
     ensures ready { (x : ℕ) → result.low ≤ x → x < result.high
         → IsTrue (covers range x || is_prepared_at (map extent_view extents.now) x) }
 {
-    let first = first_reaching(extents, range.base);
+    let first = first_extent_ending_at_or_above(extents, range.base);
     let mut behind = first;
     let mut low = range.base;
     let mut high = range.end();
@@ -186,7 +186,7 @@ fn widen(extent: &mut Extent, low: u64, high: u64) -> Result<(), Memory>
     requires high { end_of_extent (extent_view extent.old) ≤ high }
     requires small { high < 2 ^ 64 }
     ensures ok { OnOk result (extent_view extent.new
-        ≡ merged_extent (extent_view extent.old ∷ []) low high) }
+        ≡ extent_with_bytes_of (extent_view extent.old ∷ []) low high) }
     ensures err { OnErr result (extent_view extent.new ≡ extent_view extent.old) }
 {
     let down = (extent.base - low) as usize;
@@ -201,7 +201,7 @@ fn widen(extent: &mut Extent, low: u64, high: u64) -> Result<(), Memory>
 }
 
 /// Returns the bytes of the extent, without the spare room.
-fn bytes_of(extent: &Extent) -> &[u8]
+fn bytes_of_extent(extent: &Extent) -> &[u8]
     ensures { result.now ≡ (extent_view extent.now).bytes }
 {
     let front = extent.front.min(extent.bytes.len());
@@ -209,21 +209,22 @@ fn bytes_of(extent: &Extent) -> &[u8]
 }
 
 /// Copies the bytes of the other extents into this one, which must contain all their addresses.
-fn absorb(extent: &mut Extent, others: &[Extent])
+fn copy_into_extent(extent: &mut Extent, others: &[Extent])
     requires some { 0 < length (extent_view extent.old).bytes }
     requires low { (i : ℕ) → i < length others.now
         → extent.old.base ≤ (nth_extent (map extent_view others.now) i).base }
     requires high { (i : ℕ) → i < length others.now → end_of_extent
         (nth_extent (map extent_view others.now) i) ≤ end_of_extent (extent_view extent.old) }
     ensures { extent_view extent.new ≡
-        merged_extent (map extent_view others.now ++ extent_view extent.old ∷ []) extent.old.base
+        extent_with_bytes_of (map extent_view others.now ++ extent_view extent.old ∷ [])
+        extent.old.base
         (end_of_extent (extent_view extent.old)) }
 {
     let mut i = others.len();
     while i > 0 {
         i -= 1;
         let other = &others[i];
-        let bytes = bytes_of(other);
+        let bytes = bytes_of_extent(other);
         let from = extent.front + (other.base - extent.base) as usize;
         extent.bytes[from..from + bytes.len()].copy_from_slice(bytes);
     }
@@ -250,15 +251,15 @@ fn replace(extents: &mut Vec<Extent>, first: usize, behind: usize, extent: Exten
 ///
 /// - `Memory`: the program ran out of memory; the bytes and addresses of all extents are
 ///   unchanged.
-fn merge_touched(
+fn merge_touched_extents(
     extents: &mut Vec<Extent>,
     first: usize,
     behind: usize,
     low: u64,
     high: u64,
 ) -> Result<(), Memory>
-    requires apart { AreApart 0 (map extent_view extents.old.items) }
-    requires joins { TouchRange (map extent_view extents.old.items) first behind low high }
+    requires apart { AreSortedAndApart 0 (map extent_view extents.old.items) }
+    requires joins { AreTouchedExtents (map extent_view extents.old.items) first behind low high }
     requires some { first < behind }
     requires small { high < 2 ^ 64 }
     ensures ok { OnOk result (map extent_view extents.new.items
@@ -274,7 +275,7 @@ fn merge_touched(
         bytes: Vec::new(*extents.allocator()),
     };
     let mut whole = mem::replace(&mut extents[kept], nothing);
-    absorb(&mut whole, &extents[first..behind]);
+    copy_into_extent(&mut whole, &extents[first..behind]);
     replace(extents, first, behind, whole);
     Ok(())
 }
@@ -286,8 +287,8 @@ fn merge_touched(
 /// - `Memory`: the program ran out of memory; the bytes and addresses of all extents are
 ///   unchanged.
 fn merge_or_insert(extents: &mut Vec<Extent>, reach: TouchedExtents) -> Result<(), Memory>
-    requires apart { AreApart 0 (map extent_view extents.old.items) }
-    requires joins { TouchRange
+    requires apart { AreSortedAndApart 0 (map extent_view extents.old.items) }
+    requires joins { AreTouchedExtents
         (map extent_view extents.old.items) reach.first reach.behind reach.low reach.high }
     requires order { reach.low ≤ reach.high }
     requires small { reach.high < 2 ^ 64 }
@@ -306,7 +307,7 @@ fn merge_or_insert(extents: &mut Vec<Extent>, reach: TouchedExtents) -> Result<(
     if first == behind {
         insert_extent(extents, first, low, high)
     } else {
-        merge_touched(extents, first, behind, low, high)
+        merge_touched_extents(extents, first, behind, low, high)
     }
 }
 
@@ -317,8 +318,8 @@ fn merge_or_insert(extents: &mut Vec<Extent>, reach: TouchedExtents) -> Result<(
 /// - `Memory`: the program ran out of memory; no byte and no prepared address has changed. The
 ///   range wasn't prepared already.
 pub fn prepare(extents: &mut Vec<Extent>, range: Range) -> Result<(), Memory>
-    requires { AreApart 0 (map extent_view extents.old.items) }
-    ensures apart { AreApart 0 (map extent_view extents.new.items) }
+    requires { AreSortedAndApart 0 (map extent_view extents.old.items) }
+    ensures apart { AreSortedAndApart 0 (map extent_view extents.new.items) }
     ensures bytes { (x : ℕ) → byte_of (map extent_view extents.new.items) x
         ≡ byte_of (map extent_view extents.old.items) x }
     ensures ready { OnOk result ((x : ℕ) →

@@ -24,11 +24,11 @@ impl Model for Store {
 
     ghost Value = { List ExtentView };
 
-    ghost use Rattle.phys_store.specs.Extents.{extent_view, AreApart};
+    ghost use Rattle.phys_store.specs.Extents.{extent_view, AreSortedAndApart};
 
     ghost view = { λ s. map extent_view s.extents.items };
 
-    ghost invariant = { λ s. AreApart 0 (map extent_view s.extents.items) };
+    ghost invariant = { λ s. AreSortedAndApart 0 (map extent_view s.extents.items) };
 }
 
 impl Store {

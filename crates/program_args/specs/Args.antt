@@ -57,19 +57,19 @@ file_name_in value input = value (argument_of input)
 
 -- the first entries have one source: they are made, or come from a zero page, to which an
 -- extension may add
-abbrev pub has_source : ArgValues → Bool
-has_source value =
+abbrev pub has_one_source : ArgValues → Bool
+has_one_source value =
     if is_some (value (codes "make"))
     then not (is_some (file_name_in value inputs.ZeroPage)) && not (is_some (file_name_in value inputs.Extension))
     else is_some (file_name_in value inputs.ZeroPage)
 
 -- the flag is among the words: `clap` gives it the value `true` then
-abbrev pub is_on : ArgValues → List ℕ → Bool
-is_on value flag = bytes_eq (unwrap_or (value flag) (codes "false")) (codes "true")
+abbrev pub is_flag_given : ArgValues → List ℕ → Bool
+is_flag_given value flag = bytes_eq (unwrap_or (value flag) (codes "false")) (codes "true")
 
 -- 52 bits with page tables of five levels (`--la57`), else 46
-abbrev pub width_in : ArgValues → Width
-width_in value = if is_on value (codes "la57") then Bits52 else Bits46
+abbrev pub address_width_in : ArgValues → Width
+address_width_in value = if is_flag_given value (codes "la57") then Bits52 else Bits46
 
 -- the list of reports without `--report`
 abbrev pub default_list : List ℕ
@@ -97,14 +97,14 @@ some_if true = Some tt
 -- what the values ask for, `None` if one is refused or the first entries don't have one source
 abbrev pub args_from_values : ArgValues → Option BootmemArgsView
 args_from_values value = do
-  source ← some_if (has_source value)
+  source ← some_if (has_one_source value)
   made ← made_entry_count (value (codes "make"))
-  kernel ← kernel_range_of (width_in value) (value (codes "kernel"))
+  kernel ← kernel_range_of (address_width_in value) (value (codes "kernel"))
   list ← report_list_in value
   mirrors ← mirrors_of_value (value (codes "mirror"))
   Some (record {
     named = file_name_in value;
-    begun = command_line_inputs (width_in value) kernel mirrors (is_on value (codes "bottom-up"));
+    begun = command_line_inputs (address_width_in value) kernel mirrors (is_flag_given value (codes "bottom-up"));
     reports = reports_in list;
     made = made;
   })

@@ -7,7 +7,7 @@ ghost use Rattle.std.specs.Option.{option_copied};
 ghost use Rattle.clap.specs.Words.{app_of, fault_of, first_of, found_of, matches_of, rows_of};
 ghost use Rattle.clap.specs.declared.error.kind.ErrorKind.TheVariants as error_kinds;
 ghost use Rattle.program_args.specs.Grammar.{bare_app, bootmem_command, with_option, with_positional};
-ghost use Rattle.program_args.specs.Args.{is_on, bytes_of_words, arg_value_in};
+ghost use Rattle.program_args.specs.Args.{is_flag_given, bytes_of_words, arg_value_in};
 ghost use Rattle.program_args.specs.declared.reader.ArgsError.TheVariants as errors;
 
 use crate::reader::ArgsError;
@@ -51,12 +51,12 @@ pub fn match_words<'w>(alloc: Global, words: &'w [String]) -> Result<ArgMatches<
     let command = bootmem_command(alloc)?;
     match command.try_get_matches_from(words) {
         Ok(matches) => Ok(matches),
-        Err(error) => Err(error_of(error.kind())),
+        Err(error) => Err(args_error_of_clap(error.kind())),
     }
 }
 
 /// Returns the error for an error of `clap`: out of memory, or refused words for any other kind.
-fn error_of(kind: ErrorKind) -> ArgsError
+fn args_error_of_clap(kind: ErrorKind) -> ArgsError
     ensures { result ≡ errors.Usage → kind ≢ error_kinds.OutOfMemory }
 {
     match kind {
@@ -73,8 +73,8 @@ pub fn arg_value_in<'w>(matches: &ArgMatches<'w>, name: &str) -> Option<&'w str>
 }
 
 /// Returns whether the flag is among the words: `clap` finds `true` for it then, else `false`.
-pub fn is_on(matches: &ArgMatches<'_>, flag: &str) -> bool
-    ensures { result ≡ is_on (arg_value_in (rows_of (found_of matches.now))) flag.now }
+pub fn is_flag_given(matches: &ArgMatches<'_>, flag: &str) -> bool
+    ensures { result ≡ is_flag_given (arg_value_in (rows_of (found_of matches.now))) flag.now }
 {
     arg_value_in(matches, flag) == Some("true")
 }

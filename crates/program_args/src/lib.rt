@@ -12,8 +12,8 @@
 //! line is refused. [`ArgsError::Memory`] may come for any command line, since `clap` allocates
 //! its matches.
 //!
-//! [`BootmemArgs`] is what an accepted command line asks for. It also gives the name of each input's
-//! file (`Names`), so `read_inputs` takes it directly.
+//! [`BootmemArgs`] is what an accepted command line asks for. It also gives the name of each
+//! input's file (`Names`), so `read_inputs` takes it directly.
 //!
 //! The layer above may rest on this about a `BootmemArgs`:
 //!

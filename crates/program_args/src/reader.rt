@@ -7,7 +7,7 @@ ghost use Rattle.clap.specs.Words.{found_of, rows_of};
 ghost use Rattle.bm_base.specs.Answers.{Answers};
 ghost use Rattle.program_args.specs.Answers.{or_refused};
 ghost use Rattle.program_args.specs.View.{bootmem_args_view};
-ghost use Rattle.program_args.specs.Args.{read_args, args_from_values, has_source, report_list_in, bytes_of_words, arg_value_in, width_in};
+ghost use Rattle.program_args.specs.Args.{read_args, args_from_values, has_one_source, report_list_in, bytes_of_words, arg_value_in, address_width_in};
 ghost use Rattle.bm_base.specs.Range.{RangeView, end_of};
 ghost use Rattle.bm_base.specs.Frames.{frames_within};
 ghost use Rattle.program_args.specs.Mirrors.{LiesInRange};
@@ -15,7 +15,7 @@ ghost use Rattle.program_args.specs.Spelling.{AreSpellings, Spelling, spelled_va
 
 use crate::args::BootmemArgs;
 use crate::entries::made_entry_count;
-use crate::grammar::{arg_value_in, is_on, match_words};
+use crate::grammar::{arg_value_in, is_flag_given, match_words};
 use crate::kernel::kernel_range_of;
 use crate::mirrors::mirrors_of_value;
 use bm_base::{Memory, Width};
@@ -67,8 +67,8 @@ pub fn read_args<'w>(alloc: Global, words: &'w [String]) -> Result<BootmemArgs<'
 
 /// Returns whether the first entries have exactly one source: a made table, or a zero page, to
 /// which an extension may add.
-fn has_source(matches: &ArgMatches<'_>) -> bool
-    ensures { result ≡ has_source (arg_value_in (rows_of (found_of matches.now))) }
+fn has_one_source(matches: &ArgMatches<'_>) -> bool
+    ensures { result ≡ has_one_source (arg_value_in (rows_of (found_of matches.now))) }
 {
     let zero_page = arg_value_in(matches, "ZEROPAGE").is_some();
     let extension = arg_value_in(matches, "e820ext").is_some();
@@ -81,10 +81,10 @@ fn has_source(matches: &ArgMatches<'_>) -> bool
 
 /// Returns the width of addresses: 52 bits with the flag `--la57` (page tables of five levels),
 /// else 46.
-fn width_in(matches: &ArgMatches<'_>) -> Width
-    ensures { result ≡ width_in (arg_value_in (rows_of (found_of matches.now))) }
+fn address_width_in(matches: &ArgMatches<'_>) -> Width
+    ensures { result ≡ address_width_in (arg_value_in (rows_of (found_of matches.now))) }
 {
-    if is_on(matches, "la57") {
+    if is_flag_given(matches, "la57") {
         Width::Bits52
     } else {
         Width::Bits46
@@ -107,15 +107,15 @@ fn args_from_values<'w>(
     ensures memory { IsErrOf result ArgsError.Memory
         → IsSome (args_from_values (arg_value_in (rows_of (found_of matches.entry)))) }
 {
-    if !has_source(&matches) {
+    if !has_one_source(&matches) {
         return Err(ArgsError::Usage);
     }
     let made = made_entry_count(arg_value_in(&matches, "make")).ok_or(ArgsError::Usage)?;
-    let width = width_in(&matches);
+    let width = address_width_in(&matches);
     let kernel = kernel_range_of(arg_value_in(&matches, "kernel"), width).ok_or(ArgsError::Usage)?;
     let list = report_list_in(&matches).ok_or(ArgsError::Usage)?;
     let mirrors = mirrors_of_value(alloc, arg_value_in(&matches, "mirror"))?;
-    let upward = is_on(&matches, "bottom-up");
+    let upward = is_flag_given(&matches, "bottom-up");
     Ok(BootmemArgs {
         matches,
         list,

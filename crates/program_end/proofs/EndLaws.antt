@@ -39,8 +39,8 @@ module _ {W I A F C S : Type 0} (program : Program W I A) (sink : SinkOf S) (bef
 
   -- if the files' contents are known: `said` is the outcome
   module _ (said : Result A (Reason I F C)) (writes : WritesOutcome program (sink.written old) (sink.written new) end said) where
-    pub ends_said : MayEndWith program said status
-    ends_said = grind arith
+    pub status_fits_outcome : MayEndWith program said status
+    status_fits_outcome = grind arith
 
     pub ends_written : (status ≡ 0) ⊎ (status ≡ 8)
         → IsOkAnd said (λ result. (status ≡ program.status result) × Appends (sink.written old) (sink.written new) (program.text result))
@@ -61,16 +61,16 @@ module _ {W I A F C S : Type 0} (program : Program W I A) (sink : SinkOf S) (bef
 
     -- if no counter of faults rose, of the output or of a file, a result is written unless
     -- memory runs out
-    pub ends_complete : (result : A) → said ≡ Ok result → ¬ Rose (sink.faults old) (sink.faults new)
+    pub complete_unless_memory : (result : A) → said ≡ Ok result → ¬ Rose (sink.faults old) (sink.faults new)
         → ((input : I) → ¬ InputFaultsRose program before now accepted input) → (status ≡ program.status result) ⊎ (status ≡ 7)
-    ends_complete result is_said written read = grind (arith, program.statuses, read)
+    complete_unless_memory result is_said written read = grind (arith, program.statuses, read)
 
   pub ends_unread : status ≡ 3 → (input : I) × InputFaultsRose program before now accepted input
   ends_unread three = grind (arith, program.statuses)
 
 -- a status other than 0 and 8 is that of a failure: its line was put, it has its cause, and it
 -- fits the outcome
-pub ends_told : {W I A F C E : Type 0} (program : Program W I A) (errors : SinkOf E) (line : Failure (Reason I F C) → List ℕ)
+pub failure_status_has_line : {W I A F C E : Type 0} (program : Program W I A) (errors : SinkOf E) (line : Failure (Reason I F C) → List ℕ)
     (before now : List ℕ → ℕ) (accepted : Option W) (old new : Option (List ℕ)) (err_old err_new : E) (end : End (Reason I F C))
     (status : ℕ)
     → status ≡ exit_status end → EndHasCause program before now accepted end → PutsEndLine errors line err_old err_new end
@@ -79,9 +79,9 @@ pub ends_told : {W I A F C E : Type 0} (program : Program W I A) (errors : SinkO
     → status ≢ 0 → status ≢ 8
     → (failure : Failure (Reason I F C)) × (status ≡ failure_status failure) × PutsLine errors err_old err_new (line failure)
     × FailureHasCause program before now accepted failure × IfSome holds (λ held. FitsFailure program failure (outcome held))
-ends_told program errors line before now accepted old new err_old err_new (Ok result) status is cause told holds outcome writes zero eight =
+failure_status_has_line program errors line before now accepted old new err_old err_new (Ok result) status is cause told holds outcome writes zero eight =
     absurd (grind (arith, program.statuses))
-ends_told program errors line before now accepted old new err_old err_new (Err failure) status is cause told holds outcome writes zero
+failure_status_has_line program errors line before now accepted old new err_old err_new (Err failure) status is cause told holds outcome writes zero
     eight =
     (failure, is, told, cause, grind (arith, writes))
 

@@ -34,6 +34,6 @@ Fetches place view (Ok value) said = said ≡ Ok (view value)
 Fetches place view (Err error) said = FitsError place error said
 
 -- what the command line asks for, or `Usage` if it isn't accepted
-abbrev pub or_usage : {I F C W : Type 0} → Option W → Result W (Reason I F C)
-or_usage None = Err reasons.Usage
-or_usage (Some wanted) = Ok wanted
+abbrev pub accepted_or_usage : {I F C W : Type 0} → Option W → Result W (Reason I F C)
+accepted_or_usage None = Err reasons.Usage
+accepted_or_usage (Some wanted) = Ok wanted

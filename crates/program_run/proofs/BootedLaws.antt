@@ -1,7 +1,7 @@
 -- How the end of a boot fits the outcome: a stop is the reason for no report, and the reports on
 -- the boot are the text.
 use Rattle.std.proofs.Common.{◌≡◌, ◌≢◌, ℕ, List, Result, Ok, Err, arith}
-use Rattle.bm_base.specs.ResultSteps.{with_error}
+use Rattle.bm_base.specs.ResultSteps.{map_error}
 use Rattle.boot_model.specs.declared.stop.Cause.{Cause}
 use Rattle.boot_model.specs.declared.stop.Stop.{Stop}
 use Rattle.boot_model.specs.declared.stop.Stop.TheVariants as stops
@@ -18,15 +18,15 @@ use Rattle.memblock_model.specs.declared.owner.Which.TheVariants as which
 use Rattle.program_end.specs.Fetches.{FitsError}
 use Rattle.boot_inputs.specs.Input.{input_place}
 use Rattle.program_run.specs.Outcome.{reports_on_boot}
-use Rattle.program_run.specs.Stops.{no_report}
+use Rattle.program_run.specs.Stops.{reason_by_stop}
 
 -- a stop of the boot, other than for lack of memory, is the cause in the outcome
 pub boot_stopped : (stop : Stop) (given : InputsView) (reports : List Report)
-    → (stop ≢ stops.Memory → with_error stop_of (whole_boot given) ≡ Err stop)
-    → FitsError input_place (no_report stop) (reports_on_boot reports given)
+    → (stop ≢ stops.Memory → map_error stop_of (whole_boot given) ≡ Err stop)
+    → FitsError input_place (reason_by_stop stop) (reports_on_boot reports given)
 boot_stopped stop given reports stops_so = grind arith
 
-pub told_is : (answer : Result BootedView Cause) (told : BootedView) → with_error stop_of answer ≡ Ok told → answer ≡ Ok told
+pub told_is : (answer : Result BootedView Cause) (told : BootedView) → map_error stop_of answer ≡ Ok told → answer ≡ Ok told
 told_is answer told is = grind arith
 
 -- the tables in memory have the records that the boot's items give, so reports that read either

@@ -6,10 +6,10 @@ use Rattle.std.specs.Fmt.{digits}
 use Rattle.std.specs.Prelude.{replicate}
 use Rattle.std.specs.Str.{bytes_eq}
 use Rattle.address_runs.specs.Runs.{RunOf, value_at, AreRuns}
-use Rattle.address_runs.proofs.RunsLaws.{one_list}
+use Rattle.address_runs.proofs.RunsLaws.{runs_of_function_are_equal}
 use Rattle.e820_model.specs.declared.entry.Entry.{Entry}
-use Rattle.e820_model.specs.Claims.{Claims, claims_of_entries, type_of, settled_claims, with_claims, after_bios_trim}
-use Rattle.e820_model.specs.Map.{kinds, map_of, some_kind}
+use Rattle.e820_model.specs.Claims.{Claims, claims_of_entries, type_of, settled_claims, union_of_claims, after_bios_trim}
+use Rattle.e820_model.specs.Map.{kinds, map_of, type_unless_zero}
 use Rattle.e820_model.specs.Usable.{is_memory, types_below, usable_frames}
 use Rattle.e820_model.proofs.ClaimLaws.{greatest_is, map_runs}
 use Rattle.e820_model.proofs.UsableLaws.{count_same, count_frames_between, memory_reached, usable_count}
@@ -20,7 +20,7 @@ use Rattle.e820_table.specs.Entries.{entry_at}
 use Rattle.e820_table.specs.Initrd.{initrd_of, is_initrd_far}
 use Rattle.memblock_model.specs.declared.item.Item.{Item}
 use Rattle.growth_model.specs.Requests.{carry_out_items}
-use Rattle.early_memory.specs.FirstItems.{first_items}
+use Rattle.early_memory.specs.FirstItems.{early_items}
 use Rattle.early_memory.proofs.FewLaws.{NeedNone, few_from_nothing}
 use Rattle.bm_base.specs.ResultSteps.{◌>>=◌}
 use Rattle.boot_model.specs.Boot.{InputsView, BootSoFar, begin_with_map, inputs_without_files, boot, claims, early_inputs, memory_stage, judge_map, no_options, reach}
@@ -82,7 +82,7 @@ only_gives c only x = greatest_is (c x) (kind_at x) (small x)
     (λ some. rw (only x (kind_at x)) (grind (arith, nat_tests)))
     (λ k higher low. rw (only x k) (grind (arith, nat_tests)))
 
-only_added : (c : Claims) → IsOnly c → IsOnly (with_claims c (claims_of_entries []))
+only_added : (c : Claims) → IsOnly c → IsOnly (union_of_claims c (claims_of_entries []))
 unfolding IsOnly
 only_added c only x k = rw (only x k) (grind (arith, nat_tests))
 
@@ -101,7 +101,7 @@ runs = record { base = 0x100000; size = 0x7EE0000; value = 1 } ∷ record { base
 
 kinds_are : (x : ℕ) → kinds (claims given) x ≡ value_at runs x
 unfolding kind_at
-kinds_are x = ap some_kind (only_gives (claims given) only_claims x) ∙ grind (arith, nat_tests)
+kinds_are x = ap type_unless_zero (only_gives (claims given) only_claims x) ∙ grind (arith, nat_tests)
 
 none_above : (x : ℕ) → 2 ^ 64 ≤ x → kinds (claims given) x ≡ None
 unfolding kind_at
@@ -112,7 +112,7 @@ are_runs = (omega arith, (omega arith, λ touch same. omega (arith, same)), (ome
 
 map_is : map_of (claims given) ≡ runs
 map_is =
-    one_list (kinds (claims given)) _ _ (map_runs (claims given) none_above)
+    runs_of_function_are_equal (kinds (claims given)) _ _ (map_runs (claims given) none_above)
     (record { runs = are_runs; each = λ x. sym (kinds_are x) })
 
 -- the RAM has 32,480 whole frames, all below the limit
@@ -127,7 +127,7 @@ frames_are =
 
 -- the items that the early boot writes, so few that no table grows
 abbrev wanted : List Item
-wanted = first_items (early_inputs given) runs
+wanted = early_items (early_inputs given) runs
 
 few_wanted : NeedNone 0 0 wanted
 few_wanted = (omega arith, omega arith, (omega arith, omega arith, (omega arith, omega arith, (omega arith, omega arith, tt))))

@@ -14,7 +14,7 @@ use Rattle.conservation.proofs.HeadlineLaws.{all_touched_or_in_one, blocks_maxim
 use Rattle.debugfs_reports.specs.ReportList.{report_list_text}
 use Rattle.program_run.specs.Bootmem.{bootmem}
 use Rattle.program_run.specs.Headline.{AppendsReports}
-use Rattle.program_run.specs.Outcome.{read_boot_inputs, or_stopped, bootmem_outcome, reports_on_boot}
+use Rattle.program_run.specs.Outcome.{read_boot_inputs, value_or_stopped, bootmem_outcome, reports_on_boot}
 use Rattle.program_args.specs.Args.{BootmemArgsView}
 
 -- if two steps in a row succeed, the first returned a value, and the second succeeds from it
@@ -24,7 +24,7 @@ text_after (Ok a) next P is = (a, refl, is)
 text_after (Err error) next P is = absurd is
 
 boot_after : (answer : Result BootedView Cause) (next : BootedView → Result (List ℕ) InputsReason) (P : List ℕ → Type 0)
-    → IsOkAnd (or_stopped answer >>= next) P → (told : BootedView) × (answer ≡ Ok told) × IsOkAnd (next told) P
+    → IsOkAnd (value_or_stopped answer >>= next) P → (told : BootedView) × (answer ≡ Ok told) × IsOkAnd (next told) P
 boot_after (Ok told) next P is = (told, refl, is)
 boot_after (Err cause) next P is = absurd is
 

@@ -15,13 +15,13 @@ use Rattle.program_end.specs.declared.failure.Failure.TheVariants as failures
 use Rattle.program_end.specs.declared.failure.NoResult.TheVariants as errors
 use Rattle.program_end.specs.declared.failure.Reason.TheVariants as reasons
 use Rattle.program_args.specs.declared.reader.ArgsError.TheVariants as words
-use Rattle.program_run.specs.Stops.{no_report, reason_by_args_error}
+use Rattle.program_run.specs.Stops.{reason_by_stop, reason_by_args_error}
 use Rattle.program_run.specs.Line.{diagnostic_line, named_input_fault_line, no_numbered_place_line, no_place_line, stop_cause_line, input_fault_line, bootmem_failure_line}
 use Rattle.program_run.proofs.OutcomeExamples.{wanting}
 
 -- out of memory is no reason, whichever layer it comes from
-no_report_examples : (no_report (stops.TooMuchRam 4294967297) ≡ errors.Reason (reasons.Stopped (causes.TooMuchRam 4294967297)))
-    × (no_report stops.Memory ≡ errors.Memory)
+no_report_examples : (reason_by_stop (stops.TooMuchRam 4294967297) ≡ errors.Reason (reasons.Stopped (causes.TooMuchRam 4294967297)))
+    × (reason_by_stop stops.Memory ≡ errors.Memory)
     × (reason_by_args_error words.Usage ≡ errors.Reason reasons.Usage)
     × (reason_by_args_error words.Memory ≡ errors.Memory)
 no_report_examples = (refl, refl, refl, refl)

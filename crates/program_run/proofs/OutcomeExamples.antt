@@ -8,7 +8,7 @@ use Rattle.boot_inputs.specs.declared.input.Input.{Input}
 use Rattle.boot_inputs.specs.declared.input.Input.TheVariants as inputs
 use Rattle.program_end.specs.declared.failure.Reason.TheVariants as reasons
 use Rattle.program_end.specs.Program.{FileContents}
-use Rattle.e820_table.specs.Made.{made_entries_from, high_ram, low_ram}
+use Rattle.e820_table.specs.Made.{generated_entries_from, high_ram, low_ram}
 use Rattle.boot_model.specs.declared.stop.Cause.TheVariants as causes
 use Rattle.bm_base.specs.declared.width.Width.TheVariants.{Bits46}
 use Rattle.boot_model.specs.Boot.{InputsView, inputs_without_files, boot}
@@ -62,7 +62,7 @@ made_examples : (h : FileContents)
       reports = [];
       made = Some 2;
     }) ≡ Ok (record of_files { entries = low_ram ∷ high_ram ∷ []; initrd = None; extension = [] }))
-unfolding made_entries_from
+unfolding generated_entries_from
 made_examples h = (refl, refl, refl)
 
 stop_is_reported : (given : InputsView) → boot given ≡ Err causes.NoRam

@@ -17,7 +17,7 @@ use Rattle.boot_model.specs.declared.stop.Cause.TheVariants as causes
 use Rattle.program_args.specs.Args.{BootmemArgsView}
 
 -- the line for a diagnostic of the input `name`. A fault of a file's bytes always has a diagnostic
--- (`IsOfBytes`).
+-- (`HasErrorLine`).
 abbrev pub diagnostic_line : List ℕ → Option Diagnostic → List ℕ
 diagnostic_line name None = memory_line (codes "bootmem")
 diagnostic_line name (Some (Diagnostic.Whole what)) = codes "bootmem: " ++ (name ++ (codes ": " ++ (what ++ codes "\n")))

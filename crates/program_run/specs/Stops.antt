@@ -15,8 +15,8 @@ reason_by_cause None = errors.Memory
 reason_by_cause (Some cause) = errors.Reason (reasons.Stopped cause)
 
 -- why a boot that stops gives no report: the cause of the stop, or out of memory
-abbrev pub no_report : Stop → NoInputs
-no_report stop = reason_by_cause (cause_of stop)
+abbrev pub reason_by_stop : Stop → NoInputs
+reason_by_stop stop = reason_by_cause (cause_of stop)
 
 -- why a command line that couldn't be read gives no report
 abbrev pub reason_by_args_error : ArgsError → NoInputs

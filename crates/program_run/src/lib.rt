@@ -14,7 +14,7 @@
 //! one is `bootmem` (`specs/Bootmem.antt`).
 //!
 //! `bootmem_cli` runs it on the files and streams of the operating system. [`read_boot_inputs`] and
-//! [`no_report`] serve a caller that boots without writing reports (`bootmem_c`).
+//! [`reason_by_stop`] serve a caller that boots without writing reports (`bootmem_c`).
 //!
 //! In contracts, a name means the definition in `specs/`.
 #![tactic(auto)]
@@ -25,4 +25,4 @@ mod program;
 
 pub use boot_inputs::InputsReason;
 pub use inputs::read_boot_inputs;
-pub use program::{Failure, NoReport, no_report, run};
+pub use program::{Failure, NoReport, reason_by_stop, run};

@@ -22,7 +22,7 @@ ghost use Rattle.program_run.specs.Bootmem.{bootmem};
 ghost use Rattle.program_run.specs.Headline.{AppendsReports};
 ghost use Rattle.program_run.specs.Line.{bootmem_failure_line};
 ghost use Rattle.program_run.specs.Outcome.{bootmem_outcome, reports_on_boot};
-ghost use Rattle.program_run.specs.Stops.{reason_by_args_error, no_report};
+ghost use Rattle.program_run.specs.Stops.{reason_by_args_error, reason_by_stop};
 
 use crate::inputs::read_boot_inputs;
 use crate::lines::BootmemLines;
@@ -42,8 +42,8 @@ pub type NoReport = NoInputs;
 pub type Failure = program_end::Failure<InputsReason>;
 
 /// Returns why a boot that stops gives no report: the cause of the stop, or out of memory.
-pub fn no_report(stop: Stop) -> NoReport
-    ensures { result ≡ no_report stop }
+pub fn reason_by_stop(stop: Stop) -> NoReport
+    ensures { result ≡ reason_by_stop stop }
 {
     match stop.cause() {
         Some(cause) => NoReport::Reason(InputsReason::Stopped(cause)),
@@ -207,13 +207,13 @@ fn write_reports<F: Files, S: Sink>(
         (Some (bootmem_args_view wanted.now)) result }
     ensures output { WritingHasCause S.Sink out.old out.new result }
 {
-    let texts = make_texts(alloc, wanted, files)?;
+    let texts = make_report_texts(alloc, wanted, files)?;
     put_all(out, &texts)?;
     Ok(0)
 }
 
 /// Returns the texts of the requested reports, in the order of the list.
-fn make_texts<F: Files>(
+fn make_report_texts<F: Files>(
     alloc: Global,
     wanted: &BootmemArgs<'_>,
     files: &mut F,
@@ -241,7 +241,7 @@ fn reports_on_boot(alloc: Global, inputs: Inputs, list: &str) -> Result<Vec<Vec<
 {
     let booted = match boot(alloc, inputs) {
         Ok(booted) => booted,
-        Err(stop) => return Err(no_report(stop)),
+        Err(stop) => return Err(reason_by_stop(stop)),
     };
     let reports = reports_in(alloc, list.as_bytes())?;
     Ok(render_all(alloc, &reports, &booted)?)

@@ -5,11 +5,11 @@ use Rattle.bm_base.specs.Text.{hex_text}
 use Rattle.memblock_model.specs.declared.item.Item.{Item}
 use Rattle.memblock_model.specs.declared.item.Item.TheVariants as item
 use Rattle.report_memory.specs.Lines.{indexed_lines, range_text}
-use Rattle.report_memory.specs.OwnersText.{owner_text, which_name}
+use Rattle.report_memory.specs.OwnersText.{owner_text, memblock_table_name}
 
 -- `on` or `off`
-abbrev pub switch_text : Bool → List ℕ
-switch_text on = if on then codes "on" else codes "off"
+abbrev pub on_off_text : Bool → List ℕ
+on_off_text on = if on then codes "on" else codes "off"
 
 -- an item: its name and its values
 abbrev pub item_text : Item → List ℕ
@@ -20,9 +20,9 @@ item_text (item.Mirror range) = codes "mirror " ++ range_text range
 item_text (item.Claim range owner) = codes "claim " ++ owner_text owner ++ codes " " ++ range_text range
 item_text (item.Free range) = codes "free " ++ range_text range
 item_text (item.Limit at) = codes "limit " ++ hex_text at
-item_text (item.Upward on) = codes "upward " ++ switch_text on
+item_text (item.Upward on) = codes "upward " ++ on_off_text on
 item_text (item.Grown which place room) =
-    codes "grown " ++ which_name which ++ codes " " ++ hex_text place ++ codes " room " ++ decimal room
+    codes "grown " ++ memblock_table_name which ++ codes " " ++ hex_text place ++ codes " room " ++ decimal room
 
 -- the line of an item: its number, from 1 on, and the item
 abbrev pub item_line : ℕ → Item → List ℕ

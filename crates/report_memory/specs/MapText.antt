@@ -1,7 +1,7 @@
 -- The line of a run of the map. The kernel's `e820__print_table` prints one for each entry; the
 -- format of the line is this project's own.
 use Rattle.std.specs.Prelude.{ℕ, ◌==◌, if◌then◌else◌, List, ◌++◌, codes, decimal}
-use Rattle.address_runs.specs.Runs.{RunOf, extent_of}
+use Rattle.address_runs.specs.Runs.{RunOf, range_of_run}
 use Rattle.e820_model.specs.declared.entry.TheConstants.{E820_TYPE_RAM, E820_TYPE_RESERVED, E820_TYPE_ACPI, E820_TYPE_NVS, E820_TYPE_UNUSABLE, E820_TYPE_PMEM, E820_TYPE_PRAM, E820_TYPE_RESERVED_KERN, E820_TYPE_SOFT_RESERVED}
 use Rattle.report_memory.specs.Lines.{indexed_lines, range_text}
 
@@ -22,7 +22,7 @@ e820_type_name k =
 -- the line of a run: its range, the number of its type and the type's name; the index isn't
 -- printed
 abbrev pub map_line : ℕ → RunOf ℕ → List ℕ
-map_line n r = range_text (extent_of r) ++ codes " " ++ decimal r.value ++ codes " " ++ e820_type_name r.value ++ codes "\n"
+map_line n r = range_text (range_of_run r) ++ codes " " ++ decimal r.value ++ codes " " ++ e820_type_name r.value ++ codes "\n"
 
 -- the map: a line for each run
 abbrev pub map_text : List (RunOf ℕ) → List ℕ

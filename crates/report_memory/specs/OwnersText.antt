@@ -1,16 +1,16 @@
 -- Who owns which bytes, as lines. The kernel's `memblock_dbg` prints the caller of a reservation;
 -- the names here are this project's own.
 use Rattle.std.specs.Prelude.{ℕ, List, ◌++◌, codes, decimal}
-use Rattle.address_runs.specs.Runs.{RunOf, extent_of}
+use Rattle.address_runs.specs.Runs.{RunOf, range_of_run}
 use Rattle.memblock_model.specs.declared.owner.Owner.{Owner}
 use Rattle.memblock_model.specs.declared.owner.Owner.TheVariants as owner
 use Rattle.memblock_model.specs.declared.owner.Which.{Which}
 use Rattle.memblock_model.specs.declared.owner.Which.TheVariants as which
 use Rattle.report_memory.specs.Lines.{index_text, indexed_lines, range_text}
 
-abbrev pub which_name : Which → List ℕ
-which_name which.Memory = codes "memory"
-which_name which.Reserved = codes "reserved"
+abbrev pub memblock_table_name : Which → List ℕ
+memblock_table_name which.Memory = codes "memory"
+memblock_table_name which.Reserved = codes "reserved"
 
 -- the name of an owner, and its number if it has one: of the node, the root, the section or the ID
 abbrev pub owner_text : Owner → List ℕ
@@ -19,7 +19,7 @@ owner_text owner.Low64K = codes "low-64k"
 owner_text owner.Initrd = codes "initrd"
 owner_text owner.Low1M = codes "low-1m"
 owner_text owner.Soft = codes "soft-reserved"
-owner_text (owner.Table w) = codes "table-" ++ which_name w
+owner_text (owner.Table w) = codes "table-" ++ memblock_table_name w
 owner_text (owner.NodeData n) = codes "node-data " ++ decimal n
 owner_text owner.Crash = codes "crash"
 owner_text owner.CrashLow = codes "crash-low"
@@ -31,7 +31,7 @@ owner_text (owner.Script n) = codes "script " ++ decimal n
 
 -- the line of a run of bytes with one owner: its index, its range and the owner
 abbrev pub owner_line : ℕ → RunOf Owner → List ℕ
-owner_line n r = index_text n ++ range_text (extent_of r) ++ codes " " ++ owner_text r.value ++ codes "\n"
+owner_line n r = index_text n ++ range_text (range_of_run r) ++ codes " " ++ owner_text r.value ++ codes "\n"
 
 abbrev pub owners_text : List (RunOf Owner) → List ℕ
 owners_text runs = indexed_lines owner_line 0 runs

@@ -2,7 +2,7 @@
 -- (`memblock_debug_show`).
 use Rattle.std.specs.Prelude.{ℕ, List, ◌++◌, codes}
 use Rattle.bm_base.specs.Range.{RangeView}
-use Rattle.address_runs.specs.Runs.{RunOf, extent_of}
+use Rattle.address_runs.specs.Runs.{RunOf, range_of_run}
 use Rattle.memblock_model.specs.Labels.{LabelView}
 use Rattle.memblock_ranges.specs.declared.region.Region.{Region}
 use Rattle.report_memory.specs.Lines.{index_text, indexed_lines, range_text}
@@ -14,7 +14,7 @@ extent_line n r = index_text n ++ range_text r ++ codes "\n"
 -- the line of a record: its index and its range, without its flags and its node; and that of a
 -- record as it is read from bytes
 abbrev pub record_line : ℕ → RunOf LabelView → List ℕ
-record_line n r = extent_line n (extent_of r)
+record_line n r = extent_line n (range_of_run r)
 
 abbrev pub region_line : ℕ → Region → List ℕ
 region_line n r = extent_line n (record { base = r.base; size = r.size })

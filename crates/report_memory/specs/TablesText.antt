@@ -6,13 +6,13 @@ use Rattle.memblock_model.specs.declared.owner.Which.{Which}
 use Rattle.memblock_model.specs.declared.owner.Which.TheVariants as which
 use Rattle.memblock_ranges.specs.declared.region.Head.{Head}
 use Rattle.memblock_ranges.specs.declared.region.Heads.{Heads}
-use Rattle.report_memory.specs.OwnersText.{which_name}
+use Rattle.report_memory.specs.OwnersText.{memblock_table_name}
 
 -- the line of a table: its place, the number of records that it has room for, and the number that
 -- it has
 abbrev pub table_line : Which → Head → List ℕ
 table_line w head =
-    which_name w ++ codes " place " ++ hex_text head.place ++ codes " room " ++ decimal head.room ++ codes " records " ++ decimal head.count
+    memblock_table_name w ++ codes " place " ++ hex_text head.place ++ codes " room " ++ decimal head.room ++ codes " records " ++ decimal head.count
     ++ codes "\n"
 
 abbrev pub tables_text : Heads → List ℕ

@@ -6,7 +6,7 @@ ghost use Rattle.bm_base.specs.PutsText.{PutsText};
 ghost use Rattle.report_memory.specs.JournalText.{item_line, item_text, journal_text};
 
 use crate::lines::put_indexed_lines;
-use crate::owners::{put_owner, which_name};
+use crate::owners::{put_owner, memblock_table_name};
 use crate::ranges::{put_range, put_word_range};
 use bm_base::{Memory, Range, put_dec, put_hex, put_text};
 use boot_journal::{Item, Journal, Owner, Which};
@@ -58,7 +58,7 @@ pub fn put_item(text: &mut Vec<u8>, item: &Item) -> Result<(), Memory>
             put_hex(text, *at)
         }
         Item::Upward { on } => put_upward(text, *on),
-        Item::Grown { which, place, room } => put_grown(text, *which, *place, *room),
+        Item::Grown { which, place, room } => put_growth(text, *which, *place, *room),
     }
 }
 
@@ -86,11 +86,11 @@ fn put_upward(text: &mut Vec<u8>, on: bool) -> Result<(), Memory>
 
 /// Appends the growth of a table: which table, its new place, and the number of records that it
 /// has room for there.
-fn put_grown(text: &mut Vec<u8>, which: Which, place: u64, room: u64) -> Result<(), Memory>
+fn put_growth(text: &mut Vec<u8>, which: Which, place: u64, room: u64) -> Result<(), Memory>
     ensures { PutsText text.old text.new result (item_text (Item.Grown which place room)) }
 {
     put_text(text, b"grown ")?;
-    put_text(text, which_name(which).as_bytes())?;
+    put_text(text, memblock_table_name(which).as_bytes())?;
     put_text(text, b" ")?;
     put_hex(text, place)?;
     put_text(text, b" room ")?;

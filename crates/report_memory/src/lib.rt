@@ -35,7 +35,7 @@ pub use journal::{put_item, put_journal};
 pub use lines::put_indexed_lines;
 pub use map::put_map;
 pub use options::put_options;
-pub use owners::{put_owners, which_name};
+pub use owners::{put_owners, memblock_table_name};
 pub use ranges::put_word_range;
 pub use records::put_records;
 pub use tables::put_tables;

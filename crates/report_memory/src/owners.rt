@@ -3,7 +3,7 @@
 ghost use Rattle.std.specs.Prelude.{◌≡◌, ◌++◌, decimal};
 ghost use Rattle.bm_base.specs.PutsText.{PutsText};
 ghost use Rattle.memblock_model.specs.Items.{owner_runs_of};
-ghost use Rattle.report_memory.specs.OwnersText.{owner_line, owner_text, owners_text, which_name};
+ghost use Rattle.report_memory.specs.OwnersText.{owner_line, owner_text, owners_text, memblock_table_name};
 
 use crate::lines::put_indexed_lines;
 use crate::ranges::{put_index, put_range};
@@ -49,7 +49,7 @@ pub fn put_owner(text: &mut Vec<u8>, owner: Owner) -> Result<(), Memory>
         Owner::Soft => put_text(text, b"soft-reserved"),
         Owner::Table(which) => {
             put_text(text, b"table-")?;
-            put_text(text, which_name(which).as_bytes())
+            put_text(text, memblock_table_name(which).as_bytes())
         }
         Owner::NodeData(node) => put_numbered_owner(text, b"node-data ", node),
         Owner::Crash => put_text(text, b"crash"),
@@ -71,8 +71,8 @@ fn put_numbered_owner(text: &mut Vec<u8>, word: &[u8], number: u32) -> Result<()
 }
 
 /// Returns the name of a table.
-pub fn which_name(which: Which) -> &'static str
-    ensures { result.now ≡ which_name which }
+pub fn memblock_table_name(which: Which) -> &'static str
+    ensures { result.now ≡ memblock_table_name which }
 {
     match which {
         Which::Memory => "memory",

@@ -4,7 +4,7 @@
 ghost use Rattle.bm_base.specs.PutsText.{PutsText};
 ghost use Rattle.report_memory.specs.TablesText.{table_line, tables_text};
 
-use crate::owners::which_name;
+use crate::owners::memblock_table_name;
 use bm_base::{Memory, put_dec, put_hex, put_text};
 use boot_journal::Which;
 use memblock_ranges::{Head, Heads};
@@ -25,7 +25,7 @@ pub fn put_tables(text: &mut Vec<u8>, heads: &Heads) -> Result<(), Memory>
 fn put_table_line(text: &mut Vec<u8>, which: Which, head: &Head) -> Result<(), Memory>
     ensures { PutsText text.old text.new result (table_line which head.now) }
 {
-    put_text(text, which_name(which).as_bytes())?;
+    put_text(text, memblock_table_name(which).as_bytes())?;
     put_text(text, b" place ")?;
     put_hex(text, head.place)?;
     put_text(text, b" room ")?;

@@ -6,52 +6,52 @@ use Rattle.std.specs.Fmt.{digit_glyph, decimal}
 use borrow.Rule.Slice.PartMut.{put_mid}
 use Rattle.bm_base.specs.declared.zone.Zone.{Zone}
 use Rattle.bm_base.specs.Text.{hex_text}
-use Rattle.bm_base.proofs.TextLaws.{hex_onto, hex_sixteen}
+use Rattle.bm_base.proofs.TextLaws.{prepend_hex_digits, hex_sixteen}
 use Rattle.buddy_blocks.specs.declared.block.Block.{Block}
 use Rattle.buddy_blocks.specs.declared.block.BlockRow.{BlockRow}
 use Rattle.buddy_blocks.specs.Rows.{row_from}
 use Rattle.report_stages.specs.BlocksText.{AreAlignedBlocks, block_line, row_text}
-use Rattle.report_stages.specs.Batches.{FillBatches, first_batch, last_digits, low_digits, batch_from, batch_line, batch_text}
+use Rattle.report_stages.specs.Batches.{FillBatches, first_batch, last_digits, batch_line_end, batch_lines_from, batch_line, batch_text}
 use Rattle.report_stages.specs.ZonesText.{zone_name}
 use Rattle.report_stages.proofs.RowLaws.{lines, lines_append, lines_first, row_low, row_parts}
 
 -- the digits of a number in two parts; the lower part has m digits
-hex_parts : (m k q r : ℕ) (rest : List ℕ) → r < 16 ^ m → hex_onto (m + k) (q * 16 ^ m + r) rest ≡ hex_onto k q (hex_onto m r rest)
-unfolding hex_onto
+hex_parts : (m k q r : ℕ) (rest : List ℕ) → r < 16 ^ m → prepend_hex_digits (m + k) (q * 16 ^ m + r) rest ≡ prepend_hex_digits k q (prepend_hex_digits m r rest)
+unfolding prepend_hex_digits
 hex_parts zero k q r rest small = let is : q * 16 ^ 0 + r ≡ q = omega (arith, small) in rw (zero-add, is) refl
 hex_parts (suc m) k q r rest small =
     let power : 16 ^ suc m ≡ 16 ^ m * 16 = pow-suc 16 m in
     let product : q * 16 ^ suc m ≡ q * 16 ^ m * 16 = rw (power, mul_assoc) refl in
     let higher : (q * 16 ^ suc m + r) / 16 ≡ q * 16 ^ m + r / 16 = omega (arith, product) in
     let last : (q * 16 ^ suc m + r) % 16 ≡ r % 16 = omega (arith, product) in
-    rw (suc-add m k, hex_onto, higher, last) (hex_parts m k q (r / 16) (digit_glyph false (r % 16) ∷ rest) (omega (arith, small, power)))
+    rw (suc-add m k, prepend_hex_digits, higher, last) (hex_parts m k q (r / 16) (digit_glyph false (r % 16) ∷ rest) (omega (arith, small, power)))
 
-hex_append : (k n : ℕ) (rest : List ℕ) → hex_onto k n rest ≡ hex_onto k n [] ++ rest
-unfolding hex_onto
+hex_append : (k n : ℕ) (rest : List ℕ) → prepend_hex_digits k n rest ≡ prepend_hex_digits k n [] ++ rest
+unfolding prepend_hex_digits
 hex_append zero n rest = refl
 hex_append (suc k) n rest =
     let g : ℕ = digit_glyph false (n % 16) in
     rw (hex_append k (n / 16) (g ∷ rest), hex_append k (n / 16) (g ∷ []), append_assoc) refl
 
-pub hex_length : (k n : ℕ) (rest : List ℕ) → length (hex_onto k n rest) ≡ k + length rest
-unfolding hex_onto
+pub hex_length : (k n : ℕ) (rest : List ℕ) → length (prepend_hex_digits k n rest) ≡ k + length rest
+unfolding prepend_hex_digits
 hex_length zero n rest = omega arith
 hex_length (suc k) n rest = let h = hex_length k (n / 16) (digit_glyph false (n % 16) ∷ rest) in omega (arith, h)
 
 -- the last eight digits of a number
-last_is : (q : ℕ) → q < 2 ^ 32 → last_digits q ≡ hex_onto 8 q []
+last_is : (q : ℕ) → q < 2 ^ 32 → last_digits q ≡ prepend_hex_digits 8 q []
 last_is q small =
     let here : 0 * 16 ^ 8 + q ≡ q = omega arith in
-    let parts : hex_onto 16 q [] ≡ hex_onto 8 0 (hex_onto 8 q []) =
-    ap (λ y. hex_onto 16 y []) (sym here) ∙ hex_parts 8 8 0 q [] (omega (arith, small)) in
-    let zeros : drop 10 (codes "0x" ++ hex_onto 8 0 (hex_onto 8 q [])) ≡ hex_onto 8 q [] = unfold hex_onto in refl in
+    let parts : prepend_hex_digits 16 q [] ≡ prepend_hex_digits 8 0 (prepend_hex_digits 8 q []) =
+    ap (λ y. prepend_hex_digits 16 y []) (sym here) ∙ hex_parts 8 8 0 q [] (omega (arith, small)) in
+    let zeros : drop 10 (codes "0x" ++ prepend_hex_digits 8 0 (prepend_hex_digits 8 q [])) ≡ prepend_hex_digits 8 q [] = unfold prepend_hex_digits in refl in
     ap (λ t. drop 10 t) (sym (hex_sixteen q (omega (arith, small))) ∙ ap (λ t. codes "0x" ++ t) parts) ∙ zeros
 
 -- one more digit, from the last to the first, and all of them
 pub digit_step : (text : List ℕ) (i left : ℕ) → i < 8 → length text ≡ 8
-    → hex_onto (8 - (i + 1)) (left / 16) (drop (8 - (i + 1)) (set text (7 - i) (digit_glyph false (left % 16))))
-    ≡ hex_onto (8 - i) left (drop (8 - i) text)
-unfolding hex_onto
+    → prepend_hex_digits (8 - (i + 1)) (left / 16) (drop (8 - (i + 1)) (set text (7 - i) (digit_glyph false (left % 16))))
+    ≡ prepend_hex_digits (8 - i) left (drop (8 - i) text)
+unfolding prepend_hex_digits
 digit_step text i left below long =
     let place : 8 - (i + 1) ≡ 7 - i = omega arith in
     let count : 8 - i ≡ suc (7 - i) = omega arith in
@@ -60,16 +60,16 @@ digit_step text i left below long =
     rw (place, drop-set text (7 - i) (digit_glyph false (left % 16)) inside, behind, count) refl
 
 pub digits_end : (text : List ℕ) (i left n : ℕ) → i ≡ 8 → n < 2 ^ 32
-    → hex_onto (8 - i) left (drop (8 - i) text) ≡ hex_onto 8 n [] → text ≡ last_digits n
+    → prepend_hex_digits (8 - i) left (drop (8 - i) text) ≡ prepend_hex_digits 8 n [] → text ≡ last_digits n
 digits_end text i left n end small digits =
-    let none : hex_onto 0 left text ≡ text = unfold hex_onto in refl in
+    let none : prepend_hex_digits 0 left text ≡ text = unfold prepend_hex_digits in refl in
     sym none ∙ rw end at digits ∙ sym (last_is n small)
 
 -- an address by its higher and lower digits
 address_is : (q r : ℕ) → q < 2 ^ 32 → r < 2 ^ 32 → hex_text (q * 2 ^ 32 + r) ≡ codes "0x" ++ (last_digits q ++ last_digits r)
 address_is q r high low =
     sym (hex_sixteen (q * 2 ^ 32 + r) (omega (arith, high, low)))
-    ∙ rw (hex_parts 8 8 q r [] (omega (arith, low)), hex_append 8 q (hex_onto 8 r []), last_is q high, last_is r low) refl
+    ∙ rw (hex_parts 8 8 q r [] (omega (arith, low)), hex_append 8 q (prepend_hex_digits 8 r []), last_is q high, last_is r low) refl
 
 pub last_length : (n : ℕ) → n < 2 ^ 32 → length (last_digits n) ≡ 8
 last_length n small = rw (last_is n small) (hex_length 8 n [])
@@ -93,25 +93,25 @@ line_is q j n z high low =
 
 -- a batch is the lines of its blocks
 pub batch_lines : (k j q n : ℕ) (z : Zone) → q < 2 ^ 32 → j + k ≤ 1024
-    → batch_from (front_of n z) (last_digits q) j k ≡ lines (row_from 10 (q * 2 ^ 20 + j * 1024) n z k)
-unfolding batch_from row_from
+    → batch_lines_from (front_of n z) (last_digits q) j k ≡ lines (row_from 10 (q * 2 ^ 20 + j * 1024) n z k)
+unfolding batch_lines_from row_from
 batch_lines zero j q n z high few = refl
 batch_lines (suc k) j q n z high few =
     let next : q * 2 ^ 20 + (j + 1) * 1024 ≡ q * 2 ^ 20 + j * 1024 + 2 ^ 10 = omega arith in
     let b : Block = record { order = 10; first = q * 2 ^ 20 + j * 1024; node = n; zone = z } in
     let rest = rw next at (batch_lines k (j + 1) q n z high (omega (arith, few))) in
-    ap (λ t. t ++ batch_from (front_of n z) (last_digits q) (j + 1) k) (sym (line_is q j n z high (omega (arith, few))))
+    ap (λ t. t ++ batch_lines_from (front_of n z) (last_digits q) (j + 1) k) (sym (line_is q j n z high (omega (arith, few))))
     ∙ ap (λ t. block_line 0 b ++ t) rest
     ∙ sym (lines_first b (row_from 10 (q * 2 ^ 20 + j * 1024 + 2 ^ 10) n z k))
 
-pub batch_none : (j : ℕ) (front digits : List ℕ) → batch_from front digits j 0 ≡ []
-unfolding batch_from
+pub batch_none : (j : ℕ) (front digits : List ℕ) → batch_lines_from front digits j 0 ≡ []
+unfolding batch_lines_from
 batch_none j front digits = refl
 
 -- one more line
 batch_more : (k j : ℕ) (front digits : List ℕ)
-    → batch_from front digits j (k + 1) ≡ batch_from front digits j k ++ batch_line front digits (j + k)
-unfolding batch_from
+    → batch_lines_from front digits j (k + 1) ≡ batch_lines_from front digits j k ++ batch_line front digits (j + k)
+unfolding batch_lines_from
 batch_more zero j front digits = rw (add-zero, append-nil) refl
 batch_more (suc k) j front digits =
     let more : suc k + 1 ≡ suc (k + 1) = omega arith in
@@ -119,8 +119,8 @@ batch_more (suc k) j front digits =
     rw (more, batch_more k (j + 1) front digits, there) (simp append_assoc)
 
 pub batch_length : (k j : ℕ) (front digits : List ℕ) → length digits ≡ 8 → j + k ≤ 1024
-    → length (batch_from front digits j k) ≡ k * (length front + 17)
-unfolding batch_from
+    → length (batch_lines_from front digits j k) ≡ k * (length front + 17)
+unfolding batch_lines_from
 batch_length zero j front digits eight few = omega arith
 batch_length (suc k) j front digits eight few =
     let low = last_length (j * 2 ^ 22) (omega (arith, few)) in
@@ -129,12 +129,12 @@ batch_length (suc k) j front digits eight few =
 
 -- the digits of one line are replaced
 pub batch_put : (front new old : List ℕ) (i line : ℕ) (xs : List ℕ) → i < 1024 → line ≡ length front + 17 → length new ≡ 8 → length old ≡ 8
-    → xs ≡ batch_from front new 0 i ++ batch_from front old i (1024 - i)
-    → put_mid ((i + 1) * line - 17) 8 xs new ≡ batch_from front new 0 (i + 1) ++ batch_from front old (i + 1) (1024 - (i + 1))
-unfolding batch_from
+    → xs ≡ batch_lines_from front new 0 i ++ batch_lines_from front old i (1024 - i)
+    → put_mid ((i + 1) * line - 17) 8 xs new ≡ batch_lines_from front new 0 (i + 1) ++ batch_lines_from front old (i + 1) (1024 - (i + 1))
+unfolding batch_lines_from
 batch_put front new old i line xs below long eight eight_too is =
-    let done : List ℕ = batch_from front new 0 i in
-    let rest : List ℕ = low_digits i ++ batch_from front old (i + 1) (1024 - (i + 1)) in
+    let done : List ℕ = batch_lines_from front new 0 i in
+    let rest : List ℕ = batch_line_end i ++ batch_lines_from front old (i + 1) (1024 - (i + 1)) in
     let count : 1024 - i ≡ suc (1024 - (i + 1)) = omega (arith, below) in
     let parts : xs ≡ (done ++ front) ++ (old ++ rest) = rw (is, count) (simp append_assoc) in
     let before = rw (← long) at (batch_length i 0 front new eight (omega (arith, below))) in
@@ -143,10 +143,10 @@ batch_put front new old i line xs below long eight eight_too is =
     (rw (batch_more i 0 front new, zero-add) (simp append_assoc))
 
 -- the same step in the terms of the code
-pub renumber_one_line : (front new old held : List ℕ) (i size : ℕ) (xs : List ℕ) → i < 1024 → size ≡ length (batch_from front old 0 1024)
-    → length new ≡ 8 → length old ≡ 8 → held ≡ new → xs ≡ batch_from front new 0 i ++ batch_from front old i (1024 - i)
+pub renumber_one_line : (front new old held : List ℕ) (i size : ℕ) (xs : List ℕ) → i < 1024 → size ≡ length (batch_lines_from front old 0 1024)
+    → length new ≡ 8 → length old ≡ 8 → held ≡ new → xs ≡ batch_lines_from front new 0 i ++ batch_lines_from front old i (1024 - i)
     → put_mid ((i + 1) * (size / 1024) - 9 - 8) ((i + 1) * (size / 1024) - 9 - ((i + 1) * (size / 1024) - 9 - 8)) xs held
-    ≡ batch_from front new 0 (i + 1) ++ batch_from front old (i + 1) (1024 - (i + 1))
+    ≡ batch_lines_from front new 0 (i + 1) ++ batch_lines_from front old (i + 1) (1024 - (i + 1))
 renumber_one_line front new old held i size xs below all eight eight_too same is =
     let sizes = batch_length 1024 0 front old eight_too (omega arith) in
     let line : size / 1024 ≡ length front + 17 = omega (arith, all, sizes) in

@@ -15,21 +15,21 @@ abbrev pub last_digits : ℕ → List ℕ
 last_digits n = drop 10 (hex_text n)
 
 -- the end of the line of block j of a batch: the last eight digits of its address, and the newline
-abbrev pub low_digits : ℕ → List ℕ
-low_digits j = last_digits (j * 2 ^ 22) ++ codes "\n"
+abbrev pub batch_line_end : ℕ → List ℕ
+batch_line_end j = last_digits (j * 2 ^ 22) ++ codes "\n"
 
 -- the line of that block, from the text before the address's digits and its higher digits
 abbrev pub batch_line : List ℕ → List ℕ → ℕ → List ℕ
-batch_line front digits j = front ++ (digits ++ low_digits j)
+batch_line front digits j = front ++ (digits ++ batch_line_end j)
 
 -- n lines from that of block j on
-unfoldable pub batch_from : List ℕ → List ℕ → ℕ → ℕ → List ℕ
-batch_from front digits j zero = []
-batch_from front digits j (suc n) = batch_line front digits j ++ batch_from front digits (j + 1) n
+unfoldable pub batch_lines_from : List ℕ → List ℕ → ℕ → ℕ → List ℕ
+batch_lines_from front digits j zero = []
+batch_lines_from front digits j (suc n) = batch_line front digits j ++ batch_lines_from front digits (j + 1) n
 
 -- a whole batch
 abbrev pub batch_text : List ℕ → List ℕ → List ℕ
-batch_text front digits = batch_from front digits 0 1024
+batch_text front digits = batch_lines_from front digits 0 1024
 
 -- the blocks of the row are of the largest order, begin and end at multiples of 4 GiB, and all
 -- their frames are below `MAX_FRAMES`

@@ -5,7 +5,7 @@ use Rattle.std.specs.List.{flat_map}
 use Rattle.slit_zonelists.specs.declared.order.ListZone.{ListZone}
 use Rattle.slit_zonelists.specs.declared.uses.SlitUse.{SlitUse}
 use Rattle.slit_zonelists.specs.declared.uses.SlitUse.TheVariants as uses
-use Rattle.slit_zonelists.specs.Lists.{ListsView, nodes_with_zones, slit_use_of, zones_of}
+use Rattle.slit_zonelists.specs.Lists.{ZoneListsView, nodes_with_zones, slit_use_of, zone_list_of}
 use Rattle.report_memory.specs.Lines.{indexed_lines}
 use Rattle.report_stages.specs.ZonesText.{zone_name}
 
@@ -24,9 +24,9 @@ abbrev pub list_zone_text : ListZone → List ℕ
 list_zone_text z = codes " " ++ decimal z.node ++ codes "/" ++ zone_name z.zone
 
 -- the line of a node: the zones in the order of its list; the index isn't printed
-abbrev pub zonelist_line : ListsView → ℕ → ℕ → List ℕ
-zonelist_line k n node = codes "Node " ++ decimal node ++ codes ":" ++ flat_map list_zone_text (zones_of k node) ++ codes "\n"
+abbrev pub zonelist_line : ZoneListsView → ℕ → ℕ → List ℕ
+zonelist_line k n node = codes "Node " ++ decimal node ++ codes ":" ++ flat_map list_zone_text (zone_list_of k node) ++ codes "\n"
 
 -- whether the SLIT is used, and a line for each node that has memory
-abbrev pub zonelists_text : ListsView → List ℕ
+abbrev pub zonelists_text : ZoneListsView → List ℕ
 zonelists_text k = slit_use_line (slit_use_of k) ++ indexed_lines (zonelist_line k) 0 (nodes_with_zones k.zones)

@@ -6,7 +6,7 @@ use Rattle.early_script.specs.declared.outcome.Answer.{Answer}
 use Rattle.early_script.specs.declared.outcome.Outcome.{Outcome}
 use Rattle.early_script.specs.declared.outcome.Outcome.TheVariants as outcomes
 use Rattle.report_memory.specs.Lines.{indexed_lines}
-use Rattle.report_memory.specs.OwnersText.{which_name}
+use Rattle.report_memory.specs.OwnersText.{memblock_table_name}
 
 -- the outcome of a line; bytes are written as two lower-case hexadecimal digits each
 abbrev pub outcome_text : Outcome → List ℕ
@@ -14,7 +14,7 @@ outcome_text (outcomes.At address) = codes "at " ++ hex_text address
 outcome_text outcomes.Done = codes "done"
 outcome_text (outcomes.Bytes told) = codes "bytes " ++ encode_lower told.items
 outcome_text outcomes.NoGap = codes "no gap"
-outcome_text (outcomes.NoGapForTable which room) = codes "no gap for table " ++ which_name which ++ codes " room " ++ decimal room
+outcome_text (outcomes.NoGapForTable which room) = codes "no gap for table " ++ memblock_table_name which ++ codes " room " ++ decimal room
 outcome_text outcomes.Taken = codes "taken"
 outcome_text outcomes.Unknown = codes "unknown"
 outcome_text outcomes.NotWhole = codes "not whole"

@@ -2,7 +2,7 @@
 use Rattle.std.specs.Prelude.{ℕ, List, ◌++◌, codes, decimal}
 use Rattle.memblock_model.specs.declared.owner.Which.{Which}
 use Rattle.memblock_model.specs.declared.owner.Which.TheVariants as which
-use Rattle.report_memory.specs.OwnersText.{which_name}
+use Rattle.report_memory.specs.OwnersText.{memblock_table_name}
 use Rattle.report_stages.specs.declared.summary.Fullness.{Fullness}
 use Rattle.report_stages.specs.declared.summary.Summary.{Summary}
 
@@ -12,7 +12,7 @@ number_line word n = word ++ decimal n ++ codes "\n"
 
 -- the line of a table: its records, and the number of records that it has room for
 abbrev pub fullness_line : Which → Fullness → List ℕ
-fullness_line w full = which_name w ++ codes " records " ++ decimal full.records ++ codes " room " ++ decimal full.room ++ codes "\n"
+fullness_line w full = memblock_table_name w ++ codes " records " ++ decimal full.records ++ codes " room " ++ decimal full.room ++ codes "\n"
 
 abbrev pub summary_text : Summary → List ℕ
 summary_text s =

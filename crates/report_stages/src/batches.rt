@@ -28,7 +28,7 @@ pub(crate) const BATCH_FRAMES: u64 = BATCH_BLOCKS << MAX_ORDER;
 /// # Errors
 ///
 /// - `Memory`: the program ran out of memory; the text is incomplete.
-pub(crate) fn put_batches(text: &mut Vec<u8>, row: &BlockRow) -> Result<(), Memory>
+pub(crate) fn put_row_in_batches(text: &mut Vec<u8>, row: &BlockRow) -> Result<(), Memory>
     requires fill { FillBatches row.now }
     requires some { 0 < row.now.count }
     ensures { OnOk result (text.new.items ≡ text.old.items ++ row_text row.now) }
@@ -73,11 +73,11 @@ fn overwrite_batch_addresses(batch: &mut Vec<u8>, number: u64)
     ensures { (front old : List ℕ) → length old ≡ 8 → batch.old.items ≡ batch_text front old
         → batch.new.items ≡ batch_text front (last_digits number) }
 {
-    renumber(batch, &last_digits(number));
+    replace_batch_digits(batch, &last_digits(number));
 }
 
 /// Overwrites the eight higher digits of the address in each line of a batch.
-fn renumber(batch: &mut [u8], digits: &[u8; 8])
+fn replace_batch_digits(batch: &mut [u8], digits: &[u8; 8])
     requires whole { length batch.old % 1024 ≡ 0 }
     requires long { 17 * 1024 ≤ length batch.old }
     ensures { (front old : List ℕ) → length old ≡ 8 → batch.old ≡ batch_text front old

@@ -2,17 +2,18 @@
 //!
 //! There may be millions of them, nearly all of the largest order and next to each other. The room
 //! for the whole text is allocated once. The lines of long rows are written in batches
-//! ([`put_batches`]). The other lines, and those at the ends of long rows, are written one by one.
+//! ([`put_row_in_batches`]). The other lines, and those at the ends of long rows, are written one
+//! by one.
 
 ghost use Rattle.std.specs.Prelude.{◌≡◌, ◌+◌, ◌*◌, ◌^◌, ◌<◌, ◌≤◌, ◌++◌, OnOk, length};
 ghost use Rattle.bm_base.specs.PutsText.{PutsText};
 ghost use Rattle.buddy_blocks.specs.declared.run.TheConstants.{MAX_FRAMES};
 ghost use Rattle.buddy_blocks.specs.Rows.{blocks_of_row, blocks_of_rows};
-ghost use Rattle.buddy_handover.specs.BuddyView.{buddy_frames};
+ghost use Rattle.buddy_handover.specs.BuddyView.{node_of_free_frame};
 ghost use Rattle.report_memory.specs.Lines.{indexed_lines};
 ghost use Rattle.report_stages.specs.BlocksText.{AreAlignedBlocks, block_line, blocks_text, row_text};
 
-use crate::batches::{BATCH_BLOCKS, BATCH_FRAMES, put_batches};
+use crate::batches::{BATCH_BLOCKS, BATCH_FRAMES, put_row_in_batches};
 use crate::words::{put_word_dec, put_word_hex};
 use crate::zones::zone_name;
 use bm_base::{FRAME_SIZE, Memory, put_text};
@@ -30,7 +31,7 @@ const LONGEST_LINE: usize = 56;
 /// - `Memory`: the program ran out of memory; the text is incomplete.
 pub fn put_blocks(text: &mut Vec<u8>, buddy: &Buddy) -> Result<(), Memory>
     ensures { OnOk result
-        (text.new.items ≡ text.old.items ++ blocks_text (buddy_frames buddy.now)) }
+        (text.new.items ≡ text.old.items ++ blocks_text (node_of_free_frame buddy.now)) }
 {
     let rows = buddy.block_rows()?;
     text.reserve(count_blocks(&rows) as usize * LONGEST_LINE)?;
@@ -83,7 +84,7 @@ fn put_max_order_row(text: &mut Vec<u8>, row: &BlockRow) -> Result<(), Memory>
     let before = (BATCH_FRAMES - row.first % BATCH_FRAMES) % BATCH_FRAMES >> MAX_ORDER;
     let after = (row.count - before) % BATCH_BLOCKS;
     put_each_block(text, &part_of_row(row, 0, before))?;
-    put_batches(text, &part_of_row(row, before, row.count - before - after))?;
+    put_row_in_batches(text, &part_of_row(row, before, row.count - before - after))?;
     put_each_block(text, &part_of_row(row, row.count - after, after))
 }
 

@@ -10,10 +10,10 @@ use crate::words::{put_word_dec, put_word_hex};
 use bm_base::{Memory, put_dec, put_text};
 use early_script::{Answer, Outcome};
 use memblock_model::Which;
-use report_memory::{put_indexed_lines, which_name};
+use report_memory::{put_indexed_lines, memblock_table_name};
 
 /// The largest number of bytes that a line of the script prints.
-const MOST_BYTES: usize = 64;
+const MOST_PEEKED_BYTES: usize = 64;
 
 /// Appends the outcomes of the early script: a line for each of its lines, in their order.
 ///
@@ -48,7 +48,7 @@ fn put_outcome(text: &mut Vec<u8>, outcome: &Outcome) -> Result<(), Memory>
             put_bytes(text, told.as_slice())
         }
         Outcome::NoGap => put_text(text, b"no gap"),
-        Outcome::NoGapForTable { which, room } => put_no_gap(text, *which, *room),
+        Outcome::NoGapForTable { which, room } => put_refused_growth(text, *which, *room),
         Outcome::Taken => put_text(text, b"taken"),
         Outcome::Unknown => put_text(text, b"unknown"),
         Outcome::NotWhole => put_text(text, b"not whole"),
@@ -59,21 +59,21 @@ fn put_outcome(text: &mut Vec<u8>, outcome: &Outcome) -> Result<(), Memory>
 }
 
 /// Appends which table found no place to grow to, and the number of records that it had room for.
-fn put_no_gap(text: &mut Vec<u8>, which: Which, room: u64) -> Result<(), Memory>
+fn put_refused_growth(text: &mut Vec<u8>, which: Which, room: u64) -> Result<(), Memory>
     ensures { PutsText text.old text.new result (outcome_text (Outcome.NoGapForTable which room)) }
 {
     put_text(text, b"no gap for table ")?;
-    put_text(text, which_name(which).as_bytes())?;
+    put_text(text, memblock_table_name(which).as_bytes())?;
     put_word_dec(text, b" room ", room)
 }
 
-/// Appends bytes as two lower-case hexadecimal digits each. There are at most `MOST_BYTES` of
-/// them.
+/// Appends bytes as two lower-case hexadecimal digits each. There are at most `MOST_PEEKED_BYTES`
+/// of them.
 fn put_bytes(text: &mut Vec<u8>, bytes: &[u8]) -> Result<(), Memory>
-    requires { length bytes.now ≤ MOST_BYTES }
+    requires { length bytes.now ≤ MOST_PEEKED_BYTES }
     ensures { PutsText text.old text.new result (encode_lower bytes.now) }
 {
-    let mut room = [0u8; 2 * MOST_BYTES];
+    let mut room = [0u8; 2 * MOST_PEEKED_BYTES];
     let digits = &mut room[..2 * bytes.len()];
     hex::encode_to_slice(bytes, digits).unwrap();
     put_text(text, digits)

@@ -7,7 +7,7 @@ ghost use Rattle.report_stages.specs.SummaryText.{fullness_line, number_line, su
 use crate::words::put_word_dec;
 use bm_base::{Memory, put_text};
 use memblock_model::Which;
-use report_memory::which_name;
+use report_memory::memblock_table_name;
 
 /// How full a table of memblock is.
 #[derive(Clone, Copy, Debug, PartialEq, Eq)]
@@ -61,7 +61,7 @@ fn put_number_line(text: &mut Vec<u8>, word: &[u8], number: u64) -> Result<(), M
 fn put_fullness_line(text: &mut Vec<u8>, which: Which, full: &Fullness) -> Result<(), Memory>
     ensures { PutsText text.old text.new result (fullness_line which full.now) }
 {
-    put_text(text, which_name(which).as_bytes())?;
+    put_text(text, memblock_table_name(which).as_bytes())?;
     put_word_dec(text, b" records ", full.records)?;
     put_word_dec(text, b" room ", full.room)?;
     put_text(text, b"\n")

@@ -6,7 +6,7 @@ ghost use Rattle.std.specs.Prelude.{◌≡◌, ◌++◌, codes, decimal};
 ghost use Rattle.bm_base.specs.PutsText.{PutsText};
 ghost use Rattle.bm_base.specs.Text.{padded_decimal};
 ghost use Rattle.buddy_blocks.specs.BlockList.{blocks_of};
-ghost use Rattle.buddy_handover.specs.BuddyView.{buddy_frames};
+ghost use Rattle.buddy_handover.specs.BuddyView.{node_of_free_frame};
 ghost use Rattle.report_stages.specs.ZonesText.{buddyinfo_line, buddyinfo_text, block_counts_text, frames_in_zone, padded_zone, zone_line, zone_name, zones_text};
 
 use crate::words::put_word_dec;
@@ -21,7 +21,8 @@ use zone_spans::Span;
 ///
 /// - `Memory`: the program ran out of memory; the text is incomplete.
 pub fn put_zones(text: &mut Vec<u8>, spans: &[Span], buddy: &Buddy) -> Result<(), Memory>
-    ensures { PutsText text.old text.new result (zones_text (buddy_frames buddy.now) spans.now) }
+    ensures { PutsText text.old text.new result (zones_text (node_of_free_frame buddy.now)
+        spans.now) }
 {
     put_indexed_lines(text, spans, |text: &mut Vec<u8>, index: u64, span: &Span| {
         put_zone_line(text, index, span, buddy)
@@ -36,7 +37,7 @@ pub fn put_zones(text: &mut Vec<u8>, spans: &[Span], buddy: &Buddy) -> Result<()
 /// - `Memory`: the program ran out of memory; the text is incomplete.
 pub fn put_buddyinfo(text: &mut Vec<u8>, spans: &[Span], buddy: &Buddy) -> Result<(), Memory>
     ensures { PutsText text.old text.new result
-        (buddyinfo_text (buddy_frames buddy.now) spans.now) }
+        (buddyinfo_text (node_of_free_frame buddy.now) spans.now) }
 {
     put_indexed_lines(text, spans, |text: &mut Vec<u8>, index: u64, span: &Span| {
         put_buddyinfo_line(text, index, span, buddy)
@@ -58,9 +59,9 @@ pub fn zone_name(zone: Zone) -> &'static str
 /// are free.
 fn put_zone_line(text: &mut Vec<u8>, index: u64, span: &Span, buddy: &Buddy) -> Result<(), Memory>
     ensures { PutsText text.old text.new result
-        (zone_line (blocks_of (buddy_frames buddy.now)) index span.now) }
+        (zone_line (blocks_of (node_of_free_frame buddy.now)) index span.now) }
 {
-    put_node_zone(text, span.node)?;
+    put_node_before_zone(text, span.node)?;
     put_text(text, zone_name(span.zone).as_bytes())?;
     put_word_dec(text, b" start ", span.start)?;
     put_word_dec(text, b" end ", span.end)?;
@@ -82,9 +83,9 @@ fn put_buddyinfo_line(
     buddy: &Buddy,
 ) -> Result<(), Memory>
     ensures { PutsText text.old text.new result
-        (buddyinfo_line (blocks_of (buddy_frames buddy.now)) index span.now) }
+        (buddyinfo_line (blocks_of (node_of_free_frame buddy.now)) index span.now) }
 {
-    put_node_zone(text, span.node)?;
+    put_node_before_zone(text, span.node)?;
     put_padded_zone(text, span.zone)?;
     put_text(text, b" ")?;
     put_block_counts(text, span, buddy)?;
@@ -92,7 +93,7 @@ fn put_buddyinfo_line(
 }
 
 /// Appends the number of a node, and the word before the name of a zone.
-fn put_node_zone(text: &mut Vec<u8>, node: u32) -> Result<(), Memory>
+fn put_node_before_zone(text: &mut Vec<u8>, node: u32) -> Result<(), Memory>
     ensures { PutsText text.old text.new result (codes "Node " ++ decimal node ++ codes ", zone ") }
 {
     put_word_dec(text, b"Node ", u64::from(node))?;
@@ -113,7 +114,7 @@ fn put_padded_zone(text: &mut Vec<u8>, zone: Zone) -> Result<(), Memory>
 #[tactic(auto, unfolding(crate::specs::ZonesText::block_counts_text))]
 fn put_block_counts(text: &mut Vec<u8>, span: &Span, buddy: &Buddy) -> Result<(), Memory>
     ensures { PutsText text.old text.new result
-        (block_counts_text (blocks_of (buddy_frames buddy.now)) span.now.node span.now.zone) }
+        (block_counts_text (blocks_of (node_of_free_frame buddy.now)) span.now.node span.now.zone) }
 {
     for order in 0..=MAX_ORDER {
         put_block_count(text, buddy.count(span.node, span.zone, order))?;
@@ -131,7 +132,7 @@ fn put_block_count(text: &mut Vec<u8>, count: u64) -> Result<(), Memory>
 
 /// Returns the number of frames in the free blocks of this node and zone. Allocates nothing.
 fn free_frames_in_zone(buddy: &Buddy, node: u32, zone: Zone) -> u64
-    ensures { result ≡ frames_in_zone node zone (blocks_of (buddy_frames buddy.now)) }
+    ensures { result ≡ frames_in_zone node zone (blocks_of (node_of_free_frame buddy.now)) }
 {
     let mut frames = 0;
     for order in 0..=MAX_ORDER {

@@ -1,12 +1,13 @@
--- A function that is changed over a range: below the range, inside and above it; and room for its runs while they are written.
+-- A function that is changed over a range: below the range, inside and above it; and room for its
+-- runs while they are written.
 use Rattle.std.proofs.Common.{◌≡◌, ℕ, ◌+◌, ◌-◌, ◌^◌, ◌<◌, ◌≤◌, Bool, true, false, Option, None, List, length, take, drop, refl, sym, ◌∙◌, ap, arith}
 use Rattle.std.specs.Prelude.{is_some}
 use Rattle.std.proofs.lemmas.Bool.Decides.{nat_tests}
 use Rattle.std.proofs.lemmas.List.{length-take-le, length-drop}
 use Rattle.bm_base.specs.Range.{RangeView, covers}
 use Rattle.address_runs.specs.Runs.{RunOf, DecidesEquality}
-use Rattle.address_runs.specs.Edits.{change_range, NothingFrom}
-use Rattle.address_runs.specs.Sweep.{Stays, IsRestFrom, IsBuiltTo}
+use Rattle.address_runs.specs.Edits.{change_range, IsEmptyFrom}
+use Rattle.address_runs.specs.Sweep.{HasValueBetween, IsRestFrom, IsBuiltTo}
 use Rattle.address_runs.proofs.EditLaws.{not_covered}
 use Rattle.run_edits.specs.Ends.{HasRoomToEdit}
 use Rattle.run_edits.proofs.JoinLaws.{swept_stretch, room_for}
@@ -34,26 +35,26 @@ module _ {X : Type 0} where
   -- if a function is constant, so is the changed one inside the range
   pub amended_stays : (change : Option X → Option X) (r : RangeView) (f : ℕ → Option X) (from to next : ℕ) (v : Option X) → r.base ≤ from
       → to ≤ r.base + r.size → to ≤ next
-      → Stays f from next (f from) → v ≡ change (f from) → Stays (change_range change r f) from to v
+      → HasValueBetween f from next (f from) → v ≡ change (f from) → HasValueBetween (change_range change r f) from to v
   amended_stays change r f from to next v first last order stays is x above under =
       amended_inside change r f x (omega arith) (omega arith) ∙ ap change (stays x above (omega arith)) ∙ sym is
 
   pub amended_stays_behind : (change : Option X → Option X) (r : RangeView) (f : ℕ → Option X) (from next : ℕ) (v : Option X)
       → r.base + r.size ≤ from
-      → Stays f from next (f from) → v ≡ f from → Stays (change_range change r f) from next v
+      → HasValueBetween f from next (f from) → v ≡ f from → HasValueBetween (change_range change r f) from next v
   amended_stays_behind change r f from next v past stays is x above under = amended_behind change r f x (omega arith)
       ∙ stays x above under ∙ sym is
 
   -- nothing is changed above the range
-  pub amended_ends : (change : Option X → Option X) (r : RangeView) (f : ℕ → Option X) (at : ℕ) → r.base + r.size ≤ at → NothingFrom at f
-      → NothingFrom at (change_range change r f)
+  pub amended_ends : (change : Option X → Option X) (r : RangeView) (f : ℕ → Option X) (at : ℕ) → r.base + r.size ≤ at → IsEmptyFrom at f
+      → IsEmptyFrom at (change_range change r f)
   amended_ends change r f at ends none x le = amended_behind change r f x (omega arith) ∙ none x le
 
   -- if the open run must be written and there is no free slot, there is room for one more record
   pub room_here : (same : X → X → Bool) → DecidesEquality same
       → (f g : ℕ → Option X) (start from to : ℕ) (v : Option X) (rs : List (RunOf X))
       (write read room : ℕ) → HasRoomToEdit same f g room
-      → NothingFrom (2 ^ 64) f → from ≤ to → to ≤ 2 ^ 64 → IsBuiltTo g from (take write rs) start v → (g from ≡ v → v ≡ None)
+      → IsEmptyFrom (2 ^ 64) f → from ≤ to → to ≤ 2 ^ 64 → IsBuiltTo g from (take write rs) start v → (g from ≡ v → v ≡ None)
       → IsRestFrom f to (drop read rs)
       → write ≡ read → read ≤ length rs → start < from → is_some v ≡ true → length rs < room
   room_here same tells f g start from to v rs write read room has none order le built other rest free within lt some =

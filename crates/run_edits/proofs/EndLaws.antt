@@ -3,11 +3,11 @@ use Rattle.std.proofs.Common.{◌≡◌, ◌≢◌, ℕ, zero, suc, ◌+◌, ◌
 use Rattle.std.proofs.lemmas.Bool.Decides.{nat_tests}
 use Rattle.std.proofs.lemmas.Bool.{cases_lt, cases_Bool}
 use Rattle.address_runs.specs.Runs.{RunOf, DecidesEquality, run_end, lies_in, value_at, AreRuns}
-use Rattle.address_runs.specs.Edits.{NothingFrom}
+use Rattle.address_runs.specs.Edits.{IsEmptyFrom}
 use Rattle.address_runs.specs.Sweep.{StartAtOrPast, EndBy, FirstEndsPast, IsSweptTo, IsRestFrom}
-use Rattle.address_runs.proofs.RunsLaws.{inside, behind, none_below, other_behind}
+use Rattle.address_runs.proofs.RunsLaws.{inside, behind, none_below, another_value_at_run_end}
 use Rattle.address_runs.proofs.SweepLaws.{none_behind, behind_none, rest_whole}
-use Rattle.run_edits.specs.Ends.{total, edge, edges, spike}
+use Rattle.run_edits.specs.Ends.{total, run_ends_between, run_ends_at, one_right_below}
 
 pub total-alike : (g h : ℕ → ℕ) (x n : ℕ) → ((y : ℕ) → x ≤ y → y < x + n → g y ≡ h y) → total g x n ≡ total h x n
 unfolding total
@@ -53,34 +53,34 @@ unfolding total
 total-next g x n = refl
 
 -- the sum of a spike is at most 1
-pub spikes_few : (b x n : ℕ) → total (spike b) x n ≤ 1
+pub spikes_few : (b x n : ℕ) → total (one_right_below b) x n ≤ 1
 unfolding total
 spikes_few b x zero = omega arith
 spikes_few b x (suc n) =
-    elim (cases_Bool (x + 1 == b)) as (λ _. total (spike b) x (suc n) ≤ 1) [
+    elim (cases_Bool (x + 1 == b)) as (λ _. total (one_right_below b) x (suc n) ≤ 1) [
       | inl here ↦
           let is : x + 1 ≡ b = grind (arith, nat_tests) in
-          let rest : total (spike b) (x + 1) n ≡ 0 = total-quiet (spike b) (x + 1) n (λ y above under. let past : (y + 1 == b)
+          let rest : total (one_right_below b) (x + 1) n ≡ 0 = total-quiet (one_right_below b) (x + 1) n (λ y above under. let past : (y + 1 == b)
           ≡ false = grind (arith, nat_tests) in rw past refl) in
           rw (here, rest) (omega arith)
-      | inr other ↦ rw other (let rest : total (spike b) (x + 1) n ≤ 1 = spikes_few b (x + 1) n in omega arith)
+      | inr other ↦ rw other (let rest : total (one_right_below b) (x + 1) n ≤ 1 = spikes_few b (x + 1) n in omega arith)
     ]
 
 -- no run ends between equal neighbours, and one ends before another value
-pub edge-self : {X : Type 0} (same : X → X → Bool) → DecidesEquality same → (a : Option X) → edge same a a ≡ 0
-edge-self same tells None = refl
-edge-self same tells (Some a) = rw (tells.equal_is_true a a refl) refl
+pub run_ends_between-self : {X : Type 0} (same : X → X → Bool) → DecidesEquality same → (a : Option X) → run_ends_between same a a ≡ 0
+run_ends_between-self same tells None = refl
+run_ends_between-self same tells (Some a) = rw (tells.equal_is_true a a refl) refl
 
-pub edge-few : {X : Type 0} (same : X → X → Bool) (a b : Option X) → edge same a b ≤ 1
-edge-few same None b = omega arith
-edge-few same (Some a) None = omega arith
-edge-few same (Some a) (Some b) = elim (cases_Bool (same a b)) as (λ _. edge same (Some a) (Some b) ≤ 1)
+pub run_ends_between-few : {X : Type 0} (same : X → X → Bool) (a b : Option X) → run_ends_between same a b ≤ 1
+run_ends_between-few same None b = omega arith
+run_ends_between-few same (Some a) None = omega arith
+run_ends_between-few same (Some a) (Some b) = elim (cases_Bool (same a b)) as (λ _. run_ends_between same (Some a) (Some b) ≤ 1)
     [ inl equal ↦ rw equal (omega arith) | inr not ↦ rw not (omega arith) ]
 
-pub edge-other : {X : Type 0} (same : X → X → Bool) → DecidesEquality same → (v : X) (b : Option X) → b ≢ Some v → edge same (Some v) b ≡ 1
-edge-other same tells v None other = refl
-edge-other same tells v (Some w) other =
-    elim (cases_Bool (same v w)) as (λ _. edge same (Some v) (Some w) ≡ 1) [
+pub run_ends_between-other : {X : Type 0} (same : X → X → Bool) → DecidesEquality same → (v : X) (b : Option X) → b ≢ Some v → run_ends_between same (Some v) b ≡ 1
+run_ends_between-other same tells v None other = refl
+run_ends_between-other same tells v (Some w) other =
+    elim (cases_Bool (same v w)) as (λ _. run_ends_between same (Some v) (Some w) ≡ 1) [
       | inl equal ↦ absurd (other (ap (λ u. Some u) (sym (tells.true_is_equal v w equal))))
       | inr not ↦ rw not refl
     ]
@@ -91,24 +91,24 @@ behind_run r [] runs = tt
 behind_run r (s ∷ ss) runs = let order = runs.1.0 in let some = runs.2.0 in omega arith
 
 -- a run doesn't end before its last address
-quiet_inside : {X : Type 0} (same : X → X → Bool) → DecidesEquality same → (r : RunOf X) (rs : List (RunOf X)) (y : ℕ) → AreRuns (r ∷ rs)
+no_end_inside_run : {X : Type 0} (same : X → X → Bool) → DecidesEquality same → (r : RunOf X) (rs : List (RunOf X)) (y : ℕ) → AreRuns (r ∷ rs)
     → y + 1 < run_end r
-    → edges same (value_at (r ∷ rs)) y ≡ 0
-quiet_inside same tells r rs y runs under =
-    elim (cases_lt y r.base) as (λ _. edges same (value_at (r ∷ rs)) y ≡ 0) [
+    → run_ends_at same (value_at (r ∷ rs)) y ≡ 0
+no_end_inside_run same tells r rs y runs under =
+    elim (cases_lt y r.base) as (λ _. run_ends_at same (value_at (r ∷ rs)) y ≡ 0) [
       | inl lt ↦ let starts : StartAtOrPast r.base (r ∷ rs) = omega arith in let none : value_at (r ∷ rs) y
           ≡ None = none_below r.base y (r ∷ rs) runs starts lt in rw none refl
       | inr ge ↦
           let here : value_at (r ∷ rs) y ≡ Some r.value = rw (inside r y (omega arith) (omega arith)) refl in
           let next : value_at (r ∷ rs) (y + 1) ≡ Some r.value = rw (inside r (y + 1) (omega arith) (omega arith)) refl in
-          rw (here, next) (edge-self same tells (Some r.value))
+          rw (here, next) (run_ends_between-self same tells (Some r.value))
     ]
 
 -- the number of runs of a list is the number of their ends
 pub length_ends : {X : Type 0} (same : X → X → Bool) → DecidesEquality same → (rs : List (RunOf X)) (x n : ℕ) → AreRuns rs
     → FirstEndsPast x rs
-    → ((y : ℕ) → x + n ≤ y → value_at rs y ≡ None) → length rs ≡ total (edges same (value_at rs)) x n
-length_ends same tells [] x n runs ends none = sym (total-quiet (edges same (value_at [])) x n (λ y above under. refl))
+    → ((y : ℕ) → x + n ≤ y → value_at rs y ≡ None) → length rs ≡ total (run_ends_at same (value_at rs)) x n
+length_ends same tells [] x n runs ends none = sym (total-quiet (run_ends_at same (value_at [])) x n (λ y above under. refl))
 length_ends {X} same tells (r ∷ rs) x n runs ends none =
     let f : ℕ → Option X = value_at (r ∷ rs) in
     let e : ℕ = run_end r in
@@ -122,17 +122,17 @@ length_ends {X} same tells (r ∷ rs) x n runs ends none =
     ] in
     let first : ℕ = e - 1 - x in
     let rest : ℕ = x + n - e in
-    let parts = total-split (edges same f) x first (suc rest) n (e - 1) (omega arith) (omega arith) in
-    let quiet = total-quiet (edges same f) x first (λ y above under. quiet_inside same tells r rs y runs (omega arith)) in
-    let next = total-next (edges same f) (e - 1) rest in
+    let parts = total-split (run_ends_at same f) x first (suc rest) n (e - 1) (omega arith) (omega arith) in
+    let quiet = total-quiet (run_ends_at same f) x first (λ y above under. no_end_inside_run same tells r rs y runs (omega arith)) in
+    let next = total-next (run_ends_at same f) (e - 1) rest in
     let at_end : e - 1 + 1 ≡ e = omega arith in
-    let other : f e ≢ Some r.value = λ h. other_behind r rs runs (sym (tail e (omega arith)) ∙ h) in
-    let one : edges same f (e - 1) ≡ 1 = rw (last, at_end) (edge-other same tells r.value (f e) other) in
-    let alike = total-alike (edges same f) (edges same (value_at rs)) e rest
+    let other : f e ≢ Some r.value = λ h. another_value_at_run_end r rs runs (sym (tail e (omega arith)) ∙ h) in
+    let one : run_ends_at same f (e - 1) ≡ 1 = rw (last, at_end) (run_ends_between-other same tells r.value (f e) other) in
+    let alike = total-alike (run_ends_at same f) (run_ends_at same (value_at rs)) e rest
     (λ y above under. rw (tail y above, tail (y + 1) (omega arith)) refl) in
     let others = length_ends same tells rs e rest runs.2 (behind_run r rs runs)
     (λ y far. sym (tail y (omega arith)) ∙ none y (omega arith)) in
-    let moved : total (edges same f) (e - 1 + 1) rest ≡ total (edges same f) e rest = ap (λ (y : ℕ). total (edges same f) y rest) at_end in
+    let moved : total (run_ends_at same f) (e - 1 + 1) rest ≡ total (run_ends_at same f) e rest = ap (λ (y : ℕ). total (run_ends_at same f) y rest) at_end in
     omega arith
 
 -- a run that ends exactly at an address has another value than the address
@@ -150,20 +150,20 @@ last_other at y v w (r ∷ rs) ends next is =
     ]
 
 edge_at_end : {X : Type 0} (same : X → X → Bool) → DecidesEquality same → (a b : Option X) → ((w : X) → a ≡ Some w → b ≢ Some w)
-    → edge same a None
-    ≡ edge same a b
+    → run_ends_between same a None
+    ≡ run_ends_between same a b
 edge_at_end same tells None b other = refl
-edge_at_end same tells (Some a) b other = sym (edge-other same tells a b (other a refl))
+edge_at_end same tells (Some a) b other = sym (run_ends_between-other same tells a b (other a refl))
 
 -- the number of runs of a list that was built up to an address is that of the ends below it
 pub swept_ends : {X : Type 0} (same : X → X → Bool) → DecidesEquality same → (g : ℕ → Option X) (at : ℕ) (xs : List (RunOf X))
     → IsSweptTo g at xs
-    → length xs ≡ total (edges same g) 0 at
+    → length xs ≡ total (run_ends_at same g) 0 at
 swept_ends same tells g at xs swept =
     length_ends same tells xs 0 at swept.runs (behind_none xs swept.runs) (λ y far. none_behind at y (g at) xs swept.ends (omega arith))
-    ∙ total-alike (edges same (value_at xs)) (edges same g) 0 at (λ y above under.
+    ∙ total-alike (run_ends_at same (value_at xs)) (run_ends_at same g) 0 at (λ y above under.
     let here : value_at xs y ≡ g y = swept.each y (omega arith) in
-    elim (cases_lt (y + 1) at) as (λ _. edges same (value_at xs) y ≡ edges same g y) [
+    elim (cases_lt (y + 1) at) as (λ _. run_ends_at same (value_at xs) y ≡ run_ends_at same g y) [
       | inl lt ↦ let next : value_at xs (y + 1) ≡ g (y + 1) = swept.each (y + 1) lt in rw (here, next) refl
       | inr ge ↦
           let end : y + 1 ≡ at = omega arith in
@@ -175,17 +175,17 @@ swept_ends same tells g at xs swept =
 -- the number of runs of the rest of a list is that of the ends at or above the address
 pub rest_ends : {X : Type 0} (same : X → X → Bool) → DecidesEquality same → (f : ℕ → Option X) (at : ℕ) (rs : List (RunOf X))
     → IsRestFrom f at rs
-    → NothingFrom (2 ^ 64) f → at ≤ 2 ^ 64
-    → length rs ≡ total (edges same f) at (2 ^ 64 - at)
+    → IsEmptyFrom (2 ^ 64) f → at ≤ 2 ^ 64
+    → length rs ≡ total (run_ends_at same f) at (2 ^ 64 - at)
 rest_ends same tells f at rs rest none le =
     length_ends same tells rs at (2 ^ 64 - at) rest.runs rest.ends (λ y far. rest.each y (omega arith) ∙ none y (omega arith))
-    ∙ total-alike (edges same (value_at rs)) (edges same f) at (2 ^ 64 - at) (λ y above under.
+    ∙ total-alike (run_ends_at same (value_at rs)) (run_ends_at same f) at (2 ^ 64 - at) (λ y above under.
     let here : value_at rs y ≡ f y = rest.each y above in
     let next : value_at rs (y + 1) ≡ f (y + 1) = rest.each (y + 1) (omega arith) in
     rw (here, next) refl)
 
 -- the number of runs of a whole list is that of all ends
 pub all_ends : {X : Type 0} (same : X → X → Bool) → DecidesEquality same → (rs : List (RunOf X)) → AreRuns rs
-    → NothingFrom (2 ^ 64) (value_at rs)
-    → length rs ≡ total (edges same (value_at rs)) 0 (2 ^ 64)
+    → IsEmptyFrom (2 ^ 64) (value_at rs)
+    → length rs ≡ total (run_ends_at same (value_at rs)) 0 (2 ^ 64)
 all_ends same tells rs runs none = rest_ends same tells (value_at rs) 0 rs (rest_whole rs runs) none (omega arith)

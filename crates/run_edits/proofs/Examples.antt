@@ -1,8 +1,8 @@
 -- Worked examples: small tables.
 use Rattle.std.proofs.Common.{◌≡◌, ℕ, ◌==◌, nat_lt, if◌then◌else◌, Option, Some, None, [], ◌∷◌, refl, inl, inr, arith}
 use Rattle.address_runs.specs.Runs.{RunOf}
-use Rattle.run_edits.specs.Records.{stretch, EndBelow, IsUncut, EndsNoRun}
-use Rattle.run_edits.specs.Ends.{total, edges, spike}
+use Rattle.run_edits.specs.Records.{stretch, EndBelow, CutsNoRun, EndsNoRun}
+use Rattle.run_edits.specs.Ends.{total, run_ends_at, one_right_below}
 
 abbrev run : ℕ → ℕ → ℕ → RunOf ℕ
 run base size value = record { base = base; size = size; value = value }
@@ -16,7 +16,7 @@ ends_below : EndBelow 7 (run 1 2 5 ∷ (run 4 2 1 ∷ [])) × (EndBelow 6 (run 4
 ends_below = ((omega arith, (omega arith, tt)), λ ends. let below = ends.0 in omega (arith, below))
 
 -- only an address strictly inside a run cuts it
-uncut_at_its_ends : (IsUncut 5 (run 4 2 1 ∷ []) → ⊥) × IsUncut 4 (run 4 2 1 ∷ []) × IsUncut 6 (run 4 2 1 ∷ [])
+uncut_at_its_ends : (CutsNoRun 5 (run 4 2 1 ∷ []) → ⊥) × CutsNoRun 4 (run 4 2 1 ∷ []) × CutsNoRun 6 (run 4 2 1 ∷ [])
 uncut_at_its_ends = (
   λ uncut. let ends = uncut (omega arith) in omega (arith, ends),
   λ lt. absurd (omega (arith, lt)),
@@ -46,10 +46,10 @@ abbrev two_runs : ℕ → Option ℕ
 two_runs x = if nat_lt x 2 then Some 1 else (if x == 2 then Some 2 else None)
 
 -- the first run ends at its last address only
-edges_examples : (edges (λ m n. m == n) two_runs 1 ≡ 1) × (edges (λ m n. m == n) two_runs 0 ≡ 0)
+edges_examples : (run_ends_at (λ m n. m == n) two_runs 1 ≡ 1) × (run_ends_at (λ m n. m == n) two_runs 0 ≡ 0)
 edges_examples = (refl, refl)
 
 -- two runs end in all; a spike counts if its address is among those counted
-total_examples : (total (edges (λ m n. m == n) two_runs) 0 10 ≡ 2) × (total (spike 5) 0 10 ≡ 1) × (total (spike 5) 5 10 ≡ 0)
+total_examples : (total (run_ends_at (λ m n. m == n) two_runs) 0 10 ≡ 2) × (total (one_right_below 5) 0 10 ≡ 1) × (total (one_right_below 5) 5 10 ≡ 0)
 unfolding total
 total_examples = (refl, refl, refl)

@@ -5,12 +5,12 @@ use Rattle.std.proofs.lemmas.Bool.{cases_lt, cases_Bool}
 use Rattle.std.proofs.lemmas.List.{append-nil, length-append, drop_more, take_more, take-append-drop}
 use Rattle.std.specs.Prelude.{is_some}
 use Rattle.address_runs.specs.Runs.{RunOf, DecidesEquality, run_end, value_at, IsBefore, AreRuns, IsRunsOf}
-use Rattle.address_runs.specs.Edits.{NothingFrom}
-use Rattle.address_runs.specs.Sweep.{Stays, StartAtOrPast, EndBy, FirstEndsPast, FirstEndsAtOrPast, IsSweptTo, IsRestFrom, IsBuiltTo}
+use Rattle.address_runs.specs.Edits.{IsEmptyFrom}
+use Rattle.address_runs.specs.Sweep.{HasValueBetween, StartAtOrPast, EndBy, FirstEndsPast, FirstEndsAtOrPast, IsSweptTo, IsRestFrom, IsBuiltTo}
 use Rattle.address_runs.proofs.RunsLaws.{inside, behind, none_below}
 use Rattle.address_runs.proofs.SweepLaws.{none_behind, value_append_none, value_append_left, swept_over, swept_push}
 use Rattle.run_edits.specs.Records.{stretch, EndBelow}
-use Rattle.run_edits.specs.Ends.{edges, HasRoomToEdit}
+use Rattle.run_edits.specs.Ends.{run_ends_at, HasRoomToEdit}
 use Rattle.run_edits.proofs.EndLaws.{total-split, swept_ends, rest_ends}
 
 module _ {X : Type 0} where
@@ -56,7 +56,7 @@ module _ {X : Type 0} where
 
   -- one more run is written
   pub swept_stretch : (g : ℕ → Option X) (start until : ℕ) (v : Option X) (xs : List (RunOf X)) → IsSweptTo g start xs → start ≤ until
-      → Stays g start until v
+      → HasValueBetween g start until v
       → (g until ≡ v → v ≡ None) → IsSweptTo g until (xs ++ stretch start until v)
   swept_stretch g start until None xs swept order stays other = rw (append-nil xs) (swept_over g start until xs swept order stays)
   swept_stretch g start until (Some v) xs swept order stays other =
@@ -74,7 +74,7 @@ module _ {X : Type 0} where
   -- so the open run ends, and another begins
   pub built_stretch : (g : ℕ → Option X) (start from until : ℕ) (v w : Option X) (xs : List (RunOf X)) → IsBuiltTo g from xs start v
       → g from ≡ w → v ≢ w → from ≤ until
-      → Stays g from until w → IsBuiltTo g until (xs ++ stretch start from v) from w
+      → HasValueBetween g from until w → IsBuiltTo g until (xs ++ stretch start from v) from w
   built_stretch g start from until v w xs built is other order stays = record {
     begun = order;
     swept = swept_stretch g start from v xs built.swept built.begun built.stays (λ same. absurd (other (sym same ∙ is)));
@@ -199,7 +199,7 @@ module _ {X : Type 0} where
   pub room_for : (same : X → X → Bool) → DecidesEquality same
       → (f g : ℕ → Option X) (start from to : ℕ) (v : Option X) (xs ys : List (RunOf X))
       (room : ℕ) → HasRoomToEdit same f g room
-      → NothingFrom (2 ^ 64) f → from ≤ to → to ≤ 2 ^ 64 → IsSweptTo g from (xs ++ stretch start from v) → start < from → is_some v ≡ true
+      → IsEmptyFrom (2 ^ 64) f → from ≤ to → to ≤ 2 ^ 64 → IsSweptTo g from (xs ++ stretch start from v) → start < from → is_some v ≡ true
       → IsRestFrom f to ys
       → length xs + length ys < room
   room_for same tells f g start from to v xs ys room has none order le swept lt some rest =
@@ -207,6 +207,6 @@ module _ {X : Type 0} where
       let front = swept_ends same tells g from (xs ++ stretch start from v) swept in
       let parts = length-append xs (stretch start from v) in
       let back = rest_ends same tells f to ys rest none le in
-      let split = total-split (edges same f) from (to - from) (2 ^ 64 - to) (2 ^ 64 - from) to (omega arith) (omega arith) in
+      let split = total-split (run_ends_at same f) from (to - from) (2 ^ 64 - to) (2 ^ 64 - from) to (omega arith) (omega arith) in
       let enough = has from (omega arith) in
       omega (arith, one, front, parts, back, split, enough)

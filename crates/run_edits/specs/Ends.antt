@@ -8,20 +8,20 @@ total g x (suc n) = g x + total g (x + 1) n
 
 module _ {X : Type 0} where
   -- the number of runs, 0 or 1, that end between two neighbours that carry these
-  abbrev pub edge : (X → X → Bool) → Option X → Option X → ℕ
-  edge same None b = 0
-  edge same (Some a) None = 1
-  edge same (Some a) (Some b) = if same a b then 0 else 1
+  abbrev pub run_ends_between : (X → X → Bool) → Option X → Option X → ℕ
+  run_ends_between same None b = 0
+  run_ends_between same (Some a) None = 1
+  run_ends_between same (Some a) (Some b) = if same a b then 0 else 1
 
   -- the number of runs of the function, 0 or 1, that have the address as their last one
-  abbrev pub edges : (X → X → Bool) → (ℕ → Option X) → ℕ → ℕ
-  edges same f x = edge same (f x) (f (x + 1))
+  abbrev pub run_ends_at : (X → X → Bool) → (ℕ → Option X) → ℕ → ℕ
+  run_ends_at same f x = run_ends_between same (f x) (f (x + 1))
 
   -- while an edit turns f into g, at every address that it can have reached there is room for the
   -- runs of g below it and those of f above
   abbrev pub HasRoomToEdit : (X → X → Bool) → (ℕ → Option X) → (ℕ → Option X) → ℕ → Type 0
-  HasRoomToEdit same f g room = (at : ℕ) → at ≤ 2 ^ 64 → total (edges same g) 0 at + total (edges same f) at (2 ^ 64 - at) ≤ room
+  HasRoomToEdit same f g room = (at : ℕ) → at ≤ 2 ^ 64 → total (run_ends_at same g) 0 at + total (run_ends_at same f) at (2 ^ 64 - at) ≤ room
 
 -- 1 if the next address is b, else 0
-abbrev pub spike : ℕ → ℕ → ℕ
-spike b x = if x + 1 == b then 1 else 0
+abbrev pub one_right_below : ℕ → ℕ → ℕ
+one_right_below b x = if x + 1 == b then 1 else 0

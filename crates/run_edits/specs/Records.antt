@@ -14,9 +14,9 @@ module _ {X : Type 0} where
   EndBelow at (r ∷ rs) = (run_end r < at) × EndBelow at rs
 
   -- the address isn't strictly inside the first run of the list
-  abbrev pub IsUncut : ℕ → List (RunOf X) → Type 0
-  IsUncut at [] = Unit {0}
-  IsUncut at (r ∷ rs) = r.base < at → run_end r ≤ at
+  abbrev pub CutsNoRun : ℕ → List (RunOf X) → Type 0
+  CutsNoRun at [] = Unit {0}
+  CutsNoRun at (r ∷ rs) = r.base < at → run_end r ≤ at
 
   -- the change can't end a run inside its range: it leaves empty addresses empty, or gives all
   -- addresses the same

@@ -7,8 +7,8 @@
 
 ghost use Rattle.std.specs.Prelude.{◌≡◌, ◌≢◌, ◌+◌, ◌-◌, ◌^◌, ◌<◌, ◌≤◌, ℕ, Bool, true, Option, Some, None, ◌++◌, length, take, drop, is_some};
 ghost use Rattle.address_runs.specs.Runs.{DecidesEquality, AreRuns, IsRunsOf, value_at};
-ghost use Rattle.address_runs.specs.Edits.{change_range, NothingFrom};
-ghost use Rattle.address_runs.specs.Sweep.{FirstEndsAtOrPast, IsBuiltTo, IsRestFrom, Stays};
+ghost use Rattle.address_runs.specs.Edits.{change_range, IsEmptyFrom};
+ghost use Rattle.address_runs.specs.Sweep.{FirstEndsAtOrPast, IsBuiltTo, IsRestFrom, HasValueBetween};
 ghost use Rattle.run_edits.specs.Records.{stretch, EndBelow, EndsNoRun};
 ghost use Rattle.run_edits.specs.Ends.{HasRoomToEdit};
 
@@ -72,7 +72,7 @@ fn stretch_at<S: Stretch, T: Rows<S>>(table: &T, first: u64, at: u64) -> (u64, O
 /// The records before index `write` and those from index `read` on are kept; those between are
 /// free slots. A record is inserted if there is no free slot. Returns both indices as they are
 /// afterwards.
-pub fn emit<S: Stretch, T: Slots<S>>(
+pub fn write_run<S: Stretch, T: Slots<S>>(
     table: &mut T,
     write: u64,
     read: u64,
@@ -120,7 +120,7 @@ fn advance<S: Stretch, T: Slots<S>>(
         sweep.value ≢ value → length (T.list table.old) < T.room table.old }
     ensures built { (g : ℕ → Option S.Value) (until : ℕ) →
         IsBuiltTo g from (take sweep.write (T.list table.old)) sweep.start sweep.value →
-        g from ≡ value → from ≤ until → Stays g from until value →
+        g from ≡ value → from ≤ until → HasValueBetween g from until value →
         IsBuiltTo g until (take result.write (T.list table.new)) result.start result.value }
     ensures rest { drop result.read (T.list table.new) ≡ drop sweep.read (T.list table.old) }
     ensures value { result.value ≡ value }
@@ -131,7 +131,7 @@ fn advance<S: Stretch, T: Slots<S>>(
     if agree::<S>(sweep.value, value) {
         return sweep;
     }
-    let (write, read) = emit(
+    let (write, read) = write_run(
         table,
         sweep.write,
         sweep.read,
@@ -150,14 +150,14 @@ fn advance<S: Stretch, T: Slots<S>>(
 /// Applies any change to each address of the range. The table then holds the runs of the result.
 /// The range must not be empty. At each address that the sweep reaches, the table must have room
 /// for the new runs below it and the old runs above it.
-pub fn rewrite<S: Stretch, T: Slots<S>, C: Change<S::Value>>(
+pub fn edit_range<S: Stretch, T: Slots<S>, C: Change<S::Value>>(
     table: &mut T,
     range: &Range,
     change: C,
 )
     requires some { 0 < range.now.size }
     requires runs { AreRuns (T.list table.old) }
-    requires within { NothingFrom (2 ^ 64) (value_at (T.list table.old)) }
+    requires within { IsEmptyFrom (2 ^ 64) (value_at (T.list table.old)) }
     requires room { (same : S.Value → S.Value → Bool) × DecidesEquality same
         × HasRoomToEdit same (value_at (T.list table.old))
         (change_range (C.makes change) range.now (value_at (T.list table.old))) (T.room table.old) }
@@ -178,7 +178,7 @@ pub fn rewrite<S: Stretch, T: Slots<S>, C: Change<S::Value>>(
     let (here, end) = value_and_end(table, sweep.read, until);
     sweep.read = skip_ended(table, sweep.read, end);
     sweep = advance(table, sweep, until, here);
-    let (write, read) = emit(
+    let (write, read) = write_run(
         table,
         sweep.write,
         sweep.read,
@@ -192,19 +192,19 @@ pub fn rewrite<S: Stretch, T: Slots<S>, C: Change<S::Value>>(
 /// Applies a change to each address of the range. The table then holds the runs of the result. The
 /// change must not be a cover: it must leave empty addresses empty, or give the same to all
 /// addresses. The range must not be empty, and the table must have room for two more records.
-pub fn amend<S: Stretch, T: Slots<S>, C: Change<S::Value>>(table: &mut T, range: &Range, change: C)
+pub fn edit_without_cover<S: Stretch, T: Slots<S>, C: Change<S::Value>>(table: &mut T, range: &Range, change: C)
     requires some { 0 < range.now.size }
     requires runs { AreRuns (T.list table.old) }
-    requires within { NothingFrom (2 ^ 64) (value_at (T.list table.old)) }
+    requires within { IsEmptyFrom (2 ^ 64) (value_at (T.list table.old)) }
     requires change { EndsNoRun (C.makes change) }
     requires tells { (same : S.Value → S.Value → Bool) × DecidesEquality same }
     requires room { length (T.list table.old) + 2 ≤ T.room table.old }
     ensures list { IsRunsOf (change_range (C.makes change) range.now (value_at (T.list table.old)))
         (T.list table.new) }
-    ensures within { NothingFrom (2 ^ 64) (value_at (T.list table.new)) }
+    ensures within { IsEmptyFrom (2 ^ 64) (value_at (T.list table.new)) }
     ensures few { length (T.list table.new) ≤ length (T.list table.old) + 2 }
     ensures keeps { T.keeps table.old table.new }
 {
     range_end_fits(range);
-    rewrite(table, range, change);
+    edit_range(table, range, change);
 }

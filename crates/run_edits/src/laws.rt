@@ -3,7 +3,7 @@
 ghost use Rattle.std.specs.Prelude.{◌≡◌, ℕ, ◌+◌, ◌^◌, ◌<◌, ◌≤◌, Bool, Option, length};
 ghost use Rattle.bm_base.specs.Range.{RangeView, end_of};
 ghost use Rattle.address_runs.specs.Runs.{DecidesEquality, runs_of};
-ghost use Rattle.address_runs.specs.Edits.{cover_range, uncover_range, relabel_range, replace_in_range, gaps_in_range, NothingFrom};
+ghost use Rattle.address_runs.specs.Edits.{cover_range, uncover_range, relabel_range, replace_in_range, gaps_in_range, IsEmptyFrom};
 
 use bm_base::Range;
 
@@ -13,20 +13,20 @@ use bm_base::Range;
 pub fn edits_add_few<T>()
     ensures cover { (same : T → T → Bool) (r : RangeView) (v w : T) (f : ℕ → Option T) →
         DecidesEquality same →
-        end_of r ≤ 2 ^ 64 → NothingFrom (2 ^ 64) f →
+        end_of r ≤ 2 ^ 64 → IsEmptyFrom (2 ^ 64) f →
         length (runs_of same (cover_range r v f))
         ≤ length (runs_of same f) + length (runs_of same (gaps_in_range r w f)) }
     ensures uncover { (same : T → T → Bool) (r : RangeView) (f : ℕ → Option T) →
         DecidesEquality same →
-        NothingFrom (2 ^ 64) f → length (runs_of same (uncover_range r f))
+        IsEmptyFrom (2 ^ 64) f → length (runs_of same (uncover_range r f))
         ≤ length (runs_of same f) + 1 }
     ensures relabel { (same : T → T → Bool) (r : RangeView) (change : T → T) (f : ℕ → Option T) →
         DecidesEquality same →
-        NothingFrom (2 ^ 64) f → length (runs_of same (relabel_range r change f))
+        IsEmptyFrom (2 ^ 64) f → length (runs_of same (relabel_range r change f))
         ≤ length (runs_of same f) + 2 }
     ensures replace { (same : T → T → Bool) (r : RangeView) (v : T) (f : ℕ → Option T) →
         DecidesEquality same →
-        end_of r ≤ 2 ^ 64 → NothingFrom (2 ^ 64) f →
+        end_of r ≤ 2 ^ 64 → IsEmptyFrom (2 ^ 64) f →
         length (runs_of same (replace_in_range r v f)) ≤ length (runs_of same f) + 2 }
 {}
 

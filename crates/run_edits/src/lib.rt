@@ -13,9 +13,10 @@
 //! A table may be a `Vec`, or lie in the memory that it describes. [`Rows`] reads its records;
 //! [`Slots`] also writes, inserts and removes them. No function here allocates.
 //!
-//! After [`rewrite`] or [`amend`] the table holds the runs of the changed values, and nothing
-//! else has changed. [`amend`] takes any change except a cover and needs room for two more
-//! records. [`rewrite`] takes any change and needs as much room as the runs need on the way.
+//! After [`edit_range`] or [`edit_without_cover`] the table holds the runs of the changed values,
+//! and nothing else has changed. [`edit_without_cover`] takes any change except a cover and needs
+//! room for two more records. [`edit_range`] takes any change and needs as much room as the runs
+//! need on the way.
 #![tactic(auto)]
 
 mod change;
@@ -25,7 +26,7 @@ mod reading;
 mod slots;
 
 pub use change::{Change, Cover, Replace, Uncover};
-pub use edits::{amend, emit, rewrite};
+pub use edits::{edit_without_cover, write_run, edit_range};
 pub use laws::{edits_add_few, range_end_fits};
 pub use reading::{has_value_throughout, seek, skip_ended, value_and_end, value_at};
 pub use slots::{Rows, Slots};

@@ -4,8 +4,8 @@
 ghost use Rattle.std.specs.Prelude.{◌≡◌, ◌+◌, ◌-◌, ◌^◌, ◌<◌, ◌≤◌, ℕ, Option, Some, None, [], ◌∷◌, length, take, drop, IsTrue, ◌↔◌, MatchOption};
 ghost use Rattle.bm_base.specs.Range.{end_of};
 ghost use Rattle.address_runs.specs.Runs.{AreRuns, value_at};
-ghost use Rattle.address_runs.specs.Sweep.{IsRestFrom, StartAtOrPast, FirstEndsPast, FirstEndsAtOrPast, Stays};
-ghost use Rattle.run_edits.specs.Records.{EndBelow, IsUncut};
+ghost use Rattle.address_runs.specs.Sweep.{IsRestFrom, StartAtOrPast, FirstEndsPast, FirstEndsAtOrPast, HasValueBetween};
+ghost use Rattle.run_edits.specs.Records.{EndBelow, CutsNoRun};
 
 use crate::slots::Rows;
 use address_runs::{Stretch, agree};
@@ -55,7 +55,7 @@ pub fn skip_ended<S: Stretch, T: Rows<S>>(table: &T, read: u64, at: u64) -> u64
     ensures starts { (f : ℕ → Option S.Value) (before : ℕ) →
         IsRestFrom f before (drop read (T.list table.now)) →
         FirstEndsAtOrPast at (drop read (T.list table.now)) →
-        IsUncut at (drop read (T.list table.now)) →
+        CutsNoRun at (drop read (T.list table.now)) →
         StartAtOrPast at (drop result (T.list table.now)) }
     ensures order { read ≤ result }
     ensures within { read ≤ length (T.list table.now) → result ≤ length (T.list table.now) }
@@ -76,7 +76,7 @@ pub fn value_and_end<S: Stretch, T: Rows<S>>(
     ensures value { (f : ℕ → Option S.Value) → IsRestFrom f from (drop read (T.list table.now)) →
         result.0 ≡ f from }
     ensures stays { (f : ℕ → Option S.Value) → IsRestFrom f from (drop read (T.list table.now)) →
-        Stays f from result.1 (f from) }
+        HasValueBetween f from result.1 (f from) }
     ensures another { (f : ℕ → Option S.Value) → IsRestFrom f from (drop read (T.list table.now)) →
         f result.1 ≡ f from → f from ≡ None }
     ensures behind { FirstEndsPast from (drop read (T.list table.now)) → from < 2 ^ 64 - 1 →
@@ -85,7 +85,7 @@ pub fn value_and_end<S: Stretch, T: Rows<S>>(
         from ≤ result.1 }
     ensures ends { FirstEndsPast from (drop read (T.list table.now)) →
         FirstEndsAtOrPast result.1 (drop read (T.list table.now)) }
-    ensures uncut { IsUncut result.1 (drop read (T.list table.now)) }
+    ensures uncut { CutsNoRun result.1 (drop read (T.list table.now)) }
 {
     let Some(record) = peek(table, read) else {
         return (None, u64::MAX);

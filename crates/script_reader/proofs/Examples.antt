@@ -4,7 +4,7 @@ use Rattle.text_words.specs.Spelling.{HasWords, no_byte, blank_first, word_alone
 use Rattle.text_words.specs.Words.{words_in, IsWord}
 use Rattle.text_words.specs.declared.separators.Separators.TheVariants as separators
 use Rattle.script_reader.specs.declared.act.Act.TheVariants as acts
-use Rattle.script_reader.specs.declared.fault.Wrong.TheVariants as wrong
+use Rattle.script_reader.specs.declared.fault.ScriptLineFault.TheVariants as wrong
 use Rattle.script_reader.specs.declared.fault.ScriptFault.TheVariants as faults
 use Rattle.script_reader.specs.Numbers.{Words, number_if_whole, number_in_word, number_if_within, number_within, optional_number, check_power_of_two, check_not_zero, range_or_fault}
 use Rattle.script_reader.specs.Forms.{greatest_u64, greatest_id, greatest_node, greatest_byte, greatest_len, alloc_line, reserve_line, free_line, trim_line, fill_line, peek_line, act_by_name, HasBounds}

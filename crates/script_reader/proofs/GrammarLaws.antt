@@ -3,8 +3,8 @@
 use Rattle.std.proofs.Common.{◌≡◌, ℕ, ◌==◌, Bool, true, false, List, [], ◌∷◌, ◌++◌, codes, Some, None, Result, Ok, Err, refl, ap, arith, ◌⊎◌, ◌↔◌, inl, inr}
 use Rattle.std.proofs.lemmas.Bool.Decides.{nat_tests}
 use Rattle.bm_base.specs.ResultSteps.{◌>>=◌}
-use Rattle.script_reader.specs.declared.fault.Wrong.{Wrong}
-use Rattle.script_reader.specs.declared.fault.Wrong.TheVariants as wrong
+use Rattle.script_reader.specs.declared.fault.ScriptLineFault.{ScriptLineFault}
+use Rattle.script_reader.specs.declared.fault.ScriptLineFault.TheVariants as wrong
 use Rattle.script_reader.specs.Lines.{is_comment, act_by_forms}
 use Rattle.script_reader.specs.Grammar.{HasNoCommand, no_words, comment, Grammar, HasLineForm, SpellsNumbers, HasWordsFault}
 use Rattle.script_reader.specs.Numbers.{Words}
@@ -13,18 +13,18 @@ use Rattle.script_reader.specs.Numbers.{Words}
 -- If the numbers of a form are right, its act is checked. Else it has the fault `Number`. An act
 -- passes the checks, or has the fault of the first that it fails.
 pub record Reads (A : Type 0) : Type 1 where
-  pub forms : List ℕ → Words → Result A Wrong
+  pub forms : List ℕ → Words → Result A ScriptLineFault
   pub grammar : Grammar A
   pub Passes : A → Type 0
-  pub Fails : A → Wrong → Type 0
+  pub Fails : A → ScriptLineFault → Type 0
   pub named : (name : List ℕ) (words : Words) → HasLineForm grammar (name ∷ words) ⊎ (forms name words ≡ Err wrong.Form)
-  pub checked : A → Result A Wrong
+  pub checked : A → Result A ScriptLineFault
   pub numbers : (form : grammar.Form)
       → (grammar.HasNumbers form × (act_by_forms forms (grammar.words_of form) ≡ (checked (grammar.act_of form) >>= λ act. Ok (Some act))))
       ⊎ ((¬ (grammar.HasNumbers form)) × (act_by_forms forms (grammar.words_of form) ≡ Err wrong.Number))
-  pub judged : (act : A) → (Passes act × (checked act ≡ Ok act)) ⊎ ((fault : Wrong) × Fails act fault × (checked act ≡ Err fault))
+  pub judged : (act : A) → (Passes act × (checked act ≡ Ok act)) ⊎ ((fault : ScriptLineFault) × Fails act fault × (checked act ≡ Err fault))
   pub passed : (act : A) → Passes act → checked act ≡ Ok act
-  pub failed : (act : A) (fault : Wrong) → Fails act fault → checked act ≡ Err fault
+  pub failed : (act : A) (fault : ScriptLineFault) → Fails act fault → checked act ≡ Err fault
   pub not_form : (act : A) → ¬ (Fails act wrong.Form)
   pub not_number : (act : A) → ¬ (Fails act wrong.Number)
 
@@ -45,10 +45,10 @@ data Verdict {A : Type 0} (reads : Reads A) (words : Words) : Type 0 where
   passed_over : HasNoCommand words → act_by_forms reads.forms words ≡ Ok None → Verdict reads words
   asks : (act : A) → SpellsNumbers reads.grammar words act → reads.Passes act → act_by_forms reads.forms words ≡ Ok (Some act)
       → Verdict reads words
-  at_fault : (fault : Wrong) → HasWordsFault reads.grammar reads.Fails words fault → act_by_forms reads.forms words ≡ Err fault
+  at_fault : (fault : ScriptLineFault) → HasWordsFault reads.grammar reads.Fails words fault → act_by_forms reads.forms words ≡ Err fault
       → Verdict reads words
 
-act_fault : {A : Type 0} (reads : Reads A) (words : Words) (act : A) (fault : Wrong) → SpellsNumbers reads.grammar words act
+act_fault : {A : Type 0} (reads : Reads A) (words : Words) (act : A) (fault : ScriptLineFault) → SpellsNumbers reads.grammar words act
     → reads.Fails act fault → HasWordsFault reads.grammar reads.Fails words fault
 act_fault reads words act wrong.Form spells fails = absurd (reads.not_form act fails)
 act_fault reads words act wrong.Number spells fails = absurd (reads.not_number act fails)
@@ -117,7 +117,7 @@ act_read reads words act = (
 )
 
 -- a line without words, and a comment, have no command
-passed_read : {A : Type 0} (forms : List ℕ → Words → Result A Wrong) (words : Words) → HasNoCommand words
+passed_read : {A : Type 0} (forms : List ℕ → Words → Result A ScriptLineFault) (words : Words) → HasNoCommand words
     → act_by_forms forms words ≡ Ok None
 passed_read forms words no_words = refl
 passed_read forms words (comment word others) = refl
@@ -137,7 +137,7 @@ number_failed : {A : Type 0} (reads : Reads A) (words : Words) → HasWordsFault
     → act_by_forms reads.forms words ≡ Err wrong.Number
 number_failed reads words has = elim (reads.numbers has.0) [ inl good ↦ absurd (has.2 good.0) | inr bad ↦ rw has.1 bad.1 ]
 
-has_failed : {A : Type 0} (reads : Reads A) (words : Words) (fault : Wrong) → HasWordsFault reads.grammar reads.Fails words fault
+has_failed : {A : Type 0} (reads : Reads A) (words : Words) (fault : ScriptLineFault) → HasWordsFault reads.grammar reads.Fails words fault
     → act_by_forms reads.forms words ≡ Err fault
 has_failed reads [] wrong.Form has = absurd (has.0 no_words)
 has_failed reads (name ∷ words) wrong.Form has =
@@ -148,7 +148,7 @@ has_failed reads (name ∷ words) wrong.Form has =
 has_failed reads words wrong.Number has = number_failed reads words has
 has_failed reads words other has = rw (spelled_asked reads words has.0 has.1, reads.failed has.0 other has.2) refl
 
-pub fault_read : {A : Type 0} (reads : Reads A) (words : Words) (fault : Wrong)
+pub fault_read : {A : Type 0} (reads : Reads A) (words : Words) (fault : ScriptLineFault)
     → (act_by_forms reads.forms words ≡ Err fault) ↔ HasWordsFault reads.grammar reads.Fails words fault
 fault_read reads words fault = (
   λ is. elim (line_judged reads words) [

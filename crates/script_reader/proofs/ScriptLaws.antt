@@ -39,20 +39,20 @@ left_behind None n shorter = omega arith
 left_behind (Some text) n shorter = omega (arith, shorter)
 
 -- the lines in the list are those that were read
-pub kept_are : {L : Type 0} (result lines : Result (Vec L Global) Memory) (front added : List L)
+pub kept_lines_are_read : {L : Type 0} (result lines : Result (Vec L Global) Memory) (front added : List L)
     → IfOk result (λ kept. IsOkAnd lines (λ before. kept.items ≡ before.items ++ added))
     → IfOk lines (λ before. before.items ≡ front) → IfOk result (λ kept. kept.items ≡ front ++ added)
-kept_are {L = L} (Ok kept) (Ok before) front added line are = line ∙ ap (λ (ls : List L). ls ++ added) are
-kept_are (Ok kept) (Err memory) front added line are = absurd line
-kept_are (Err memory) lines front added line are = tt
+kept_lines_are_read {L = L} (Ok kept) (Ok before) front added line are = line ∙ ap (λ (ls : List L). ls ++ added) are
+kept_lines_are_read (Ok kept) (Err memory) front added line are = absurd line
+kept_lines_are_read (Err memory) lines front added line are = tt
 
 -- what is true of the lines so far, and stays true with the next, is true of all lines
-pub kept_hold : {L : Type 0} (P : List L → Type 0) (result lines : Result (Vec L Global) Memory) (added : List L)
+pub kept_lines_hold : {L : Type 0} (P : List L → Type 0) (result lines : Result (Vec L Global) Memory) (added : List L)
     → IfOk result (λ kept. IsOkAnd lines (λ before. kept.items ≡ before.items ++ added))
     → IfOk lines (λ before. P before.items) → ((ls : List L) → P ls → P (ls ++ added)) → IfOk result (λ kept. P kept.items)
-kept_hold P (Ok kept) (Ok before) added line hold one = subst P (sym line) (one before.items hold)
-kept_hold P (Ok kept) (Err memory) added line hold one = absurd line
-kept_hold P (Err memory) lines added line hold one = tt
+kept_lines_hold P (Ok kept) (Ok before) added line hold one = subst P (sym line) (one before.items hold)
+kept_lines_hold P (Ok kept) (Err memory) added line hold one = absurd line
+kept_lines_hold P (Err memory) lines added line hold one = tt
 
 -- each line is within its limits
 line_within : {A L : Type 0} (kind : ScriptKind A L) (P : L → Type 0) (number : ℕ) (act : Option A)
@@ -71,10 +71,10 @@ some_in_front front None some = elim some [ inl more ↦ rw (length-append front
 some_in_front front (Some line) some = rw (length-append front (option_to_list (Some line))) (omega arith)
 
 -- if the program ran out of memory, some line has a command
-pub wanting_for_some : {L : Type 0} (result lines : Result (Vec L Global) Memory) (front : List L) (line : Option L)
+pub out_of_memory_has_command : {L : Type 0} (result lines : Result (Vec L Global) Memory) (front : List L) (line : Option L)
     → (IsErr result → IsErr lines ⊎ IsSome line) → IfErr lines (λ memory. 0 < length front)
     → IfErr result (λ memory. 0 < length (front ++ option_to_list line))
-wanting_for_some (Ok kept) lines front line memory some = tt
-wanting_for_some (Err wanting) (Ok before) front line memory some =
+out_of_memory_has_command (Ok kept) lines front line memory some = tt
+out_of_memory_has_command (Err wanting) (Ok before) front line memory some =
     elim (memory refl) [ inl was ↦ cc was | inr is ↦ some_in_front front line (inr is) ]
-wanting_for_some (Err wanting) (Err was) front line memory some = some_in_front front line (inl some)
+out_of_memory_has_command (Err wanting) (Err was) front line memory some = some_in_front front line (inl some)

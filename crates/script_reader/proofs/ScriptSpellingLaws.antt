@@ -5,7 +5,7 @@ use Rattle.std.specs.Prelude.{Contains}
 use Rattle.std.specs.List.{cons_option}
 use Rattle.std.proofs.lemmas.List.{append-nil}
 use Rattle.std.proofs.lemmas.List.Elements.{Contains-append_left, Contains-append_right, Contains-append_cases}
-use Rattle.bm_base.specs.ResultSteps.{◌>>=◌, with_error}
+use Rattle.bm_base.specs.ResultSteps.{◌>>=◌, map_error}
 use Rattle.text_words.specs.Parts.{parts_in}
 use Rattle.text_words.specs.Spelling.{HasWords}
 use Rattle.text_words.specs.Words.{words_in}
@@ -14,7 +14,7 @@ use Rattle.text_words.proofs.SpellingLaws.{has_words}
 use Rattle.script_reader.specs.declared.act.Act.{Act}
 use Rattle.script_reader.specs.declared.act.Act.TheVariants as acts
 use Rattle.script_reader.specs.declared.act.Line.{Line}
-use Rattle.script_reader.specs.declared.fault.Wrong.{Wrong}
+use Rattle.script_reader.specs.declared.fault.ScriptLineFault.{ScriptLineFault}
 use Rattle.script_reader.specs.declared.fault.ScriptFault.{ScriptFault}
 use Rattle.script_reader.specs.Lines.{script_line_at, has_once_command, read_line, script_lines_from, lines_of}
 use Rattle.script_reader.specs.Script.{script_fault_at, script_lines, script_of}
@@ -39,20 +39,20 @@ not_seen earlier true of = (λ is. cc, λ none. absurd (none (of.0 refl)))
 not_seen earlier false of = (λ is has. let other : false ≡ true = of.1 has in cc, λ none. refl)
 
 -- one line after the earlier ones
-line_asks : (earlier : List (List ℕ)) (seen : Bool) (text : List ℕ) (act : Option Act) → SeenIn earlier seen
+line_is_read : (earlier : List (List ℕ)) (seen : Bool) (text : List ℕ) (act : Option Act) → SeenIn earlier seen
     → (read_line script_lines seen text ≡ Ok act) ↔ LineHasAct earlier text act
-line_asks earlier seen text None of = (
+line_is_read earlier seen text None of = (
   λ is. (words_in Script text, words_spelled text, (nothing_read (script_reads seen) (words_in Script text)).0 is),
   λ asks. rw (has_words Script text asks.0 asks.1) ((nothing_read (script_reads seen) asks.0).1 asks.2),
 )
-line_asks earlier seen text (Some act) of = (
+line_is_read earlier seen text (Some act) of = (
   λ is. let spelled = (act_read seen (words_in Script text) act).0 is in
       (words_in Script text, words_spelled text, spelled.0, λ same. (not_seen earlier seen of).0 (spelled.1 same)),
   λ asks. rw (has_words Script text asks.0 asks.1)
       ((act_read seen asks.0 act).1 (asks.2, λ same. (not_seen earlier seen of).1 (asks.3 same))),
 )
 
-line_at_fault : (earlier : List (List ℕ)) (seen : Bool) (text : List ℕ) (fault : Wrong) → SeenIn earlier seen
+line_at_fault : (earlier : List (List ℕ)) (seen : Bool) (text : List ℕ) (fault : ScriptLineFault) → SeenIn earlier seen
     → (read_line script_lines seen text ≡ Err fault) ↔ LineHasFault earlier text fault
 line_at_fault earlier seen text fault of = (
   λ is. record {
@@ -128,36 +128,36 @@ seen_on earlier false text act of is =
 length_on : (earlier : List (List ℕ)) (text : List ℕ) → length (earlier ++ (text ∷ [])) + 1 ≡ length earlier + 1 + 1
 length_on earlier text = rw (length-append earlier (text ∷ [])) refl
 
-abbrev read_on : ℕ → Result (Option Act) Wrong → (Option Act → Result (List Line) (ℕ × Wrong)) → Result (List Line) (ℕ × Wrong)
+abbrev read_on : ℕ → Result (Option Act) ScriptLineFault → (Option Act → Result (List Line) (ℕ × ScriptLineFault)) → Result (List Line) (ℕ × ScriptLineFault)
 read_on number first others = do
-  act ← with_error (λ wrong. (number, wrong)) first
+  act ← map_error (λ wrong. (number, wrong)) first
   lines ← others act
   Ok (cons_option (script_line_at script_lines number act) lines)
 
-abbrev FirstOk : ℕ → Result (Option Act) Wrong → (Option Act → Result (List Line) (ℕ × Wrong)) → List Line → Type 0
+abbrev FirstOk : ℕ → Result (Option Act) ScriptLineFault → (Option Act → Result (List Line) (ℕ × ScriptLineFault)) → List Line → Type 0
 FirstOk number first others lines =
     (act : Option Act) × (left : List Line) × (first ≡ Ok act) × (others act ≡ Ok left)
     × (lines ≡ cons_option (script_line_at script_lines number act) left)
 
-first_ok : (number : ℕ) (first : Result (Option Act) Wrong) (others : Option Act → Result (List Line) (ℕ × Wrong)) (lines : List Line)
+first_ok : (number : ℕ) (first : Result (Option Act) ScriptLineFault) (others : Option Act → Result (List Line) (ℕ × ScriptLineFault)) (lines : List Line)
     → read_on number first others ≡ Ok lines → FirstOk number first others lines
 first_ok number (Err fault) others lines is = cc (is)
 first_ok number (Ok act) others lines is = behind (others act) refl
   where
-    behind : (r : Result (List Line) (ℕ × Wrong)) → others act ≡ r → FirstOk number (Ok act) others lines
+    behind : (r : Result (List Line) (ℕ × ScriptLineFault)) → others act ≡ r → FirstOk number (Ok act) others lines
     behind (Ok left) was = (act, left, refl, was, let read = (rw was at is) in cc (read))
     behind (Err fault) was = let read = (rw was at is) in cc (read)
 
-abbrev FirstFault : ℕ → Result (Option Act) Wrong → (Option Act → Result (List Line) (ℕ × Wrong)) → ℕ × Wrong → Type 0
-FirstFault number first others told = ((fault : Wrong) × (first ≡ Err fault) × (told ≡ (number, fault)))
+abbrev FirstFault : ℕ → Result (Option Act) ScriptLineFault → (Option Act → Result (List Line) (ℕ × ScriptLineFault)) → ℕ × ScriptLineFault → Type 0
+FirstFault number first others told = ((fault : ScriptLineFault) × (first ≡ Err fault) × (told ≡ (number, fault)))
     ⊎ ((act : Option Act) × (first ≡ Ok act) × (others act ≡ Err told))
 
-first_fault : (number : ℕ) (first : Result (Option Act) Wrong) (others : Option Act → Result (List Line) (ℕ × Wrong)) (told : ℕ × Wrong)
+first_fault : (number : ℕ) (first : Result (Option Act) ScriptLineFault) (others : Option Act → Result (List Line) (ℕ × ScriptLineFault)) (told : ℕ × ScriptLineFault)
     → read_on number first others ≡ Err told → FirstFault number first others told
 first_fault number (Err fault) others told is = inl (fault, refl, cc (is))
 first_fault number (Ok act) others told is = behind (others act) refl
   where
-    behind : (r : Result (List Line) (ℕ × Wrong)) → others act ≡ r → FirstFault number (Ok act) others told
+    behind : (r : Result (List Line) (ℕ × ScriptLineFault)) → others act ≡ r → FirstFault number (Ok act) others told
     behind (Ok left) was = let read = (rw was at is) in cc (read)
     behind (Err fault) was = let read = (rw was at is) in inr (act, refl, was ∙ read)
 
@@ -169,8 +169,8 @@ lines_ask earlier seen (text ∷ texts) lines of = (
       (λ act. script_lines_from script_lines (has_once_command script_lines seen act) (length earlier + 1 + 1) texts) lines is in
       let others = lines_ask (earlier ++ (text ∷ [])) (has_once_command script_lines seen first.0) texts first.1
       (seen_on earlier seen text first.0 of first.2) in
-      (first.0, first.1, (line_asks earlier seen text first.0 of).0 first.2, first.4, others.0 (rw (length_on earlier text) first.3)),
-  λ asks. let was = (line_asks earlier seen text asks.0 of).1 asks.2 in
+      (first.0, first.1, (line_is_read earlier seen text first.0 of).0 first.2, first.4, others.0 (rw (length_on earlier text) first.3)),
+  λ asks. let was = (line_is_read earlier seen text asks.0 of).1 asks.2 in
       let others = lines_ask (earlier ++ (text ∷ [])) (has_once_command script_lines seen asks.0) texts asks.1
       (seen_on earlier seen text asks.0 of was) in
       let read = (rw (length_on earlier text) at (others.1 asks.4)) in
@@ -178,11 +178,11 @@ lines_ask earlier seen (text ∷ texts) lines of = (
 )
 
 -- if reading them fails, one of them has the first fault
-one_at_fault : (earlier : List (List ℕ)) (seen : Bool) (texts : List (List ℕ)) (told : ℕ × Wrong) → SeenIn earlier seen
+fault_is_first : (earlier : List (List ℕ)) (seen : Bool) (texts : List (List ℕ)) (told : ℕ × ScriptLineFault) → SeenIn earlier seen
     → script_lines_from script_lines seen (length earlier + 1) texts ≡ Err told
     → IsFirstLineFault earlier texts (script_fault_at told.0 told.1)
-one_at_fault earlier seen [] told of is = cc (is)
-one_at_fault earlier seen (text ∷ texts) told of is =
+fault_is_first earlier seen [] told of is = cc (is)
+fault_is_first earlier seen (text ∷ texts) told of is =
     elim (first_fault (length earlier + 1) (read_line script_lines seen text)
     (λ act. script_lines_from script_lines (has_once_command script_lines seen act) (length earlier + 1 + 1) texts) told is) [
       | inl first ↦ record {
@@ -196,7 +196,7 @@ one_at_fault earlier seen (text ∷ texts) told of is =
         at_fault = rw (append-nil earlier) ((line_at_fault earlier seen text first.0 of).0 first.1);
         named = rw (append-nil earlier, first.2) refl;
       }
-      | inr later ↦ let found = one_at_fault (earlier ++ (text ∷ [])) (has_once_command script_lines seen later.0) texts told
+      | inr later ↦ let found = fault_is_first (earlier ++ (text ∷ [])) (has_once_command script_lines seen later.0) texts told
           (seen_on earlier seen text later.0 of later.1) (rw (length_on earlier text) later.2) in
           let whole : (earlier ++ (text ∷ [])) ++ found.before ≡ earlier ++ (text ∷ found.before) =
           append_assoc earlier (text ∷ []) found.before in
@@ -206,7 +206,7 @@ one_at_fault earlier seen (text ∷ texts) told of is =
             after = found.after;
             lines = ap (λ (ts : List (List ℕ)). text ∷ ts) found.lines;
             acts = cons_option (script_line_at script_lines (length earlier + 1) later.0) found.acts;
-            faultless = (later.0, found.acts, (line_asks earlier seen text later.0 of).0 later.1, refl, found.faultless);
+            faultless = (later.0, found.acts, (line_is_read earlier seen text later.0 of).0 later.1, refl, found.faultless);
             wrong = found.wrong;
             at_fault = rw whole at found.at_fault;
             named = rw whole at found.named;
@@ -214,14 +214,14 @@ one_at_fault earlier seen (text ∷ texts) told of is =
     ]
 
 fault_of_one : (earlier : List (List ℕ)) (seen : Bool) (before : List (List ℕ)) (text : List ℕ) (after : List (List ℕ))
-    (asks : List Line) (fault : Wrong) → SeenIn earlier seen → LinesHaveActs earlier before asks
+    (asks : List Line) (fault : ScriptLineFault) → SeenIn earlier seen → LinesHaveActs earlier before asks
     → LineHasFault (earlier ++ before) text fault
     → script_lines_from script_lines seen (length earlier + 1) (before ++ (text ∷ after)) ≡ Err (length (earlier ++ before) + 1, fault)
 fault_of_one earlier seen [] text after asks fault of good at =
     let same = append-nil earlier in
     rw ((line_at_fault earlier seen text fault of).1 (rw same at at), same) refl
 fault_of_one earlier seen (line ∷ before) text after asks fault of good at =
-    let was = (line_asks earlier seen line good.0 of).1 good.2 in
+    let was = (line_is_read earlier seen line good.0 of).1 good.2 in
     let whole : (earlier ++ (line ∷ [])) ++ before ≡ earlier ++ (line ∷ before) = append_assoc earlier (line ∷ []) before in
     let others = fault_of_one (earlier ++ (line ∷ [])) (has_once_command script_lines seen good.0) before text after good.1 fault
     (seen_on earlier seen line good.0 of was) good.4 (rw whole at) in
@@ -239,7 +239,7 @@ none_seen = (λ is. cc (is), λ has. absurd (none has.1.0 has.1.1))
 pub script_read : (bytes : List ℕ) (lines : List Line) → script_of bytes ≡ Ok lines → lines_of script_lines bytes ≡ Ok lines
 script_read bytes lines = unturned (lines_of script_lines bytes)
   where
-    unturned : (r : Result (List Line) (ℕ × Wrong)) → with_error (λ at. script_fault_at at.0 at.1) r ≡ Ok lines → r ≡ Ok lines
+    unturned : (r : Result (List Line) (ℕ × ScriptLineFault)) → map_error (λ at. script_fault_at at.0 at.1) r ≡ Ok lines → r ≡ Ok lines
     unturned (Ok read) is = cc (is)
     unturned (Err told) is = cc (is)
 
@@ -258,10 +258,10 @@ script_fault bytes fault = (
       rw (found.lines, read, found.named) refl,
 )
   where
-    by_lines : (r : Result (List Line) (ℕ × Wrong)) → lines_of script_lines bytes ≡ r
-        → with_error (λ at. script_fault_at at.0 at.1) r ≡ Err fault
+    by_lines : (r : Result (List Line) (ℕ × ScriptLineFault)) → lines_of script_lines bytes ≡ r
+        → map_error (λ at. script_fault_at at.0 at.1) r ≡ Err fault
         → IsFirstLineFault [] (parts_in (Byte 10) bytes) fault
     by_lines (Ok lines) was is = cc (is)
     by_lines (Err told) was is =
         let same : script_fault_at told.0 told.1 ≡ fault = cc (is) in
-        rw same at (one_at_fault [] false (parts_in (Byte 10) bytes) told none_seen was)
+        rw same at (fault_is_first [] false (parts_in (Byte 10) bytes) told none_seen was)

@@ -7,13 +7,13 @@ use Rattle.std.proofs.lemmas.Slice.Eq.{bytes_eq-Decides}
 use Rattle.bm_base.specs.ResultSteps.{◌>>=◌}
 use Rattle.script_reader.specs.declared.act.Act.{Act}
 use Rattle.script_reader.specs.declared.act.Act.TheVariants as acts
-use Rattle.script_reader.specs.declared.fault.Wrong.{Wrong}
-use Rattle.script_reader.specs.declared.fault.Wrong.TheVariants as wrong
+use Rattle.script_reader.specs.declared.fault.ScriptLineFault.{ScriptLineFault}
+use Rattle.script_reader.specs.declared.fault.ScriptLineFault.TheVariants as wrong
 use Rattle.script_reader.specs.Forms.{greatest_u64, greatest_id, greatest_node, greatest_byte, greatest_len, optional_exact, alloc_words, alloc_line, sections_line, act_by_name}
 use Rattle.script_reader.specs.Lines.{act_by_forms}
 use Rattle.script_reader.specs.Numbers.{Words, word_after_key, check_not_zero, range_or_fault, check_power_of_two}
 use Rattle.script_reader.specs.Grammar.{HasLineForm}
-use Rattle.script_reader.specs.Spelling.{NodeWords, no_node, near_node, exact_node, LineForm, alloc, reserve, free, trim, fill, peek, sections, key_with_word, node_words, words_of_form, node_number, is_exact, HasLineNumbers, act_of_form, IsAligned, HasSize, IsInSpace, script_grammar, SpellsAct, Fails}
+use Rattle.script_reader.specs.Spelling.{NodeWords, no_node, near_node, exact_node, LineForm, alloc, reserve, free, trim, fill, peek, sections, key_with_word, node_words, words_of_form, node_number_word, is_exact, HasLineNumbers, act_of_form, IsAligned, HasSize, IsInSpace, script_grammar, SpellsAct, Fails}
 use Rattle.script_reader.proofs.GrammarLaws.{Reads, act_read as act_read_by}
 use Rattle.script_reader.proofs.StepLaws.{passed, failed, within_or, number_or, optional_or, power_or, some_or, range_or, is_key, at_end, one_or, two_or, three_or, optional_spelled}
 
@@ -105,7 +105,7 @@ named seen name words =
     ]
 
 -- the checks on an act whose numbers are right
-abbrev checked : Bool → Act → Result Act Wrong
+abbrev checked : Bool → Act → Result Act ScriptLineFault
 checked seen (acts.Alloc id request) = do
   align ← check_power_of_two request.align
   size ← check_not_zero request.size
@@ -127,7 +127,7 @@ checked seen acts.Sections = if seen then Err wrong.SecondSections else Ok acts.
 
 alloc_said : (i s a : List ℕ) (min max : Option (List ℕ)) (node : NodeWords)
     → alloc_words (i ∷ s ∷ a ∷ (key_with_word (codes "min") min ++ (key_with_word (codes "max") max ++ node_words node)))
-    ≡ Ok (record { id = i; size = s; align = a; min = min; max = max; node = node_number node; exact = is_exact node })
+    ≡ Ok (record { id = i; size = s; align = a; min = min; max = max; node = node_number_word node; exact = is_exact node })
 alloc_said i s a None None no_node = refl
 alloc_said i s a None None node = refl
 alloc_said i s a None max no_node = refl
@@ -148,7 +148,7 @@ numbers_or seen (alloc i s a min max node) =
         | inl size ↦ elim (number_or a) [
           | inl align ↦ elim (optional_or greatest_u64 min) [
             | inl lower ↦ elim (optional_or greatest_u64 max) [
-              | inl upper ↦ elim (optional_or greatest_node (node_number node)) [
+              | inl upper ↦ elim (optional_or greatest_node (node_number_word node)) [
                 | inl on ↦ inl (
                   (id.0, size.0, align.0, lower.0, upper.0, on.0),
                   rw
@@ -220,7 +220,7 @@ pub record Passes (seen : Bool) (act : Act) : Type 0 where
   pub once : act ≡ acts.Sections → seen ≡ false
 
 pub act_or : (seen : Bool) (act : Act)
-    → (Passes seen act × (checked seen act ≡ Ok act)) ⊎ ((fault : Wrong) × Fails seen act fault × (checked seen act ≡ Err fault))
+    → (Passes seen act × (checked seen act ≡ Ok act)) ⊎ ((fault : ScriptLineFault) × Fails seen act fault × (checked seen act ≡ Err fault))
 act_or seen (acts.Alloc id request) =
     elim (power_or request.align) [
       | inl check_power_of_two ↦ elim (some_or request.size) [
@@ -265,7 +265,7 @@ act_or true acts.Sections = inr (wrong.SecondSections, (refl, refl), refl)
 act_or false acts.Sections = inl (record { aligned = tt; size = tt; in_space = tt; once = λ is. refl }, refl)
 
 -- an act that passes has no fault
-passes_not : (seen : Bool) (act : Act) (fault : Wrong) → Passes seen act → Fails seen act fault → ⊥
+passes_not : (seen : Bool) (act : Act) (fault : ScriptLineFault) → Passes seen act → Fails seen act fault → ⊥
 passes_not seen act wrong.Form passes fails = fails
 passes_not seen act wrong.Number passes fails = fails
 passes_not seen act wrong.Align passes fails = fails passes.aligned
@@ -278,7 +278,7 @@ checked_passes seen act passes =
     elim (act_or seen act) [ inl is ↦ is.1 | inr bad ↦ absurd (passes_not seen act bad.0 passes bad.1) ]
 
 -- an act that fails a check has its fault
-pub checked_fails : (seen : Bool) (act : Act) (fault : Wrong) → Fails seen act fault → checked seen act ≡ Err fault
+pub checked_fails : (seen : Bool) (act : Act) (fault : ScriptLineFault) → Fails seen act fault → checked seen act ≡ Err fault
 checked_fails seen act wrong.Form fails = absurd fails
 checked_fails seen act wrong.Number fails = absurd fails
 checked_fails seen (acts.Alloc id request) wrong.Align fails = rw (failed (power_or request.align) fails) refl

@@ -14,8 +14,8 @@ use Rattle.text_words.specs.Spelling.{HasWords, QuotesClose}
 use Rattle.text_words.specs.Words.{words_in}
 use Rattle.text_words.specs.declared.separators.Separators.TheVariants as separators
 use Rattle.text_words.proofs.SpellingLaws.{words_exactly}
-use Rattle.script_reader.specs.declared.fault.Wrong.{Wrong}
-use Rattle.script_reader.specs.declared.fault.Wrong.TheVariants as wrong
+use Rattle.script_reader.specs.declared.fault.ScriptLineFault.{ScriptLineFault}
+use Rattle.script_reader.specs.declared.fault.ScriptLineFault.TheVariants as wrong
 use Rattle.script_reader.specs.Forms.{greatest_u64}
 use Rattle.script_reader.specs.Numbers.{Words, expect_no_words, one_word, two_words, three_words, word_after_key, number_if_whole, number_if_within, number_in_word, number_within, optional_number, check_power_of_two, check_not_zero, range_or_fault}
 use Rattle.script_reader.specs.Grammar.{IsWithin, front_value, value_of_word}
@@ -30,25 +30,25 @@ pub words_spelled : (text : List ℕ) → HasWords separators.Script text (words
 words_spelled text = (words_exactly separators.Script text (words_in separators.Script text) (no_quotes text)).0 refl
 
 -- a step succeeds if its condition holds, and returns its fault if not
-abbrev pub Judges : {A : Type 0} → Type 0 → A → Wrong → Result A Wrong → Type 0
-Judges Good value_of_word fault r = (Good × (r ≡ Ok value_of_word)) ⊎ ((¬ Good) × (r ≡ Err fault))
+abbrev pub ChecksExactly : {A : Type 0} → Type 0 → A → ScriptLineFault → Result A ScriptLineFault → Type 0
+ChecksExactly Good value_of_word fault r = (Good × (r ≡ Ok value_of_word)) ⊎ ((¬ Good) × (r ≡ Err fault))
 
-pub passed : {A : Type 0} {Good : Type 0} {v : A} {fault : Wrong} {r : Result A Wrong} → Judges Good v fault r → Good → r ≡ Ok v
+pub passed : {A : Type 0} {Good : Type 0} {v : A} {fault : ScriptLineFault} {r : Result A ScriptLineFault} → ChecksExactly Good v fault r → Good → r ≡ Ok v
 passed judged good = elim judged [ inl is ↦ is.1 | inr bad ↦ absurd (bad.0 good) ]
 
-pub failed : {A : Type 0} {Good : Type 0} {v : A} {fault : Wrong} {r : Result A Wrong} → Judges Good v fault r → ¬ Good → r ≡ Err fault
+pub failed : {A : Type 0} {Good : Type 0} {v : A} {fault : ScriptLineFault} {r : Result A ScriptLineFault} → ChecksExactly Good v fault r → ¬ Good → r ≡ Err fault
 failed judged bad = elim judged [ inl is ↦ absurd (bad is.0) | inr is ↦ is.1 ]
 
 -- a number: a size that takes its whole word and is within its limit
 abbrev IsWhole : List ℕ → Result (ℕ × ℕ) NumFault → Type 0
 IsWhole word r = (n : ℕ) × (r ≡ Ok (n, length word))
 
-whole_or : (word : List ℕ) (r : Result (ℕ × ℕ) NumFault) → Judges (IsWhole word r) (front_value r) wrong.Number (number_if_whole word r)
+whole_or : (word : List ℕ) (r : Result (ℕ × ℕ) NumFault) → ChecksExactly (IsWhole word r) (front_value r) wrong.Number (number_if_whole word r)
 whole_or word (Err fault) = inr (λ is. cc (is.1), refl)
 whole_or word (Ok found) = by_test found.0 found.1 (found.1 == length word) refl
   where
     by_test : (n taken : ℕ) (t : Bool) → (taken == length word) ≡ t
-        → Judges (IsWhole word (Ok (n, taken))) n wrong.Number (number_if_whole word (Ok (n, taken)))
+        → ChecksExactly (IsWhole word (Ok (n, taken))) n wrong.Number (number_if_whole word (Ok (n, taken)))
     by_test n taken true all =
         let same : taken ≡ length word = grind (arith, nat_tests, all) in inl ((n, ap (λ (m : ℕ). Ok (n, m)) same), rw all refl)
     by_test n taken false part =
@@ -58,10 +58,10 @@ whole_or word (Ok found) = by_test found.0 found.1 (found.1 == length word) refl
           rw part refl,
         )
 
-within_bound : (most n : ℕ) → Judges (n ≤ most) n wrong.Number (number_if_within most n)
+within_bound : (most n : ℕ) → ChecksExactly (n ≤ most) n wrong.Number (number_if_within most n)
 within_bound most n = by_test (nat_le n most) refl
   where
-    by_test : (t : Bool) → nat_le n most ≡ t → Judges (n ≤ most) n wrong.Number (number_if_within most n)
+    by_test : (t : Bool) → nat_le n most ≡ t → ChecksExactly (n ≤ most) n wrong.Number (number_if_within most n)
     by_test true fits = inl (grind (arith, nat_tests, fits), rw fits refl)
     by_test false above = inr (λ fits. absurd (grind (arith, nat_tests, above, fits)), rw above refl)
 
@@ -69,7 +69,7 @@ front_value-whole : (word : List ℕ) (r : Result (ℕ × ℕ) NumFault) (n : �
 front_value-whole word r n is = rw is refl
 
 bounded_or : (most : ℕ) (word : List ℕ) (r : Result (ℕ × ℕ) NumFault)
-    → Judges ((n : ℕ) × (r ≡ Ok (n, length word)) × (n ≤ most)) (front_value r) wrong.Number (number_if_whole word r
+    → ChecksExactly ((n : ℕ) × (r ≡ Ok (n, length word)) × (n ≤ most)) (front_value r) wrong.Number (number_if_whole word r
     >>= number_if_within most)
 bounded_or most word r =
     elim (whole_or word r) [
@@ -86,14 +86,14 @@ bounded_or most word r =
       | inr isnt ↦ inr (λ good. isnt.0 (good.0, good.1), rw isnt.1 refl)
     ]
 
-pub within_or : (most : ℕ) (word : List ℕ) → Judges (IsWithin most word) (value_of_word word) wrong.Number (number_within most word)
+pub within_or : (most : ℕ) (word : List ℕ) → ChecksExactly (IsWithin most word) (value_of_word word) wrong.Number (number_within most word)
 within_or most word = bounded_or most word (size_of word)
 
 -- a size is below 2^64
 size_below : (word : List ℕ) (n : ℕ) → IsSize word n → n ≤ greatest_u64
 size_below word n is = grind (arith, nat_tests)
 
-pub number_or : (word : List ℕ) → Judges (IsWithin greatest_u64 word) (value_of_word word) wrong.Number (number_in_word word)
+pub number_or : (word : List ℕ) → ChecksExactly (IsWithin greatest_u64 word) (value_of_word word) wrong.Number (number_in_word word)
 number_or word =
     elim (whole_or word (size_of word)) [
       | inl is ↦ inl ((is.0.0, is.0.1, size_below word is.0.0 is.0.1), is.1)
@@ -101,32 +101,32 @@ number_or word =
     ]
 
 pub optional_or : (most : ℕ) (word : Option (List ℕ))
-    → Judges (IfSome word (IsWithin most)) (option_map value_of_word word) wrong.Number (optional_number most word)
+    → ChecksExactly (IfSome word (IsWithin most)) (option_map value_of_word word) wrong.Number (optional_number most word)
 optional_or most None = inl (tt, refl)
 optional_or most (Some word) =
     elim (within_or most word) [ inl is ↦ inl (is.0, rw (is.1) refl) | inr isnt ↦ inr (isnt.0, rw (isnt.1) refl) ]
 
 -- an alignment, a size that isn't 0, and a range
-pub power_or : (n : ℕ) → Judges (IsTrue (is_power_of_two n)) n wrong.Align (check_power_of_two n)
+pub power_or : (n : ℕ) → ChecksExactly (IsTrue (is_power_of_two n)) n wrong.Align (check_power_of_two n)
 power_or n = by_test (is_power_of_two n) refl
   where
-    by_test : (t : Bool) → is_power_of_two n ≡ t → Judges (IsTrue (is_power_of_two n)) n wrong.Align (check_power_of_two n)
+    by_test : (t : Bool) → is_power_of_two n ≡ t → ChecksExactly (IsTrue (is_power_of_two n)) n wrong.Align (check_power_of_two n)
     by_test true is = inl (is, rw is refl)
     by_test false isnt = inr (λ is. cc, rw isnt refl)
 
-pub some_or : (n : ℕ) → Judges (0 < n) n wrong.ZeroSize (check_not_zero n)
+pub some_or : (n : ℕ) → ChecksExactly (0 < n) n wrong.ZeroSize (check_not_zero n)
 some_or n = by_test (n == 0) refl
   where
-    by_test : (t : Bool) → (n == 0) ≡ t → Judges (0 < n) n wrong.ZeroSize (check_not_zero n)
+    by_test : (t : Bool) → (n == 0) ≡ t → ChecksExactly (0 < n) n wrong.ZeroSize (check_not_zero n)
     by_test true none = inr (λ above. absurd (grind (arith, nat_tests, none, above)), rw none refl)
     by_test false isnt = inl (grind (arith, nat_tests, isnt), rw isnt refl)
 
 pub range_or : (base size : ℕ)
-    → Judges (base + size < 2 ^ 64) (record { base = base; size = size }) wrong.TooFar (range_or_fault base size)
+    → ChecksExactly (base + size < 2 ^ 64) (record { base = base; size = size }) wrong.TooFar (range_or_fault base size)
 range_or base size = by_test (nat_lt (base + size) (2 ^ 64)) refl
   where
     by_test : (t : Bool) → nat_lt (base + size) (2 ^ 64) ≡ t
-        → Judges (base + size < 2 ^ 64) (record { base = base; size = size }) wrong.TooFar (range_or_fault base size)
+        → ChecksExactly (base + size < 2 ^ 64) (record { base = base; size = size }) wrong.TooFar (range_or_fault base size)
     by_test true fits = inl (grind (arith, nat_tests, fits), rw fits refl)
     by_test false far = inr (λ fits. absurd (grind (arith, nat_tests, far, fits)), rw far refl)
 

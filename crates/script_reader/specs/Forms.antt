@@ -7,8 +7,8 @@ use Rattle.std.specs.Str.{bytes_eq}
 use Rattle.bm_base.specs.ResultSteps.{◌>>=◌}
 use Rattle.script_reader.specs.declared.act.Act.{Act}
 use Rattle.script_reader.specs.declared.act.Act.TheVariants as acts
-use Rattle.script_reader.specs.declared.fault.Wrong.{Wrong}
-use Rattle.script_reader.specs.declared.fault.Wrong.TheVariants as wrong
+use Rattle.script_reader.specs.declared.fault.ScriptLineFault.{ScriptLineFault}
+use Rattle.script_reader.specs.declared.fault.ScriptLineFault.TheVariants as wrong
 use Rattle.script_reader.specs.Numbers.{Words, expect_no_words, first_word, one_word, two_words, three_words, word_after_key, number_in_word, number_within, optional_number, check_power_of_two, check_not_zero, range_or_fault}
 
 -- the largest ID
@@ -48,7 +48,7 @@ optional_exact (Some node) [] = (false, [])
 optional_exact (Some node) (w ∷ ws) = if bytes_eq w (codes "exact") then (true, ws) else (false, w ∷ ws)
 
 -- the words after `alloc`, split but not read as numbers
-abbrev pub alloc_words : Words → Result AllocWords Wrong
+abbrev pub alloc_words : Words → Result AllocWords ScriptLineFault
 alloc_words words = do
   id ← first_word words
   size ← first_word id.1
@@ -62,7 +62,7 @@ alloc_words words = do
 
 -- the act of the line `alloc ID SIZE ALIGN [min A] [max A] [node N [exact]]`, from the words after
 -- `alloc`
-abbrev pub alloc_line : Words → Result Act Wrong
+abbrev pub alloc_line : Words → Result Act ScriptLineFault
 alloc_line words = do
   said ← alloc_words words
   id ← number_within greatest_id said.id
@@ -76,7 +76,7 @@ alloc_line words = do
   Ok (acts.Alloc id (record { size = large; align = aligned; min = unwrap_or min 0; max = max; node = node; exact = said.exact }))
 
 -- the act of the line `reserve ID BASE SIZE`, from the words after `reserve`
-abbrev pub reserve_line : Words → Result Act Wrong
+abbrev pub reserve_line : Words → Result Act ScriptLineFault
 reserve_line words = do
   said ← three_words words
   id ← number_within greatest_id said.0
@@ -87,14 +87,14 @@ reserve_line words = do
   Ok (acts.Reserve id range)
 
 -- the act of the line `free ID`, from the words after `free`
-abbrev pub free_line : Words → Result Act Wrong
+abbrev pub free_line : Words → Result Act ScriptLineFault
 free_line words = do
   said ← one_word words
   id ← number_within greatest_id said
   Ok (acts.Free id)
 
 -- the act of the line `trim ID KEEP`, from the words after `trim`
-abbrev pub trim_line : Words → Result Act Wrong
+abbrev pub trim_line : Words → Result Act ScriptLineFault
 trim_line words = do
   said ← two_words words
   id ← number_within greatest_id said.0
@@ -103,7 +103,7 @@ trim_line words = do
   Ok (acts.Trim id large)
 
 -- the act of the line `fill ID BYTE`, from the words after `fill`
-abbrev pub fill_line : Words → Result Act Wrong
+abbrev pub fill_line : Words → Result Act ScriptLineFault
 fill_line words = do
   said ← two_words words
   id ← number_within greatest_id said.0
@@ -111,7 +111,7 @@ fill_line words = do
   Ok (acts.Fill id byte)
 
 -- the act of the line `peek ADDR LEN`, from the words after `peek`
-abbrev pub peek_line : Words → Result Act Wrong
+abbrev pub peek_line : Words → Result Act ScriptLineFault
 peek_line words = do
   said ← two_words words
   at ← number_in_word said.0
@@ -121,13 +121,13 @@ peek_line words = do
   Ok (acts.Peek range.base range.size)
 
 -- the act of the line `sections`; a fault if words follow, or if an earlier line is `sections`
-abbrev pub sections_line : Bool → Words → Result Act Wrong
+abbrev pub sections_line : Bool → Words → Result Act ScriptLineFault
 sections_line seen words = do
   none ← expect_no_words words
   if seen then Err wrong.SecondSections else Ok acts.Sections
 
 -- the act of a line, by its first word; `seen` is true if an earlier line is `sections`
-abbrev pub act_by_name : Bool → List ℕ → Words → Result Act Wrong
+abbrev pub act_by_name : Bool → List ℕ → Words → Result Act ScriptLineFault
 act_by_name seen name words =
     if bytes_eq name (codes "alloc") then alloc_line words else
     (if bytes_eq name (codes "reserve") then reserve_line words else

@@ -4,8 +4,8 @@
 use Rattle.std.specs.Prelude.{◌≡◌, ℕ, ◌≤◌, List, [], ◌∷◌, ◌++◌, codes, Result, Ok, Err}
 use Rattle.bm_base.specs.Size.{size_of, IsSize}
 use Rattle.bm_base.specs.declared.size.NumFault.{NumFault}
-use Rattle.script_reader.specs.declared.fault.Wrong.{Wrong}
-use Rattle.script_reader.specs.declared.fault.Wrong.TheVariants as wrong
+use Rattle.script_reader.specs.declared.fault.ScriptLineFault.{ScriptLineFault}
+use Rattle.script_reader.specs.declared.fault.ScriptLineFault.TheVariants as wrong
 use Rattle.script_reader.specs.Numbers.{Words}
 
 -- a line without a command: it has no words, or is a comment
@@ -46,12 +46,12 @@ pub record SpellsNumbers {A : Type 0} (grammar : Grammar A) (words : Words) (act
   pub asks : act ≡ grammar.act_of form
 
 -- no act breaks a further condition once its numbers are right
-abbrev pub NeverFails : {A : Type 0} → A → Wrong → Type 0
+abbrev pub NeverFails : {A : Type 0} → A → ScriptLineFault → Type 0
 NeverFails act wrong = ⊥
 
 -- the first condition that these words break: the form, then the numbers, then those that `Fails`
 -- states for an act whose numbers are right
-abbrev pub HasWordsFault : {A : Type 0} → Grammar A → (A → Wrong → Type 0) → Words → Wrong → Type 0
+abbrev pub HasWordsFault : {A : Type 0} → Grammar A → (A → ScriptLineFault → Type 0) → Words → ScriptLineFault → Type 0
 HasWordsFault grammar Fails words wrong.Form = (¬ (HasNoCommand words)) × (¬ (HasLineForm grammar words))
 HasWordsFault grammar Fails words wrong.Number =
     (form : grammar.Form) × (words ≡ grammar.words_of form) × (¬ (grammar.HasNumbers form))

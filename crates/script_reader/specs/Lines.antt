@@ -2,11 +2,11 @@
 use Rattle.std.specs.Prelude.{ℕ, ◌+◌, ◌==◌, Bool, true, false, if◌then◌else◌, List, [], ◌∷◌, Option, Some, None, Result, Ok}
 use Rattle.std.specs.Option.{option_map}
 use Rattle.std.specs.List.{cons_option}
-use Rattle.bm_base.specs.ResultSteps.{◌>>=◌, with_error}
+use Rattle.bm_base.specs.ResultSteps.{◌>>=◌, map_error}
 use Rattle.text_words.specs.Parts.{parts_in}
 use Rattle.text_words.specs.Words.{words_in}
 use Rattle.text_words.specs.declared.separators.Separators.TheVariants as separators
-use Rattle.script_reader.specs.declared.fault.Wrong.{Wrong}
+use Rattle.script_reader.specs.declared.fault.ScriptLineFault.{ScriptLineFault}
 use Rattle.script_reader.specs.declared.lines.LinesError.{LinesError}
 use Rattle.script_reader.specs.declared.lines.LinesError.TheVariants as unread
 use Rattle.script_reader.specs.Numbers.{Words}
@@ -18,7 +18,7 @@ is_comment (b ∷ bs) = b == 35
 
 -- the act that the words of a line spell, by the forms of its first word; None without words, and
 -- for a comment
-abbrev pub act_by_forms : {A : Type 0} → (List ℕ → Words → Result A Wrong) → Words → Result (Option A) Wrong
+abbrev pub act_by_forms : {A : Type 0} → (List ℕ → Words → Result A ScriptLineFault) → Words → Result (Option A) ScriptLineFault
 act_by_forms forms [] = Ok None
 act_by_forms forms (name ∷ words) = if is_comment name then Ok None else (do
   act ← forms name words
@@ -28,7 +28,7 @@ act_by_forms forms (name ∷ words) = if is_comment name then Ok None else (do
 -- occur only once, and the line with this number and act. The flag of `forms` is true if an earlier
 -- line has the act that may occur only once.
 pub record ScriptKind (A L : Type 0) : Type 0 where
-  pub forms : Bool → List ℕ → Words → Result A Wrong
+  pub forms : Bool → List ℕ → Words → Result A ScriptLineFault
   pub is_once : A → Bool
   pub line : ℕ → A → L
 
@@ -39,7 +39,7 @@ has_once_command kind false None = false
 has_once_command kind false (Some act) = kind.is_once act
 
 -- the act of the line with this text, if it has a command
-abbrev pub read_line : {A L : Type 0} → ScriptKind A L → Bool → List ℕ → Result (Option A) Wrong
+abbrev pub read_line : {A L : Type 0} → ScriptKind A L → Bool → List ℕ → Result (Option A) ScriptLineFault
 read_line kind seen text = act_by_forms (kind.forms seen) (words_in separators.Script text)
 
 -- the line with this number, if it has a command
@@ -48,19 +48,19 @@ script_line_at kind number act = option_map (kind.line number) act
 
 -- the lines with these texts; the first of them has this number. The fault is the number of the
 -- lowest line that has one, and what is wrong with it.
-abbrev pub script_lines_from : {A L : Type 0} → ScriptKind A L → Bool → ℕ → List (List ℕ) → Result (List L) (ℕ × Wrong)
+abbrev pub script_lines_from : {A L : Type 0} → ScriptKind A L → Bool → ℕ → List (List ℕ) → Result (List L) (ℕ × ScriptLineFault)
 script_lines_from kind seen number [] = Ok []
 script_lines_from kind seen number (text ∷ texts) = do
-  act ← with_error (λ wrong. (number, wrong)) (read_line kind seen text)
+  act ← map_error (λ wrong. (number, wrong)) (read_line kind seen text)
   lines ← script_lines_from kind (has_once_command kind seen act) (number + 1) texts
   Ok (cons_option (script_line_at kind number act) lines)
 
 -- the lines of a script end with newlines; if the script ends with one, the empty text after it is
 -- a line without words
-abbrev pub lines_of : {A L : Type 0} → ScriptKind A L → List ℕ → Result (List L) (ℕ × Wrong)
+abbrev pub lines_of : {A L : Type 0} → ScriptKind A L → List ℕ → Result (List L) (ℕ × ScriptLineFault)
 lines_of kind bytes = script_lines_from kind false 1 (parts_in (separators.Byte 10) bytes)
 
 -- if the error is a fault of a line, that fault is one of those that the first argument allows
-abbrev pub CanBe : (Wrong → Type 0) → LinesError → Type 0
-CanBe MayBeWrong (unread.Faulty line wrong) = MayBeWrong wrong
-CanBe MayBeWrong unread.Memory = Unit {0}
+abbrev pub IsAllowedError : (ScriptLineFault → Type 0) → LinesError → Type 0
+IsAllowedError MayBeWrong (unread.Faulty line wrong) = MayBeWrong wrong
+IsAllowedError MayBeWrong unread.Memory = Unit {0}

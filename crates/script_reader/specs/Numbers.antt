@@ -6,43 +6,43 @@ use Rattle.bm_base.specs.Range.{RangeView}
 use Rattle.bm_base.specs.ResultSteps.{◌>>=◌}
 use Rattle.bm_base.specs.Size.{size_of}
 use Rattle.bm_base.specs.declared.size.NumFault.{NumFault}
-use Rattle.script_reader.specs.declared.fault.Wrong.{Wrong}
-use Rattle.script_reader.specs.declared.fault.Wrong.TheVariants as wrong
+use Rattle.script_reader.specs.declared.fault.ScriptLineFault.{ScriptLineFault}
+use Rattle.script_reader.specs.declared.fault.ScriptLineFault.TheVariants as wrong
 
 -- the words of a line, or of the rest of one
 abbrev pub Words : Type 0
 Words = List (List ℕ)
 
 -- the faults that words and numbers by themselves can have
-abbrev pub IsOfWords : Wrong → Type 0
-IsOfWords w = (w ≡ wrong.Form) ⊎ (w ≡ wrong.Number)
+abbrev pub IsWordFault : ScriptLineFault → Type 0
+IsWordFault w = (w ≡ wrong.Form) ⊎ (w ≡ wrong.Number)
 
 -- checks that no word is left
-abbrev pub expect_no_words : Words → Result (Unit {0}) Wrong
+abbrev pub expect_no_words : Words → Result (Unit {0}) ScriptLineFault
 expect_no_words [] = Ok tt
 expect_no_words (w ∷ ws) = Err wrong.Form
 
 -- the first word, and the words after it
-abbrev pub first_word : Words → Result (List ℕ × Words) Wrong
+abbrev pub first_word : Words → Result (List ℕ × Words) ScriptLineFault
 first_word [] = Err wrong.Form
 first_word (w ∷ ws) = Ok (w, ws)
 
 -- the only word
-abbrev pub one_word : Words → Result (List ℕ) Wrong
+abbrev pub one_word : Words → Result (List ℕ) ScriptLineFault
 one_word words = do
   first ← first_word words
   none ← expect_no_words first.1
   Ok first.0
 
 -- the two words, if there are exactly two
-abbrev pub two_words : Words → Result (List ℕ × List ℕ) Wrong
+abbrev pub two_words : Words → Result (List ℕ × List ℕ) ScriptLineFault
 two_words words = do
   first ← first_word words
   second ← one_word first.1
   Ok (first.0, second)
 
 -- the three words, if there are exactly three
-abbrev pub three_words : Words → Result (List ℕ × List ℕ × List ℕ) Wrong
+abbrev pub three_words : Words → Result (List ℕ × List ℕ × List ℕ) ScriptLineFault
 three_words words = do
   first ← first_word words
   others ← two_words first.1
@@ -56,39 +56,39 @@ word_after_key key (w ∷ []) = (None, w ∷ [])
 word_after_key key (w ∷ v ∷ ws) = if bytes_eq w key then (Some v, ws) else (None, w ∷ v ∷ ws)
 
 -- the number that was found at the start of a word, if it takes the whole word
-abbrev pub number_if_whole : List ℕ → Result (ℕ × ℕ) NumFault → Result ℕ Wrong
+abbrev pub number_if_whole : List ℕ → Result (ℕ × ℕ) NumFault → Result ℕ ScriptLineFault
 number_if_whole word (Ok found) = if found.1 == length word then Ok found.0 else Err wrong.Number
 number_if_whole word (Err fault) = Err wrong.Number
 
 -- the number that the whole word spells: a size in bytes, with an optional suffix
-abbrev pub number_in_word : List ℕ → Result ℕ Wrong
+abbrev pub number_in_word : List ℕ → Result ℕ ScriptLineFault
 number_in_word word = number_if_whole word (size_of word)
 
 -- the number, if it is at most `most`
-abbrev pub number_if_within : ℕ → ℕ → Result ℕ Wrong
+abbrev pub number_if_within : ℕ → ℕ → Result ℕ ScriptLineFault
 number_if_within most n = if nat_le n most then Ok n else Err wrong.Number
 
 -- the number that the whole word spells, if it is at most `most`
-abbrev pub number_within : ℕ → List ℕ → Result ℕ Wrong
+abbrev pub number_within : ℕ → List ℕ → Result ℕ ScriptLineFault
 number_within most word = do
   n ← number_in_word word
   number_if_within most n
 
 -- a number that may be missing
-abbrev pub optional_number : ℕ → Option (List ℕ) → Result (Option ℕ) Wrong
+abbrev pub optional_number : ℕ → Option (List ℕ) → Result (Option ℕ) ScriptLineFault
 optional_number most None = Ok None
 optional_number most (Some word) = do
   n ← number_within most word
   Ok (Some n)
 
 -- the alignment, if it is a power of two
-abbrev pub check_power_of_two : ℕ → Result ℕ Wrong
+abbrev pub check_power_of_two : ℕ → Result ℕ ScriptLineFault
 check_power_of_two n = if is_power_of_two n then Ok n else Err wrong.Align
 
 -- the size, if it isn't 0
-abbrev pub check_not_zero : ℕ → Result ℕ Wrong
+abbrev pub check_not_zero : ℕ → Result ℕ ScriptLineFault
 check_not_zero n = if n == 0 then Err wrong.ZeroSize else Ok n
 
 -- the range of `size` bytes from `base` on, if both together are at most 2^64 - 1
-abbrev pub range_or_fault : ℕ → ℕ → Result RangeView Wrong
+abbrev pub range_or_fault : ℕ → ℕ → Result RangeView ScriptLineFault
 range_or_fault base size = if nat_lt (base + size) (2 ^ 64) then Ok (record { base = base; size = size }) else Err wrong.TooFar

@@ -1,18 +1,18 @@
 -- A whole early script: its lines, or the fault of the lowest line that has one.
 use Rattle.std.specs.Prelude.{ℕ, Bool, true, false, List, Result}
-use Rattle.bm_base.specs.ResultSteps.{with_error}
+use Rattle.bm_base.specs.ResultSteps.{map_error}
 use Rattle.script_reader.specs.declared.act.Act.{Act}
 use Rattle.script_reader.specs.declared.act.Act.TheVariants as acts
 use Rattle.script_reader.specs.declared.act.Line.{Line}
-use Rattle.script_reader.specs.declared.fault.Wrong.{Wrong}
-use Rattle.script_reader.specs.declared.fault.Wrong.TheVariants as wrong
+use Rattle.script_reader.specs.declared.fault.ScriptLineFault.{ScriptLineFault}
+use Rattle.script_reader.specs.declared.fault.ScriptLineFault.TheVariants as wrong
 use Rattle.script_reader.specs.declared.fault.ScriptFault.{ScriptFault}
 use Rattle.script_reader.specs.declared.fault.ScriptFault.TheVariants as faults
 use Rattle.script_reader.specs.Forms.{act_by_name}
 use Rattle.script_reader.specs.Lines.{ScriptKind, lines_of}
 
 -- the fault of a script for what is wrong with the line of this number
-abbrev pub script_fault_at : ℕ → Wrong → ScriptFault
+abbrev pub script_fault_at : ℕ → ScriptLineFault → ScriptFault
 script_fault_at line wrong.Form = faults.BadLine line
 script_fault_at line wrong.Number = faults.BadNumber line
 script_fault_at line wrong.Align = faults.BadAlign line
@@ -36,4 +36,4 @@ script_lines = record { forms = act_by_name; is_once = is_sections; line = λ nu
 
 -- the lines of a script, or the fault of the lowest line that has one
 abbrev pub script_of : List ℕ → Result (List Line) ScriptFault
-script_of bytes = with_error (λ at. script_fault_at at.0 at.1) (lines_of script_lines bytes)
+script_of bytes = map_error (λ at. script_fault_at at.0 at.1) (lines_of script_lines bytes)

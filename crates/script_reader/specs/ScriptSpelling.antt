@@ -7,7 +7,7 @@ use Rattle.text_words.specs.declared.separators.Separators.TheVariants.{Script}
 use Rattle.script_reader.specs.declared.act.Act.{Act}
 use Rattle.script_reader.specs.declared.act.Act.TheVariants as acts
 use Rattle.script_reader.specs.declared.act.Line.{Line}
-use Rattle.script_reader.specs.declared.fault.Wrong.{Wrong}
+use Rattle.script_reader.specs.declared.fault.ScriptLineFault.{ScriptLineFault}
 use Rattle.script_reader.specs.declared.fault.ScriptFault.{ScriptFault}
 use Rattle.script_reader.specs.Numbers.{Words}
 use Rattle.script_reader.specs.Lines.{script_line_at}
@@ -26,7 +26,7 @@ LineHasAct earlier text (Some act) =
     (words : Words) × HasWords Script text words × SpellsAct words act × (act ≡ acts.Sections → ¬ (HasSectionsLine earlier))
 
 -- after the earlier lines, this line has this fault
-pub record LineHasFault (earlier : List (List ℕ)) (text : List ℕ) (wrong : Wrong) : Type 0 where
+pub record LineHasFault (earlier : List (List ℕ)) (text : List ℕ) (wrong : ScriptLineFault) : Type 0 where
   pub words : Words
   pub spelled : HasWords Script text words
   pub seen : Bool
@@ -50,6 +50,6 @@ pub record IsFirstLineFault (earlier texts : List (List ℕ)) (fault : ScriptFau
   pub lines : texts ≡ before ++ (text ∷ after)
   pub acts : List Line
   pub faultless : LinesHaveActs earlier before acts
-  pub wrong : Wrong
+  pub wrong : ScriptLineFault
   pub at_fault : LineHasFault (earlier ++ before) text wrong
   pub named : fault ≡ script_fault_at (length (earlier ++ before) + 1) wrong

@@ -5,8 +5,8 @@ use Rattle.std.specs.Int.{is_power_of_two}
 use Rattle.std.specs.Option.{option_map}
 use Rattle.script_reader.specs.declared.act.Act.{Act}
 use Rattle.script_reader.specs.declared.act.Act.TheVariants as acts
-use Rattle.script_reader.specs.declared.fault.Wrong.{Wrong}
-use Rattle.script_reader.specs.declared.fault.Wrong.TheVariants as wrong
+use Rattle.script_reader.specs.declared.fault.ScriptLineFault.{ScriptLineFault}
+use Rattle.script_reader.specs.declared.fault.ScriptLineFault.TheVariants as wrong
 use Rattle.script_reader.specs.Numbers.{Words}
 use Rattle.script_reader.specs.Forms.{greatest_u64, greatest_id, greatest_node, greatest_byte, greatest_len}
 use Rattle.script_reader.specs.Grammar.{IsWithin, value_of_word, Grammar, SpellsNumbers}
@@ -50,10 +50,10 @@ words_of_form (peek address len) = codes "peek" ∷ address ∷ len ∷ []
 words_of_form sections = codes "sections" ∷ []
 
 -- the word for the node's number, if a node is named
-abbrev pub node_number : NodeWords → Option (List ℕ)
-node_number no_node = None
-node_number (near_node node) = Some node
-node_number (exact_node node) = Some node
+abbrev pub node_number_word : NodeWords → Option (List ℕ)
+node_number_word no_node = None
+node_number_word (near_node node) = Some node
+node_number_word (exact_node node) = Some node
 
 -- `exact` follows the number of the node
 abbrev pub is_exact : NodeWords → Bool
@@ -64,7 +64,7 @@ is_exact (exact_node node) = true
 -- each number of the form is a size within its limit
 abbrev pub HasLineNumbers : LineForm → Type 0
 HasLineNumbers (alloc id size align min max node) = IsWithin greatest_id id × IsWithin greatest_u64 size × IsWithin greatest_u64 align
-    × IfSome min (IsWithin greatest_u64) × IfSome max (IsWithin greatest_u64) × IfSome (node_number node) (IsWithin greatest_node)
+    × IfSome min (IsWithin greatest_u64) × IfSome max (IsWithin greatest_u64) × IfSome (node_number_word node) (IsWithin greatest_node)
 HasLineNumbers (reserve id base size) = IsWithin greatest_id id × IsWithin greatest_u64 base × IsWithin greatest_u64 size
 HasLineNumbers (free id) = IsWithin greatest_id id
 HasLineNumbers (trim id keep) = IsWithin greatest_id id × IsWithin greatest_u64 keep
@@ -80,7 +80,7 @@ act_of_form (alloc id size align min max node) = acts.Alloc (value_of_word id) (
   align = value_of_word align;
   min = unwrap_or (option_map value_of_word min) 0;
   max = option_map value_of_word max;
-  node = option_map value_of_word (node_number node);
+  node = option_map value_of_word (node_number_word node);
   exact = is_exact node;
 })
 act_of_form (reserve id base size) = acts.Reserve (value_of_word id) (record { base = value_of_word base; size = value_of_word size })
@@ -121,7 +121,7 @@ pub record SpellsAct (words : Words) (act : Act) : Type 0 where
   pub in_space : IsInSpace act
 
 -- the first condition that this act doesn't meet; `seen` is true if an earlier line is `sections`
-abbrev pub Fails : Bool → Act → Wrong → Type 0
+abbrev pub Fails : Bool → Act → ScriptLineFault → Type 0
 Fails seen act wrong.Form = ⊥
 Fails seen act wrong.Number = ⊥
 Fails seen act wrong.Align = ¬ (IsAligned act)

@@ -4,7 +4,7 @@
 
 /// What is wrong with a line. If several apply, the first of this list is reported.
 #[derive(Clone, Copy, Debug, PartialEq, Eq)]
-pub enum Wrong {
+pub enum ScriptLineFault {
     /// The words have the form of no command, whatever their numbers are.
     Form,
     /// A word isn't entirely a number, or the number is above its limit.

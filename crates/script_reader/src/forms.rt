@@ -8,7 +8,7 @@ ghost use Rattle.text_words.specs.declared.separators.Separators.TheVariants as 
 ghost use Rattle.script_reader.specs.Forms.{alloc_words, optional_exact, alloc_line, reserve_line, free_line, trim_line, fill_line, peek_line, sections_line, act_by_name, HasBounds};
 
 use crate::act::Act;
-use crate::fault::Wrong;
+use crate::fault::ScriptLineFault;
 use crate::words::{
     check_not_zero, check_power_of_two, expect_no_words, first_word, number_in_word, number_within,
     one_word, optional_number, range_or_fault, three_words, two_words, word_after_key,
@@ -24,7 +24,7 @@ use text_words::{Separators, next_word};
 ///
 /// - `Form`: there is no command of this name, or the words don't have its form.
 /// - Any other fault of the words.
-pub fn act_by_name(seen: bool, name: &[u8], rest: &[u8]) -> Result<Act, Wrong>
+pub fn act_by_name(seen: bool, name: &[u8], rest: &[u8]) -> Result<Act, ScriptLineFault>
     ensures value { result ≡ act_by_name seen name.now (words_in separators.Script rest.now) }
     ensures bounds { IfOk result HasBounds }
 {
@@ -49,7 +49,7 @@ pub fn act_by_name(seen: bool, name: &[u8], rest: &[u8]) -> Result<Act, Wrong>
     if name == b"sections".as_slice() {
         return sections_line(seen, rest);
     }
-    Err(Wrong::Form)
+    Err(ScriptLineFault::Form)
 }
 
 /// The words after `alloc`. An optional word is `None` if the line lacks it.
@@ -70,7 +70,7 @@ struct AllocWords<'a> {
 /// # Errors
 ///
 /// - `Form`: the words don't have this form.
-fn alloc_words(text: &[u8]) -> Result<AllocWords<'_>, Wrong>
+fn alloc_words(text: &[u8]) -> Result<AllocWords<'_>, ScriptLineFault>
     ensures { MatchResult result
         (λ said. alloc_words (words_in separators.Script text.now) ≡ Ok (record {
           id = said.id.now;
@@ -124,7 +124,7 @@ fn optional_exact<'a>(node: Option<&'a [u8]>, text: &'a [u8]) -> (bool, &'a [u8]
 /// # Errors
 ///
 /// - The first fault of the words: `Form`, `Number`, `Align` or `ZeroSize`.
-fn alloc_line(text: &[u8]) -> Result<Act, Wrong>
+fn alloc_line(text: &[u8]) -> Result<Act, ScriptLineFault>
     ensures value { result ≡ alloc_line (words_in separators.Script text.now) }
     ensures bounds { IfOk result HasBounds }
 {
@@ -165,7 +165,7 @@ const GREATEST_LEN: u64 = 64;
 /// # Errors
 ///
 /// - The first fault of the words: `Form`, `Number`, `ZeroSize` or `TooFar`.
-fn reserve_line(text: &[u8]) -> Result<Act, Wrong>
+fn reserve_line(text: &[u8]) -> Result<Act, ScriptLineFault>
     ensures value { result ≡ reserve_line (words_in separators.Script text.now) }
     ensures bounds { IfOk result HasBounds }
 {
@@ -182,7 +182,7 @@ fn reserve_line(text: &[u8]) -> Result<Act, Wrong>
 /// # Errors
 ///
 /// - The first fault of the words: `Form` or `Number`.
-fn free_line(text: &[u8]) -> Result<Act, Wrong>
+fn free_line(text: &[u8]) -> Result<Act, ScriptLineFault>
     ensures value { result ≡ free_line (words_in separators.Script text.now) }
     ensures bounds { IfOk result HasBounds }
 {
@@ -195,7 +195,7 @@ fn free_line(text: &[u8]) -> Result<Act, Wrong>
 /// # Errors
 ///
 /// - The first fault of the words: `Form`, `Number` or `ZeroSize`.
-fn trim_line(text: &[u8]) -> Result<Act, Wrong>
+fn trim_line(text: &[u8]) -> Result<Act, ScriptLineFault>
     ensures value { result ≡ trim_line (words_in separators.Script text.now) }
     ensures bounds { IfOk result HasBounds }
 {
@@ -210,7 +210,7 @@ fn trim_line(text: &[u8]) -> Result<Act, Wrong>
 /// # Errors
 ///
 /// - The first fault of the words: `Form` or `Number`.
-fn fill_line(text: &[u8]) -> Result<Act, Wrong>
+fn fill_line(text: &[u8]) -> Result<Act, ScriptLineFault>
     ensures value { result ≡ fill_line (words_in separators.Script text.now) }
     ensures bounds { IfOk result HasBounds }
 {
@@ -225,7 +225,7 @@ fn fill_line(text: &[u8]) -> Result<Act, Wrong>
 /// # Errors
 ///
 /// - The first fault of the words: `Form`, `Number`, `ZeroSize` or `TooFar`.
-fn peek_line(text: &[u8]) -> Result<Act, Wrong>
+fn peek_line(text: &[u8]) -> Result<Act, ScriptLineFault>
     ensures value { result ≡ peek_line (words_in separators.Script text.now) }
     ensures bounds { IfOk result HasBounds }
 {
@@ -245,13 +245,13 @@ fn peek_line(text: &[u8]) -> Result<Act, Wrong>
 ///
 /// - `Form`: a word follows.
 /// - `SecondSections`: no word follows, and `seen` is true.
-fn sections_line(seen: bool, text: &[u8]) -> Result<Act, Wrong>
+fn sections_line(seen: bool, text: &[u8]) -> Result<Act, ScriptLineFault>
     ensures value { result ≡ sections_line seen (words_in separators.Script text.now) }
     ensures bounds { IfOk result HasBounds }
 {
     expect_no_words(text)?;
     if seen {
-        return Err(Wrong::SecondSections);
+        return Err(ScriptLineFault::SecondSections);
     }
     Ok(Act::Sections)
 }

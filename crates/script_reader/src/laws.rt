@@ -8,7 +8,7 @@ ghost use Rattle.text_words.specs.declared.separators.Separators.TheVariants.{Sc
 ghost use Rattle.script_reader.specs.declared.act.Act.{Act as AnyAct};
 ghost use Rattle.script_reader.specs.declared.act.Act.TheVariants as acts;
 ghost use Rattle.script_reader.specs.declared.act.Line.{Line as AnyLine};
-ghost use Rattle.script_reader.specs.declared.fault.Wrong.{Wrong as AnyWrong};
+ghost use Rattle.script_reader.specs.declared.fault.ScriptLineFault.{ScriptLineFault as AnyWrong};
 ghost use Rattle.script_reader.specs.declared.fault.ScriptFault.{ScriptFault as AnyFault};
 ghost use Rattle.script_reader.specs.Numbers.{Words};
 ghost use Rattle.script_reader.specs.Lines.{read_line};

@@ -43,7 +43,7 @@ mod script;
 mod words;
 
 pub use act::{Act, Line};
-pub use fault::{ScriptFault, Wrong};
+pub use fault::{ScriptFault, ScriptLineFault};
 pub use forms::{GREATEST_ID, GREATEST_NODE};
 pub use laws::{each_line_has_its_words, lines_of_spelling, scripts_of_spelling};
 pub use lines::{LinesError, ScriptLine, read_lines};

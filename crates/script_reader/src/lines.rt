@@ -6,12 +6,12 @@
 
 ghost use Rattle.std.specs.Prelude.{◌≡◌, ℕ, ◌<◌, ◌^◌, ◌++◌, length, All, option_to_list, Err, IfOk, IfErr, IsErr, IsSome, IfSome, IsOkAnd, ◌⊎◌};
 ghost use Rattle.bm_base.specs.Answers.{Answers};
-ghost use Rattle.bm_base.specs.ResultSteps.{with_error};
+ghost use Rattle.bm_base.specs.ResultSteps.{map_error};
 ghost use Rattle.text_words.specs.Words.{words_in};
 ghost use Rattle.text_words.specs.declared.separators.Separators.TheVariants as separators;
-ghost use Rattle.script_reader.specs.Lines.{ScriptKind, CanBe, read_line, has_once_command, script_line_at as line_of, lines_of};
+ghost use Rattle.script_reader.specs.Lines.{ScriptKind, IsAllowedError, read_line, has_once_command, script_line_at as line_of, lines_of};
 
-use crate::fault::Wrong;
+use crate::fault::ScriptLineFault;
 use crate::words::is_comment;
 use bm_base::Memory;
 use std::alloc::Global;
@@ -19,7 +19,7 @@ use text_words::{Separators, next_part, next_word};
 
 /// A line with a command. Each kind of script has its own type of lines.
 pub trait ScriptLine: Copy {
-    ghost use Rattle.script_reader.specs.declared.fault.Wrong.{Wrong};
+    ghost use Rattle.script_reader.specs.declared.fault.ScriptLineFault.{ScriptLineFault};
 
     type Act: Copy;
 
@@ -29,7 +29,7 @@ pub trait ScriptLine: Copy {
 
     ghost IsWithinLimits: { Self → Type 0 };
 
-    ghost MayBeWrong: { Wrong → Type 0 };
+    ghost MayBeWrong: { ScriptLineFault → Type 0 };
 
     /// Returns the command of a line. `name` is its first word, and `rest` the text after that.
     /// `seen` is true if an earlier line has a command that may occur only once.
@@ -38,7 +38,7 @@ pub trait ScriptLine: Copy {
     ///
     /// - `Form`: there is no command of this name, or the words don't have its form.
     /// - Any other fault of the words.
-    fn by_name(seen: bool, name: &[u8], rest: &[u8]) -> Result<Self::Act, Wrong>
+    fn by_name(seen: bool, name: &[u8], rest: &[u8]) -> Result<Self::Act, ScriptLineFault>
         ensures value { result ≡ kind.forms seen name.now (words_in separators.Script rest.now) }
         ensures limits { IfOk result (λ act. (number : ℕ) → IsWithinLimits (kind.line number act)) }
         ensures wrong { IfErr result MayBeWrong };
@@ -56,7 +56,7 @@ pub trait ScriptLine: Copy {
 #[derive(Clone, Copy, Debug, PartialEq, Eq)]
 pub enum LinesError {
     /// The number of the lowest line that has a fault, from 1 on, and what is wrong with it.
-    Faulty(u32, Wrong),
+    Faulty(u32, ScriptLineFault),
     /// The program ran out of memory. This is returned only if no line has a fault.
     Memory,
 }
@@ -85,11 +85,11 @@ impl From<Memory> for LinesError {
 pub fn read_lines<L: ScriptLine>(alloc: Global, bytes: &[u8]) -> Result<Vec<L>, LinesError>
     requires { length bytes.now < 2 ^ 32 }
     ensures answers { Answers LinesError.Memory (λ lines. lines.items) result
-        (with_error (λ at. LinesError.Faulty at.0 at.1) (lines_of L.kind bytes.now)) }
+        (map_error (λ at. LinesError.Faulty at.0 at.1) (lines_of L.kind bytes.now)) }
     ensures memory { result ≡ Err LinesError.Memory →
         IsOkAnd (lines_of L.kind bytes.now) (λ lines. 0 < length lines) }
     ensures limits { IfOk result (λ lines. All L.IsWithinLimits lines.items) }
-    ensures wrong { IfErr result (CanBe L.MayBeWrong) }
+    ensures wrong { IfErr result (IsAllowedError L.MayBeWrong) }
 {
     let mut lines = Ok(Vec::new(alloc));
     let mut seen = false;
@@ -113,8 +113,8 @@ pub fn read_lines<L: ScriptLine>(alloc: Global, bytes: &[u8]) -> Result<Vec<L>, 
 ///
 /// # Errors
 ///
-/// - The first fault of the line, in the order of [`Wrong`].
-fn read_line<L: ScriptLine>(seen: bool, text: &[u8]) -> Result<Option<L::Act>, Wrong>
+/// - The first fault of the line, in the order of [`ScriptLineFault`].
+fn read_line<L: ScriptLine>(seen: bool, text: &[u8]) -> Result<Option<L::Act>, ScriptLineFault>
     ensures value { result ≡ read_line L.kind seen text.now }
     ensures limits { IfOk result (λ act. IfSome act
         (λ act. (number : ℕ) → L.IsWithinLimits (L.kind.line number act))) }

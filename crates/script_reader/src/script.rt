@@ -6,7 +6,7 @@ ghost use Rattle.script_reader.specs.Forms.{HasBounds};
 ghost use Rattle.script_reader.specs.Script.{script_fault_at, script_of};
 
 use crate::act::{Act, Line};
-use crate::fault::{ScriptFault, Wrong};
+use crate::fault::{ScriptFault, ScriptLineFault};
 use crate::forms::act_by_name;
 use crate::lines::{LinesError, ScriptLine, read_lines};
 use std::alloc::Global;
@@ -23,7 +23,7 @@ impl ScriptLine for Line {
 
     ghost MayBeWrong = { λ _. Unit {0} };
 
-    fn by_name(seen: bool, name: &[u8], rest: &[u8]) -> Result<Act, Wrong> {
+    fn by_name(seen: bool, name: &[u8], rest: &[u8]) -> Result<Act, ScriptLineFault> {
         act_by_name(seen, name, rest)
     }
 
@@ -63,15 +63,15 @@ pub fn read_script(alloc: Global, bytes: &[u8]) -> Result<Vec<Line>, ScriptFault
 }
 
 /// Returns the fault of a script for what is wrong with the line of this number.
-fn script_fault_at(line: u32, wrong: Wrong) -> ScriptFault
+fn script_fault_at(line: u32, wrong: ScriptLineFault) -> ScriptFault
     ensures { result ≡ script_fault_at line wrong }
 {
     match wrong {
-        Wrong::Form => ScriptFault::BadLine { line },
-        Wrong::Number => ScriptFault::BadNumber { line },
-        Wrong::Align => ScriptFault::BadAlign { line },
-        Wrong::ZeroSize => ScriptFault::ZeroSize { line },
-        Wrong::SecondSections => ScriptFault::SecondSections { line },
-        Wrong::TooFar => ScriptFault::TooFar { line },
+        ScriptLineFault::Form => ScriptFault::BadLine { line },
+        ScriptLineFault::Number => ScriptFault::BadNumber { line },
+        ScriptLineFault::Align => ScriptFault::BadAlign { line },
+        ScriptLineFault::ZeroSize => ScriptFault::ZeroSize { line },
+        ScriptLineFault::SecondSections => ScriptFault::SecondSections { line },
+        ScriptLineFault::TooFar => ScriptFault::TooFar { line },
     }
 }

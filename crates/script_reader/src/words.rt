@@ -9,10 +9,10 @@ ghost use Rattle.std.specs.Int.{is_power_of_two};
 ghost use Rattle.std.specs.Option.{option_map};
 ghost use Rattle.text_words.specs.Words.{words_in};
 ghost use Rattle.text_words.specs.declared.separators.Separators.TheVariants as separators;
-ghost use Rattle.script_reader.specs.Numbers.{IsOfWords, expect_no_words, first_word, one_word, two_words, three_words, word_after_key, number_in_word, number_within, optional_number, check_power_of_two, check_not_zero, range_or_fault};
+ghost use Rattle.script_reader.specs.Numbers.{IsWordFault, expect_no_words, first_word, one_word, two_words, three_words, word_after_key, number_in_word, number_within, optional_number, check_power_of_two, check_not_zero, range_or_fault};
 ghost use Rattle.script_reader.specs.Lines.{is_comment};
 
-use crate::fault::Wrong;
+use crate::fault::ScriptLineFault;
 use bm_base::{Range, read_size};
 use text_words::{Separators, next_word};
 
@@ -28,12 +28,12 @@ pub fn is_comment(word: &[u8]) -> bool
 /// # Errors
 ///
 /// - `Form`: there is another word.
-pub fn expect_no_words(text: &[u8]) -> Result<(), Wrong>
+pub fn expect_no_words(text: &[u8]) -> Result<(), ScriptLineFault>
     ensures value { result ≡ expect_no_words (words_in separators.Script text.now) }
-    ensures of_words { IfErr result IsOfWords }
+    ensures of_words { IfErr result IsWordFault }
 {
     match next_word(text, Separators::Script) {
-        Some(_) => Err(Wrong::Form),
+        Some(_) => Err(ScriptLineFault::Form),
         None => Ok(()),
     }
 }
@@ -43,14 +43,14 @@ pub fn expect_no_words(text: &[u8]) -> Result<(), Wrong>
 /// # Errors
 ///
 /// - `Form`: there is no word.
-pub fn first_word(text: &[u8]) -> Result<(&[u8], &[u8]), Wrong>
+pub fn first_word(text: &[u8]) -> Result<(&[u8], &[u8]), ScriptLineFault>
     ensures value { MatchResult result
         (λ found. first_word (words_in separators.Script text.now)
         ≡ Ok (found.0.now, words_in separators.Script found.1.now))
         (λ wrong. first_word (words_in separators.Script text.now) ≡ Err wrong) }
-    ensures of_words { IfErr result IsOfWords }
+    ensures of_words { IfErr result IsWordFault }
 {
-    next_word(text, Separators::Script).ok_or(Wrong::Form)
+    next_word(text, Separators::Script).ok_or(ScriptLineFault::Form)
 }
 
 /// Returns the only word.
@@ -58,11 +58,11 @@ pub fn first_word(text: &[u8]) -> Result<(&[u8], &[u8]), Wrong>
 /// # Errors
 ///
 /// - `Form`: there is no word, or more than one.
-pub fn one_word(text: &[u8]) -> Result<&[u8], Wrong>
+pub fn one_word(text: &[u8]) -> Result<&[u8], ScriptLineFault>
     ensures value { MatchResult result
         (λ word. one_word (words_in separators.Script text.now) ≡ Ok word.now)
         (λ wrong. one_word (words_in separators.Script text.now) ≡ Err wrong) }
-    ensures of_words { IfErr result IsOfWords }
+    ensures of_words { IfErr result IsWordFault }
 {
     let (word, rest) = first_word(text)?;
     expect_no_words(rest)?;
@@ -74,7 +74,7 @@ pub fn one_word(text: &[u8]) -> Result<&[u8], Wrong>
 /// # Errors
 ///
 /// - `Form`: there aren't exactly two words.
-pub fn two_words(text: &[u8]) -> Result<(&[u8], &[u8]), Wrong>
+pub fn two_words(text: &[u8]) -> Result<(&[u8], &[u8]), ScriptLineFault>
     ensures { MatchResult result
         (λ words. two_words (words_in separators.Script text.now) ≡ Ok (words.0.now, words.1.now))
         (λ wrong. two_words (words_in separators.Script text.now) ≡ Err wrong) }
@@ -89,7 +89,7 @@ pub fn two_words(text: &[u8]) -> Result<(&[u8], &[u8]), Wrong>
 /// # Errors
 ///
 /// - `Form`: there aren't exactly three words.
-pub fn three_words(text: &[u8]) -> Result<(&[u8], &[u8], &[u8]), Wrong>
+pub fn three_words(text: &[u8]) -> Result<(&[u8], &[u8], &[u8]), ScriptLineFault>
     ensures { MatchResult result
         (λ words. three_words (words_in separators.Script text.now)
         ≡ Ok (words.0.now, words.1.now, words.2.now))
@@ -123,13 +123,13 @@ pub fn word_after_key<'a>(key: &[u8], text: &'a [u8]) -> (Option<&'a [u8]>, &'a 
 /// # Errors
 ///
 /// - `Number`: the word isn't entirely a number.
-pub fn number_in_word(word: &[u8]) -> Result<u64, Wrong>
+pub fn number_in_word(word: &[u8]) -> Result<u64, ScriptLineFault>
     ensures value { result ≡ number_in_word word.now }
-    ensures of_words { IfErr result IsOfWords }
+    ensures of_words { IfErr result IsWordFault }
 {
     match read_size(word) {
         Ok((value, taken)) if taken == word.len() => Ok(value),
-        _ => Err(Wrong::Number),
+        _ => Err(ScriptLineFault::Number),
     }
 }
 
@@ -138,14 +138,14 @@ pub fn number_in_word(word: &[u8]) -> Result<u64, Wrong>
 /// # Errors
 ///
 /// - `Number`: the word isn't entirely a number, or the number is above `most`.
-pub fn number_within(most: u64, word: &[u8]) -> Result<u64, Wrong>
+pub fn number_within(most: u64, word: &[u8]) -> Result<u64, ScriptLineFault>
     ensures value { result ≡ number_within most word.now }
     ensures bound { IfOk result (λ n. n ≤ most) }
-    ensures of_words { IfErr result IsOfWords }
+    ensures of_words { IfErr result IsWordFault }
 {
     let value = number_in_word(word)?;
     if value > most {
-        return Err(Wrong::Number);
+        return Err(ScriptLineFault::Number);
     }
     Ok(value)
 }
@@ -155,7 +155,7 @@ pub fn number_within(most: u64, word: &[u8]) -> Result<u64, Wrong>
 /// # Errors
 ///
 /// - `Number`: the word isn't entirely a number, or the number is above `most`.
-pub fn optional_number(most: u64, word: Option<&[u8]>) -> Result<Option<u64>, Wrong>
+pub fn optional_number(most: u64, word: Option<&[u8]>) -> Result<Option<u64>, ScriptLineFault>
     ensures value { result ≡ optional_number most (option_map (λ word. word.now) word.entry) }
     ensures bound { IfOk result (λ found. (n : ℕ) → found ≡ Some n → n ≤ most) }
 {
@@ -170,12 +170,12 @@ pub fn optional_number(most: u64, word: Option<&[u8]>) -> Result<Option<u64>, Wr
 /// # Errors
 ///
 /// - `Align`: it isn't a power of two.
-pub fn check_power_of_two(value: u64) -> Result<u64, Wrong>
+pub fn check_power_of_two(value: u64) -> Result<u64, ScriptLineFault>
     ensures value { result ≡ check_power_of_two value }
     ensures power { IfOk result (λ n. IsTrue (is_power_of_two n)) }
 {
     if !value.is_power_of_two() {
-        return Err(Wrong::Align);
+        return Err(ScriptLineFault::Align);
     }
     Ok(value)
 }
@@ -185,12 +185,12 @@ pub fn check_power_of_two(value: u64) -> Result<u64, Wrong>
 /// # Errors
 ///
 /// - `ZeroSize`: it is 0.
-pub fn check_not_zero(value: u64) -> Result<u64, Wrong>
+pub fn check_not_zero(value: u64) -> Result<u64, ScriptLineFault>
     ensures value { result ≡ check_not_zero value }
     ensures some { IfOk result (λ n. 0 < n) }
 {
     if value == 0 {
-        return Err(Wrong::ZeroSize);
+        return Err(ScriptLineFault::ZeroSize);
     }
     Ok(value)
 }
@@ -200,8 +200,8 @@ pub fn check_not_zero(value: u64) -> Result<u64, Wrong>
 /// # Errors
 ///
 /// - `TooFar`: `base + size` exceeds 2^64 - 1.
-pub fn range_or_fault(base: u64, size: u64) -> Result<Range, Wrong>
+pub fn range_or_fault(base: u64, size: u64) -> Result<Range, ScriptLineFault>
     ensures { result ≡ range_or_fault base size }
 {
-    Range::new(base, size).ok_or(Wrong::TooFar)
+    Range::new(base, size).ok_or(ScriptLineFault::TooFar)
 }

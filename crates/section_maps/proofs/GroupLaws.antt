@@ -6,8 +6,8 @@ use Rattle.memblock_model.specs.declared.item.Item.{Item}
 use Rattle.memblock_grow.specs.declared.stop.Section.{Section}
 use Rattle.memblock_grow.specs.declared.stop.StageStop.{StageStop}
 use Rattle.memblock_grow.specs.declared.stop.StageStop.TheVariants as stop
-use Rattle.stage_steps.specs.Causes.{stage_stop}
-use Rattle.stage_steps.specs.Steps.{EndsAsStage, read_into_list, fold_steps}
+use Rattle.stage_steps.specs.Causes.{error_of_stage_cause}
+use Rattle.stage_steps.specs.Steps.{EndsAsStage, read_items_allocating, fold_steps}
 use Rattle.stage_steps.proofs.DoingLaws.{ends-second, ends-first, ends-listed, ends-wanting, ends-returns}
 use Rattle.section_maps.specs.declared.placed.Placed.{Placed}
 use Rattle.section_maps.specs.Maps.{SectionGroup, prepend_section, groups_of, place_group, place_section_group, place_maps}
@@ -53,8 +53,8 @@ groups-next s (t ∷ ts) =
 -- all groups end as those of the remaining sections
 pub record Goes (entry : List Item) (sections : List Section) (now : List Item) (placed : List Placed) (rest : List Section) : Type 0 where
   pub ends : (r : Result (List Placed) StageStop) (new : List Item)
-      → EndsAsStage (fold_steps place_section_group placed (groups_of rest)) stage_stop r now new
-      → EndsAsStage (place_maps sections) stage_stop r entry new
+      → EndsAsStage (fold_steps place_section_group placed (groups_of rest)) error_of_stage_cause r now new
+      → EndsAsStage (place_maps sections) error_of_stage_cause r entry new
 
 pub goes-first : (entry : List Item) (sections : List Section) (placed : List Placed) → placed ≡ []
     → Goes entry sections entry placed sections
@@ -63,51 +63,51 @@ goes-first entry sections placed none = record {
   ends = λ r new h.
       let groups : List SectionGroup = groups_of sections in
       let no_placed : List Item → List Placed = λ items. [] in
-      ends-second [] r stage_stop entry entry new (read_into_list no_placed) (λ before. fold_steps place_section_group before groups)
-      (ends-listed no_placed stage_stop entry)
+      ends-second [] r error_of_stage_cause entry entry new (read_items_allocating no_placed) (λ before. fold_steps place_section_group before groups)
+      (ends-listed no_placed error_of_stage_cause entry)
       (rw none at h);
 }
 
 -- out of memory for the list
 pub place_maps-wanting : (entry : List Item) (sections : List Section)
-    → EndsAsStage {A = List Placed} (place_maps sections) stage_stop (Err stop.Memory) entry entry
+    → EndsAsStage {A = List Placed} (place_maps sections) error_of_stage_cause (Err stop.Memory) entry entry
 unfolding place_maps
 place_maps-wanting entry sections =
     let no_placed : List Item → List Placed = λ items. [] in
-    ends-first stop.Memory stage_stop entry entry (read_into_list no_placed) (λ before.
+    ends-first stop.Memory error_of_stage_cause entry entry (read_items_allocating no_placed) (λ before.
     fold_steps place_section_group before (groups_of sections))
-    (ends-wanting no_placed stage_stop entry)
+    (ends-wanting no_placed error_of_stage_cause entry)
 
 -- no section remains, or a group comes next
 module _ {entry : List Item} {sections : List Section} {now : List Item} {placed : List Placed} where
   pub goes-all : (rest : List Section) → length rest ≡ 0 → Goes entry sections now placed rest
-      → EndsAsStage (place_maps sections) stage_stop (Ok placed) entry now
-  goes-all [] none goes = goes.ends (Ok placed) now (ends-returns placed stage_stop now)
+      → EndsAsStage (place_maps sections) error_of_stage_cause (Ok placed) entry now
+  goes-all [] none goes = goes.ends (Ok placed) now (ends-returns placed error_of_stage_cause now)
   goes-all (s ∷ ss) none goes = absurd (omega arith)
 
   front : (s : Section) (ss : List Section) → Goes entry sections now placed (s ∷ ss) → (r : Result (List Placed) StageStop)
       (new : List Item)
       → EndsAsStage
-      (fold_steps place_section_group placed (group_at s ss ∷ groups_of (drop (prefix_len (is_of s.node) ss) ss))) stage_stop r now new
-      → EndsAsStage (place_maps sections) stage_stop r entry new
+      (fold_steps place_section_group placed (group_at s ss ∷ groups_of (drop (prefix_len (is_of s.node) ss) ss))) error_of_stage_cause r now new
+      → EndsAsStage (place_maps sections) error_of_stage_cause r entry new
   front s ss goes r new h = goes.ends r new (rw (groups-next s ss) h)
 
   pub goes-next : (mid : List Item) (longer : List Placed) (rest : List Section) (d : Section) → 0 < length rest
-      → EndsAsStage (place_group placed (get_or rest 0 d) (take (own_part d rest) rest)) stage_stop (Ok longer) now mid
+      → EndsAsStage (place_group placed (get_or rest 0 d) (take (own_part d rest) rest)) error_of_stage_cause (Ok longer) now mid
       → Goes entry sections now placed rest → Goes entry sections mid longer (drop (own_part d rest) rest)
   goes-next mid longer [] d some was goes = absurd (omega arith)
   goes-next mid longer (s ∷ ss) d some was goes = record {
     ends = λ r new h. front s ss goes r new
-        (ends-second longer r stage_stop now mid new (place_section_group placed (group_at s ss))
+        (ends-second longer r error_of_stage_cause now mid new (place_section_group placed (group_at s ss))
         (λ next. fold_steps place_section_group next (groups_of (drop (prefix_len (is_of s.node) ss) ss))) (rw (own-length s ss) at was)
         (rw (own-length s ss) at h));
   }
 
   pub goes-stops : (e : StageStop) (new : List Item) (rest : List Section) (d : Section) → 0 < length rest
-      → EndsAsStage {A = List Placed} (place_group placed (get_or rest 0 d) (take (own_part d rest) rest)) stage_stop (Err e) now new
-      → Goes entry sections now placed rest → EndsAsStage {A = List Placed} (place_maps sections) stage_stop (Err e) entry new
+      → EndsAsStage {A = List Placed} (place_group placed (get_or rest 0 d) (take (own_part d rest) rest)) error_of_stage_cause (Err e) now new
+      → Goes entry sections now placed rest → EndsAsStage {A = List Placed} (place_maps sections) error_of_stage_cause (Err e) entry new
   goes-stops e new [] d some failed goes = absurd (omega arith)
   goes-stops e new (s ∷ ss) d some failed goes =
       front s ss goes (Err e) new
-      (ends-first e stage_stop now new (place_section_group placed (group_at s ss))
+      (ends-first e error_of_stage_cause now new (place_section_group placed (group_at s ss))
       (λ next. fold_steps place_section_group next (groups_of (drop (prefix_len (is_of s.node) ss) ss))) (rw (own-length s ss) at failed))

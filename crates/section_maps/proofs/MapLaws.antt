@@ -9,7 +9,7 @@ use Rattle.memblock_grow.specs.declared.stop.What.{What}
 use Rattle.memblock_grow.specs.declared.stop.What.TheVariants as what
 use Rattle.memblock_grow.specs.declared.stop.StageStop.{StageStop}
 use Rattle.memblock_grow.specs.declared.stop.StageStop.TheVariants as stop
-use Rattle.stage_steps.specs.Causes.{StageCause, stage_stop}
+use Rattle.stage_steps.specs.Causes.{StageCause, error_of_stage_cause}
 use Rattle.stage_steps.specs.Steps.{StageStep, EndsAsStage, return_value}
 use Rattle.stage_steps.specs.Requests.{place_or_stop, or_else}
 use Rattle.stage_steps.proofs.DoingLaws.{ends-second, ends-first, ends-returns}
@@ -49,8 +49,8 @@ consecutive_places-next usage map i ss d before now few so_far =
 pub record Goes (entry : List Item) (usage : ℕ) (first : List Placed) (sections : List Section) (now : List Item) (at : ℕ)
     (place_or_stop : List Placed) (rest : List Section) : Type 0 where
   pub ends : (r : Result (List Placed) StageStop) (new : List Item)
-      → EndsAsStage (place_each_map at place_or_stop rest) stage_stop r now new
-      → EndsAsStage (place_each_map usage first sections) stage_stop r entry new
+      → EndsAsStage (place_each_map at place_or_stop rest) error_of_stage_cause r now new
+      → EndsAsStage (place_each_map usage first sections) error_of_stage_cause r entry new
 
 -- the map of one section
 abbrev pub one_map : Section → StageStep StageCause ℕ
@@ -64,28 +64,28 @@ module _ {entry : List Item} {usage : ℕ} {first : List Placed} {sections : Lis
 
   pub goes-next : (i : ℕ) (d : Section) (mid : List Item) (map : ℕ) (longer : List Placed) → i < length sections
       → Goes entry usage first sections now at before (drop i sections)
-      → EndsAsStage (one_map (get_or sections i d)) stage_stop (Ok map) now mid
+      → EndsAsStage (one_map (get_or sections i d)) error_of_stage_cause (Ok map) now mid
       → longer ≡ before ++ placed_at at map (get_or sections i d) ∷ []
       → Goes entry usage first sections mid (at + 40) longer (drop (i + 1) sections)
   goes-next i d mid map longer few goes was is = record {
     ends = λ r new h. (left-at i d few goes).ends r new
-        (ends-second map r stage_stop now mid new (one_map (get_or sections i d))
+        (ends-second map r error_of_stage_cause now mid new (one_map (get_or sections i d))
         (λ map. place_each_map (at + 40) (before ++ placed_at at map (get_or sections i d) ∷ []) (drop (i + 1) sections)) was (rw is at h));
   }
 
   pub goes-stops : (e : StageStop) (i : ℕ) (d : Section) (new : List Item) → i < length sections
       → Goes entry usage first sections now at before (drop i sections)
-      → EndsAsStage {A = ℕ} (one_map (get_or sections i d)) stage_stop (Err e) now new
-      → EndsAsStage {A = List Placed} (place_each_map usage first sections) stage_stop (Err e) entry new
+      → EndsAsStage {A = ℕ} (one_map (get_or sections i d)) error_of_stage_cause (Err e) now new
+      → EndsAsStage {A = List Placed} (place_each_map usage first sections) error_of_stage_cause (Err e) entry new
   goes-stops e i d new few goes failed =
       (left-at i d few goes).ends (Err e) new
-      (ends-first e stage_stop now new (one_map (get_or sections i d))
+      (ends-first e error_of_stage_cause now new (one_map (get_or sections i d))
       (λ map. place_each_map (at + 40) (before ++ placed_at at map (get_or sections i d) ∷ []) (drop (i + 1) sections)) failed)
 
   pub goes-all : (i : ℕ) → length sections ≤ i → Goes entry usage first sections now at before (drop i sections)
-      → EndsAsStage (place_each_map usage first sections) stage_stop (Ok before) entry now
+      → EndsAsStage (place_each_map usage first sections) error_of_stage_cause (Ok before) entry now
   goes-all i all goes =
-      let here = rw (drop_all i sections all) at goes in here.ends (Ok before) now (ends-returns before stage_stop now)
+      let here = rw (drop_all i sections all) at goes in here.ends (Ok before) now (ends-returns before error_of_stage_cause now)
 
 -- the maps of a group in one buffer, or one by one
 abbrev pub maps_in : ℕ → List Placed → Section → List Section → StageStep StageCause (List Placed)
@@ -97,31 +97,31 @@ module _ (usage : ℕ) (before : List Placed) (first : Section) (sections : List
   one_buffer = place_or_stop (what.Map first.number) (map_request (length sections) first.node true) (owner.Map first.number)
 
   buffer-fails : (e : StageStop) (new : List Item)
-      → EndsAsStage {A = ℕ} (place_or_stop (what.Map first.number) q (owner.Map first.number)) stage_stop (Err e) old new
-      → EndsAsStage {A = List Placed} (place_map_buffer usage before first sections) stage_stop (Err e) old new
+      → EndsAsStage {A = ℕ} (place_or_stop (what.Map first.number) q (owner.Map first.number)) error_of_stage_cause (Err e) old new
+      → EndsAsStage {A = List Placed} (place_map_buffer usage before first sections) error_of_stage_cause (Err e) old new
   buffer-fails e new h =
-      ends-first e stage_stop old new one_buffer (λ map. return_value (before ++ consecutive_places usage map sections)) (rw asked at h)
+      ends-first e error_of_stage_cause old new one_buffer (λ map. return_value (before ++ consecutive_places usage map sections)) (rw asked at h)
 
   pub buffer-placed : (map : ℕ) (now : List Placed) (new : List Item) → now ≡ before ++ consecutive_places usage map sections
-      → EndsAsStage (place_or_stop (what.Map first.number) q (owner.Map first.number)) stage_stop (Ok map) old new
-      → EndsAsStage (maps_in usage before first sections) stage_stop (Ok now) old new
+      → EndsAsStage (place_or_stop (what.Map first.number) q (owner.Map first.number)) error_of_stage_cause (Ok map) old new
+      → EndsAsStage (maps_in usage before first sections) error_of_stage_cause (Ok now) old new
   buffer-placed map now new is h =
       else-first (place_map_buffer usage before first sections) (place_each_map usage before sections) old now new
-      (ends-second map (Ok now) stage_stop old new new one_buffer (λ map.
+      (ends-second map (Ok now) error_of_stage_cause old new new one_buffer (λ map.
       return_value (before ++ consecutive_places usage map sections)) (rw asked at h)
       (rw is refl, refl))
 
   pub buffer-stops : (e : StageStop) (new : List Item) → ((thing : What) → e ≢ stop.NoPlace thing)
-      → EndsAsStage {A = ℕ} (place_or_stop (what.Map first.number) q (owner.Map first.number)) stage_stop (Err e) old new
-      → EndsAsStage {A = List Placed} (maps_in usage before first sections) stage_stop (Err e) old new
+      → EndsAsStage {A = ℕ} (place_or_stop (what.Map first.number) q (owner.Map first.number)) error_of_stage_cause (Err e) old new
+      → EndsAsStage {A = List Placed} (maps_in usage before first sections) error_of_stage_cause (Err e) old new
   buffer-stops e new other h =
       else-stops (place_map_buffer usage before first sections) (place_each_map usage before sections) old e new other
       (buffer-fails e new h)
 
   pub buffer-each : (r : Result (List Placed) StageStop) (thing : What) (mid new : List Item)
-      → EndsAsStage {A = ℕ} (place_or_stop (what.Map first.number) q (owner.Map first.number)) stage_stop (Err (stop.NoPlace thing)) old mid
-      → EndsAsStage (place_each_map usage before sections) stage_stop r mid new
-      → EndsAsStage (maps_in usage before first sections) stage_stop r old new
+      → EndsAsStage {A = ℕ} (place_or_stop (what.Map first.number) q (owner.Map first.number)) error_of_stage_cause (Err (stop.NoPlace thing)) old mid
+      → EndsAsStage (place_each_map usage before sections) error_of_stage_cause r mid new
+      → EndsAsStage (maps_in usage before first sections) error_of_stage_cause r old new
   buffer-each r thing mid new h rest =
       else-second (place_map_buffer usage before first sections) (place_each_map usage before sections) old r thing mid new
       (buffer-fails (stop.NoPlace thing) mid h) rest
@@ -130,18 +130,18 @@ module _ (usage : ℕ) (before : List Placed) (first : Section) (sections : List
 module _ (before : List Placed) (first : Section) (sections : List Section) (q : Request) (old : List Item)
     (asked : q ≡ usage_request (length sections) first.node) where
   pub group-second : (r : Result (List Placed) StageStop) (usage : ℕ) (mid new : List Item)
-      → EndsAsStage (place_or_stop (what.Usage first.number) q (owner.Usage first.number)) stage_stop (Ok usage) old mid
-      → EndsAsStage (maps_in usage before first sections) stage_stop r mid new
-      → EndsAsStage (place_group before first sections) stage_stop r old new
+      → EndsAsStage (place_or_stop (what.Usage first.number) q (owner.Usage first.number)) error_of_stage_cause (Ok usage) old mid
+      → EndsAsStage (maps_in usage before first sections) error_of_stage_cause r mid new
+      → EndsAsStage (place_group before first sections) error_of_stage_cause r old new
   group-second r usage mid new was h =
-      ends-second usage r stage_stop old mid new
+      ends-second usage r error_of_stage_cause old mid new
       (place_or_stop (what.Usage first.number) (usage_request (length sections) first.node) (owner.Usage first.number))
       (λ usage. maps_in usage before first sections) (rw asked at was) h
 
   pub group-first : (e : StageStop) (new : List Item)
-      → EndsAsStage {A = ℕ} (place_or_stop (what.Usage first.number) q (owner.Usage first.number)) stage_stop (Err e) old new
-      → EndsAsStage {A = List Placed} (place_group before first sections) stage_stop (Err e) old new
+      → EndsAsStage {A = ℕ} (place_or_stop (what.Usage first.number) q (owner.Usage first.number)) error_of_stage_cause (Err e) old new
+      → EndsAsStage {A = List Placed} (place_group before first sections) error_of_stage_cause (Err e) old new
   group-first e new h =
-      ends-first e stage_stop old new
+      ends-first e error_of_stage_cause old new
       (place_or_stop (what.Usage first.number) (usage_request (length sections) first.node) (owner.Usage first.number))
       (λ usage. maps_in usage before first sections) (rw asked at h)

@@ -6,7 +6,7 @@ use Rattle.memblock_model.specs.declared.query.Request.{Request}
 use Rattle.memblock_grow.specs.declared.stop.Section.{Section}
 use Rattle.memblock_grow.specs.declared.stop.What.TheVariants as what
 use Rattle.stage_steps.specs.Causes.{StageCause}
-use Rattle.stage_steps.specs.Steps.{StageStep, ◌>>=◌, return_value, read_into_list, fold_steps}
+use Rattle.stage_steps.specs.Steps.{StageStep, ◌>>=◌, return_value, read_items_allocating, fold_steps}
 use Rattle.stage_steps.specs.Requests.{place_or_stop, or_else}
 use Rattle.section_maps.specs.declared.placed.Placed.{Placed}
 
@@ -73,4 +73,4 @@ place_section_group before g = place_group before g.first (sections_in g)
 
 -- a list with room for all sections, and then the groups in order
 unfoldable pub place_maps : List Section → StageStep StageCause (List Placed)
-place_maps sections = read_into_list (λ items. []) >>= λ none. fold_steps place_section_group none (groups_of sections)
+place_maps sections = read_items_allocating (λ items. []) >>= λ none. fold_steps place_section_group none (groups_of sections)

@@ -3,15 +3,15 @@
 
 ghost use Rattle.std.specs.Prelude.{◌≡◌, ◌+◌, ◌*◌, ◌^◌, ◌<◌, ◌≤◌, false, length, vec_len, vec_capacity};
 ghost use Rattle.memblock_model.specs.declared.owner.Owner.TheVariants as owner;
-ghost use Rattle.growth_model.specs.Tables.{HasBegun};
+ghost use Rattle.growth_model.specs.Tables.{HasFirstItem};
 ghost use Rattle.memblock_grow.specs.declared.stop.What.TheVariants as what;
-ghost use Rattle.stage_steps.specs.Causes.{stage_stop};
+ghost use Rattle.stage_steps.specs.Causes.{error_of_stage_cause};
 ghost use Rattle.stage_steps.specs.Steps.{EndsAsStage, view_of_result};
 ghost use Rattle.stage_steps.specs.Requests.{place_or_stop};
 ghost use Rattle.memblock_grow.specs.Continues.{ContinuesMemblock};
 ghost use Rattle.section_maps.specs.Maps.{map_request, place_each_map};
 
-use crate::placed::{Placed, push_placed};
+use crate::placed::{Placed, push_placed_section};
 use crate::requests::{USAGE_SIZE, map_request};
 use boot_journal::Owner;
 use memblock_grow::{Memblock, no_items_no_change};
@@ -19,9 +19,10 @@ use stage_steps::{Section, StageStop, What, place_or_stop};
 
 /// Allocates the map of one section, and returns its address.
 fn place_map(memblock: &mut Memblock, section: &Section) -> Result<u64, StageStop>
-    requires { HasBegun memblock.old.journal.items }
+    requires { HasFirstItem memblock.old.journal.items }
     ensures ends { EndsAsStage (place_or_stop (what.Map section.now.number)
-        (map_request 1 section.now.node false) (owner.Map section.now.number)) stage_stop result
+        (map_request 1 section.now.node false) (owner.Map section.now.number)) error_of_stage_cause
+        result
         memblock.old.journal.items memblock.new.journal.items }
     ensures goes_on { ContinuesMemblock memblock.old memblock.new }
 {
@@ -39,10 +40,11 @@ pub fn place_each_map(
     sections: &[Section],
     usage: u64,
 ) -> Result<(), StageStop>
-    requires begun { HasBegun memblock.old.journal.items }
+    requires begun { HasFirstItem memblock.old.journal.items }
     requires room { vec_len placed.old + length sections.now ≤ vec_capacity placed.old }
     requires usage { usage + 40 * length sections.now < 2 ^ 64 }
-    ensures ends { EndsAsStage (place_each_map usage placed.old.items sections.now) stage_stop
+    ensures ends { EndsAsStage (place_each_map usage placed.old.items sections.now)
+        error_of_stage_cause
         (view_of_result (λ _. placed.new.items) result)
         memblock.old.journal.items memblock.new.journal.items }
     ensures len { vec_len placed.new ≤ vec_len placed.old + length sections.now }
@@ -53,7 +55,7 @@ pub fn place_each_map(
     let mut at = usage;
     for section in sections {
         let map = place_map(memblock, section)?;
-        push_placed(placed, section, map, at);
+        push_placed_section(placed, section, map, at);
         at += USAGE_SIZE;
     }
     Ok(())

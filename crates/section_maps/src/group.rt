@@ -2,8 +2,8 @@
 
 ghost use Rattle.std.specs.Prelude.{◌≡◌, ℕ, ◌+◌, ◌*◌, ◌^◌, ◌<◌, ◌≤◌, ◌==◌, length, vec_len, vec_capacity};
 ghost use Rattle.std.specs.List.{prefix_len};
-ghost use Rattle.growth_model.specs.Tables.{HasBegun};
-ghost use Rattle.stage_steps.specs.Causes.{stage_stop};
+ghost use Rattle.growth_model.specs.Tables.{HasFirstItem};
+ghost use Rattle.stage_steps.specs.Causes.{error_of_stage_cause};
 ghost use Rattle.stage_steps.specs.Steps.{EndsAsStage, view_of_result};
 ghost use Rattle.stage_steps.specs.Requests.{or_else};
 ghost use Rattle.memblock_grow.specs.Continues.{ContinuesMemblock};
@@ -33,14 +33,14 @@ fn place_group_maps(
     sections: &[Section],
     usage: u64,
 ) -> Result<(), StageStop>
-    requires begun { HasBegun memblock.old.journal.items }
+    requires begun { HasFirstItem memblock.old.journal.items }
     requires some { 1 ≤ length sections.now }
     requires few { length sections.now ≤ 2 ^ 32 }
     requires room { vec_len placed.old + length sections.now ≤ vec_capacity placed.old }
     requires usage { usage + 40 * length sections.now < 2 ^ 64 }
     ensures ends { EndsAsStage
         (or_else (place_map_buffer usage placed.old.items first.now sections.now)
-        (place_each_map usage placed.old.items sections.now)) stage_stop
+        (place_each_map usage placed.old.items sections.now)) error_of_stage_cause
         (view_of_result (λ _. placed.new.items) result)
         memblock.old.journal.items memblock.new.journal.items }
     ensures len { vec_len placed.new ≤ vec_len placed.old + length sections.now }
@@ -66,11 +66,12 @@ pub fn place_group(
     first: &Section,
     sections: &[Section],
 ) -> Result<(), StageStop>
-    requires begun { HasBegun memblock.old.journal.items }
+    requires begun { HasFirstItem memblock.old.journal.items }
     requires some { 1 ≤ length sections.now }
     requires few { length sections.now ≤ 2 ^ 32 }
     requires room { vec_len placed.old + length sections.now ≤ vec_capacity placed.old }
-    ensures ends { EndsAsStage (place_group placed.old.items first.now sections.now) stage_stop
+    ensures ends { EndsAsStage (place_group placed.old.items first.now sections.now)
+        error_of_stage_cause
         (view_of_result (λ _. placed.new.items) result)
         memblock.old.journal.items memblock.new.journal.items }
     ensures len { vec_len placed.new ≤ vec_len placed.old + length sections.now }

@@ -3,8 +3,8 @@
 //! memory of this program.
 
 ghost use Rattle.std.specs.Prelude.{◌≡◌, ◌^◌, ◌<◌, ◌≤◌, AllPairs, length};
-ghost use Rattle.growth_model.specs.Tables.{HasBegun};
-ghost use Rattle.stage_steps.specs.Causes.{stage_stop};
+ghost use Rattle.growth_model.specs.Tables.{HasFirstItem};
+ghost use Rattle.stage_steps.specs.Causes.{error_of_stage_cause};
 ghost use Rattle.stage_steps.specs.Steps.{EndsAsStage, view_of_result};
 ghost use Rattle.memblock_grow.specs.Continues.{ContinuesMemblock};
 ghost use Rattle.section_maps.specs.Maps.{place_maps};
@@ -51,9 +51,9 @@ pub fn place_maps(
     memblock: &mut Memblock,
     sections: &[Section],
 ) -> Result<Vec<Placed>, StageStop>
-    requires begun { HasBegun memblock.old.journal.items }
+    requires begun { HasFirstItem memblock.old.journal.items }
     requires ascend { AllPairs (λ s t. s.number < t.number) sections.now }
-    ensures ends { EndsAsStage (place_maps sections.now) stage_stop
+    ensures ends { EndsAsStage (place_maps sections.now) error_of_stage_cause
         (view_of_result (λ placed. placed.items) result)
         memblock.old.journal.items memblock.new.journal.items }
     ensures goes_on { ContinuesMemblock memblock.old memblock.new }

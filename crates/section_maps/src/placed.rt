@@ -31,7 +31,7 @@ pub fn empty_section_list(alloc: Global, count: usize) -> Result<Vec<Placed>, Me
 }
 
 /// Appends the section with its addresses. The list must have room for it.
-pub fn push_placed(placed: &mut Vec<Placed>, section: &Section, map: u64, usage: u64)
+pub fn push_placed_section(placed: &mut Vec<Placed>, section: &Section, map: u64, usage: u64)
     requires room { vec_len placed.old < vec_capacity placed.old }
     ensures placed { placed.new.items ≡ placed.old.items
         ++ record {
@@ -69,7 +69,7 @@ pub fn push_consecutive_places(placed: &mut Vec<Placed>, sections: &[Section], u
 {
     for (i, section) in sections.iter().enumerate() {
         let before = i as u64;
-        push_placed(
+        push_placed_section(
             placed,
             section,
             map + MAP_SIZE * before,

@@ -5,7 +5,7 @@ use Rattle.std.proofs.lemmas.Bool.Decides.{nat_tests}
 use Rattle.std.specs.List.{find, cons_option, filter_map, range_with_len}
 use Rattle.std.specs.Option.{option_map}
 use Rattle.slit_zonelists.specs.SlitView.{SlitView}
-use Rattle.slit_zonelists.specs.Uses.{is_bad_cell, first_bad_column, first_bad_in_row, first_bad_cell, first_member, IsLeastBad}
+use Rattle.slit_zonelists.specs.Uses.{is_bad_cell, first_bad_column, first_bad_in_row, first_bad_cell, first_member, IsFirstBadCell}
 
 -- the remaining numbers and the first of them
 pub range_more : (c n : ℕ) → c < n → range_with_len c (n - c) ≡ c ∷ range_with_len (c + 1) (n - (c + 1))
@@ -116,7 +116,7 @@ no_row m a (suc n) r is low high = elim (none_or (first_bad_column m a)) as (λ 
   | inr some ↦ let both : Some (a, some.0) ≡ None = sym (let on = some.1 in rw on refl) ∙ is in cc both
 ]
 
-pub bad_least : (m : SlitView) (row column : ℕ) → first_bad_cell m ≡ Some (row, column) → IsLeastBad m row column
+pub bad_least : (m : SlitView) (row column : ℕ) → first_bad_cell m ≡ Some (row, column) → IsFirstBadCell m row column
 bad_least m row column is =
     let at = row_found m 0 m.count row column is in
     let in_it = found (is_bad_cell m row) 0 m.count column at.bad in

@@ -13,7 +13,7 @@ use Rattle.page_alloc.specs.Pages.{PageState, first_page_state, NeedsMemory}
 use Rattle.slit_zonelists.specs.declared.order.ListZone.{ListZone}
 use Rattle.slit_zonelists.specs.declared.table.SlitFault.TheVariants as faults
 use Rattle.slit_zonelists.specs.declared.uses.SlitUse.TheVariants as uses
-use Rattle.slit_zonelists.specs.Lists.{ListsView, distance_in, zonelists_from_slit, zones_at_distance, zones_of}
+use Rattle.slit_zonelists.specs.Lists.{ZoneListsView, distance_in, zonelists_from_slit, zones_at_distance, zone_list_of}
 use Rattle.slit_zonelists.specs.SlitView.{SlitView, slit_cell, IsSquare}
 use Rattle.slit_zonelists.specs.Near.{first_zone, take_from_zone, take_from_nearest, page_step_by_distance, page_answers_of, page_state_after, StopsAtLine}
 use Rattle.slit_zonelists.specs.Table.{locality_count, first_slit_fault, slit_of}
@@ -59,7 +59,7 @@ span n = record { node = n; zone = zones.Dma32; start = 0; end = 1; present = 1 
 abbrev low_span : Span
 low_span = record { node = 0; zone = zones.Dma; start = 0; end = 1; present = 1 }
 
-abbrev nodes : ListsView
+abbrev nodes : ZoneListsView
 nodes = zonelists_from_slit (Some three) (1 ∷ 3 ∷ 0 ∷ []) (low_span ∷ span 0 ∷ span 1 ∷ span 2 ∷ [])
 
 abbrev zone : ℕ → ListZone
@@ -76,10 +76,10 @@ distance_examples = (refl, refl, refl, refl, refl)
 
 -- the table has no distance for node 1, so both other nodes are at 20
 list_examples : (zones_at_distance nodes 1 20 ≡ zone 0 ∷ low_zone ∷ zone 2 ∷ [])
-    × (zones_of nodes 1 ≡ zone 1 ∷ zone 0 ∷ low_zone ∷ zone 2 ∷ [])
-    × (zones_of nodes 0 ≡ zone 0 ∷ low_zone ∷ zone 1 ∷ zone 2 ∷ [])
-    × (zones_of nodes 2 ≡ zone 2 ∷ zone 1 ∷ zone 0 ∷ low_zone ∷ [])
-unfolding zones_of
+    × (zone_list_of nodes 1 ≡ zone 1 ∷ zone 0 ∷ low_zone ∷ zone 2 ∷ [])
+    × (zone_list_of nodes 0 ≡ zone 0 ∷ low_zone ∷ zone 1 ∷ zone 2 ∷ [])
+    × (zone_list_of nodes 2 ≡ zone 2 ∷ zone 1 ∷ zone 0 ∷ low_zone ∷ [])
+unfolding zone_list_of
 list_examples = (refl, refl, refl, refl)
 
 -- this and the next: nothing is free, and what an ID holds

@@ -14,7 +14,7 @@ use Rattle.page_alloc.specs.Pages.{PageState, HasValidOrder, HaveValidOrders, Ne
 use Rattle.page_alloc.proofs.BookLaws.{served_takes}
 use Rattle.page_alloc.proofs.KeptLaws.{Goes, step_goes}
 use Rattle.slit_zonelists.specs.declared.order.ListZone.{ListZone}
-use Rattle.slit_zonelists.specs.Lists.{ListsView, zones_of}
+use Rattle.slit_zonelists.specs.Lists.{ZoneListsView, zone_list_of}
 use Rattle.slit_zonelists.specs.Near.{has_block, first_zone, take_from_zone, take_from_nearest, page_step_by_distance, page_answers_of, page_state_after}
 use Rattle.slit_zonelists.proofs.ListLaws.{found_passes}
 
@@ -40,11 +40,11 @@ zone_takes s id order zs (Some z) is none some =
     served_takes s id order z.node z.zone none (found_passes (has_block s order) zs z is)
 
 -- so does the request near the node
-pub near_takes : (k : ListsView) (s : PageState) (id order node : ℕ) → s.held id ≡ None → IsSome (first_zone s order (zones_of k node))
+pub near_takes : (k : ZoneListsView) (s : PageState) (id order node : ℕ) → s.held id ≡ None → IsSome (first_zone s order (zone_list_of k node))
     → NeedsMemory (page_step_by_distance k s (acts.Near id order node)).0
 near_takes k s id order node none some =
-    subst (λ (o : Option Held). NeedsMemory (take_from_nearest s id order (zones_of k node) o).0) (sym none)
-    (zone_takes s id order (zones_of k node) (first_zone s order (zones_of k node)) refl none some)
+    subst (λ (o : Option Held). NeedsMemory (take_from_nearest s id order (zone_list_of k node) o).0) (sym none)
+    (zone_takes s id order (zone_list_of k node) (first_zone s order (zone_list_of k node)) refl none some)
 
 -- a consequence of what holds of each error
 pub err_then : {X E : Type 0} → (r : Result X E) (P Q : Type 0) → (P → Q) → OnErr r P → OnErr r Q
@@ -62,21 +62,21 @@ asked_goes : (f : Frames) (s : PageState) (id order : ℕ) (zs : List ListZone) 
 asked_goes f s id order zs (Some what) small goes = goes
 asked_goes f s id order zs None small goes = near_goes f s id order (first_zone s order zs) small goes
 
-step_with_goes : (k : ListsView) (f : Frames) (s : PageState) (act : PageAct) → HasValidOrder act → Goes f s
+step_with_goes : (k : ZoneListsView) (f : Frames) (s : PageState) (act : PageAct) → HasValidOrder act → Goes f s
     → Goes f (page_step_by_distance k s act).1
 step_with_goes k f s (acts.Pages id order node zone) small goes = step_goes f s (acts.Pages id order node zone) small goes
-step_with_goes k f s (acts.Near id order node) small goes = asked_goes f s id order (zones_of k node) (s.held id) small goes
+step_with_goes k f s (acts.Near id order node) small goes = asked_goes f s id order (zone_list_of k node) (s.held id) small goes
 step_with_goes k f s (acts.Give id) small goes = step_goes f s (acts.Give id) small goes
 
 -- they stay apart after any lines
-pub after_goes : (k : ListsView) (f : Frames) (s : PageState) (ls : List PageLine) → HaveValidOrders ls → Goes f s
+pub after_goes : (k : ZoneListsView) (f : Frames) (s : PageState) (ls : List PageLine) → HaveValidOrders ls → Goes f s
     → Goes f (page_state_after k s ls)
 after_goes k f s [] orders goes = goes
 after_goes k f s (l ∷ ls) orders goes =
     after_goes k f (page_step_by_distance k s l.act).1 ls orders.1 (step_with_goes k f s l.act orders.0 goes)
 
 -- one more line, and the lines after it
-pub answers_on : (k : ListsView) (s t : PageState) (l : PageLine) (ls : List PageLine) (told : List PageAnswer) (o : PageOutcome)
+pub answers_on : (k : ZoneListsView) (s t : PageState) (l : PageLine) (ls : List PageLine) (told : List PageAnswer) (o : PageOutcome)
     → (let p : PageOutcome × PageState = (o, t) in p) ≡ page_step_by_distance k s l.act
     → (told ++ (let a : PageAnswer = record { line = l.number; outcome = o } in a) ∷ []) ++ page_answers_of k t ls
     ≡ told ++ page_answers_of k s (l ∷ ls)
@@ -86,7 +86,7 @@ answers_on k s t l ls told o is =
     ∷ page_answers_of k p.1 ls) is
 
 -- one more line, and the lines before it
-pub after_more : (k : ListsView) (s t : PageState) (ls : List PageLine) (l : PageLine) (o : PageOutcome)
+pub after_more : (k : ZoneListsView) (s t : PageState) (ls : List PageLine) (l : PageLine) (o : PageOutcome)
     → (let p : PageOutcome × PageState = (o, t) in p) ≡ page_step_by_distance k (page_state_after k s ls) l.act
     → t ≡ page_state_after k s (ls ++ l ∷ [])
 after_more k s t [] l o is = ap (λ (p : PageOutcome × PageState). p.1) is

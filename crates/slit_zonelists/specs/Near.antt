@@ -12,7 +12,7 @@ use Rattle.page_alloc.specs.declared.outcome.PageAnswer.{PageAnswer}
 use Rattle.page_alloc.specs.PagesView.{PagesView, page_state_of}
 use Rattle.page_alloc.specs.Pages.{PageState, page_step, NeedsMemory}
 use Rattle.slit_zonelists.specs.declared.order.ListZone.{ListZone}
-use Rattle.slit_zonelists.specs.Lists.{ListsView, zones_of}
+use Rattle.slit_zonelists.specs.Lists.{ZoneListsView, zone_list_of}
 
 -- the zone has a block of the order or a greater one
 abbrev pub has_block : PageState → ℕ → ListZone → Bool
@@ -34,19 +34,19 @@ take_from_nearest s id order zs (Some what) = (outcomes.Taken, s)
 take_from_nearest s id order zs None = take_from_zone s id order (first_zone s order zs)
 
 -- the outcome of any line, and the state after it
-abbrev pub page_step_by_distance : ListsView → PageState → PageAct → PageOutcome × PageState
+abbrev pub page_step_by_distance : ZoneListsView → PageState → PageAct → PageOutcome × PageState
 page_step_by_distance k s (acts.Pages id order node zone) = page_step s (acts.Pages id order node zone)
-page_step_by_distance k s (acts.Near id order node) = take_from_nearest s id order (zones_of k node) (s.held id)
+page_step_by_distance k s (acts.Near id order node) = take_from_nearest s id order (zone_list_of k node) (s.held id)
 page_step_by_distance k s (acts.Give id) = page_step s (acts.Give id)
 
 -- the answers to several lines, in order
-abbrev pub page_answers_of : ListsView → PageState → List PageLine → List PageAnswer
+abbrev pub page_answers_of : ZoneListsView → PageState → List PageLine → List PageAnswer
 page_answers_of k s [] = []
 page_answers_of k s (l ∷ ls) =
     record { line = l.number; outcome = (page_step_by_distance k s l.act).0 } ∷ page_answers_of k (page_step_by_distance k s l.act).1 ls
 
 -- the state after several lines
-abbrev pub page_state_after : ListsView → PageState → List PageLine → PageState
+abbrev pub page_state_after : ZoneListsView → PageState → List PageLine → PageState
 page_state_after k s [] = s
 page_state_after k s (l ∷ ls) = page_state_after k (page_step_by_distance k s l.act).1 ls
 
@@ -58,7 +58,7 @@ pub record StopsBeforeLines (b : PagesView) (lines : List PageLine) (later : Pag
 
 -- this program is out of memory at a line that isn't refused: the lines before it have been
 -- carried out, and nothing has changed since
-pub record StopsAtLine (k : ListsView) (s : PageState) (lines : List PageLine) (later : PageState) : Type 0 where
+pub record StopsAtLine (k : ZoneListsView) (s : PageState) (lines : List PageLine) (later : PageState) : Type 0 where
   pub before : List PageLine
   pub line : PageLine
   pub behind : List PageLine
@@ -67,7 +67,7 @@ pub record StopsAtLine (k : ListsView) (s : PageState) (lines : List PageLine) (
   pub state : later ≡ page_state_after k s before
 
 -- where among the lines this program is out of memory
-abbrev pub RunsOutInPageScript : ListsView → PagesView → List PageLine → PagesView → Type 0
+abbrev pub RunsOutInPageScript : ZoneListsView → PagesView → List PageLine → PagesView → Type 0
 RunsOutInPageScript k b lines later = StopsBeforeLines b lines later ⊎ StopsAtLine k (page_state_of b) lines (page_state_of later)
 
 -- the zone is in the list and has a block of the order or a greater one, and none before it has

@@ -39,7 +39,7 @@ slit_use (Some m) [] = uses.NoSrat
 slit_use (Some m) (d ∷ ds) = use_by_bad_cell (first_bad_cell m)
 
 -- the cell is bad, and no other bad cell comes before it, by row and then by column
-pub record IsLeastBad (m : SlitView) (row column : ℕ) : Type 0 where
+pub record IsFirstBadCell (m : SlitView) (row column : ℕ) : Type 0 where
   pub low : row < m.count
   pub left : column < m.count
   pub bad : is_bad_cell m row column ≡ true

@@ -3,7 +3,7 @@
 ghost use Rattle.std.specs.Prelude.{◌≡◌, ℕ, ◌<◌, false, List, Option, Some, None, IsSome, IfSome, map};
 ghost use Rattle.std.specs.List.{All};
 ghost use Rattle.std.specs.List.Sorted.{IsPermutation};
-ghost use Rattle.address_runs.specs.Edits.{NothingFrom};
+ghost use Rattle.address_runs.specs.Edits.{IsEmptyFrom};
 ghost use Rattle.buddy_blocks.specs.Frames.{Frames};
 ghost use Rattle.zone_spans.specs.declared.span.Span.{Span as AnySpan};
 ghost use Rattle.page_alloc.specs.declared.act.PageAct.TheVariants as act;
@@ -13,9 +13,9 @@ ghost use Rattle.page_alloc.specs.Pages.{PageState, first_page_state, page_step,
 ghost use Rattle.page_alloc.specs.FramePlaces.{IsInOneBlockOrHeld, IsInNoBlockNorHeld};
 ghost use Rattle.slit_zonelists.specs.declared.order.ListZone.{ListZone as AnyZone};
 ghost use Rattle.slit_zonelists.specs.SlitView.{SlitView, HasBytes};
-ghost use Rattle.slit_zonelists.specs.Uses.{is_bad_cell, first_bad_cell, IsLeastBad};
-ghost use Rattle.slit_zonelists.specs.Lists.{ListsView, zonelists_from_slit, zone_of_span, zones_of};
-ghost use Rattle.slit_zonelists.specs.Order.{IsByDistance};
+ghost use Rattle.slit_zonelists.specs.Uses.{is_bad_cell, first_bad_cell, IsFirstBadCell};
+ghost use Rattle.slit_zonelists.specs.Lists.{ZoneListsView, zonelists_from_slit, zone_of_span, zone_list_of};
+ghost use Rattle.slit_zonelists.specs.Order.{AreOrderedByDistance};
 ghost use Rattle.slit_zonelists.specs.Near.{has_block, page_step_by_distance, page_state_after, IsFirstZone};
 
 use buddy_blocks::MAX_FRAMES;
@@ -23,47 +23,47 @@ use buddy_blocks::MAX_FRAMES;
 /// Law: the bad cell that is reported for a SLIT is its first one, by row and then by column. If
 /// none is reported, no cell is bad. A cell is bad if its distance breaks the rules of
 /// `slit_valid`.
-pub fn bad_cells_are_the_least()
+pub fn reported_bad_cell_is_first()
     ensures some { (m : SlitView) (row column : ℕ) → first_bad_cell m ≡ Some (row, column)
-        → IsLeastBad m row column }
+        → IsFirstBadCell m row column }
     ensures none { (m : SlitView) (row column : ℕ) → first_bad_cell m ≡ None → row < m.count
         → column < m.count → is_bad_cell m row column ≡ false }
 {}
 
 /// Law: the list of a node has one zone for each span, ordered by the distance of its node, then
 /// by that node's number, then Normal before DMA32 before DMA.
-pub fn lists_have_each_zone_in_order()
+pub fn zone_lists_have_each_zone_in_order()
     ensures each { (slit : Option SlitView) (domains : List ℕ) (spans : List AnySpan) (node : ℕ)
         → IfSome slit HasBytes →
         IsPermutation (map zone_of_span spans)
-        (zones_of (zonelists_from_slit slit domains spans) node) }
+        (zone_list_of (zonelists_from_slit slit domains spans) node) }
     ensures order { (slit : Option SlitView) (domains : List ℕ) (spans : List AnySpan) (node : ℕ) →
-        IsByDistance (zonelists_from_slit slit domains spans) node
-        (zones_of (zonelists_from_slit slit domains spans) node) }
+        AreOrderedByDistance (zonelists_from_slit slit domains spans) node
+        (zone_list_of (zonelists_from_slit slit domains spans) node) }
 {}
 
 /// Law: a request near a node is served from the first zone in the node's list that has a block of
 /// the order or a greater one, if the ID holds nothing. If no zone has one, the outcome is
 /// `NoBlock`. If the ID already holds something, it is `Taken`.
 pub fn near_takes_from_the_first_zone()
-    ensures first { (k : ListsView) (s : PageState) (id order node : ℕ) (z : AnyZone)
-        → s.held id ≡ None → IsFirstZone s order (zones_of k node) z →
+    ensures first { (k : ZoneListsView) (s : PageState) (id order node : ℕ) (z : AnyZone)
+        → s.held id ≡ None → IsFirstZone s order (zone_list_of k node) z →
         page_step_by_distance k s (act.Near id order node)
         ≡ page_step s (act.Pages id order z.node z.zone) }
-    ensures none { (k : ListsView) (s : PageState) (id order node : ℕ) → s.held id ≡ None
-        → All (λ z. has_block s order z ≡ false) (zones_of k node) →
+    ensures none { (k : ZoneListsView) (s : PageState) (id order node : ℕ) → s.held id ≡ None
+        → All (λ z. has_block s order z ≡ false) (zone_list_of k node) →
         page_step_by_distance k s (act.Near id order node) ≡ (outcomes.NoBlock, s) }
-    ensures taken { (k : ListsView) (s : PageState) (id order node : ℕ) → IsSome (s.held id) →
+    ensures taken { (k : ZoneListsView) (s : PageState) (id order node : ℕ) → IsSome (s.held id) →
         page_step_by_distance k s (act.Near id order node) ≡ (outcomes.Taken, s) }
 {}
 
 /// Law: after any lines each frame that was free at the beginning is in exactly one block or held
 /// by exactly one ID. No other frame is in a block or held.
 pub fn frames_stay_in_one_block_or_held()
-    ensures one { (k : ListsView) (f : Frames) (lines : List AnyLine) (x n : ℕ)
-        → NothingFrom MAX_FRAMES f → HaveValidOrders lines → f x ≡ Some n →
+    ensures one { (k : ZoneListsView) (f : Frames) (lines : List AnyLine) (x n : ℕ)
+        → IsEmptyFrom MAX_FRAMES f → HaveValidOrders lines → f x ≡ Some n →
         IsInOneBlockOrHeld (page_state_after k (first_page_state f) lines) x }
-    ensures other { (k : ListsView) (f : Frames) (lines : List AnyLine) (x : ℕ)
-        → NothingFrom MAX_FRAMES f → HaveValidOrders lines → f x ≡ None →
+    ensures other { (k : ZoneListsView) (f : Frames) (lines : List AnyLine) (x : ℕ)
+        → IsEmptyFrom MAX_FRAMES f → HaveValidOrders lines → f x ≡ None →
         IsInNoBlockNorHeld (page_state_after k (first_page_state f) lines) x }
 {}

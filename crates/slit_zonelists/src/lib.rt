@@ -16,7 +16,7 @@
 //! - `specs/Lists.antt`: distances and lists.
 //! - `specs/Near.antt`: what a line of the script does to the page allocator.
 //!
-//! The layer above may rest on the laws [`lists_have_each_zone_in_order`],
+//! The layer above may rest on the laws [`zone_lists_have_each_zone_in_order`],
 //! [`near_takes_from_the_first_zone`] and [`frames_stay_in_one_block_or_held`]. A law is an empty
 //! function whose contract is a proven fact. In contracts, a name means the definition in
 //! `specs/`, here or in a crate below.
@@ -32,7 +32,8 @@ mod table;
 mod uses;
 
 pub use laws::{
-    bad_cells_are_the_least, frames_stay_in_one_block_or_held, lists_have_each_zone_in_order,
+    reported_bad_cell_is_first, frames_stay_in_one_block_or_held,
+    zone_lists_have_each_zone_in_order,
     near_takes_from_the_first_zone,
 };
 pub use lists::Lists;

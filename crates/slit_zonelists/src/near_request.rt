@@ -4,7 +4,7 @@ ghost use Rattle.std.specs.Prelude.{◌≡◌, ◌⊎◌, ◌≤◌, None, IsSom
 ghost use Rattle.page_alloc.specs.declared.act.PageAct.TheVariants as act;
 ghost use Rattle.page_alloc.specs.PagesView.{page_state_of};
 ghost use Rattle.page_alloc.specs.Pages.{NeedsMemory};
-ghost use Rattle.slit_zonelists.specs.Lists.{zones_of};
+ghost use Rattle.slit_zonelists.specs.Lists.{zone_list_of};
 ghost use Rattle.slit_zonelists.specs.Near.{first_zone, take_from_zone, page_step_by_distance};
 
 use crate::lists::Lists;
@@ -65,9 +65,9 @@ pub fn outcome_without_list(
 ) -> Result<PageOutcome, Memory>
     requires { order ≤ 10 }
     ensures none { IfOk result (λ outcome. (outcome ≡ PageOutcome.NoBlock)
-        × (first_zone (page_state_of pages.now) order (zones_of lists.now node) ≡ None)) }
+        × (first_zone (page_state_of pages.now) order (zone_list_of lists.now node) ≡ None)) }
     ensures memory { OnErr result
-        (IsSome (first_zone (page_state_of pages.now) order (zones_of lists.now node))) }
+        (IsSome (first_zone (page_state_of pages.now) order (zone_list_of lists.now node))) }
 {
     for entry in lists.zones() {
         if pages.buddy().has_block(entry.node, entry.zone, order) {

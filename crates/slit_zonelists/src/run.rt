@@ -7,7 +7,7 @@ ghost use Rattle.std.specs.Ordering.{nat_cmp};
 ghost use Rattle.page_alloc.specs.PagesView.{page_state_of};
 ghost use Rattle.page_alloc.specs.Pages.{HasValidOrder, HaveValidOrders, NeedsMemory};
 ghost use Rattle.slit_zonelists.specs.Near.{page_step_by_distance, page_answers_of, page_state_after, RunsOutInPageScript};
-ghost use Rattle.slit_zonelists.specs.MadeLists.{AreListsOfNodes};
+ghost use Rattle.slit_zonelists.specs.MadeLists.{AreZoneListsOfNodes};
 
 use crate::lists::Lists;
 use crate::near_request::{outcome_without_list, take_from_first_zone};
@@ -63,10 +63,10 @@ fn run_page_line(
     line: &PageLine,
 ) -> Result<PageOutcome, Memory>
     requires order { HasValidOrder line.now.act }
-    requires made { AreListsOfNodes lists.now made.old }
+    requires made { AreZoneListsOfNodes lists.now made.old }
     ensures ok { IfOk result (λ outcome. (outcome, page_state_of pages.new)
         ≡ page_step_by_distance lists.now (page_state_of pages.old) line.now.act) }
-    ensures made { AreListsOfNodes lists.now made.new }
+    ensures made { AreZoneListsOfNodes lists.now made.new }
     ensures memory { OnErr result
         (NeedsMemory (page_step_by_distance lists.now (page_state_of pages.old) line.now.act).0) }
     ensures err { OnErr result (pages.new ≡ pages.old) }
@@ -77,7 +77,7 @@ fn run_page_line(
     if pages.held(id).is_some() {
         return Ok(PageOutcome::Taken);
     }
-    if make_list(lists, made, node).is_err() {
+    if make_zone_list(lists, made, node).is_err() {
         return outcome_without_list(pages, lists, order, node);
     }
     match made.get(&node) {
@@ -91,13 +91,13 @@ fn run_page_line(
 /// # Errors
 ///
 /// Out of memory.
-fn make_list(
+fn make_zone_list(
     lists: &Lists,
     made: &mut BTreeMap<u32, Vec<ListZone>>,
     node: u32,
 ) -> Result<(), Memory>
-    requires { AreListsOfNodes lists.now made.old }
-    ensures made { AreListsOfNodes lists.now made.new }
+    requires { AreZoneListsOfNodes lists.now made.old }
+    ensures made { AreZoneListsOfNodes lists.now made.new }
     ensures here { OnOk result (IsSome (get nat_cmp made.new node)) }
 {
     if made.contains_key(&node) {

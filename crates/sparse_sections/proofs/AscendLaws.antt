@@ -6,8 +6,8 @@ use Rattle.std.proofs.lemmas.List.{append-nil, get_or_append_left, get_or_push}
 use Rattle.std.proofs.lemmas.List.Elements.{All-append, All-cons, All-nil}
 use Rattle.memblock_model.specs.Labels.{LabelView, Labels}
 use Rattle.memblock_grow.specs.declared.stop.Section.{Section}
-use Rattle.stage_steps.specs.Nodes.{HasNodes}
-use Rattle.sparse_sections.specs.Present.{section_label, section_on_node, section_with_label, sections_below, present, AreSectionsInOrder}
+use Rattle.stage_steps.specs.Nodes.{IsMemoryWithNodes}
+use Rattle.sparse_sections.specs.Present.{section_label, section_if_on_node, section_with_label, sections_below, present, AreSectionsInOrder}
 use Rattle.sparse_sections.proofs.LowestLaws.{present-lowest}
 
 -- ascending sections, all with a number below n
@@ -39,7 +39,7 @@ ascend-push n node ss so_far =
       few = omega (arith, so_far.few);
     }
 
-ascend-of : (n : ℕ) (ss : List Section) (o : Option ℕ) → Ascend n ss → Ascend (suc n) (ss ++ section_on_node n o)
+ascend-of : (n : ℕ) (ss : List Section) (o : Option ℕ) → Ascend n ss → Ascend (suc n) (ss ++ section_if_on_node n o)
 ascend-of n ss None so_far = rw append-nil (ascend-later n ss so_far)
 ascend-of n ss (Some node) so_far = ascend-push n node ss so_far
 
@@ -62,7 +62,7 @@ present-ascends f =
     let all = sections-ascend f (2 ^ 25) in record { ascend = all.ascend; below = all.below; few = all.few }
 
 -- the nodes of sections with memory are nodes of memory
-pub present-has : (limit : ℕ) (f : Labels) → HasNodes limit f → All (λ s. s.node < 1024) (present f)
+pub present-has : (limit : ℕ) (f : Labels) → IsMemoryWithNodes limit f → All (λ s. s.node < 1024) (present f)
 present-has limit f noded k d in_list =
     let low = present-lowest limit f noded k d in_list in
     let told = noded.nodes low.byte low.label low.told in

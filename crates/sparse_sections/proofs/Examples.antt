@@ -4,7 +4,7 @@ use Rattle.std.proofs.Common.{◌≡◌, ℕ, Some, None, List, [], ◌∷◌, �
 use Rattle.address_runs.specs.Runs.{RunOf, value_at, AreRuns}
 use Rattle.memblock_model.specs.Labels.{LabelView, Labels, plain_label, with_node}
 use Rattle.memblock_grow.specs.declared.stop.Section.{Section}
-use Rattle.sparse_sections.specs.Present.{first_label, present, sections_from, IsWholeWithNode, HasNodeOfLowestByte}
+use Rattle.sparse_sections.specs.Present.{label_of_first_memory_frame, present, sections_from, IsWholeFramesWithNode, HasNodeOfLowestByte}
 use Rattle.sparse_sections.specs.Roots.{root_of, first_of_each_root}
 use Rattle.sparse_sections.proofs.PresentLaws.{IsLeft, left-all, left-next, sections-record, present-none, present-end}
 use Rattle.address_runs.proofs.RunsLaws.{none_below}
@@ -26,9 +26,9 @@ two_frames = value_at (record_at 0x2000 0x2000 5 ∷ [])
 abbrev within_a_frame : Labels
 within_a_frame = value_at (record_at 0x1001 0xFFF 5 ∷ [])
 
-first_of_frames : (first_label two_frames 0 2 ≡ None) × (first_label two_frames 0 4 ≡ Some (of_node 5))
-    × (first_label two_frames 3 1 ≡ Some (of_node 5)) × (first_label two_frames 4 3 ≡ None) × (first_label within_a_frame 0 3 ≡ None)
-unfolding first_label
+first_of_frames : (label_of_first_memory_frame two_frames 0 2 ≡ None) × (label_of_first_memory_frame two_frames 0 4 ≡ Some (of_node 5))
+    × (label_of_first_memory_frame two_frames 3 1 ≡ Some (of_node 5)) × (label_of_first_memory_frame two_frames 4 3 ≡ None) × (label_of_first_memory_frame within_a_frame 0 3 ≡ None)
+unfolding label_of_first_memory_frame
 first_of_frames = (refl, refl, refl, refl, refl)
 
 -- the last frame of section 0 and the first of section 1
@@ -68,7 +68,7 @@ one_section =
     ∙ ap (λ (ss : List Section). ss ++ sections_from 0 1 1) (present-none f)
 
 -- the last frame below 2^52, and the one after it
-last_frame : IsWholeWithNode (record_at 0xFFFFFFFFFF000 0x1000 0) × (IsWholeWithNode (record_at 0x10000000000000 0x1000 0) → ⊥)
+last_frame : IsWholeFramesWithNode (record_at 0xFFFFFFFFFF000 0x1000 0) × (IsWholeFramesWithNode (record_at 0x10000000000000 0x1000 0) → ⊥)
 last_frame = (record { node = 0; has = refl; base = refl; end = refl; reach = lit≤ tt }, λ known. omega (arith, known.reach))
 
 -- a root has 256 sections, and is placed with the first of them

@@ -2,19 +2,19 @@
 use Rattle.std.proofs.Common.{◌≡◌, ℕ, zero, suc, ◌+◌, ◌-◌, ◌*◌, ◌/◌, ◌%◌, ◌<◌, ◌≤◌, Some, None, refl, ◌∙◌, ap, arith, add-zero}
 use Rattle.address_runs.specs.Runs.{RunOf, run_end}
 use Rattle.memblock_model.specs.Labels.{LabelView, Labels}
-use Rattle.sparse_sections.specs.Present.{first_label, section_label}
+use Rattle.sparse_sections.specs.Present.{label_of_first_memory_frame, section_label}
 
 -- none of the frames is memory
-pub label-none : (f : Labels) (a n : ℕ) → ((y : ℕ) → a ≤ y → y < a + n → f (4096 * y) ≡ None) → first_label f a n ≡ None
-unfolding first_label
+pub label-none : (f : Labels) (a n : ℕ) → ((y : ℕ) → a ≤ y → y < a + n → f (4096 * y) ≡ None) → label_of_first_memory_frame f a n ≡ None
+unfolding label_of_first_memory_frame
 label-none f a zero none = refl
 label-none f a (suc n) none =
     rw (none a (omega arith) (omega arith)) (label-none f (a + 1) n (λ y above below. none y (omega arith) (omega arith)))
 
 -- the k-th frame after the first is memory, and none before it is
 pub label-found : (f : Labels) (a n k : ℕ) (v : LabelView) → k < n → ((y : ℕ) → a ≤ y → y < a + k → f (4096 * y) ≡ None)
-    → f (4096 * (a + k)) ≡ Some v → first_label f a n ≡ Some v
-unfolding first_label
+    → f (4096 * (a + k)) ≡ Some v → label_of_first_memory_frame f a n ≡ Some v
+unfolding label_of_first_memory_frame
 label-found f a zero k v few none found = absurd (omega arith)
 label-found f a (suc n) zero v few none found = rw (rw add-zero at found) refl
 label-found f a (suc n) (suc k) v few none found =

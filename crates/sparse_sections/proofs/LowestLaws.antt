@@ -7,8 +7,8 @@ use Rattle.std.proofs.lemmas.List.{get_or_append_left, get_or_push}
 use Rattle.std.proofs.lemmas.List.Elements.{All-append, All-cons, All-nil}
 use Rattle.memblock_model.specs.Labels.{LabelView, Labels}
 use Rattle.memblock_grow.specs.declared.stop.Section.{Section}
-use Rattle.stage_steps.specs.Nodes.{IsSameInFrames, HasNodes}
-use Rattle.sparse_sections.specs.Present.{first_label, section_label, section_on_node, section_with_label, sections_below, present, HasNodeOfLowestByte, IsSectionAt}
+use Rattle.stage_steps.specs.Nodes.{IsConstantInFrames, IsMemoryWithNodes}
+use Rattle.sparse_sections.specs.Present.{label_of_first_memory_frame, section_label, section_if_on_node, section_with_label, sections_below, present, HasNodeOfLowestByte, IsSectionAt}
 
 -- the frame whose label is found: the first one that is memory
 record IsFirst (f : Labels) (a n : ℕ) (label : LabelView) : Type 0 where
@@ -22,8 +22,8 @@ cases_label : (o : Option LabelView) → (o ≡ None) ⊎ ((v : LabelView) × (o
 cases_label None = inl refl
 cases_label (Some v) = inr (v, refl)
 
-label-first : (f : Labels) (a n : ℕ) (label : LabelView) → first_label f a n ≡ Some label → IsFirst f a n label
-unfolding first_label
+label-first : (f : Labels) (a n : ℕ) (label : LabelView) → label_of_first_memory_frame f a n ≡ Some label → IsFirst f a n label
+unfolding label_of_first_memory_frame
 label-first f a zero label found = cc
 label-first f a (suc n) label found = elim (cases_label (f (4096 * a))) [
   | inl is ↦
@@ -48,8 +48,8 @@ label-first f a (suc n) label found = elim (cases_label (f (4096 * a))) [
 
 -- if a frame is memory, some label is found
 label-some : (f : Labels) (a n k : ℕ) (label : LabelView) → k < n → f (4096 * (a + k)) ≡ Some label
-    → (v : LabelView) × (first_label f a n ≡ Some v)
-unfolding first_label
+    → (v : LabelView) × (label_of_first_memory_frame f a n ≡ Some v)
+unfolding label_of_first_memory_frame
 label-some f a zero k label few told = absurd (omega arith)
 label-some f a (suc n) k label few told = elim (cases_label (f (4096 * a))) [
   | inl is ↦ elim (cases_lt 0 k) [
@@ -62,7 +62,7 @@ label-some f a (suc n) k label few told = elim (cases_label (f (4096 * a))) [
 ]
 
 -- a section that is found has memory
-first-lowest : (f : Labels) (n node : ℕ) (label : LabelView) → IsSameInFrames f → IsFirst f (32768 * n) 32768 label → label.node ≡ Some node
+first-lowest : (f : Labels) (n node : ℕ) (label : LabelView) → IsConstantInFrames f → IsFirst f (32768 * n) 32768 label → label.node ≡ Some node
     → HasNodeOfLowestByte f (record { number = n; node = node })
 first-lowest f n node label frames first has =
     record {
@@ -76,27 +76,27 @@ first-lowest f n node label frames first has =
           frames x ∙ ap f e ∙ first.none (x / 4096 - 32768 * n) (omega (arith, first.within));
     }
 
-of-lowest : (f : Labels) (n : ℕ) (label : LabelView) (o : Option ℕ) → IsSameInFrames f → IsFirst f (32768 * n) 32768 label → label.node ≡ o
-    → All (HasNodeOfLowestByte f) (section_on_node n o)
+of-lowest : (f : Labels) (n : ℕ) (label : LabelView) (o : Option ℕ) → IsConstantInFrames f → IsFirst f (32768 * n) 32768 label → label.node ≡ o
+    → All (HasNodeOfLowestByte f) (section_if_on_node n o)
 of-lowest f n label None frames first has = All-nil (HasNodeOfLowestByte f)
 of-lowest f n label (Some node) frames first has =
     All-cons (HasNodeOfLowestByte f) (record { number = n; node = node }) [] (first-lowest f n node label frames first has)
     (All-nil (HasNodeOfLowestByte f))
 
-for-lowest : (f : Labels) (n : ℕ) (o : Option LabelView) → IsSameInFrames f → section_label f n ≡ o
+for-lowest : (f : Labels) (n : ℕ) (o : Option LabelView) → IsConstantInFrames f → section_label f n ≡ o
     → All (HasNodeOfLowestByte f) (section_with_label n o)
 for-lowest f n None frames is = All-nil (HasNodeOfLowestByte f)
 for-lowest f n (Some label) frames is =
     of-lowest f n label label.node frames (label-first f (32768 * n) 32768 label is) refl
 
-sections-lowest : (f : Labels) (n : ℕ) → IsSameInFrames f → All (HasNodeOfLowestByte f) (sections_below f n)
+sections-lowest : (f : Labels) (n : ℕ) → IsConstantInFrames f → All (HasNodeOfLowestByte f) (sections_below f n)
 unfolding sections_below
 sections-lowest f zero frames = All-nil (HasNodeOfLowestByte f)
 sections-lowest f (suc n) frames =
     All-append (HasNodeOfLowestByte f) (sections_below f n) (section_with_label n (section_label f n)) (sections-lowest f n frames)
     (for-lowest f n (section_label f n) frames refl)
 
-pub present-lowest : (limit : ℕ) (f : Labels) → HasNodes limit f → All (HasNodeOfLowestByte f) (present f)
+pub present-lowest : (limit : ℕ) (f : Labels) → IsMemoryWithNodes limit f → All (HasNodeOfLowestByte f) (present f)
 unfolding present
 present-lowest limit f noded = sections-lowest f (2 ^ 25) noded.frames
 
@@ -113,14 +113,14 @@ at-end xs s = record {
   is = λ d. rw (get_or_push xs s d (length xs) refl) refl;
 }
 
-told-own : (limit : ℕ) (f : Labels) (n : ℕ) (v : LabelView) (xs : List Section) → HasNodes limit f → section_label f n ≡ Some v
+told-own : (limit : ℕ) (f : Labels) (n : ℕ) (v : LabelView) (xs : List Section) → IsMemoryWithNodes limit f → section_label f n ≡ Some v
     → (i : ℕ) × IsSectionAt (xs ++ section_with_label n (section_label f n)) i n
 told-own limit f n v xs noded is =
     let first : IsFirst f (32768 * n) 32768 v = label-first f (32768 * n) 32768 v is in
     let has = noded.nodes (4096 * (32768 * n + first.behind)) v first.told in
     (length xs, rw (is, has.1) (at-end xs (record { number = n; node = has.0 })))
 
-told-below : (limit : ℕ) (f : Labels) (n s k : ℕ) (label : LabelView) → HasNodes limit f → s < n → k < 32768
+told-below : (limit : ℕ) (f : Labels) (n s k : ℕ) (label : LabelView) → IsMemoryWithNodes limit f → s < n → k < 32768
     → f (4096 * (32768 * s + k)) ≡ Some label → (i : ℕ) × IsSectionAt (sections_below f n) i s
 unfolding sections_below
 told-below limit f zero s k label noded less few told = absurd (omega arith)
@@ -135,7 +135,7 @@ told-below limit f (suc n) s k label noded less few told =
           rw e (told-own limit f n found.0 (sections_below f n) noded found.1)
     ]
 
-pub present-all : (limit x : ℕ) (f : Labels) (label : LabelView) → HasNodes limit f → x < 2 ^ 52 → f x ≡ Some label
+pub present-all : (limit x : ℕ) (f : Labels) (label : LabelView) → IsMemoryWithNodes limit f → x < 2 ^ 52 → f x ≡ Some label
     → (i : ℕ) × IsSectionAt (present f) i (x / 0x8000000)
 unfolding present
 present-all limit x f label noded low told =

@@ -3,7 +3,7 @@
 use Rattle.std.proofs.Common.{◌≡◌, ℕ, zero, suc, ◌-◌, ◌*◌, ◌/◌, ◌^◌, ◌<◌, ◌≤◌, Some, List, [], ◌∷◌, length, get_or, refl, sym, ◌∙◌, arith, inl, inr, inl, inr}
 use Rattle.std.specs.List.{All}
 use Rattle.address_runs.specs.Runs.{RunOf, run_end, value_at, IsRunsOf, AreRuns}
-use Rattle.address_runs.specs.Edits.{NothingFrom}
+use Rattle.address_runs.specs.Edits.{IsEmptyFrom}
 use Rattle.address_runs.proofs.RunsLaws.{inside, behind, rest_from}
 use Rattle.memblock_model.specs.declared.owner.Which.TheVariants as which
 use Rattle.memblock_model.specs.declared.item.Item.{Item}
@@ -13,8 +13,8 @@ use Rattle.memblock_model.specs.Tables.{records_of}
 use Rattle.memblock_model.proofs.TableLaws.{records_for-runs, value_at-records}
 use Rattle.memblock_frames.specs.HeadRecords.{AreWholeFrames}
 use Rattle.memblock_frames.proofs.WholeLaws.{whole_at, whole_by_value}
-use Rattle.stage_steps.specs.Nodes.{HasNodes}
-use Rattle.sparse_sections.specs.Present.{IsWholeWithNode}
+use Rattle.stage_steps.specs.Nodes.{IsMemoryWithNodes}
+use Rattle.sparse_sections.specs.Present.{IsWholeFramesWithNode}
 use Rattle.std.proofs.lemmas.Bool.{cases_lt}
 use Rattle.address_runs.specs.Sweep.{StartAtOrPast}
 
@@ -30,11 +30,11 @@ told-at (r ∷ rs) (suc k) d runs few =
     let next : run_end r ≤ (get_or rs k d).base = rest.1 (run_end r) (rest_from r rs runs) in
     (rest.0, λ at start. omega arith, λ x above under. rw (behind r x (omega arith)) (rest.2 x above under))
 
-pub noded-frames : (limit : ℕ) (f : Labels) (rs : List (RunOf LabelView)) → IsRunsOf f rs → HasNodes limit f → AreWholeFrames rs
+pub noded-frames : (limit : ℕ) (f : Labels) (rs : List (RunOf LabelView)) → IsRunsOf f rs → IsMemoryWithNodes limit f → AreWholeFrames rs
 noded-frames limit f rs is noded =
     whole_by_value rs is.runs (λ x. is.each x ∙ noded.frames x ∙ sym (is.each (4096 * (x / 4096))))
 
-pub noded-records : (f : Labels) (rs : List (RunOf LabelView)) → IsRunsOf f rs → HasNodes (2 ^ 52) f → All IsWholeWithNode rs
+pub noded-records : (f : Labels) (rs : List (RunOf LabelView)) → IsRunsOf f rs → IsMemoryWithNodes (2 ^ 52) f → All IsWholeFramesWithNode rs
 noded-records f rs is noded k d few =
     let r : RunOf LabelView = get_or rs k d in
     let at = told-at rs k d is.runs few in
@@ -54,15 +54,15 @@ noded-records f rs is noded k d few =
     }
 
 -- the records of memory
-far : (limit : ℕ) (f : Labels) → limit ≤ 2 ^ 64 → NothingFrom limit f → NothingFrom (2 ^ 64) f
+far : (limit : ℕ) (f : Labels) → limit ≤ 2 ^ 64 → IsEmptyFrom limit f → IsEmptyFrom (2 ^ 64) f
 far limit f less none x above = none x (omega arith)
 
-pub noded-runs : (limit : ℕ) (items : List Item) → limit ≤ 2 ^ 64 → HasNodes limit (memory_of items)
+pub noded-runs : (limit : ℕ) (items : List Item) → limit ≤ 2 ^ 64 → IsMemoryWithNodes limit (memory_of items)
     → IsRunsOf (memory_of items) (records_of which.Memory items)
 unfolding records_of
 noded-runs limit items less noded = records_for-runs (memory_of items) (far limit (memory_of items) less noded.within)
 
-pub noded-told : (limit : ℕ) (items : List Item) → limit ≤ 2 ^ 64 → HasNodes limit (memory_of items)
+pub noded-told : (limit : ℕ) (items : List Item) → limit ≤ 2 ^ 64 → IsMemoryWithNodes limit (memory_of items)
     → value_at (records_of which.Memory items) ≡ memory_of items
 unfolding records_of
 noded-told limit items less noded = value_at-records (memory_of items) (far limit (memory_of items) less noded.within)

@@ -9,7 +9,7 @@ use Rattle.memblock_model.specs.Labels.{LabelView, Labels, plain_label}
 use Rattle.memblock_ranges.specs.declared.region.Region.{Region}
 use Rattle.memblock_ranges.specs.Encoding.{region_of}
 use Rattle.memblock_grow.specs.declared.stop.Section.{Section}
-use Rattle.sparse_sections.specs.Present.{section_label, sections_below, present, sections_from, IsWholeWithNode}
+use Rattle.sparse_sections.specs.Present.{section_label, sections_below, present, sections_from, IsWholeFramesWithNode}
 use Rattle.sparse_sections.proofs.LabelLaws.{section-none, section-found}
 
 -- none of the next sections has memory
@@ -99,7 +99,7 @@ sections-record f next r rs first until node left whole has first_is until_is =
 -- the next record, which is at this index of the table
 pub record IsNext (f : Labels) (next : ℕ) (rs : List (RunOf LabelView)) (i : ℕ) (g : Region) : Type 0 where
   pub left : IsLeft f next (get_or rs i nobody ∷ drop (i + 1) rs)
-  pub whole : IsWholeWithNode (get_or rs i nobody)
+  pub whole : IsWholeFramesWithNode (get_or rs i nobody)
   pub base : g.base ≡ (get_or rs i nobody).base
   pub size : g.size ≡ (get_or rs i nobody).size
   pub node : (get_or rs i nobody).value.node ≡ Some g.node
@@ -107,11 +107,11 @@ pub record IsNext (f : Labels) (next : ℕ) (rs : List (RunOf LabelView)) (i : �
   pub reach : g.base + g.size ≤ 2 ^ 52
   pub from : 0x8000000 * (next - 1) ≤ g.base
 
-pub next-record : (f : Labels) (next : ℕ) (rs : List (RunOf LabelView)) (i : ℕ) (g : Region) → i < length rs → All IsWholeWithNode rs
+pub next-record : (f : Labels) (next : ℕ) (rs : List (RunOf LabelView)) (i : ℕ) (g : Region) → i < length rs → All IsWholeFramesWithNode rs
     → IsLeft f next (drop i rs) → g ≡ region_of (get_or rs i nobody) → IsNext f next rs i g
 next-record f next rs i g few whole left is =
     let r : RunOf LabelView = get_or rs i nobody in
-    let told : IsWholeWithNode r = whole i nobody few in
+    let told : IsWholeFramesWithNode r = whole i nobody few in
     let here : IsLeft f next (r ∷ drop (i + 1) rs) = rw add-one (rw (drop-cons rs i nobody few) at left) in
     let base : g.base ≡ r.base = ap (λ (t : Region). t.base) is in
     let size : g.size ≡ r.size = ap (λ (t : Region). t.size) is in

@@ -8,22 +8,22 @@ use Rattle.memblock_model.specs.Labels.{LabelView, Labels}
 use Rattle.memblock_grow.specs.declared.stop.Section.{Section}
 
 -- the label of the first of the n frames from `frame` on that is memory
-unfoldable pub first_label : Labels → ℕ → ℕ → Option LabelView
-first_label f frame zero = None
-first_label f frame (suc n) = option_or (f (FRAME_SIZE * frame)) (first_label f (frame + 1) n)
+unfoldable pub label_of_first_memory_frame : Labels → ℕ → ℕ → Option LabelView
+label_of_first_memory_frame f frame zero = None
+label_of_first_memory_frame f frame (suc n) = option_or (f (FRAME_SIZE * frame)) (label_of_first_memory_frame f (frame + 1) n)
 
 -- the label of the first of the 32,768 frames of section s that is memory
 abbrev pub section_label : Labels → ℕ → Option LabelView
-section_label f s = first_label f (32768 * s) 32768
+section_label f s = label_of_first_memory_frame f (32768 * s) 32768
 
 -- the section, if it has memory, with the node of its lowest frame of memory
-abbrev pub section_on_node : ℕ → Option ℕ → List Section
-section_on_node s None = []
-section_on_node s (Some node) = record { number = s; node = node } ∷ []
+abbrev pub section_if_on_node : ℕ → Option ℕ → List Section
+section_if_on_node s None = []
+section_if_on_node s (Some node) = record { number = s; node = node } ∷ []
 
 abbrev pub section_with_label : ℕ → Option LabelView → List Section
 section_with_label s None = []
-section_with_label s (Some label) = section_on_node s label.node
+section_with_label s (Some label) = section_if_on_node s label.node
 
 -- the sections with memory whose number is below n
 unfoldable pub sections_below : Labels → ℕ → List Section
@@ -41,7 +41,7 @@ sections_from first zero node = []
 sections_from first (suc n) node = sections_from first n node ++ record { number = first + n; node = node } ∷ []
 
 -- the record of memory is whole frames on one node, and ends at or below address 2^52
-pub record IsWholeWithNode (r : RunOf LabelView) : Type 0 where
+pub record IsWholeFramesWithNode (r : RunOf LabelView) : Type 0 where
   pub node : ℕ
   pub has : r.value.node ≡ Some node
   pub base : r.base % FRAME_SIZE ≡ 0

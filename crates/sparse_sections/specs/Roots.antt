@@ -2,13 +2,13 @@
 use Rattle.std.specs.Prelude.{ℕ, ◌/◌, ◌==◌, Bool, false, if◌then◌else◌, Option, Some, None, List, [], ◌∷◌, ◌++◌}
 use Rattle.bm_base.specs.declared.range.TheConstants.{FRAME_SIZE}
 use Rattle.bm_base.specs.declared.width.Width.{Width}
-use Rattle.bm_base.specs.Width.{root_table_of}
+use Rattle.bm_base.specs.Width.{root_table_size_of}
 use Rattle.memblock_model.specs.declared.owner.Owner.TheVariants as owner
 use Rattle.memblock_model.specs.declared.query.Request.{Request}
 use Rattle.memblock_grow.specs.declared.stop.Section.{Section}
 use Rattle.memblock_grow.specs.declared.stop.What.TheVariants as what
 use Rattle.stage_steps.specs.Causes.{StageCause}
-use Rattle.stage_steps.specs.Steps.{StageStep, ◌>>=◌, return_value, read_into_list, fold_steps}
+use Rattle.stage_steps.specs.Steps.{StageStep, ◌>>=◌, return_value, read_items_allocating, fold_steps}
 use Rattle.stage_steps.specs.Requests.{place_or_stop}
 use Rattle.sparse_sections.specs.declared.places.RootPlace.{RootPlace}
 use Rattle.sparse_sections.specs.declared.places.Roots.{Roots}
@@ -29,17 +29,17 @@ first_of_each_root last (s ∷ ss) =
     if is_last_root last (root_of s) then first_of_each_root last ss else (s ∷ first_of_each_root (Some (root_of s)) ss)
 
 -- a request for `size` bytes at a cache line, on the node if there is room
-abbrev pub small_request : ℕ → Option ℕ → Request
-small_request size node = record { size = size; align = 64; min = 0; max = None; node = node; exact = false }
+abbrev pub cache_line_request : ℕ → Option ℕ → Request
+cache_line_request size node = record { size = size; align = 64; min = 0; max = None; node = node; exact = false }
 
 -- a root is a page, on the node of its first section
 abbrev pub place_root : List RootPlace → Section → StageStep StageCause (List RootPlace)
 place_root before s =
-    place_or_stop (what.Root (root_of s)) (small_request FRAME_SIZE (Some s.node)) (owner.Root (root_of s))
+    place_or_stop (what.Root (root_of s)) (cache_line_request FRAME_SIZE (Some s.node)) (owner.Root (root_of s))
     >>= λ place. return_value (before ++ record { number = root_of s; place = place } ∷ [])
 
 abbrev pub place_each_root : List Section → StageStep StageCause (List RootPlace)
-place_each_root sections = read_into_list (λ items. []) >>= λ none. fold_steps place_root none (first_of_each_root None sections)
+place_each_root sections = read_items_allocating (λ items. []) >>= λ none. fold_steps place_root none (first_of_each_root None sections)
 
 -- what contracts see of the roots
 pub record RootsView : Type 0 where
@@ -53,5 +53,5 @@ roots_view r = record { table = r.table; roots = r.roots.items }
 -- roots in order, in a list
 unfoldable pub place_roots : Width → List Section → StageStep StageCause RootsView
 place_roots width sections =
-    place_or_stop what.Roots (small_request (root_table_of width) None) owner.Roots
+    place_or_stop what.Roots (cache_line_request (root_table_size_of width) None) owner.Roots
     >>= λ table. (place_each_root sections >>= λ places. return_value (record { table = table; roots = places }))

@@ -14,33 +14,34 @@ ghost use Rattle.memblock_model.specs.Tables.{records_of};
 ghost use Rattle.memblock_frames.specs.HeadRecords.{AreWholeFrames};
 ghost use Rattle.memblock_grow.specs.declared.stop.Section.{Section as AnySection};
 ghost use Rattle.stage_steps.specs.Steps.{items_after_step};
-ghost use Rattle.stage_steps.specs.Nodes.{HasNodes};
-ghost use Rattle.sparse_sections.specs.Present.{present, IsWholeWithNode, HasNodeOfLowestByte, IsSectionAt, AreSectionsInOrder};
+ghost use Rattle.stage_steps.specs.Nodes.{IsMemoryWithNodes};
+ghost use Rattle.sparse_sections.specs.Present.{present, IsWholeFramesWithNode, HasNodeOfLowestByte, IsSectionAt, AreSectionsInOrder};
 ghost use Rattle.sparse_sections.specs.Roots.{root_of, first_of_each_root, place_roots};
 
 /// Law: after the stage of nodes the records of the memory table are the runs of memory. They give
 /// each byte the label that the items give it. All of them are whole frames. If memory also ends at
 /// or below 4 PiB, [`crate::present`] can find sections in them.
-pub fn memory_with_nodes_is_whole()
+pub fn memory_with_nodes_is_whole_frames()
     ensures runs { (limit : ℕ) (items : List AnyItem) → limit ≤ 2 ^ 64
-        → HasNodes limit (memory_of items) →
+        → IsMemoryWithNodes limit (memory_of items) →
         IsRunsOf (memory_of items) (records_of which.Memory items) }
     ensures told { (limit : ℕ) (items : List AnyItem) → limit ≤ 2 ^ 64
-        → HasNodes limit (memory_of items) →
+        → IsMemoryWithNodes limit (memory_of items) →
         value_at (records_of which.Memory items) ≡ memory_of items }
     ensures frames { (limit : ℕ) (f : Labels) (rs : List (RunOf LabelView)) → IsRunsOf f rs
-        → HasNodes limit f → AreWholeFrames rs }
+        → IsMemoryWithNodes limit f → AreWholeFrames rs }
     ensures records { (f : Labels) (rs : List (RunOf LabelView)) → IsRunsOf f rs
-        → HasNodes (2 ^ 52) f → All IsWholeWithNode rs }
+        → IsMemoryWithNodes (2 ^ 52) f → All IsWholeFramesWithNode rs }
 {}
 
 /// Law: if memory is whole frames with nodes, each of its bytes below 4 PiB is in a section that
 /// is found. Each section that is found has memory, and the node of its lowest byte of memory.
 pub fn present_sections_are_memory()
-    ensures all { (limit x : ℕ) (f : Labels) (label : LabelView) → HasNodes limit f → x < 2 ^ 52
+    ensures all { (limit x : ℕ) (f : Labels) (label : LabelView) → IsMemoryWithNodes limit f → x <
+        2 ^ 52
         → f x ≡ Some label →
         (i : ℕ) × IsSectionAt (present f) i (x / 0x8000000) }
-    ensures each { (limit : ℕ) (f : Labels) → HasNodes limit f
+    ensures each { (limit : ℕ) (f : Labels) → IsMemoryWithNodes limit f
         → All (HasNodeOfLowestByte f) (present f) }
 {}
 
@@ -48,7 +49,7 @@ pub fn present_sections_are_memory()
 /// each has a node below 1,024.
 pub fn present_sections_ascend()
     ensures ascend { (f : Labels) → AreSectionsInOrder (present f) }
-    ensures nodes { (limit : ℕ) (f : Labels) → HasNodes limit f
+    ensures nodes { (limit : ℕ) (f : Labels) → IsMemoryWithNodes limit f
         → All (λ s. s.node < 1024) (present f) }
 {}
 

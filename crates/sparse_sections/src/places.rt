@@ -3,12 +3,12 @@
 //! placed is enough to know whether a root has its place.
 
 ghost use Rattle.std.specs.Prelude.{◌≡◌, ◌≤◌, ◌<◌, ◌+◌, ℕ, None, [], IfOk, length, vec_len, vec_capacity};
-ghost use Rattle.bm_base.specs.Width.{root_table_of};
-ghost use Rattle.growth_model.specs.Tables.{HasBegun};
-ghost use Rattle.stage_steps.specs.Causes.{stage_stop};
+ghost use Rattle.bm_base.specs.Width.{root_table_size_of};
+ghost use Rattle.growth_model.specs.Tables.{HasFirstItem};
+ghost use Rattle.stage_steps.specs.Causes.{error_of_stage_cause};
 ghost use Rattle.stage_steps.specs.Steps.{EndsAsStage, view_of_result};
 ghost use Rattle.memblock_grow.specs.Continues.{ContinuesMemblock};
-ghost use Rattle.sparse_sections.specs.Roots.{root_of, is_last_root, small_request, place_root, place_roots, place_each_root, roots_view};
+ghost use Rattle.sparse_sections.specs.Roots.{root_of, is_last_root, cache_line_request, place_root, place_roots, place_each_root, roots_view};
 
 use bm_base::{FRAME_SIZE, Memory, Width};
 use boot_journal::Owner;
@@ -43,8 +43,8 @@ const SECTIONS_PER_ROOT: u32 = 256;
 
 /// Returns a request for `size` bytes, aligned to a cache line (64 bytes). It prefers memory of
 /// `node`, if one is given, and accepts any other.
-fn small_request(size: u64, node: Option<u32>) -> Request
-    ensures { result ≡ small_request size node }
+fn cache_line_request(size: u64, node: Option<u32>) -> Request
+    ensures { result ≡ cache_line_request size node }
 {
     Request {
         size,
@@ -59,9 +59,9 @@ fn small_request(size: u64, node: Option<u32>) -> Request
 /// Returns the request for the table of roots, which has room for all roots that addresses of this
 /// width can have.
 fn table_request(width: Width) -> Request
-    ensures { result ≡ small_request (root_table_of width) None }
+    ensures { result ≡ cache_line_request (root_table_size_of width) None }
 {
-    small_request(width.root_table(), None)
+    cache_line_request(width.root_table(), None)
 }
 
 /// Returns the number of the section's root.
@@ -87,9 +87,9 @@ fn place_root(
     roots: &mut Vec<RootPlace>,
     section: &Section,
 ) -> Result<(), StageStop>
-    requires begun { HasBegun memblock.old.journal.items }
+    requires begun { HasFirstItem memblock.old.journal.items }
     requires room { vec_len roots.old < vec_capacity roots.old }
-    ensures ends { EndsAsStage (place_root roots.old.items section.now) stage_stop
+    ensures ends { EndsAsStage (place_root roots.old.items section.now) error_of_stage_cause
         (view_of_result (λ _. roots.new.items) result)
         memblock.old.journal.items memblock.new.journal.items }
     ensures len { vec_len roots.new ≤ vec_len roots.old + 1 }
@@ -97,7 +97,7 @@ fn place_root(
     ensures goes_on { ContinuesMemblock memblock.old memblock.new }
 {
     let number = root_of(section);
-    let request = small_request(ROOT_SIZE, Some(section.node));
+    let request = cache_line_request(ROOT_SIZE, Some(section.node));
     let at = place_or_stop(memblock, What::Root(number), &request, Owner::Root(number))?;
     match roots.push(RootPlace { number, place: at }) {
         Ok(()) => Ok(()),
@@ -120,8 +120,8 @@ fn place_each_root(
     memblock: &mut Memblock,
     sections: &[Section],
 ) -> Result<Vec<RootPlace>, StageStop>
-    requires { HasBegun memblock.old.journal.items }
-    ensures ends { EndsAsStage (place_each_root sections.now) stage_stop
+    requires { HasFirstItem memblock.old.journal.items }
+    ensures ends { EndsAsStage (place_each_root sections.now) error_of_stage_cause
         (view_of_result (λ place_roots. place_roots.items) result)
         memblock.old.journal.items memblock.new.journal.items }
     ensures goes_on { ContinuesMemblock memblock.old memblock.new }
@@ -158,8 +158,8 @@ pub fn place_roots(
     sections: &[Section],
     width: Width,
 ) -> Result<Roots, StageStop>
-    requires { HasBegun memblock.old.journal.items }
-    ensures ends { EndsAsStage (place_roots width sections.now) stage_stop
+    requires { HasFirstItem memblock.old.journal.items }
+    ensures ends { EndsAsStage (place_roots width sections.now) error_of_stage_cause
         (view_of_result roots_view result)
         memblock.old.journal.items memblock.new.journal.items }
     ensures goes_on { ContinuesMemblock memblock.old memblock.new }

@@ -7,7 +7,7 @@
 ghost use Rattle.std.specs.Prelude.{◌≡◌, ◌+◌, ◌-◌, ◌/◌, ◌^◌, ◌<◌, ◌≤◌, ◌++◌, max, OnOk, IfOk};
 ghost use Rattle.std.specs.List.{All};
 ghost use Rattle.address_runs.specs.Runs.{value_at};
-ghost use Rattle.sparse_sections.specs.Present.{present, sections_from, IsWholeWithNode};
+ghost use Rattle.sparse_sections.specs.Present.{present, sections_from, IsWholeFramesWithNode};
 
 use bm_base::Memory;
 use memblock_model::Which;
@@ -58,7 +58,7 @@ fn push_sections(
 ///
 /// `Memory` if this program is out of memory.
 pub fn present(alloc: Global, tables: &Tables) -> Result<Vec<Section>, Memory>
-    requires { All IsWholeWithNode tables.now.memory.records }
+    requires { All IsWholeFramesWithNode tables.now.memory.records }
     ensures { IfOk result (λ sections.
         sections.items ≡ present (value_at tables.now.memory.records)) }
 {

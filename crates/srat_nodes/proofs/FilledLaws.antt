@@ -274,11 +274,11 @@ same_step r rs t us runs known same =
     }
 
 -- one more run before the joined ones, also if there are none
-led_step : (r : NumaBlock) (rs ts : List NumaBlock) → AreRuns (r ∷ rs) → IsFilledBy rs ts → IsFilledBy (r ∷ rs) (prepend_joined r ts)
-led_step r rs [] runs known =
+prepend_joined_step : (r : NumaBlock) (rs ts : List NumaBlock) → AreRuns (r ∷ rs) → IsFilledBy rs ts → IsFilledBy (r ∷ rs) (prepend_joined r ts)
+prepend_joined_step r rs [] runs known =
     alone_step r rs [] runs known (runs.0, tt, tt)
     (λ x n around low_in from same. none-some n (known.complete around.high n (inl (high_given r rs x n around from))))
-led_step r rs (t ∷ us) runs known = elim (cases_Bool (r.value == t.value)) as (λ _. IsFilledBy (r ∷ rs) (prepend_joined r (t ∷ us))) [
+prepend_joined_step r rs (t ∷ us) runs known = elim (cases_Bool (r.value == t.value)) as (λ _. IsFilledBy (r ∷ rs) (prepend_joined r (t ∷ us))) [
   | inl equal ↦ rw equal (same_step r rs t us runs known (grind (arith, nat_tests)))
   | inr differs ↦ rw differs (apart_step r rs t us runs known (grind (arith, nat_tests)))
 ]
@@ -290,4 +290,4 @@ filled_by [] runs = record {
   sound = λ x n some. absurd (none-some n some);
   complete = λ x n filling. elim filling as (λ _. value_at {X = ℕ} [] x ≡ Some n) [ inl here ↦ here | inr around ↦ around.at_low ];
 }
-filled_by (r ∷ rs) runs = led_step r rs (fill_gaps rs) runs (filled_by rs runs.2)
+filled_by (r ∷ rs) runs = prepend_joined_step r rs (fill_gaps rs) runs (filled_by rs runs.2)

@@ -6,7 +6,7 @@ use Rattle.std.proofs.lemmas.List.Elements.{All-cons, All-append}
 use Rattle.std.proofs.lemmas.List.Quantifiers.{position-Some}
 use Rattle.std.specs.List.{All, position}
 use Rattle.std.specs.Prelude.{is_some, is_none}
-use Rattle.address_runs.specs.Runs.{RunOf, AreRuns, prepend_address, one_address, value_at, runs_from, runs_of, extent_of}
+use Rattle.address_runs.specs.Runs.{RunOf, AreRuns, prepend_address, one_address, value_at, runs_from, runs_of, range_of_run}
 use Rattle.address_runs.proofs.RunsLaws.{IsRunsBetween, from_runs}
 use Rattle.srat_reader.specs.declared.table.SratBlock.{SratBlock}
 use Rattle.srat_reader.specs.Table.{SratView}
@@ -124,7 +124,7 @@ some-kept : (memory : ℕ → Bool) (domains : List ℕ) (i : ℕ) (bs : List Sr
     → keep_blocks_from memory domains i bs ≢ []
 some-kept memory domains i [] any = absurd (true≢false (sym any))
 some-kept memory domains i (b ∷ bs) any =
-    elim (cases_Bool (meets_memory memory (extent_of (block_in_frames domains b)))) as (λ _.
+    elim (cases_Bool (meets_memory memory (range_of_run (block_in_frames domains b)))) as (λ _.
     keep_blocks_from memory domains i (b ∷ bs) ≢ []) [
       | inl here ↦ rw here (λ same. cc)
       | inr not_here ↦ rw not_here (some-kept memory domains (i + 1) bs (rw not_here at any))

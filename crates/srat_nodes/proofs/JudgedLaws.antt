@@ -4,7 +4,7 @@ use Rattle.std.proofs.lemmas.Bool.{le-leb, lt-leb, lt-ltb, le-ltb}
 use Rattle.std.proofs.lemmas.Bool.Decides.{nat_tests}
 use Rattle.std.proofs.lemmas.List.{take_all, length-take}
 use Rattle.address_runs.specs.Runs.{DecidesEquality, value_at, IsRunsOf, runs_of}
-use Rattle.address_runs.proofs.RunsLaws.{the_list}
+use Rattle.address_runs.proofs.RunsLaws.{runs_equal_runs_of}
 use Rattle.srat_reader.specs.Table.{SratView}
 use Rattle.srat_nodes.specs.declared.kept.KeptBlock.{KeptBlock}
 use Rattle.srat_nodes.specs.declared.reasons.Why.TheVariants as why
@@ -38,24 +38,24 @@ pub tells_nodes : DecidesEquality same_node
 tells_nodes = record { true_is_equal = λ a b same. grind (arith, nat_tests); equal_is_true = λ a b same. grind (arith, nat_tests) }
 
 -- the same facts in terms of the definitions
-record Spoken (memory : ℕ → Bool) (kept : List KeptBlock) (joined rest : List NumaBlock) (frames : ℕ) : Type 0 where
+record IsFoundByDefinition (memory : ℕ → Bool) (kept : List KeptBlock) (joined rest : List NumaBlock) (frames : ℕ) : Type 0 where
   hulls : joined ≡ runs_of same_node (nodes_by_blocks kept)
   left : rest ≡ runs_of same_node (node_outside_blocks memory kept)
   counted : count_frames_with_node (node_outside_blocks memory kept) ≡ frames
 
 module _ (memory : ℕ → Bool) (kept : List KeptBlock) (joined rest : List NumaBlock) (frames : ℕ)
     (found : Found memory kept joined rest frames) where
-  spoken : Spoken memory kept joined rest frames
+  spoken : IsFoundByDefinition memory kept joined rest frames
   spoken =
       let at_nodes : value_at joined ≡ nodes_by_blocks kept = λ i x. found.hulls.each x i in
       let left : IsRunsOf (node_outside_blocks memory kept) rest =
       subst (λ (f : ℕ → Option ℕ). IsRunsOf (node_if_uncovered memory f (lowest_node (numa_blocks_of kept))) rest) at_nodes found.left in
       let at_left : value_at rest ≡ node_outside_blocks memory kept = λ i x. left.each x i in
       record {
-        hulls = the_list same_node tells_nodes (nodes_by_blocks kept) joined (λ x far.
+        hulls = runs_equal_runs_of same_node tells_nodes (nodes_by_blocks kept) joined (λ x far.
             node_none (numa_blocks_of kept) x found.kept_space far)
             found.hulls;
-        left = the_list same_node tells_nodes (node_outside_blocks memory kept) rest
+        left = runs_equal_runs_of same_node tells_nodes (node_outside_blocks memory kept) rest
             (λ x far. sym (left.each x) ∙ space_none rest x found.left_space far) left;
         counted = ap (λ (f : ℕ → Option ℕ). count_frames_with_node f) (sym at_left) ∙ sym found.counted;
       }

@@ -5,7 +5,7 @@ use Rattle.std.proofs.lemmas.List.{append-nil, map-append}
 use Rattle.std.proofs.Math.Seq.{drop-cons}
 use Rattle.bm_base.proofs.EachLaws.{each_in-all}
 use Rattle.address_runs.specs.Overlay.{HaveAddresses}
-use Rattle.address_runs.specs.Runs.{run_end, extent_of}
+use Rattle.address_runs.specs.Runs.{run_end, range_of_run}
 use Rattle.srat_reader.specs.declared.table.SratBlock.{SratBlock}
 use Rattle.srat_nodes.specs.declared.kept.KeptBlock.{KeptBlock}
 use Rattle.srat_nodes.specs.NodeAt.{NumaBlock}
@@ -25,14 +25,14 @@ pub kept_space : (memory : ℕ → Bool) (kept : List KeptBlock) (i : ℕ) (b : 
     → EndInSpace (numa_blocks_of (kept ++ keep_block memory i b))
 kept_space memory kept i b space ends =
     let one : List KeptBlock = record { number = i; block = b } ∷ [] in
-    cond_both (meets_memory memory (extent_of b)) one [] (λ (ks : List KeptBlock). EndInSpace (numa_blocks_of (kept ++ ks)))
+    cond_both (meets_memory memory (range_of_run b)) one [] (λ (ks : List KeptBlock). EndInSpace (numa_blocks_of (kept ++ ks)))
     (λ some. rw (map-append (λ (k : KeptBlock). k.block) kept one) (space_push (numa_blocks_of kept) b space ends))
     (λ none. rw (append-nil kept) space)
 
 -- a kept block isn't empty: it has a byte of memory
-has_address : (memory : ℕ → Bool) (b : NumaBlock) → meets_memory memory (extent_of b) ≡ true → 0 < b.size
+has_address : (memory : ℕ → Bool) (b : NumaBlock) → meets_memory memory (range_of_run b) ≡ true → 0 < b.size
 has_address memory b some = lt_of_not-le (λ none.
-    let all = each_in-all (extent_of b) (λ y. not (memory y)) (λ y low high. absurd (omega arith)) in
+    let all = each_in-all (range_of_run b) (λ y. not (memory y)) (λ y low high. absurd (omega arith)) in
     true≢false (sym all ∙ not-true _ some))
 
 kept_addresses : (memory : ℕ → Bool) (domains : List ℕ) (i : ℕ) (bs : List SratBlock)
@@ -40,7 +40,7 @@ kept_addresses : (memory : ℕ → Bool) (domains : List ℕ) (i : ℕ) (bs : Li
 kept_addresses memory domains i [] = tt
 kept_addresses memory domains i (b ∷ bs) =
     let rest = kept_addresses memory domains (i + 1) bs in
-    elim (cases_Bool (meets_memory memory (extent_of (block_in_frames domains b)))) as
+    elim (cases_Bool (meets_memory memory (range_of_run (block_in_frames domains b)))) as
     (λ _. HaveAddresses (numa_blocks_of (keep_blocks_from memory domains i (b ∷ bs)))) [
       | inl some ↦ rw some (has_address memory (block_in_frames domains b) some, rest)
       | inr none ↦ rw none rest

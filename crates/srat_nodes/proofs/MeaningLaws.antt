@@ -9,7 +9,7 @@ use Rattle.std.proofs.lemmas.Option.{cond_some, same_Some}
 use Rattle.std.specs.List.{list_any, position_or_len}
 use Rattle.std.specs.Prelude.{is_none}
 use Rattle.address_runs.specs.Overlay.{HaveAddresses}
-use Rattle.address_runs.specs.Runs.{run_end, lies_in, value_at, extent_of}
+use Rattle.address_runs.specs.Runs.{run_end, lies_in, value_at, range_of_run}
 use Rattle.address_runs.proofs.RunsLaws.{inside}
 use Rattle.bm_base.specs.Each.{each_from, each_in}
 use Rattle.srat_reader.specs.declared.table.SratBlock.{SratBlock}
@@ -21,7 +21,7 @@ use Rattle.srat_nodes.specs.Kept.{numa_blocks_of, first_clash, frame_base, meets
 use Rattle.srat_nodes.proofs.FilledLaws.{IsAround, IsFilled}
 use Rattle.srat_nodes.proofs.InListLaws.{IsIn, any_member, member_any}
 use Rattle.srat_nodes.proofs.KeptLaws.{addresses_kept}
-use Rattle.srat_nodes.proofs.NodesLaws.{Apart, apart_blocks, has_filled, first_has, first_some, node_block, held_by, kept_member}
+use Rattle.srat_nodes.proofs.NodesLaws.{HaveOneNodePerAddress, apart_blocks, has_filled, first_has, first_some, node_block, held_by, kept_member}
 
 -- an address isn't in gaps of two different nodes
 one_around : (f : ℕ → Option ℕ) (x m n : ℕ) → IsAround f x m → IsAround f x n → m ≡ n
@@ -37,10 +37,10 @@ one_filled f x m n (inr around) (inl second) = sym (around.only x n (omega (arit
 one_filled f x m n (inr first) (inr second) = one_around f x m n first second
 
 -- the node of an address is the one that it has
-node_had : (blocks : List NumaBlock) (x n : ℕ) → Apart blocks → HaveAddresses blocks → belongs_to_node blocks n x ≡ true
+node_at-belongs : (blocks : List NumaBlock) (x n : ℕ) → HaveOneNodePerAddress blocks → HaveAddresses blocks → belongs_to_node blocks n x ≡ true
     → node_at blocks x ≡ Some n
 unfolding node_at
-node_had blocks x n apart some had = by (first_node_among blocks x blocks) refl where
+node_at-belongs blocks x n apart some had = by (first_node_among blocks x blocks) refl where
   by : (o : Option ℕ) → first_node_among blocks x blocks ≡ o → first_node_among blocks x blocks ≡ Some n
   by (Some m) at =
       let other : belongs_to_node blocks m x ≡ true = first_has blocks x m blocks at in
@@ -57,7 +57,7 @@ node_has blocks x n at = first_has blocks x n blocks at
 pub one_node : (kept : List KeptBlock) → first_clash kept ≡ None → HaveAddresses (numa_blocks_of kept)
     → (x n : ℕ) → (belongs_to_node (numa_blocks_of kept) n x ≡ true) ↔ (nodes_by_blocks kept x ≡ Some n)
 one_node kept apart some x n =
-    ((λ had. node_had (numa_blocks_of kept) x n (apart_blocks kept apart) some had), (λ at. node_has (numa_blocks_of kept) x n at))
+    ((λ had. node_at-belongs (numa_blocks_of kept) x n (apart_blocks kept apart) some had), (λ at. node_has (numa_blocks_of kept) x n at))
 
 -- a named domain has an index
 pub record HasPlace (domains : List ℕ) (d : ℕ) : Type 0 where
@@ -91,8 +91,8 @@ pub node_below : (domains : List ℕ) (d : ℕ) → is_named_domain domains d �
 node_below domains d named = (place_of domains d named).below
 
 -- the blocks begin and end at frames
-abbrev pub Framed : List NumaBlock → Type 0
-Framed blocks = (b : NumaBlock) → IsIn b blocks → (b.base % 4096 ≡ 0) × (run_end b % 4096 ≡ 0)
+abbrev pub BeginAndEndAtFrames : List NumaBlock → Type 0
+BeginAndEndAtFrames blocks = (b : NumaBlock) → IsIn b blocks → (b.base % 4096 ≡ 0) × (run_end b % 4096 ≡ 0)
 
 in_frame : (b : NumaBlock) (x : ℕ) → b.base % 4096 ≡ 0 → run_end b % 4096 ≡ 0 → lies_in b x ≡ lies_in b (frame_base x)
 in_frame b x first last = grind (arith, nat_tests)
@@ -105,7 +105,7 @@ any_same : {X : Type 0} (p q : X → Bool) (xs : List X) → ((x : X) → IsIn x
 any_same p q [] same = refl
 any_same p q (x ∷ xs) same = rw (same x (inl refl), any_same p q xs (λ y member. same y (inr member))) refl
 
-has_frame : (blocks : List NumaBlock) (n x : ℕ) → Framed blocks → belongs_to_node blocks n x ≡ belongs_to_node blocks n (frame_base x)
+has_frame : (blocks : List NumaBlock) (n x : ℕ) → BeginAndEndAtFrames blocks → belongs_to_node blocks n x ≡ belongs_to_node blocks n (frame_base x)
 has_frame blocks n x framed =
     let held : is_in_block_of_node blocks n x ≡ is_in_block_of_node blocks n (frame_base x) = any_same _ _ blocks (λ b member.
     rw (in_frame b x (framed b member).0 (framed b member).1) refl) in
@@ -114,12 +114,12 @@ has_frame blocks n x framed =
     rw (between_frame a b x (framed a in_a).1 (framed b in_b).0) refl))) in
     rw (held, joined) refl
 
-first_frame : (blocks : List NumaBlock) (x : ℕ) (bs : List NumaBlock) → Framed blocks
+first_frame : (blocks : List NumaBlock) (x : ℕ) (bs : List NumaBlock) → BeginAndEndAtFrames blocks
     → first_node_among blocks x bs ≡ first_node_among blocks (frame_base x) bs
 first_frame blocks x [] framed = refl
 first_frame blocks x (b ∷ bs) framed = rw (has_frame blocks b.value x framed, first_frame blocks x bs framed) refl
 
-node_frame : (blocks : List NumaBlock) (x : ℕ) → Framed blocks → node_at blocks x ≡ node_at blocks (frame_base x)
+node_frame : (blocks : List NumaBlock) (x : ℕ) → BeginAndEndAtFrames blocks → node_at blocks x ≡ node_at blocks (frame_base x)
 unfolding node_at
 node_frame blocks x framed = first_frame blocks x blocks framed
 
@@ -127,26 +127,26 @@ node_frame blocks x framed = first_frame blocks x blocks framed
 pub record IsKept (memory : ℕ → Bool) (domains : List ℕ) (k : KeptBlock) : Type 0 where
   pub told : SratBlock
   pub block : k.block ≡ block_in_frames domains told
-  pub some : meets_memory memory (extent_of k.block) ≡ true
+  pub some : meets_memory memory (range_of_run k.block) ≡ true
 
 pub is_kept : (memory : ℕ → Bool) (domains : List ℕ) (i : ℕ) (bs : List SratBlock) (k : KeptBlock)
     → IsIn k (keep_blocks_from memory domains i bs)
     → IsKept memory domains k
 is_kept memory domains i [] k member = absurd member
 is_kept memory domains i (b ∷ bs) k member =
-    elim (cases_Bool (meets_memory memory (extent_of (block_in_frames domains b)))) as (λ _. IsKept memory domains k) [
+    elim (cases_Bool (meets_memory memory (range_of_run (block_in_frames domains b)))) as (λ _. IsKept memory domains k) [
       | inl some ↦ elim (rw some at member) as (λ _. IsKept memory domains k) [
         | inl first ↦ record {
           told = b;
           block = ap (λ (j : KeptBlock). j.block) first;
-          some = ap (λ (j : KeptBlock). meets_memory memory (extent_of j.block)) first ∙ some;
+          some = ap (λ (j : KeptBlock). meets_memory memory (range_of_run j.block)) first ∙ some;
         }
         | inr later ↦ is_kept memory domains (i + 1) bs k later
       ]
       | inr none ↦ is_kept memory domains (i + 1) bs k (rw none at member)
     ]
 
-framed_kept : (memory : ℕ → Bool) (domains : List ℕ) (bs : List SratBlock) → Framed (numa_blocks_of (keep_blocks memory domains bs))
+framed_kept : (memory : ℕ → Bool) (domains : List ℕ) (bs : List SratBlock) → BeginAndEndAtFrames (numa_blocks_of (keep_blocks memory domains bs))
 framed_kept memory domains bs c member =
     let found = kept_member (keep_blocks memory domains bs) c member in
     let kept = is_kept memory domains 0 bs found.0 found.1 in
@@ -178,7 +178,7 @@ memory_from memory x (suc n) some = elim (cases_Bool (memory x)) as (λ _. Memor
       record { at = later.at; above = omega (arith, later.above); under = omega (arith, later.under); is = later.is }
 ]
 
-memory_in : (memory : ℕ → Bool) (b : NumaBlock) → meets_memory memory (extent_of b) ≡ true → MemoryIn memory b.base b.size
+memory_in : (memory : ℕ → Bool) (b : NumaBlock) → meets_memory memory (range_of_run b) ≡ true → MemoryIn memory b.base b.size
 unfolding each_in
 memory_in memory b some = memory_from memory b.base b.size (not-true _ some)
 
@@ -202,7 +202,7 @@ node_memory memory domains blocks apart n of_block =
     (inside k.block place.at place.above place.under) in (
       place.at,
       place.is,
-      node_had (numa_blocks_of kept) place.at n (apart_blocks kept apart) (addresses_kept memory domains blocks) (rw held refl),
+      node_at-belongs (numa_blocks_of kept) place.at n (apart_blocks kept apart) (addresses_kept memory domains blocks) (rw held refl),
     )
 
 -- each node that memory gets is that of a kept block

@@ -9,19 +9,19 @@ use Rattle.std.specs.Prelude.{is_some}
 use Rattle.bm_base.specs.Range.{RangeView, Meet}
 use Rattle.bm_base.proofs.EachLaws.{each_in-all, each_in-fails}
 use Rattle.address_runs.specs.Overlay.{overlay_runs}
-use Rattle.address_runs.specs.Runs.{RunOf, run_end, extent_of, value_at, IsRunsOf}
+use Rattle.address_runs.specs.Runs.{RunOf, run_end, range_of_run, value_at, IsRunsOf}
 use Rattle.address_runs.specs.Sweep.{IsRestFrom}
 use Rattle.address_runs.proofs.RunsLaws.{inside, none_below}
 use Rattle.srat_nodes.specs.Kept.{is_in_any_range, meets_memory}
 use Rattle.srat_nodes.specs.Steps.{run_without_node, is_in_runs}
-use Rattle.srat_nodes.proofs.RestLaws.{bare_given}
+use Rattle.srat_nodes.proofs.RestLaws.{run_without_node_gives_false}
 
 -- an address is in the runs of memory exactly if it is memory
-pub told_memory : (memory : List RangeView) (rs : List (RunOf Bool)) → IsRunsOf (overlay_runs option_or (map run_without_node memory)) rs
+pub memory_runs_are_memory : (memory : List RangeView) (rs : List (RunOf Bool)) → IsRunsOf (overlay_runs option_or (map run_without_node memory)) rs
     → (x : ℕ)
     → is_in_runs rs x ≡ is_in_any_range memory x
-told_memory memory rs known x =
-    ap (λ (o : Option Bool). is_some o) (known.each x ∙ bare_given memory x) ∙ by (is_in_any_range memory x) where
+memory_runs_are_memory memory rs known x =
+    ap (λ (o : Option Bool). is_some o) (known.each x ∙ run_without_node_gives_false memory x) ∙ by (is_in_any_range memory x) where
       by : (m : Bool) → is_some (if m then Some false else None) ≡ m
       by true = refl
       by false = refl
@@ -53,7 +53,7 @@ left_at rs i range r rest few is =
     rw (drop-cons rs i r few, ← is) at rest
 
 first_meets : (rs : List (RunOf Bool)) (i : ℕ) (range : RangeView) (r : RunOf Bool) → IsRestFrom (value_at rs) range.base (drop i rs)
-    → i < length rs → r ≡ get_or rs i r → Meet (extent_of r) range → meets_memory (is_in_runs rs) range ≡ true
+    → i < length rs → r ≡ get_or rs i r → Meet (range_of_run r) range → meets_memory (is_in_runs rs) range ≡ true
 first_meets rs i range r rest few is met =
     let left = left_at rs i range r rest few is in
     let x : ℕ = met.0 in
@@ -62,13 +62,13 @@ first_meets rs i range r rest few is met =
     let lies = inside r x (grind (arith, nat_tests, met.1)) (grind (arith, nat_tests, met.1)) in
     some_in rs range x r.value low high (sym (left.each x low) ∙ rw lies refl)
 
-begins_above : (r : RunOf Bool) (range : RangeView) (y : ℕ) → (Meet (extent_of r) range → ⊥) → range.base < run_end r → 0 < r.size
+begins_above : (r : RunOf Bool) (range : RangeView) (y : ℕ) → (Meet (range_of_run r) range → ⊥) → range.base < run_end r → 0 < r.size
     → range.base ≤ y → y < range.base + range.size → y < r.base
 begins_above r range y apart ends some low high = lt_of_not-le (λ above.
     apart (max r.base range.base, grind (arith, nat_tests)))
 
 first_misses : (rs : List (RunOf Bool)) (i : ℕ) (range : RangeView) (r : RunOf Bool) → IsRestFrom (value_at rs) range.base (drop i rs)
-    → i < length rs → r ≡ get_or rs i r → (Meet (extent_of r) range → ⊥) → meets_memory (is_in_runs rs) range ≡ false
+    → i < length rs → r ≡ get_or rs i r → (Meet (range_of_run r) range → ⊥) → meets_memory (is_in_runs rs) range ≡ false
 first_misses rs i range r rest few is apart =
     let left = left_at rs i range r rest few is in
     none_in rs range (λ y low high.
@@ -76,7 +76,7 @@ first_misses rs i range r rest few is apart =
     sym (left.each y low) ∙ none_below r.base y (r ∷ drop (suc i) rs) left.runs (omega arith) lower)
 
 pub first_tells : (rs : List (RunOf Bool)) (i : ℕ) (range : RangeView) (r : RunOf Bool) → IsRestFrom (value_at rs) range.base (drop i rs)
-    → i < length rs → r ≡ get_or rs i r → (met : Bool) → (met ≡ true ↔ Meet (extent_of r) range) → met ≡ meets_memory (is_in_runs rs) range
+    → i < length rs → r ≡ get_or rs i r → (met : Bool) → (met ≡ true ↔ Meet (range_of_run r) range) → met ≡ meets_memory (is_in_runs rs) range
 first_tells rs i range r rest few is true tells = sym (first_meets rs i range r rest few is (tells.0 refl))
 first_tells rs i range r rest few is false tells =
     sym (first_misses rs i range r rest few is (λ met. true≢false (sym (tells.1 met))))

@@ -18,8 +18,8 @@ use Rattle.srat_nodes.proofs.FilledLaws.{IsAround, IsFilled, IsFilledBy, filled_
 use Rattle.srat_nodes.proofs.InListLaws.{IsIn, any_member, member_any, all_member, member_all}
 
 -- two blocks that share an address have the same node
-abbrev pub Apart : List NumaBlock → Type 0
-Apart blocks = (a b : NumaBlock) (x : ℕ) → IsIn a blocks → IsIn b blocks → lies_in a x ≡ true → lies_in b x ≡ true → a.value ≡ b.value
+abbrev pub HaveOneNodePerAddress : List NumaBlock → Type 0
+HaveOneNodePerAddress blocks = (a b : NumaBlock) (x : ℕ) → IsIn a blocks → IsIn b blocks → lies_in a x ≡ true → lies_in b x ≡ true → a.value ≡ b.value
 
 -- no block is empty
 some_address : (blocks : List NumaBlock) (b : NumaBlock) → HaveAddresses blocks → IsIn b blocks → 0 < b.size
@@ -39,7 +39,7 @@ pub laid_given : (blocks rs : List NumaBlock) → IsRunsOf (overlay_runs option_
 laid_given blocks rs known = record { runs = known.runs; each = λ x. known.each x ∙ first_given blocks x }
 
 -- that is the node of each block with the address
-pub given : (blocks : List NumaBlock) (b : NumaBlock) (x : ℕ) → Apart blocks → IsIn b blocks → lies_in b x ≡ true
+pub given : (blocks : List NumaBlock) (b : NumaBlock) (x : ℕ) → HaveOneNodePerAddress blocks → IsIn b blocks → lies_in b x ≡ true
     → value_at blocks x ≡ Some b.value
 given [] b x apart member lies = absurd member
 given (c ∷ cs) b x apart member lies = elim (cases_Bool (lies_in c x)) as (λ _. value_at (c ∷ cs) x ≡ Some b.value) [
@@ -90,7 +90,7 @@ own_node blocks n a b c own member meeting =
     grind (arith, nat_tests, rw meeting at passes)
 
 -- a node that an address has is that of a block there, or of a gap around it
-joined_around : (blocks : List NumaBlock) (n x : ℕ) → Apart blocks → HaveAddresses blocks → is_in_gap_of_node blocks n x ≡ true
+joined_around : (blocks : List NumaBlock) (n x : ℕ) → HaveOneNodePerAddress blocks → HaveAddresses blocks → is_in_gap_of_node blocks n x ≡ true
     → IsAround (value_at blocks) x n
 joined_around blocks n x apart some joined =
     let outer = any_member _ blocks joined in
@@ -119,7 +119,7 @@ joined_around blocks n x apart some joined =
           (met_at a.base (run_end b) found.block y found.lies above (omega arith));
     }
 
-pub has_filled : (blocks : List NumaBlock) (n x : ℕ) → Apart blocks → HaveAddresses blocks → belongs_to_node blocks n x ≡ true
+pub has_filled : (blocks : List NumaBlock) (n x : ℕ) → HaveOneNodePerAddress blocks → HaveAddresses blocks → belongs_to_node blocks n x ≡ true
     → IsFilled (value_at blocks) x n
 has_filled blocks n x apart some had = elim (cases_Bool (is_in_block_of_node blocks n x)) as (λ _. IsFilled (value_at blocks) x n) [
   | inl held ↦
@@ -135,10 +135,10 @@ pub held_by : (blocks : List NumaBlock) (b : NumaBlock) (n x : ℕ) → IsIn b b
 held_by blocks b n x member node lies = member_any _ blocks b member (and_from (b.value == n) (lies_in b x) (grind (arith, nat_tests)) lies)
 
 -- a block that meets the range between two addresses of a gap has the gap's node
-hull_own : (blocks : List NumaBlock) (n x : ℕ) → Apart blocks → (around : IsAround (value_at blocks) x n)
+gap_meets_own_blocks : (blocks : List NumaBlock) (n x : ℕ) → HaveOneNodePerAddress blocks → (around : IsAround (value_at blocks) x n)
     → (a : Covers blocks around.low n) (b : Covers blocks around.high n) (c : NumaBlock) → IsIn c blocks
     → block_meets a.block.base (run_end b.block) c ≡ true → c.value ≡ n
-hull_own blocks n x apart around a b c in_c meeting =
+gap_meets_own_blocks blocks n x apart around a b c in_c meeting =
     let y : ℕ = max a.block.base c.base in
     let met = meeting_place a.block.base (run_end b.block) c meeting in
     let low = bounds a.block around.low a.lies in
@@ -160,7 +160,7 @@ lies_outside : (blocks : List NumaBlock) (n x at : ℕ) (b : Covers blocks at n)
 lies_outside blocks n x at b not_held = false_from_ne_true (lies_in b.block x) (λ lies.
     true≢false (sym (held_by blocks b.block n x b.member b.node lies) ∙ not_held))
 
-around_joins : (blocks : List NumaBlock) (n x : ℕ) → Apart blocks → IsAround (value_at blocks) x n → is_in_block_of_node blocks n x ≡ false
+around_joins : (blocks : List NumaBlock) (n x : ℕ) → HaveOneNodePerAddress blocks → IsAround (value_at blocks) x n → is_in_block_of_node blocks n x ≡ false
     → is_in_gap_of_node blocks n x ≡ true
 around_joins blocks n x apart around not_held =
     let a = given_by_block blocks around.low n around.at_low in
@@ -172,13 +172,13 @@ around_joins blocks n x apart around not_held =
     let between : lies_between_blocks a.block b.block x ≡ true =
     grind (arith, nat_tests, low.0, around.under, a_outside, high.1, around.over, b_outside) in
     let own : meets_no_other_node blocks n a.block b.block ≡ true = member_all _ blocks (λ c in_c.
-    own_passes c.value n (block_meets a.block.base (run_end b.block) c) (hull_own blocks n x apart around a b c in_c)) in
+    own_passes c.value n (block_meets a.block.base (run_end b.block) c) (gap_meets_own_blocks blocks n x apart around a b c in_c)) in
     let inner = member_any (λ (d : NumaBlock). (d.value == n)
     && (lies_between_blocks a.block d x && meets_no_other_node blocks n a.block d)) blocks b.block
     b.member (rw (eq-eqb b.block.value n b.node, between, own) refl) in
     member_any _ blocks a.block a.member (rw (eq-eqb a.block.value n a.node, inner) refl)
 
-filled_has : (blocks : List NumaBlock) (n x : ℕ) → Apart blocks → IsFilled (value_at blocks) x n → belongs_to_node blocks n x ≡ true
+filled_has : (blocks : List NumaBlock) (n x : ℕ) → HaveOneNodePerAddress blocks → IsFilled (value_at blocks) x n → belongs_to_node blocks n x ≡ true
 filled_has blocks n x apart (inl here) =
     let found = given_by_block blocks x n here in
     rw (held_by blocks found.block n x found.member found.node found.lies) refl
@@ -227,7 +227,7 @@ node_block blocks n x had =
     ]
 
 -- the joined runs give the node of each address
-node_given : (blocks rs ts : List NumaBlock) (x : ℕ) → Apart blocks → HaveAddresses blocks → IsRunsOf (value_at blocks) rs
+node_given : (blocks rs ts : List NumaBlock) (x : ℕ) → HaveOneNodePerAddress blocks → HaveAddresses blocks → IsRunsOf (value_at blocks) rs
     → IsFilledBy rs ts
     → value_at ts x ≡ node_at blocks x
 unfolding node_at
@@ -243,7 +243,7 @@ node_given blocks rs ts x apart some known joined = by (value_at ts x) (first_no
       let block = node_block blocks n x has_it in
       absurd (first_some blocks x blocks block.0 block.1 (rw block.2 has_it) had)
 
-pub joined_blocks : (blocks rs : List NumaBlock) → Apart blocks → HaveAddresses blocks → IsRunsOf (value_at blocks) rs
+pub joined_blocks : (blocks rs : List NumaBlock) → HaveOneNodePerAddress blocks → HaveAddresses blocks → IsRunsOf (value_at blocks) rs
     → IsRunsOf (node_at blocks) (fill_gaps rs)
 joined_blocks blocks rs apart some known =
     let joined : IsFilledBy rs (fill_gaps rs) = filled_by rs known.runs in
@@ -291,7 +291,7 @@ kept_apart (k ∷ ks) none a b x (inr later) (inl second) lies_a lies_b =
 kept_apart (k ∷ ks) none a b x (inr in_a) (inr in_b) lies_a lies_b =
     kept_apart ks (first_none_parts k ks none).1 a b x in_a in_b lies_a lies_b
 
-pub apart_blocks : (ks : List KeptBlock) → first_clash ks ≡ None → Apart (numa_blocks_of ks)
+pub apart_blocks : (ks : List KeptBlock) → first_clash ks ≡ None → HaveOneNodePerAddress (numa_blocks_of ks)
 apart_blocks ks none a b x in_a in_b lies_a lies_b =
     let one = kept_member ks a in_a in
     let two = kept_member ks b in_b in

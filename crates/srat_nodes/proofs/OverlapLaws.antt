@@ -3,7 +3,7 @@ use Rattle.std.proofs.Common.{◌≡◌, ℕ, ◌+◌, ◌<◌, ◌≤◌, ◌==
 use Rattle.std.proofs.lemmas.Bool.{cases_Bool, and_parts, and_from, eqb-true, eq-eqb, ltb-true, lt-ltb, false_from_ne_true, true≢false}
 use Rattle.std.proofs.lemmas.Option.{none-some, same_Some, some_pair_parts}
 use Rattle.std.specs.Prelude.{find}
-use Rattle.address_runs.specs.Runs.{extent_of}
+use Rattle.address_runs.specs.Runs.{range_of_run}
 use Rattle.srat_reader.specs.declared.table.SratBlock.{SratBlock}
 use Rattle.srat_nodes.specs.declared.kept.KeptBlock.{KeptBlock}
 use Rattle.srat_nodes.specs.Kept.{meets_memory, block_in_frames, keep_blocks_from, keep_blocks, is_clash, is_clash_of_numbers, first_clash}
@@ -21,7 +21,7 @@ from_lower n (k ∷ ks) numbered = (omega (arith, numbered.0), numbered.1)
 
 kept_numbered : (memory : ℕ → Bool) (domains : List ℕ) (n : ℕ) (bs : List SratBlock) → Numbered n (keep_blocks_from memory domains n bs)
 kept_numbered memory domains n [] = tt
-kept_numbered memory domains n (b ∷ bs) = elim (cases_Bool (meets_memory memory (extent_of (block_in_frames domains b)))) as
+kept_numbered memory domains n (b ∷ bs) = elim (cases_Bool (meets_memory memory (range_of_run (block_in_frames domains b)))) as
     (λ _. Numbered n (keep_blocks_from memory domains n (b ∷ bs))) [
       | inl some ↦ rw some (omega arith, kept_numbered memory domains (n + 1) bs)
       | inr none ↦ rw none (from_lower n (keep_blocks_from memory domains (n + 1) bs) (kept_numbered memory domains (n + 1) bs))
@@ -139,15 +139,15 @@ with_first n c cs i j numbered o =
     ]
 
 -- the reported pair overlaps, and is the least
-record IsTold (ks : List KeptBlock) (i j : ℕ) : Type 0 where
+record IsLeastClash (ks : List KeptBlock) (i j : ℕ) : Type 0 where
   pair : Overlap ks i j
   least : (k l : ℕ) → Overlap ks k l → (i < k) ⊎ ((i ≡ k) × (j ≤ l))
 
-told : (n : ℕ) (ks : List KeptBlock) (i j : ℕ) → Numbered n ks → first_clash ks ≡ Some (i, j) → IsTold ks i j
+told : (n : ℕ) (ks : List KeptBlock) (i j : ℕ) → Numbered n ks → first_clash ks ≡ Some (i, j) → IsLeastClash ks i j
 told n [] i j numbered is = absurd (none-some (i, j) is)
 told n (c ∷ cs) i j numbered is = by (find (is_clash c) cs) refl (told (c.number + 1) cs i j numbered.1) is where
-  by : (o : Option KeptBlock) → find (is_clash c) cs ≡ o → (first_clash cs ≡ Some (i, j) → IsTold cs i j)
-      → first_clash (c ∷ cs) ≡ Some (i, j) → IsTold (c ∷ cs) i j
+  by : (o : Option KeptBlock) → find (is_clash c) cs ≡ o → (first_clash cs ≡ Some (i, j) → IsLeastClash cs i j)
+      → first_clash (c ∷ cs) ≡ Some (i, j) → IsLeastClash (c ∷ cs) i j
   by (Some d) at rest told_at =
       let same = some_pair_parts c.number i d.number j (rw at at told_at) in
       let first : c.number ≡ i = same.0 in

@@ -10,8 +10,8 @@ use Rattle.std.specs.Prelude.{is_some, is_none}
 use Rattle.address_runs.specs.Overlay.{overlay_runs, HaveAddresses}
 use Rattle.address_runs.specs.Runs.{RunOf, run_end, lies_in, value_at, AreRuns, IsBefore, IsRunsOf}
 use Rattle.address_runs.specs.Sweep.{StartAtOrPast}
-use Rattle.address_runs.proofs.OverlayLaws.{all_append}
-use Rattle.address_runs.proofs.RunsLaws.{none_below, rest_from, other_behind, inside, behind}
+use Rattle.address_runs.proofs.OverlayLaws.{overlay_runs-append}
+use Rattle.address_runs.proofs.RunsLaws.{none_below, rest_from, another_value_at_run_end, inside, behind}
 use Rattle.bm_base.specs.Range.{RangeView, covers}
 use Rattle.e820_model.specs.Usable.{count_below}
 use Rattle.e820_model.proofs.UsableLaws.{count_same, count_none, count_either, count_interval, count_at_most}
@@ -23,58 +23,58 @@ use Rattle.srat_nodes.specs.Kept.{is_in_any_range, NoMemoryIsEmpty}
 use Rattle.srat_nodes.specs.Steps.{run_without_node, run_with_node, uncovered_runs_with_node, run_of_node, count_frames_below, EndInSpace}
 
 -- what memory alone gives, and what the runs with a node alone give
-pub bare_given : (memory : List RangeView) (x : ℕ) → overlay_runs option_or (map run_without_node memory) x
+pub run_without_node_gives_false : (memory : List RangeView) (x : ℕ) → overlay_runs option_or (map run_without_node memory) x
     ≡ (if is_in_any_range memory x then Some false else None)
-bare_given [] x = refl
-bare_given (r ∷ rs) x = elim (cases_Bool (covers r x)) as (λ _. overlay_runs option_or (map run_without_node (r ∷ rs)) x
+run_without_node_gives_false [] x = refl
+run_without_node_gives_false (r ∷ rs) x = elim (cases_Bool (covers r x)) as (λ _. overlay_runs option_or (map run_without_node (r ∷ rs)) x
     ≡ (if is_in_any_range (r ∷ rs) x then Some false else None)) [
       | inl here ↦ rw here refl
-      | inr elsewhere ↦ rw elsewhere (bare_given rs x)
+      | inr elsewhere ↦ rw elsewhere (run_without_node_gives_false rs x)
     ]
 
-noded_given : (joined : List NumaBlock) (x : ℕ) → overlay_runs option_or (map run_with_node joined) x
+run_with_node_gives_true : (joined : List NumaBlock) (x : ℕ) → overlay_runs option_or (map run_with_node joined) x
     ≡ (if is_some (value_at joined x) then Some true else None)
-noded_given [] x = refl
-noded_given (r ∷ rs) x =
+run_with_node_gives_true [] x = refl
+run_with_node_gives_true (r ∷ rs) x =
     elim (cases_Bool (lies_in r x)) as (λ _. overlay_runs option_or (map run_with_node (r ∷ rs)) x
     ≡ (if is_some (value_at (r ∷ rs) x) then Some true else None)) [
       | inl here ↦ rw here refl
-      | inr elsewhere ↦ rw elsewhere (noded_given rs x)
+      | inr elsewhere ↦ rw elsewhere (run_with_node_gives_true rs x)
     ]
 
 -- none of these runs is empty
-pub bare_addresses : (memory : List RangeView) → NoMemoryIsEmpty memory → HaveAddresses (map run_without_node memory)
-bare_addresses [] some = tt
-bare_addresses (r ∷ rs) some = (some.0, bare_addresses rs some.1)
+pub run_without_node-HaveAddresses : (memory : List RangeView) → NoMemoryIsEmpty memory → HaveAddresses (map run_without_node memory)
+run_without_node-HaveAddresses [] some = tt
+run_without_node-HaveAddresses (r ∷ rs) some = (some.0, run_without_node-HaveAddresses rs some.1)
 
-noded_addresses : (joined : List NumaBlock) (ss : List (RunOf Bool)) → AreRuns joined → HaveAddresses ss
+run_with_node-HaveAddresses : (joined : List NumaBlock) (ss : List (RunOf Bool)) → AreRuns joined → HaveAddresses ss
     → HaveAddresses (map run_with_node joined ++ ss)
-noded_addresses [] ss runs behind_some = behind_some
-noded_addresses (r ∷ rs) ss runs behind_some = (runs.0, noded_addresses rs ss runs.2 behind_some)
+run_with_node-HaveAddresses [] ss runs behind_some = behind_some
+run_with_node-HaveAddresses (r ∷ rs) ss runs behind_some = (runs.0, run_with_node-HaveAddresses rs ss runs.2 behind_some)
 
-pub told_addresses : (memory : List RangeView) (joined : List NumaBlock) → NoMemoryIsEmpty memory → AreRuns joined
+pub marked_runs-HaveAddresses : (memory : List RangeView) (joined : List NumaBlock) → NoMemoryIsEmpty memory → AreRuns joined
     → HaveAddresses (map run_with_node joined ++ map run_without_node memory)
-told_addresses memory joined some runs = noded_addresses joined (map run_without_node memory) runs (bare_addresses memory some)
+marked_runs-HaveAddresses memory joined some runs = run_with_node-HaveAddresses joined (map run_without_node memory) runs (run_without_node-HaveAddresses memory some)
 
 -- the given node for a run without a node; None for one with a node
-abbrev pub bare_of : ℕ → Option Bool → Option ℕ
-bare_of n None = None
-bare_of n (Some true) = None
-bare_of n (Some false) = Some n
+abbrev pub node_if_false : ℕ → Option Bool → Option ℕ
+node_if_false n None = None
+node_if_false n (Some true) = None
+node_if_false n (Some false) = Some n
 
 -- overlaying both gives memory without a node
-told_over : (memory : List RangeView) (joined : List NumaBlock) (n x : ℕ)
-    → bare_of n (overlay_runs option_or (map run_with_node joined ++ map run_without_node memory) x)
+overlay_gives_uncovered : (memory : List RangeView) (joined : List NumaBlock) (n x : ℕ)
+    → node_if_false n (overlay_runs option_or (map run_with_node joined ++ map run_without_node memory) x)
     ≡ node_if_uncovered (is_in_any_range memory) (value_at joined) n x
-told_over memory joined n x =
+overlay_gives_uncovered memory joined n x =
     rw (
-      sym (all_append option_or first_none first_grouped (map run_with_node joined) (map run_without_node memory) x),
-      noded_given joined x,
-      bare_given memory x,
+      sym (overlay_runs-append option_or first_none first_grouped (map run_with_node joined) (map run_without_node memory) x),
+      run_with_node_gives_true joined x,
+      run_without_node_gives_false memory x,
     )
     (by (is_in_any_range memory x) (value_at joined x)) where
       by : (m : Bool) (o : Option ℕ)
-          → bare_of n (option_or (if is_some o then Some true else None) (if m then Some false else None))
+          → node_if_false n (option_or (if is_some o then Some true else None) (if m then Some false else None))
           ≡ (if m && is_none o then Some n else None)
       by true (Some k) = refl
       by true None = refl
@@ -82,11 +82,11 @@ told_over memory joined n x =
       by false None = refl
 
 -- the runs without a node, each with the node that it gets
-bare_value : (n : ℕ) (cs : List (RunOf Bool)) (x : ℕ) → AreRuns cs → value_at (uncovered_runs_with_node n cs) x ≡ bare_of n (value_at cs x)
-bare_value n [] x runs = refl
-bare_value n (c ∷ cs) x runs = by c.value (lies_in c x) refl refl (bare_value n cs x runs.2) where
-  by : (v inside_c : Bool) → c.value ≡ v → lies_in c x ≡ inside_c → value_at (uncovered_runs_with_node n cs) x ≡ bare_of n (value_at cs x)
-      → value_at (uncovered_runs_with_node n (c ∷ cs)) x ≡ bare_of n (value_at (c ∷ cs) x)
+uncovered_runs_with_node-value : (n : ℕ) (cs : List (RunOf Bool)) (x : ℕ) → AreRuns cs → value_at (uncovered_runs_with_node n cs) x ≡ node_if_false n (value_at cs x)
+uncovered_runs_with_node-value n [] x runs = refl
+uncovered_runs_with_node-value n (c ∷ cs) x runs = by c.value (lies_in c x) refl refl (uncovered_runs_with_node-value n cs x runs.2) where
+  by : (v inside_c : Bool) → c.value ≡ v → lies_in c x ≡ inside_c → value_at (uncovered_runs_with_node n cs) x ≡ node_if_false n (value_at cs x)
+      → value_at (uncovered_runs_with_node n (c ∷ cs)) x ≡ node_if_false n (value_at (c ∷ cs) x)
   by true true value lies rest =
       let none = none_below (run_end c) x cs runs.2 (rest_from c cs runs) (grind (arith, nat_tests)) in
       rw (lies, value, rest, none) refl
@@ -95,61 +95,61 @@ bare_value n (c ∷ cs) x runs = by c.value (lies_in c x) refl refl (bare_value 
   by false false value lies rest = rw (value, lies, rest) refl
 
 -- the value inside the first of these runs
-bare_first : (n : ℕ) (cs : List (RunOf Bool)) (d : NumaBlock) (ds : List NumaBlock) (x : ℕ) → AreRuns cs
+uncovered_runs_with_node-first : (n : ℕ) (cs : List (RunOf Bool)) (d : NumaBlock) (ds : List NumaBlock) (x : ℕ) → AreRuns cs
     → uncovered_runs_with_node n cs ≡ d ∷ ds
-    → d.base ≤ x → x < run_end d → bare_of n (value_at cs x) ≡ Some d.value
-bare_first n cs d ds x runs is above under =
-    sym (bare_value n cs x runs) ∙ ap (λ (es : List NumaBlock). value_at es x) is ∙ rw (inside d x above under) refl
+    → d.base ≤ x → x < run_end d → node_if_false n (value_at cs x) ≡ Some d.value
+uncovered_runs_with_node-first n cs d ds x runs is above under =
+    sym (uncovered_runs_with_node-value n cs x runs) ∙ ap (λ (es : List NumaBlock). value_at es x) is ∙ rw (inside d x above under) refl
 
 -- these runs are canonical: two that touched would be one run already
-bare_start : (n at : ℕ) (cs : List (RunOf Bool)) (d : NumaBlock) (ds : List NumaBlock) → AreRuns cs → StartAtOrPast at cs
+uncovered_runs_with_node-start : (n at : ℕ) (cs : List (RunOf Bool)) (d : NumaBlock) (ds : List NumaBlock) → AreRuns cs → StartAtOrPast at cs
     → AreRuns (uncovered_runs_with_node n cs)
     → uncovered_runs_with_node n cs ≡ d ∷ ds → at ≤ d.base
-bare_start n at cs d ds runs start canonical is =
+uncovered_runs_with_node-start n at cs d ds runs start canonical is =
     let some : 0 < d.size = (subst (λ (es : List NumaBlock). AreRuns es) is canonical).0 in
-    let given : bare_of n (value_at cs d.base) ≡ Some d.value = bare_first n cs d ds d.base runs is (omega arith) (omega arith) in
+    let given : node_if_false n (value_at cs d.base) ≡ Some d.value = uncovered_runs_with_node-first n cs d ds d.base runs is (omega arith) (omega arith) in
     le_of_suc-le-suc (lt_of_not-le (λ lower.
-    none-some d.value (ap (bare_of n) (sym (none_below at d.base cs runs start lower)) ∙ given)))
+    none-some d.value (ap (node_if_false n) (sym (none_below at d.base cs runs start lower)) ∙ given)))
 
-bare_before : (n : ℕ) (c : RunOf Bool) (cs : List (RunOf Bool)) → AreRuns (c ∷ cs) → c.value ≡ false → (es : List NumaBlock)
+uncovered_runs_with_node-before : (n : ℕ) (c : RunOf Bool) (cs : List (RunOf Bool)) → AreRuns (c ∷ cs) → c.value ≡ false → (es : List NumaBlock)
     → uncovered_runs_with_node n cs
     ≡ es → AreRuns es
     → IsBefore (record { base = c.base; size = c.size; value = n }) es
-bare_before n c cs runs value [] is canonical = tt
-bare_before n c cs runs value (d ∷ ds) is canonical =
-    let start : run_end c ≤ d.base = bare_start n (run_end c) cs d ds runs.2 (rest_from c cs runs)
+uncovered_runs_with_node-before n c cs runs value [] is canonical = tt
+uncovered_runs_with_node-before n c cs runs value (d ∷ ds) is canonical =
+    let start : run_end c ≤ d.base = uncovered_runs_with_node-start n (run_end c) cs d ds runs.2 (rest_from c cs runs)
     (subst (λ (es : List NumaBlock). AreRuns es) (sym is) canonical) is in (
       start,
       λ touch same.
-          let given = bare_first n cs d ds (run_end c) runs.2 is (omega arith) (omega (arith, canonical.0)) in
-          other_behind c cs runs (bare_some n d.value (value_at cs (run_end c)) given ∙ ap (λ b. Some b) (sym value)),
+          let given = uncovered_runs_with_node-first n cs d ds (run_end c) runs.2 is (omega arith) (omega (arith, canonical.0)) in
+          another_value_at_run_end c cs runs (bare_some n d.value (value_at cs (run_end c)) given ∙ ap (λ b. Some b) (sym value)),
     ) where
-      bare_some : (m k : ℕ) (o : Option Bool) → bare_of m o ≡ Some k → o ≡ Some false
+      bare_some : (m k : ℕ) (o : Option Bool) → node_if_false m o ≡ Some k → o ≡ Some false
       bare_some m k None given = absurd (none-some k given)
       bare_some m k (Some true) given = absurd (none-some k given)
       bare_some m k (Some false) given = refl
 
-bare_canonical : (n : ℕ) (cs : List (RunOf Bool)) → AreRuns cs → AreRuns (uncovered_runs_with_node n cs)
-bare_canonical n [] runs = tt
-bare_canonical n (c ∷ cs) runs =
-    let rest = bare_canonical n cs runs.2 in
+uncovered_runs_with_node-runs : (n : ℕ) (cs : List (RunOf Bool)) → AreRuns cs → AreRuns (uncovered_runs_with_node n cs)
+uncovered_runs_with_node-runs n [] runs = tt
+uncovered_runs_with_node-runs n (c ∷ cs) runs =
+    let rest = uncovered_runs_with_node-runs n cs runs.2 in
     cond_both c.value _ _ (λ (ds : List NumaBlock). AreRuns ds) (λ run_with_node. rest)
-    (λ bare. (runs.0, bare_before n c cs runs bare (uncovered_runs_with_node n cs) refl rest, rest))
+    (λ bare. (runs.0, uncovered_runs_with_node-before n c cs runs bare (uncovered_runs_with_node n cs) refl rest, rest))
 
 pub left_runs : (memory : List RangeView) (joined : List NumaBlock) (n : ℕ) (cs : List (RunOf Bool))
     → IsRunsOf (overlay_runs option_or (map run_with_node joined ++ map run_without_node memory)) cs
     → IsRunsOf (node_if_uncovered (is_in_any_range memory) (value_at joined) n) (uncovered_runs_with_node n cs)
 left_runs memory joined n cs known = record {
-  runs = bare_canonical n cs known.runs;
-  each = λ x. bare_value n cs x known.runs ∙ ap (bare_of n) (known.each x) ∙ told_over memory joined n x;
+  runs = uncovered_runs_with_node-runs n cs known.runs;
+  each = λ x. uncovered_runs_with_node-value n cs x known.runs ∙ ap (node_if_false n) (known.each x) ∙ overlay_gives_uncovered memory joined n x;
 }
 
 -- one more run
-pub bare_step : (n : ℕ) (before : List NumaBlock) (covered : List (RunOf Bool)) (i : ℕ) (c : RunOf Bool) → i < length covered → c
+pub uncovered_runs_with_node-step : (n : ℕ) (before : List NumaBlock) (covered : List (RunOf Bool)) (i : ℕ) (c : RunOf Bool) → i < length covered → c
     ≡ get_or covered i c
     → (if c.value then before else before ++ run_of_node n c ∷ []) ++ uncovered_runs_with_node n (drop (i + 1) covered) ≡ before
     ++ uncovered_runs_with_node n (drop i covered)
-bare_step n before covered i c lt is = rw (drop-cons covered i c lt, ← is, add-one) (by c.value refl) where
+uncovered_runs_with_node-step n before covered i c lt is = rw (drop-cons covered i c lt, ← is, add-one) (by c.value refl) where
   by : (v : Bool) → c.value ≡ v
       → (if c.value then before else before ++ run_of_node n c ∷ []) ++ uncovered_runs_with_node n (drop (suc i) covered)
       ≡ before ++ uncovered_runs_with_node n (c ∷ drop (suc i) covered)

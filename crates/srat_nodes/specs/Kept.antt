@@ -3,7 +3,7 @@
 use Rattle.std.specs.Prelude.{ℕ, ◌+◌, ◌-◌, ◌<◌, ◌==◌, Bool, ◌&&◌, not, nat_lt, if◌then◌else◌, Option, None, List, [], ◌∷◌, ◌++◌, map, find, count_by}
 use Rattle.std.specs.List.{list_any}
 use Rattle.std.specs.Option.{option_map, option_or}
-use Rattle.address_runs.specs.Runs.{run_end, extent_of}
+use Rattle.address_runs.specs.Runs.{run_end, range_of_run}
 use Rattle.bm_base.specs.Each.{each_in}
 use Rattle.bm_base.specs.Range.{RangeView, covers, end_of}
 use Rattle.bm_base.specs.Frames.{frame_around}
@@ -40,7 +40,7 @@ block_in_frames domains b =
 
 -- the block with the number `i`, if it is kept: if it has a byte of memory
 abbrev pub keep_block : (ℕ → Bool) → ℕ → NumaBlock → List KeptBlock
-keep_block memory i b = if meets_memory memory (extent_of b) then record { number = i; block = b } ∷ [] else []
+keep_block memory i b = if meets_memory memory (range_of_run b) then record { number = i; block = b } ∷ [] else []
 
 -- the kept ones of these blocks, whose numbers begin with `i`
 abbrev pub keep_blocks_from : (ℕ → Bool) → List ℕ → ℕ → List SratBlock → List KeptBlock

@@ -17,7 +17,7 @@ ghost use Rattle.srat_nodes.specs.Kept.{numa_blocks_of, is_clash_of_numbers, fir
 
 /// Law: an address belongs to at most one node, if no kept block is empty and no two kept blocks of
 /// different nodes share an address.
-pub fn one_node_an_address()
+pub fn address_has_one_node()
     ensures { (kept : List AnyKept) → first_clash kept ≡ None → HaveAddresses (numa_blocks_of kept)
         →
         (x n : ℕ) → (belongs_to_node (numa_blocks_of kept) n x ≡ true)
@@ -66,7 +66,7 @@ pub fn least_overlap()
 /// Law: an address has the same node as the first address of its frame. If memory consists of whole
 /// frames, an address is memory outside all blocks exactly if the first address of its frame is. So
 /// it is enough to look at the first address of each frame to count the frames without a node.
-pub fn one_node_a_frame()
+pub fn frame_has_one_node()
     ensures node { (memory : ℕ → Bool) (domains : List ℕ) (blocks : List AnyBlock) (x : ℕ) →
         nodes_by_blocks (keep_blocks memory domains blocks) x
         ≡ nodes_by_blocks (keep_blocks memory domains blocks) (frame_base x) }

@@ -21,12 +21,12 @@
 //! A law is an empty function whose contract is a proven fact. In contracts, a name means the
 //! definition in `specs/`. The laws say:
 //!
-//! - [`one_node_an_address`]: an address has at most one node.
+//! - [`address_has_one_node`]: an address has at most one node.
 //! - [`one_node_a_domain`]: different domains have different nodes.
 //! - [`nodes_by_first_naming`]: nodes are numbered in the order in which their domains are first
 //!   named.
 //! - [`least_overlap`]: the pair of overlapping blocks in [`Why::Overlap`] is the least one.
-//! - [`one_node_a_frame`]: all addresses of a frame have the same node.
+//! - [`frame_has_one_node`]: all addresses of a frame have the same node.
 //! - [`kept_nodes_have_memory`]: a node has memory exactly if it has a kept block.
 //! - [`runs_cover_memory`]: the runs of a table that is used cover all memory.
 //!
@@ -45,6 +45,6 @@ mod rest;
 pub use kept::{KeptBlock, NodeRange};
 pub use laws::{
     kept_nodes_have_memory, least_overlap, nodes_by_first_naming, one_node_a_domain,
-    one_node_a_frame, one_node_an_address, runs_cover_memory,
+    frame_has_one_node, address_has_one_node, runs_cover_memory,
 };
 pub use reasons::{MAX_BLOCKS, MAX_NODES, SratNodes, UNCOVERED_FRAMES, Why, judge_srat};

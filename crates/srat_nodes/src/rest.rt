@@ -90,7 +90,7 @@ fn uncovered_runs_with_node(
 {
     let mut rest = Vec::new(alloc);
     for run in covered {
-        push_run_of_node(&mut rest, run, node)?;
+        push_run_if_uncovered(&mut rest, run, node)?;
     }
     Ok(rest)
 }
@@ -100,7 +100,7 @@ fn uncovered_runs_with_node(
 /// # Errors
 ///
 /// - `Memory`: the program ran out of memory.
-fn push_run_of_node(rest: &mut Vec<NodeRange>, run: &RunOf<bool>, node: u32) -> Result<(), Memory>
+fn push_run_if_uncovered(rest: &mut Vec<NodeRange>, run: &RunOf<bool>, node: u32) -> Result<(), Memory>
     ensures value { OnOk result (rest.new.items ≡
         (if run.now.value then rest.old.items else rest.old.items
         ++ run_of_node node run.now ∷ [])) }
@@ -123,14 +123,14 @@ pub fn count_frames(runs: &[NodeRange]) -> u64
     let mut frames = 0;
     let mut rest = runs;
     while let [run, others @ ..] = rest {
-        frames += frames_begun(run);
+        frames += count_frames_of_run(run);
         rest = others;
     }
     frames
 }
 
 /// Returns the number of frames that begin in the run.
-fn frames_begun(run: &NodeRange) -> u64
+fn count_frames_of_run(run: &NodeRange) -> u64
     ensures value { result
         ≡ count_frames_below (run_end run.now) - count_frames_below run.now.base }
     ensures space { run_end run.now < 2 ^ 64 }

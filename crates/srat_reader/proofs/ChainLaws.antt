@@ -7,7 +7,7 @@ use Rattle.std.proofs.lemmas.List.{append-nil}
 use Rattle.std.specs.List.{filter_map}
 use Rattle.std.specs.Prelude.{nat_le}
 use Rattle.srat_reader.specs.declared.table.SratFault.TheVariants as faults
-use Rattle.srat_reader.specs.Entries.{entry_length_at, is_whole_entry, is_memory_overflowing, srat_entry_at}
+use Rattle.srat_reader.specs.Entries.{entry_length_at, is_whole_entry, is_block_too_far, srat_entry_at}
 use Rattle.srat_reader.specs.Table.{entry_offsets_from, entry_offsets, first_srat_fault}
 
 -- a whole entry has at least two bytes, and ends by the end of the table
@@ -87,12 +87,12 @@ pub broken_fault : (at : ℕ) (bytes : List ℕ) → at < length bytes → is_wh
 broken_fault at bytes before broken = rw (rest_broken at bytes before broken) (rw broken refl)
 
 pub far_fault : (at : ℕ) (bytes : List ℕ) → at < length bytes → is_whole_entry at bytes ≡ true
-    → is_memory_overflowing (srat_entry_at at bytes) ≡ true
+    → is_block_too_far (srat_entry_at at bytes) ≡ true
     → first_srat_fault bytes (rest_from at bytes) ≡ Some (faults.BlockTooFar at)
 far_fault at bytes before whole far = rw (rest_whole at bytes before whole) (rw whole (rw far refl))
 
 pub later_fault : (at : ℕ) (bytes : List ℕ) → at < length bytes → is_whole_entry at bytes ≡ true
-    → is_memory_overflowing (srat_entry_at at bytes) ≡ false
+    → is_block_too_far (srat_entry_at at bytes) ≡ false
     → first_srat_fault bytes (rest_from at bytes) ≡ first_srat_fault bytes (rest_from (at + entry_length_at at bytes) bytes)
 later_fault at bytes before whole near = rw (rest_whole at bytes before whole) (rw whole (rw near refl))
 
@@ -107,37 +107,37 @@ whole_here at bytes before none =
     true_from_ne_false (is_whole_entry at bytes) (λ broken. let fault = broken_fault at bytes before broken in cc)
 
 pub near_here : (at : ℕ) (bytes : List ℕ) → at < length bytes → first_srat_fault bytes (rest_from at bytes) ≡ None
-    → is_memory_overflowing (srat_entry_at at bytes) ≡ false
+    → is_block_too_far (srat_entry_at at bytes) ≡ false
 near_here at bytes before none =
-    false_from_ne_true (is_memory_overflowing (srat_entry_at at bytes)) (λ far.
+    false_from_ne_true (is_block_too_far (srat_entry_at at bytes)) (λ far.
     let fault = far_fault at bytes before (whole_here at bytes before none) far in cc)
 
-pub sound_behind : (at : ℕ) (bytes : List ℕ) → at < length bytes → first_srat_fault bytes (rest_from at bytes) ≡ None
+pub no_fault_after_entry : (at : ℕ) (bytes : List ℕ) → at < length bytes → first_srat_fault bytes (rest_from at bytes) ≡ None
     → first_srat_fault bytes (rest_from (at + entry_length_at at bytes) bytes) ≡ None
-sound_behind at bytes before none =
+no_fault_after_entry at bytes before none =
     sym (later_fault at bytes before (whole_here at bytes before none) (near_here at bytes before none)) ∙ none
 
 -- the values from an offset on: that of the entry there, if it has one, and then those of the
 -- entries after it
-pub told_here : {X : Type 0} (f : ℕ → Option X) (at : ℕ) (bytes : List ℕ) (before : List X) → at < length bytes
+pub values_from_entry : {X : Type 0} (f : ℕ → Option X) (at : ℕ) (bytes : List ℕ) (before : List X) → at < length bytes
     → is_whole_entry at bytes ≡ true
     → before ++ filter_map f (rest_from at bytes)
     ≡ (before ++ option_to_list (f at)) ++ filter_map f (rest_from (at + entry_length_at at bytes) bytes)
-told_here {X} f at bytes before here whole = rw (rest_whole at bytes here whole) (by (f at) refl) where
+values_from_entry {X} f at bytes before here whole = rw (rest_whole at bytes here whole) (by (f at) refl) where
   by : (o : Option X) → f at ≡ o
       → before ++ filter_map f (at ∷ rest_from (at + entry_length_at at bytes) bytes)
       ≡ (before ++ option_to_list (f at)) ++ filter_map f (rest_from (at + entry_length_at at bytes) bytes)
   by None is = rw is (rw append-nil refl)
   by (Some x) is = rw is (sym (append_assoc before (x ∷ []) (filter_map f (rest_from (at + entry_length_at at bytes) bytes))))
 
-pub told_end : {X : Type 0} (f : ℕ → Option X) (at : ℕ) (bytes : List ℕ) (before : List X) → length bytes ≤ at
+pub values_at_end : {X : Type 0} (f : ℕ → Option X) (at : ℕ) (bytes : List ℕ) (before : List X) → length bytes ≤ at
     → before ++ filter_map f (rest_from at bytes) ≡ before
-told_end f at bytes before ended = rw (rest_end at bytes ended) (rw append-nil refl)
+values_at_end f at bytes before ended = rw (rest_end at bytes ended) (rw append-nil refl)
 
 -- if the entry at an offset has a value, the whole list isn't empty
-pub some_told : {X : Type 0} (f : ℕ → Option X) (at : ℕ) (bytes : List ℕ) (before : List X) → at < length bytes
+pub values_not_empty : {X : Type 0} (f : ℕ → Option X) (at : ℕ) (bytes : List ℕ) (before : List X) → at < length bytes
     → is_whole_entry at bytes ≡ true → IsSome (f at) → 0 < length (before ++ filter_map f (rest_from at bytes))
-some_told {X} f at bytes before here whole some = rw (rest_whole at bytes here whole) (by (f at) refl some) where
+values_not_empty {X} f at bytes before here whole some = rw (rest_whole at bytes here whole) (by (f at) refl some) where
   by : (o : Option X) → f at ≡ o → IsSome o → 0 < length (before ++ filter_map f (at ∷ rest_from (at + entry_length_at at bytes) bytes))
   by None is some = absurd (false≢true some)
   by (Some x) is some = rw is (simp length-append (omega arith))
@@ -146,9 +146,9 @@ some_told {X} f at bytes before here whole some = rw (rest_whole at bytes here w
 pub not_memory : (bytes offsets : List ℕ) → first_srat_fault bytes offsets ≢ Some faults.Memory
 not_memory bytes [] is = cc
 not_memory bytes (at ∷ rest) is =
-    by (not_memory bytes rest) (is_whole_entry at bytes) (is_memory_overflowing (srat_entry_at at bytes)) refl refl is where
+    by (not_memory bytes rest) (is_whole_entry at bytes) (is_block_too_far (srat_entry_at at bytes)) refl refl is where
       by : first_srat_fault bytes rest ≢ Some faults.Memory → (whole far : Bool) → is_whole_entry at bytes ≡ whole
-          → is_memory_overflowing (srat_entry_at at bytes) ≡ far → first_srat_fault bytes (at ∷ rest) ≢ Some faults.Memory
+          → is_block_too_far (srat_entry_at at bytes) ≡ far → first_srat_fault bytes (at ∷ rest) ≢ Some faults.Memory
       by behind false far broken is said = let named = rw (broken) at said in cc
       by behind true true whole far said = let named = rw (whole, far) at said in cc
       by behind true false whole near said = behind (rw (whole, near) at said)

@@ -3,7 +3,7 @@ use Rattle.std.proofs.Common.{Ok, Err, ◌≡◌, ℕ, true, false, List, [], �
 use Rattle.std.specs.Prelude.{replicate, codes}
 use Rattle.srat_reader.specs.declared.entries.SratEntry.TheVariants as said
 use Rattle.srat_reader.specs.declared.table.SratFault.TheVariants as faults
-use Rattle.srat_reader.specs.Entries.{fits_entry_type, is_whole_entry, has_enabled_flag, local_apic_domain, memory_domain, x2apic_domain, memory_entry_at, srat_entry_at, is_memory_overflowing}
+use Rattle.srat_reader.specs.Entries.{fits_entry_type, is_whole_entry, has_enabled_flag, local_apic_domain, memory_domain, x2apic_domain, memory_entry_at, srat_entry_at, is_block_too_far}
 use Rattle.srat_reader.specs.Table.{srat_header_fault, entry_offsets_from, entry_offsets, srat_fault_at, first_srat_fault, srat_fault, processors_of, srat_blocks_of, srat_of}
 
 -- the header of a table with this length (below 256), revision and checksum byte
@@ -74,10 +74,10 @@ unfolding srat_entry_at
 says_nothing = (refl, refl)
 
 -- the sum 2^64 - 1 isn't too far, and 2^64 is
-far_memory : (is_memory_overflowing (said.Block 0 0xFFFFFFFFFFFFF000 0xFFF) ≡ false)
-    × (is_memory_overflowing (said.Block 0 0xFFFFFFFFFFFFF000 0x1000) ≡ true)
-    × (is_memory_overflowing (said.Processor 7) ≡ false)
-    × (is_memory_overflowing said.Nothing ≡ false)
+far_memory : (is_block_too_far (said.Block 0 0xFFFFFFFFFFFFF000 0xFFF) ≡ false)
+    × (is_block_too_far (said.Block 0 0xFFFFFFFFFFFFF000 0x1000) ≡ true)
+    × (is_block_too_far (said.Processor 7) ≡ false)
+    × (is_block_too_far said.Nothing ≡ false)
 far_memory = (refl, refl, refl, refl)
 
 -- the faults of the header, in their order: too short, another signature, another length, another

@@ -75,7 +75,7 @@ srat_entry_at at bytes =
     said.Nothing))
 
 -- the content is a range of memory whose base plus size exceeds 2^64 - 1
-abbrev pub is_memory_overflowing : SratEntry → Bool
-is_memory_overflowing said.Nothing = false
-is_memory_overflowing (said.Processor domain) = false
-is_memory_overflowing (said.Block domain base size) = nat_le (2 ^ 64) (base + size)
+abbrev pub is_block_too_far : SratEntry → Bool
+is_block_too_far said.Nothing = false
+is_block_too_far (said.Processor domain) = false
+is_block_too_far (said.Block domain base size) = nat_le (2 ^ 64) (base + size)

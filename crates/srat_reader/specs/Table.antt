@@ -9,7 +9,7 @@ use Rattle.srat_reader.specs.declared.table.Srat.{Srat}
 use Rattle.srat_reader.specs.declared.table.SratBlock.{SratBlock}
 use Rattle.srat_reader.specs.declared.table.SratFault.{SratFault}
 use Rattle.srat_reader.specs.declared.table.SratFault.TheVariants as faults
-use Rattle.srat_reader.specs.Entries.{number_at, entry_length_at, is_whole_entry, is_memory_overflowing, srat_entry_at}
+use Rattle.srat_reader.specs.Entries.{number_at, entry_length_at, is_whole_entry, is_block_too_far, srat_entry_at}
 
 -- the first of four faults, in this order: fewer bytes than the header has; another signature; the
 -- stated length (the u32 at offset 4) isn't the number of bytes; the bytes don't sum to 0 modulo
@@ -40,7 +40,7 @@ entry_offsets bytes = entry_offsets_from (length bytes) 48 bytes
 abbrev pub srat_fault_at : List ℕ → ℕ → Option SratFault
 srat_fault_at bytes at =
     if not (is_whole_entry at bytes) then Some (faults.EntryLength at)
-    else (if is_memory_overflowing (srat_entry_at at bytes) then Some (faults.BlockTooFar at) else None)
+    else (if is_block_too_far (srat_entry_at at bytes) then Some (faults.BlockTooFar at) else None)
 
 -- the first fault of the entries at these offsets
 abbrev pub first_srat_fault : List ℕ → List ℕ → Option SratFault

@@ -1,7 +1,7 @@
 //! Reads one entry: whether it is whole, its length, and its content. The search for faults and the
 //! reading of the values share this code.
 ghost use Rattle.std.specs.Prelude.{◌≡◌, ℕ, ◌+◌, ◌<◌, ◌≤◌, length, IsTrue};
-ghost use Rattle.srat_reader.specs.Entries.{entry_length_at, fits_entry_type, is_whole_entry, is_memory_overflowing, has_enabled_flag, local_apic_domain, memory_domain, srat_entry_at};
+ghost use Rattle.srat_reader.specs.Entries.{entry_length_at, fits_entry_type, is_whole_entry, is_block_too_far, has_enabled_flag, local_apic_domain, memory_domain, srat_entry_at};
 
 use byteorder::{ByteOrder, LittleEndian};
 
@@ -34,8 +34,8 @@ pub enum SratEntry {
 
 /// Tests whether `said`, the content of an entry, is a range of memory whose base plus size exceeds
 /// 2^64 - 1. This isn't about running out of memory.
-pub fn is_memory_overflowing(said: SratEntry) -> bool
-    ensures { result ≡ is_memory_overflowing said }
+pub fn is_block_too_far(said: SratEntry) -> bool
+    ensures { result ≡ is_block_too_far said }
 {
     match said {
         SratEntry::Block { base, size, .. } => base.checked_add(size).is_none(),

@@ -2,12 +2,12 @@
 //! lists.
 ghost use Rattle.std.specs.Prelude.{◌≡◌, ◌≢◌, ℕ, None, Some, ◌^◌, ◌<◌, ◌≤◌, ◌%◌, ◌++◌, ◌⊎◌, length, sum, IfOk, IfErr, IfNone, IsErr, IsSome, OnOk, false};
 ghost use Rattle.std.specs.Option.{option_to_list};
-ghost use Rattle.srat_reader.specs.Entries.{is_memory_overflowing};
+ghost use Rattle.srat_reader.specs.Entries.{is_block_too_far};
 ghost use Rattle.bm_base.specs.Answers.{Answers};
 ghost use Rattle.srat_reader.specs.Table.{srat_view, srat_of, srat_header_fault, entry_offsets, first_srat_fault, srat_fault, processor_of, srat_block_of, processors_of, srat_blocks_of};
 
 use crate::entries::{
-    SratEntry, entry_length_at, is_memory_overflowing, is_whole_entry, srat_entry_at,
+    SratEntry, entry_length_at, is_block_too_far, is_whole_entry, srat_entry_at,
 };
 use bm_base::{Memory, Range};
 use byteorder::{ByteOrder, LittleEndian};
@@ -140,7 +140,7 @@ fn find_entry_fault(bytes: &[u8]) -> Option<SratFault>
         if !is_whole_entry(bytes, at) {
             return Some(SratFault::EntryLength { offset });
         }
-        if is_memory_overflowing(srat_entry_at(bytes, at)) {
+        if is_block_too_far(srat_entry_at(bytes, at)) {
             return Some(SratFault::BlockTooFar { offset });
         }
         at += entry_length_at(bytes, at);
@@ -179,7 +179,7 @@ fn read_srat_entries(alloc: Global, bytes: &[u8]) -> Result<Srat, Memory>
 ///
 /// - `Memory`: the program ran out of memory; the entry is a processor or a range of memory.
 fn append_srat_entry(srat: &mut Srat, said: SratEntry) -> Result<(), Memory>
-    requires { is_memory_overflowing said ≡ false }
+    requires { is_block_too_far said ≡ false }
     ensures processors { OnOk result (srat.new.cpus.items
         ≡ srat.old.cpus.items ++ option_to_list (processor_of said)) }
     ensures blocks { OnOk result (srat.new.blocks.items

@@ -4,10 +4,10 @@ use Rattle.std.proofs.lemmas.List.{append-nil}
 use Rattle.memblock_model.specs.declared.item.Item.{Item}
 use Rattle.growth_model.specs.Change.{items_of_steps}
 use Rattle.growth_model.specs.Ends.{StopsBeforeStep}
-use Rattle.growth_model.specs.Tables.{HasBegun}
+use Rattle.growth_model.specs.Tables.{HasFirstItem}
 use Rattle.growth_model.proofs.EndLaws.{cut-first, cut-second}
 use Rattle.growth_model.proofs.SoundLaws.{more-begun}
-use Rattle.stage_steps.specs.Steps.{StepEffect, StageStep, append_groups, items_after_step, return_value, read_into_list, continue_if_ok, ◌>>=◌, EndsAsStage}
+use Rattle.stage_steps.specs.Steps.{StepEffect, StageStep, append_groups, items_after_step, return_value, read_items_allocating, continue_if_ok, ◌>>=◌, EndsAsStage}
 
 pub append_groups-append : (items : List Item) (a b : List (List Item))
     → append_groups items (a ++ b) ≡ append_groups (append_groups items a) b
@@ -50,22 +50,22 @@ module _ {E F A B : Type 0} where
 module _ {E F A : Type 0} where
   -- memory of the program for a list was allocated, or it was out of memory
   pub ends-listed : (f : List Item → A) (error : Option E → F) (items : List Item)
-      → EndsAsStage (read_into_list f) error (Ok (f items)) items items
+      → EndsAsStage (read_items_allocating f) error (Ok (f items)) items items
   ends-listed f error items = (refl, sym (append-nil items))
 
   pub ends-wanting : (f : List Item → A) (error : Option E → F) (items : List Item)
-      → EndsAsStage (read_into_list f) error (Err (error None)) items items
+      → EndsAsStage (read_items_allocating f) error (Err (error None)) items items
   ends-wanting f error items = inr (refl, record { count = 0; short = omega arith; stands = sym (append-nil items) })
 
   pub ends-returns : (a : A) (error : Option E → F) (items : List Item) → EndsAsStage (return_value a) error (Ok a) items items
   ends-returns a error items = (refl, refl)
 
-pub begun-appended : (items : List Item) (ss : List (List Item)) → HasBegun items → HasBegun (append_groups items ss)
+pub begun-appended : (items : List Item) (ss : List (List Item)) → HasFirstItem items → HasFirstItem (append_groups items ss)
 begun-appended items [] begun = begun
 begun-appended items (s ∷ ss) begun = begun-appended (items ++ s) ss (more-begun items s begun)
 
-pub ends-begun : {E F A : Type 0} (r : Result A F) (error : Option E → F) (old new : List Item) (f : StageStep E A) → HasBegun old
-    → EndsAsStage f error r old new → HasBegun new
+pub ends-begun : {E F A : Type 0} (r : Result A F) (error : Option E → F) (old new : List Item) (f : StageStep E A) → HasFirstItem old
+    → EndsAsStage f error r old new → HasFirstItem new
 ends-begun (Ok a) error old new f begun h = rw h.1 (begun-appended old (f old).steps begun)
 ends-begun (Err e) error old new f begun h = ⊎_elim
     (λ told. rw told.3 (begun-appended old (f old).steps begun))

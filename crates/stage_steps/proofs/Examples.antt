@@ -7,9 +7,9 @@ use Rattle.memblock_model.specs.declared.owner.Which.TheVariants as which
 use Rattle.memblock_model.specs.declared.item.Item.TheVariants as item
 use Rattle.memblock_grow.specs.declared.stop.What.TheVariants as what
 use Rattle.memblock_grow.specs.declared.stop.StageStop.TheVariants as stop
-use Rattle.stage_steps.specs.Causes.{StageCause, NoPlace, NoTablePlace, stage_stop}
-use Rattle.stage_steps.specs.Steps.{StageStep, return_value, fail_with, read_items, read_into_list, ◌>>=◌, fold_steps, EndsAsStage}
-use Rattle.stage_steps.specs.Nodes.{IsSameInFrames, HasNodes}
+use Rattle.stage_steps.specs.Causes.{StageCause, NoPlace, NoTablePlace, error_of_stage_cause}
+use Rattle.stage_steps.specs.Steps.{StageStep, return_value, fail_with, read_items, read_items_allocating, ◌>>=◌, fold_steps, EndsAsStage}
+use Rattle.stage_steps.specs.Nodes.{IsConstantInFrames, IsMemoryWithNodes}
 use Rattle.stage_steps.specs.Requests.{or_else}
 
 -- a step that writes a limit and returns a sum
@@ -36,21 +36,21 @@ not_tried : ((or_else (fail_with (NoPlace what.Roots)) (limited 0 9) []).answer 
 not_tried = (refl, refl)
 
 -- out of memory after the first of two groups
-ends_cut : EndsAsStage {A = ℕ} (limited 0 5 >>= λ a. limited a 7) stage_stop (Err stop.Memory) [] (item.Limit 5 ∷ [])
+ends_cut : EndsAsStage {A = ℕ} (limited 0 5 >>= λ a. limited a 7) error_of_stage_cause (Err stop.Memory) [] (item.Limit 5 ∷ [])
 ends_cut = inr (refl, record { count = 1; short = omega arith; stands = refl })
 
 -- out of memory doesn't replace a stop
-none_in_place : EndsAsStage {A = ℕ} (fail_with (NoPlace what.Roots)) stage_stop (Err stop.Memory) [] [] → ⊥
+none_in_place : EndsAsStage {A = ℕ} (fail_with (NoPlace what.Roots)) error_of_stage_cause (Err stop.Memory) [] [] → ⊥
 none_in_place (inl (NoPlace thing, is, same, stands)) = cc same
 none_in_place (inl (NoTablePlace w room, is, same, stands)) = cc same
 none_in_place (inr cut) = let less = cut.1.short in absurd (omega (arith, less))
 
 -- a list needs memory of the program, though it writes no item
-list_wanted : EndsAsStage {E = StageCause} {A = ℕ} (read_into_list length) stage_stop (Err stop.Memory) [] []
+list_wanted : EndsAsStage {E = StageCause} {A = ℕ} (read_items_allocating length) error_of_stage_cause (Err stop.Memory) [] []
 list_wanted = inr (refl, record { count = 0; short = omega arith; stands = refl })
 
 -- no other error is returned before a group
-other_error_cut : EndsAsStage {A = ℕ} (limited 0 5 >>= λ a. limited a 7) stage_stop (Err (stop.NoPlace what.Roots)) [] (item.Limit 5 ∷ [])
+other_error_cut : EndsAsStage {A = ℕ} (limited 0 5 >>= λ a. limited a 7) error_of_stage_cause (Err (stop.NoPlace what.Roots)) [] (item.Limit 5 ∷ [])
     → ⊥
 other_error_cut (inl told) = let wrong = told.1 in cc wrong
 other_error_cut (inr cut) = let wrong = cut.0 in cc wrong
@@ -59,7 +59,7 @@ other_error_cut (inr cut) = let wrong = cut.0 in cc wrong
 abbrev of_node_1024 : LabelView
 of_node_1024 = with_node (Some 1024) plain_label
 
-too_great_a_node : (limit : ℕ) → HasNodes limit (λ x. Some of_node_1024) → ⊥
+too_great_a_node : (limit : ℕ) → IsMemoryWithNodes limit (λ x. Some of_node_1024) → ⊥
 too_great_a_node limit noded =
     let known = noded.nodes 0 of_node_1024 refl in
     let is : 1024 ≡ known.0 = same_Some 1024 known.0 known.1 in
@@ -67,12 +67,12 @@ too_great_a_node limit noded =
     absurd (omega (arith, is, low))
 
 -- half a frame isn't enough
-half_a_frame : IsSameInFrames (λ x. nat_lt x 2048) → ⊥
+half_a_frame : IsConstantInFrames (λ x. nat_lt x 2048) → ⊥
 half_a_frame same = let wrong = same 2048 in cc wrong
 
 -- no memory is past the limit
 abbrev of_node_3 : LabelView
 of_node_3 = with_node (Some 3) plain_label
 
-frame_behind_the_limit : HasNodes 4096 (λ x. if nat_lt x 8192 then Some of_node_3 else None) → ⊥
+frame_behind_the_limit : IsMemoryWithNodes 4096 (λ x. if nat_lt x 8192 then Some of_node_3 else None) → ⊥
 frame_behind_the_limit noded = let wrong = noded.within 4096 (omega arith) in cc wrong

@@ -11,7 +11,7 @@ use Rattle.growth_model.proofs.MemoryItemLaws.{quiet-append}
 use Rattle.growth_model.proofs.QuietLaws.{IsQuiet, claim_range-quiet, quiet-memory, quiet-limit}
 use Rattle.memblock_grow.specs.declared.stop.What.{What}
 use Rattle.stage_steps.specs.Causes.{StageCause, NoPlace, NoTablePlace}
-use Rattle.stage_steps.specs.Steps.{StepEffect, StageStep, append_groups, items_after_step, return_value, fail_with, read_items, read_into_list, continue_if_ok, ◌>>=◌, fold_steps}
+use Rattle.stage_steps.specs.Steps.{StepEffect, StageStep, append_groups, items_after_step, return_value, fail_with, read_items, read_items_allocating, continue_if_ok, ◌>>=◌, fold_steps}
 use Rattle.stage_steps.specs.Requests.{make_change, change_or_stop, claim_found_place, place_or_stop, if_no_place, or_else}
 use Rattle.stage_steps.specs.KeepsMemory.{KeepsMemory}
 use Rattle.stage_steps.proofs.DoingLaws.{append_groups-joined}
@@ -26,7 +26,7 @@ module _ {E A : Type 0} where
   pub quiet-seen : (f : List Item → A) → KeepsMemory (read_items {E = E} f)
   quiet-seen f = record { each = λ items. tt }
 
-  pub quiet-listed : (f : List Item → A) → KeepsMemory (read_into_list {E = E} f)
+  pub quiet-listed : (f : List Item → A) → KeepsMemory (read_items_allocating {E = E} f)
   quiet-listed f = record { each = λ items. (refl, tt) }
 
 module _ {E A B : Type 0} where

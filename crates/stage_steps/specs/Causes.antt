@@ -14,10 +14,10 @@ pub data StageCause : Type 0 where
   NoPlace : (thing : What) → StageCause
   NoTablePlace : (which : Which) (room : ℕ) → StageCause
 
-abbrev pub stage_stop : Option StageCause → StageStop
-stage_stop None = stop.Memory
-stage_stop (Some (NoPlace thing)) = stop.NoPlace thing
-stage_stop (Some (NoTablePlace w room)) = stop.NoTablePlace w room
+abbrev pub error_of_stage_cause : Option StageCause → StageStop
+error_of_stage_cause None = stop.Memory
+error_of_stage_cause (Some (NoPlace thing)) = stop.NoPlace thing
+error_of_stage_cause (Some (NoTablePlace w room)) = stop.NoTablePlace w room
 
 -- the error of a stage that makes its own searches: only a table that found no place stops it
 abbrev pub refusal_for : Option RefusedGrowth → Refusal
@@ -25,7 +25,7 @@ refusal_for None = refusal.Memory
 refusal_for (Some r) = refusal.NoGapForTable r.which r.room
 
 -- why the boot stops if memblock refused the allocation
-abbrev pub stop_for : What → Refusal → StageStop
-stop_for thing refusal.NoGap = stop.NoPlace thing
-stop_for thing (refusal.NoGapForTable w room) = stop.NoTablePlace w room
-stop_for thing refusal.Memory = stop.Memory
+abbrev pub stop_for_refusal : What → Refusal → StageStop
+stop_for_refusal thing refusal.NoGap = stop.NoPlace thing
+stop_for_refusal thing (refusal.NoGapForTable w room) = stop.NoTablePlace w room
+stop_for_refusal thing refusal.Memory = stop.Memory

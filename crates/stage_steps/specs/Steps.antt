@@ -35,8 +35,8 @@ module _ {E A : Type 0} where
 
   -- returns a value that is computed from the items so far, and needs memory of this program for
   -- it: a group without items
-  abbrev pub read_into_list : (List Item → A) → StageStep E A
-  read_into_list f items = record { steps = [] ∷ []; answer = Ok (f items) }
+  abbrev pub read_items_allocating : (List Item → A) → StageStep E A
+  read_items_allocating f items = record { steps = [] ∷ []; answer = Ok (f items) }
 
 -- after a value the next step follows; an error ends all
 abbrev pub continue_if_ok : {E A B : Type 0} → List (List Item) → Result A E → (A → StepEffect E B) → StepEffect E B

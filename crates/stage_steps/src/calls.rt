@@ -1,11 +1,11 @@
 //! Calls of memblock whose refusal is returned as the stop of a stage.
 ghost use Rattle.std.specs.Prelude.{◌≡◌, ℕ, ◌+◌, ◌-◌, ◌^◌, ◌<◌, ◌≤◌, false, IfOk, IsOk, Some};
 ghost use Rattle.memblock_model.specs.declared.owner.Which.TheVariants as tables_of;
-ghost use Rattle.growth_model.specs.Growth.{set_range_node, count_uncovered_pieces, split_record_count, is_full};
+ghost use Rattle.growth_model.specs.Growth.{set_range_node, count_uncovered_pieces, max_records_added_by_split, is_full};
 ghost use Rattle.growth_model.specs.Request.{place_for};
-ghost use Rattle.growth_model.specs.Tables.{HasBegun};
+ghost use Rattle.growth_model.specs.Tables.{HasFirstItem};
 ghost use Rattle.memblock_grow.specs.Continues.{ContinuesMemblock};
-ghost use Rattle.stage_steps.specs.Causes.{stage_stop, stop_for};
+ghost use Rattle.stage_steps.specs.Causes.{error_of_stage_cause, stop_for_refusal};
 ghost use Rattle.stage_steps.specs.Steps.{EndsAsStage};
 ghost use Rattle.stage_steps.specs.Requests.{place_or_stop, change_or_stop};
 
@@ -16,8 +16,8 @@ use memblock_grow::{Memblock, StageStop, What};
 
 /// Converts a refusal of memblock to the stop of a stage. `what` is what the stage tried to
 /// allocate.
-pub fn stop_for(what: What, refusal: Refusal) -> StageStop
-    ensures { result ≡ stop_for what refusal }
+pub fn stop_for_refusal(what: What, refusal: Refusal) -> StageStop
+    ensures { result ≡ stop_for_refusal what refusal }
 {
     match refusal {
         Refusal::NoGap => StageStop::NoPlace { what },
@@ -41,10 +41,10 @@ pub fn place_or_stop(
     request: &Request,
     owner: Owner,
 ) -> Result<u64, StageStop>
-    requires begun { HasBegun memblock.old.journal.items }
+    requires begun { HasFirstItem memblock.old.journal.items }
     requires some { 1 ≤ request.now.size }
     requires aligned { (k : ℕ) × (request.now.align ≡ 2 ^ k) }
-    ensures ends { EndsAsStage (place_or_stop what request.now owner) stage_stop result
+    ensures ends { EndsAsStage (place_or_stop what request.now owner) error_of_stage_cause result
         memblock.old.journal.items memblock.new.journal.items }
     ensures inside { IfOk result (λ base. base + request.now.size < 2 ^ 64) }
     ensures ready { (place : ℕ) → place_for request.now memblock.old.journal.items ≡ Some place
@@ -57,7 +57,7 @@ pub fn place_or_stop(
 {
     match memblock.alloc(request, owner) {
         Ok(base) => Ok(base),
-        Err(refusal) => Err(stop_for(what, refusal)),
+        Err(refusal) => Err(stop_for_refusal(what, refusal)),
     }
 }
 
@@ -70,18 +70,19 @@ pub fn place_or_stop(
 /// - `NoTablePlace` if a table has to grow and finds no place.
 /// - `Memory` if this program is out of memory. The call then stops before one of its steps.
 pub fn set_node_or_stop(memblock: &mut Memblock, range: Range, node: u32) -> Result<(), StageStop>
-    requires begun { HasBegun memblock.old.journal.items }
+    requires begun { HasFirstItem memblock.old.journal.items }
     requires some { 0 < range.size }
     requires node { node < 1024 }
-    ensures ends { EndsAsStage (change_or_stop (set_range_node range node)) stage_stop result
+    ensures ends { EndsAsStage (change_or_stop (set_range_node range node)) error_of_stage_cause
+        result
         memblock.old.journal.items memblock.new.journal.items }
     ensures ready { 0 < memblock.old.journal.spare
-        → is_full tables_of.Memory split_record_count memblock.old.journal.items ≡ false →
+        → is_full tables_of.Memory max_records_added_by_split memblock.old.journal.items ≡ false →
         IsOk result × (memblock.new.journal.spare ≡ memblock.old.journal.spare - 1) }
     ensures goes_on { ContinuesMemblock memblock.old memblock.new }
 {
     match memblock.set_node(range, node) {
         Ok(()) => Ok(()),
-        Err(refusal) => Err(stop_for(What::NodeData(node), refusal)),
+        Err(refusal) => Err(stop_for_refusal(What::NodeData(node), refusal)),
     }
 }

@@ -2,7 +2,7 @@
 //! proof of a stage is about its steps, and not about the growth in them.
 
 ghost use Rattle.std.specs.Prelude.{◌≡◌, ℕ, List, Result};
-ghost use Rattle.bm_base.specs.ResultSteps.{with_error};
+ghost use Rattle.bm_base.specs.ResultSteps.{map_error};
 ghost use Rattle.memblock_model.specs.declared.owner.Owner.{Owner};
 ghost use Rattle.memblock_model.specs.declared.item.Item.{Item};
 ghost use Rattle.memblock_model.specs.Items.{memory_of, limit_of};
@@ -12,7 +12,7 @@ ghost use Rattle.growth_model.specs.Change.{Change};
 ghost use Rattle.growth_model.specs.Request.{place_for};
 ghost use Rattle.growth_model.specs.Ends.{EndsAsChange, Allocates};
 ghost use Rattle.memblock_grow.specs.declared.stop.What.{What as AnyWhat};
-ghost use Rattle.stage_steps.specs.Causes.{refusal_for, stage_stop, stop_for};
+ghost use Rattle.stage_steps.specs.Causes.{refusal_for, error_of_stage_cause, stop_for_refusal};
 ghost use Rattle.stage_steps.specs.Steps.{items_after_step, EndsAsStage};
 ghost use Rattle.stage_steps.specs.Requests.{change_or_stop, make_change, place_or_stop};
 
@@ -24,13 +24,14 @@ pub fn calls_end_as_steps()
         EndsAsStage (make_change change) refusal_for result old new }
     ensures carried { (thing : AnyWhat) (result : Result (Unit {0}) AnyRefusal)
         (old new : List Item) (change : Change) →
-        EndsAsChange result old new change → EndsAsStage (change_or_stop change) stage_stop
-        (with_error (stop_for thing) result) old new }
+        EndsAsChange result old new change → EndsAsStage (change_or_stop change)
+        error_of_stage_cause
+        (map_error (stop_for_refusal thing) result) old new }
     ensures placed { (thing : AnyWhat) (result : Result ℕ AnyRefusal) (old new : List Item)
         (request : AnyRequest) (who : Owner) →
         Allocates result old new (place_for request old) request.size who →
-        EndsAsStage (place_or_stop thing request who) stage_stop
-        (with_error (stop_for thing) result) old new }
+        EndsAsStage (place_or_stop thing request who) error_of_stage_cause
+        (map_error (stop_for_refusal thing) result) old new }
 {}
 
 /// Law: an allocation changes neither memory nor the limit, whether it finds a place or not.

@@ -29,6 +29,6 @@
 mod calls;
 mod laws;
 
-pub use calls::{place_or_stop, set_node_or_stop, stop_for};
+pub use calls::{place_or_stop, set_node_or_stop, stop_for_refusal};
 pub use laws::{allocations_leave_memory, calls_end_as_steps};
 pub use memblock_grow::{Section, StageStop, What};

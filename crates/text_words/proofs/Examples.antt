@@ -74,10 +74,11 @@ spelled_word = record { some = omega arith; closed = closed_text }
 empty_is_no_word : IsWord CommandLine [] → ⊥
 empty_is_no_word word = let some = word.some in omega arith
 
--- two words with blanks around them, the second with a blank in a quotation; and a quotation that stays open
-lying_words : HasWords CommandLine (codes " a \"b c\"") (codes "a" ∷ codes "\"b c\"" ∷ [])
+-- two words with blanks around them, the second with a blank in a quotation; and a quotation that
+-- stays open
+words_in_text_examples : HasWords CommandLine (codes " a \"b c\"") (codes "a" ∷ codes "\"b c\"" ∷ [])
     × (QuotesClose CommandLine false (codes "a \"b") → ⊥)
-lying_words = (
+words_in_text_examples = (
   blank_first 32 (codes "a \"b c\"") (codes "a" ∷ codes "\"b c\"" ∷ []) refl
       (word_first (codes "a") 32 (codes "\"b c\"") (codes "\"b c\"" ∷ []) (record { some = omega arith; closed = (refl, refl) }) refl
       (word_alone (codes "\"b c\"") (record { some = omega arith; closed = (refl, refl) }))),

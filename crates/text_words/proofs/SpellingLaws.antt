@@ -1,4 +1,5 @@
--- Words are read exactly as they are spelled, and unquoting removes exactly the marks that the grammar allows.
+-- Words are read exactly as they are spelled, and unquoting removes exactly the marks that the
+-- grammar allows.
 use Rattle.std.proofs.Common.{◌≡◌, ◌≢◌, ◌↔◌, ◌⊎◌, inl, inr, ℕ, ◌+◌, ◌≤◌, ◌==◌, if◌then◌else◌, zero, suc, Bool, true, false, List, [], ◌∷◌, ◌++◌, length, refl, subst, ap, sym, ◌∙◌, codes, eq-eqb, length-append, arith}
 use Rattle.std.proofs.lemmas.Bool.{eqb-true, ne_eqb}
 use Rattle.text_words.specs.declared.separators.Separators.{Separators}
@@ -118,9 +119,9 @@ no_quote : (b : ℕ) (bs : List ℕ) → b == 34 ≡ false → (rest : List ℕ)
 no_quote b bs isnt rest same = let is : b ≡ 34 = cc in let test : b == 34 ≡ true = eq-eqb b 34 is in cc
 
 -- unquoting, for each form of the text
-quotes_lost : (text : List ℕ) → Unquotes text (unquote text)
-quotes_lost [] = no_mark [] (λ rest same. cc)
-quotes_lost (b ∷ bs) = by_test (b == 34) refl (ends_or_not bs)
+unquote-spelled : (text : List ℕ) → Unquotes text (unquote text)
+unquote-spelled [] = no_mark [] (λ rest same. cc)
+unquote-spelled (b ∷ bs) = by_test (b == 34) refl (ends_or_not bs)
   where
     by_test : (t : Bool) → b == 34 ≡ t → EndsOrNot bs → Unquotes (b ∷ bs) (if t then without_last 34 bs else b ∷ bs)
     by_test false is ends = no_mark (b ∷ bs) (no_quote b bs is)
@@ -142,4 +143,4 @@ unquoted_is text inner (first_mark _ not) = by_end (ends_or_not inner)
     by_end (inr has) = has.1
 
 pub unquoted_exactly : (text inner : List ℕ) → unquote text ≡ inner ↔ Unquotes text inner
-unquoted_exactly text inner = (λ is. subst (Unquotes text) is (quotes_lost text), unquoted_is text inner)
+unquoted_exactly text inner = (λ is. subst (Unquotes text) is (unquote-spelled text), unquoted_is text inner)

@@ -23,9 +23,9 @@ abbrev pub quoted_after : Separators → Bool → ℕ → Bool
 quoted_after s quoted b = if quotes s b then not quoted else quoted
 
 -- prepends the byte to the first part
-abbrev pub with_front : ℕ → List (List ℕ) → List (List ℕ)
-with_front b [] = (b ∷ []) ∷ []
-with_front b (p ∷ ps) = (b ∷ p) ∷ ps
+abbrev pub prepend_byte : ℕ → List (List ℕ) → List (List ℕ)
+prepend_byte b [] = (b ∷ []) ∷ []
+prepend_byte b (p ∷ ps) = (b ∷ p) ∷ ps
 
 -- the parts of a text, split at the separators outside quotations; a part may be empty. The flag
 -- says whether a quotation is open at the start
@@ -34,7 +34,7 @@ parts_from s quoted [] = [] ∷ []
 parts_from s quoted (b ∷ bs) =
     if separates s b && not quoted
     then [] ∷ parts_from s quoted bs
-    else with_front b (parts_from s (quoted_after s quoted b) bs)
+    else prepend_byte b (parts_from s (quoted_after s quoted b) bs)
 
 -- the parts of a text, split at the separators outside quotations; no quotation is open at its
 -- start

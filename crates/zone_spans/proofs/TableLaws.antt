@@ -3,10 +3,10 @@ use Rattle.std.proofs.Common.{◌≡◌, ℕ, ◌+◌, ◌*◌, ◌<◌, Option,
 use Rattle.std.proofs.lemmas.Bool.Decides.{nat_tests}
 use Rattle.std.proofs.Math.Seq.{take-length}
 use Rattle.address_runs.specs.Runs.{RunOf, value_at}
-use Rattle.address_runs.specs.Edits.{NothingFrom}
+use Rattle.address_runs.specs.Edits.{IsEmptyFrom}
 use Rattle.memblock_model.specs.Labels.{LabelView}
 use Rattle.memblock_frames.specs.Frames.{valid_node, node_of_label, node_of_frame, frames_of_record}
-use Rattle.memblock_frames.specs.HeadRecords.{AscendBelow, AreWholeFrames}
+use Rattle.memblock_frames.specs.HeadRecords.{AreAscendingBelow, AreWholeFrames}
 use Rattle.memblock_frames.proofs.RecordLaws.{taken_none}
 use Rattle.memblock_frames.proofs.WholeLaws.{whole_at}
 use Rattle.memblock_frames.proofs.TakeLaws.{node_more}
@@ -17,15 +17,15 @@ pub low_node : (o : Option ℕ) (n : ℕ) → valid_node o ≡ Some n → n < 10
 low_node o n is = grind (arith, nat_tests)
 
 -- the records before one have no frame at or above its first
-pub nothing_taken : (b : ℕ) (ms : List (RunOf LabelView)) (i : ℕ) (d : RunOf LabelView) → AscendBelow b ms → AreWholeFrames ms
+pub nothing_taken : (b : ℕ) (ms : List (RunOf LabelView)) (i : ℕ) (d : RunOf LabelView) → AreAscendingBelow b ms → AreWholeFrames ms
     → i < length ms
-    → NothingFrom (frames_of_record (get_or ms i d)).first (node_of_frame (value_at (take i ms)))
+    → IsEmptyFrom (frames_of_record (get_or ms i d)).first (node_of_frame (value_at (take i ms)))
 nothing_taken b ms i d ascend whole few x above =
     let base = (whole_at ms i d whole few).0 in
     ap node_of_label (taken_none b ms i (4096 * x) d ascend few (omega (arith, above, base)))
 
 -- a record with a node adds a run; one without changes nothing
-pub taken_run : (b : ℕ) (ms : List (RunOf LabelView)) (i n : ℕ) (d : RunOf LabelView) → AscendBelow b ms → AreWholeFrames ms → i < length ms
+pub taken_run : (b : ℕ) (ms : List (RunOf LabelView)) (i n : ℕ) (d : RunOf LabelView) → AreAscendingBelow b ms → AreWholeFrames ms → i < length ms
     → (frames_of_record (get_or ms i d)).node ≡ Some n
     → frames_with_node_run (frames_of_record (get_or ms i d)).first (frames_of_record (get_or ms i d)).end n
     (node_of_frame (value_at (take i ms)))
@@ -37,7 +37,7 @@ taken_run b ms i n d ascend whole few is =
     grind (arith, node_more b ms i x d ascend whole few, is) in
     λ j x. same x j
 
-pub taken_left : (b : ℕ) (ms : List (RunOf LabelView)) (i : ℕ) (d : RunOf LabelView) → AscendBelow b ms → AreWholeFrames ms → i < length ms
+pub taken_left : (b : ℕ) (ms : List (RunOf LabelView)) (i : ℕ) (d : RunOf LabelView) → AreAscendingBelow b ms → AreWholeFrames ms → i < length ms
     → (frames_of_record (get_or ms i d)).node ≡ None
     → node_of_frame (value_at (take i ms)) ≡ node_of_frame (value_at (take (i + 1) ms))
 taken_left b ms i d ascend whole few is =

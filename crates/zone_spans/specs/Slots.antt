@@ -12,12 +12,12 @@ zone_index zone.Dma32 = 1
 zone_index zone.Normal = 2
 
 -- each slot has the span of its node and zone
-abbrev pub AreSpans : Frames → List (Option Span) → Type 0
-AreSpans f slots = (n : ℕ) (z : Zone) → get_or slots (3 * n + zone_index z) None ≡ span_of f n z
+abbrev pub SlotsHoldSpans : Frames → List (Option Span) → Type 0
+SlotsHoldSpans f slots = (n : ℕ) (z : Zone) → get_or slots (3 * n + zone_index z) None ≡ span_of f n z
 
 -- no span has more frames than there are below this one
-abbrev pub AreSpansBounded : ℕ → List (Option Span) → Type 0
-AreSpansBounded at slots = (i : ℕ) (s : Span) → get_or slots i None ≡ Some s → s.present ≤ at
+abbrev pub SpansHaveAtMost : ℕ → List (Option Span) → Type 0
+SpansHaveAtMost at slots = (i : ℕ) (s : Span) → get_or slots i None ≡ Some s → s.present ≤ at
 
 -- the frames from `first` to below `end` are of the node; the others are unchanged
 abbrev pub frames_with_node_run : ℕ → ℕ → ℕ → Frames → Frames

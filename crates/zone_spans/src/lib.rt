@@ -7,14 +7,14 @@
 //! table from the bytes in which it lies, in one pass, and returns a list of [`Span`].
 //!
 //! `specs/Spans.antt` defines a span frame by frame. A law is an empty function whose contract is
-//! a proven fact. [`spans_are_of_frames`] states what a span is for all frames at once: its first
-//! frame, its last, their number, and that no frame is left out. In contracts, a name means the
-//! definition in `specs/`.
+//! a proven fact. [`spans_contain_their_frames`] states what a span is for all frames at once: its
+//! first frame, its last, their number, and that no frame is left out. In contracts, a name means
+//! the definition in `specs/`.
 #![tactic(auto)]
 
 mod laws;
 mod slots;
 mod span;
 
-pub use laws::spans_are_of_frames;
+pub use laws::spans_contain_their_frames;
 pub use span::{Span, spans};

@@ -3,9 +3,9 @@
 
 ghost use Rattle.std.specs.Prelude.{◌≡◌, ◌^◌, ℕ, ◌+◌, ◌*◌, ◌<◌, ◌≤◌, None, get_or, max, OnOk, IfOk, vec_len};
 ghost use Rattle.bm_base.specs.Zones.{zone_of};
-ghost use Rattle.address_runs.specs.Edits.{NothingFrom};
+ghost use Rattle.address_runs.specs.Edits.{IsEmptyFrom};
 ghost use Rattle.buddy_blocks.specs.Frames.{Frames};
-ghost use Rattle.zone_spans.specs.Slots.{zone_index, AreSpans, AreSpansBounded, frames_with_node_run, slot_after, spans_in_slots};
+ghost use Rattle.zone_spans.specs.Slots.{zone_index, SlotsHoldSpans, SpansHaveAtMost, frames_with_node_run, slot_after, spans_in_slots};
 
 use crate::span::Span;
 use bm_base::{Memory, Zone, zone_of};
@@ -39,11 +39,12 @@ pub fn add_frames(
     requires order { first ≤ end }
     requires low { end ≤ 2 ^ 52 }
     requires few { vec_len slots.old ≤ 3072 }
-    requires bounded { AreSpansBounded first slots.old.items }
-    ensures told { OnOk result ((f : Frames) → NothingFrom first f → AreSpans f slots.old.items →
-        AreSpans (frames_with_node_run first end node f) slots.new.items) }
+    requires bounded { SpansHaveAtMost first slots.old.items }
+    ensures told { OnOk result ((f : Frames) → IsEmptyFrom first f → SlotsHoldSpans f
+        slots.old.items →
+        SlotsHoldSpans (frames_with_node_run first end node f) slots.new.items) }
     ensures few { OnOk result (vec_len slots.new ≤ 3072) }
-    ensures bounded { OnOk result (AreSpansBounded end slots.new.items) }
+    ensures bounded { OnOk result (SpansHaveAtMost end slots.new.items) }
 {
     let mut at = first;
     while at < end {
@@ -71,7 +72,7 @@ fn add_zone_frames(
     requires order { start < end }
     requires low { end ≤ 2 ^ 52 }
     requires few { vec_len slots.old ≤ 3072 }
-    requires bounded { AreSpansBounded start slots.old.items }
+    requires bounded { SpansHaveAtMost start slots.old.items }
     ensures slots { OnOk result ((i : ℕ) → get_or slots.new.items i None ≡
         slot_after node zone start end (get_or slots.old.items i None) i) }
     ensures few { OnOk result (vec_len slots.new ≤ 3072) }

@@ -4,7 +4,7 @@
 ghost use Rattle.std.specs.Prelude.{◌+◌, ◌^◌, ◌<◌};
 
 use super::{Step, add_apart, carry_out, claim_apart};
-use crate::machines::started;
+use crate::machines::memblock_with_kernel;
 use crate::ranges::{KERNEL, bytes};
 use boot_journal::{Item, Owner, Which};
 use memblock_grow::{Memblock, Refusal};
@@ -16,7 +16,7 @@ use std::test::Fail;
 // the first 64 KiB claimed. There are two records of memory and two of claims, and those of
 // `frames` more claims.
 fn low_machine(alloc: Global, low: Step, frames: u32) -> Result<Memblock, Refusal> {
-    let mut memblock = started(alloc, KERNEL)?;
+    let mut memblock = memblock_with_kernel(alloc, KERNEL)?;
     carry_out(&mut memblock, &[Step::Claim(0, 0x10000)])?;
     claim_apart(&mut memblock, 0x8002000, frames)?;
     let memory = [Step::Limit(0x100000), low, Step::Add(0x100000, 0x7F00000)];

@@ -1,9 +1,9 @@
 use Rattle.std.proofs.Common.{arith}
-use Rattle.address_runs.proofs.OverlayLaws.{apart_exactly}
+use Rattle.address_runs.proofs.OverlayLaws.{concatenation_is_runs}
 use Rattle.address_runs.proofs.order.are_apart.Goals as goal
 
 pub returns : goal.returns
 returns g c =
-    let exactly = apart_exactly g.S.Stretch.run c.args.first.now c.last-item.result _ (omega arith) c.last-item.is c.requires.first
+    let exactly = concatenation_is_runs g.S.Stretch.run c.args.first.now c.last-item.result _ (omega arith) c.last-item.is c.requires.first
     c.requires.second in
     ((λ holds. exactly.0 (c.is_before.ensures.0 holds)), (λ runs. c.is_before.ensures.1 (exactly.1 runs)))

@@ -1,6 +1,6 @@
 -- The clauses about the headline and the line follow from how the end fits the outcome.
 use Rattle.std.specs.Option.{option_map}
-use Rattle.program_end.proofs.EndLaws.{ends_told}
+use Rattle.program_end.proofs.EndLaws.{failure_status_has_line}
 use Rattle.boot_audit.specs.Audit.{bootaudit}
 use Rattle.boot_audit.specs.Line.{audit_failure_line}
 use Rattle.boot_audit.specs.Outcome.{audit_outcome}
@@ -26,6 +26,6 @@ returns-clause-line g c =
     let end = c.write_verdict-end in
     let wanted = option_map audit_args_view c.read_audit_args-names.result in
     rw (← c.read_audit_args-names.ensures)
-    (ends_told bootaudit g.E.Sink (audit_failure_line wanted) (g.F.Files.faults c.args.files.now)
+    (failure_status_has_line bootaudit g.E.Sink (audit_failure_line wanted) (g.F.Files.faults c.args.files.now)
     (g.F.Files.faults end.new.files) wanted _ _ _ _
     end.result _ c.exit_status.ensures end.ensures.cause c.put_end_line.ensures _ (audit_outcome wanted) end.ensures.writes)

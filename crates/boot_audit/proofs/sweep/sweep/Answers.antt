@@ -2,7 +2,7 @@ use Rattle.std.proofs.Common.{◌≡◌, ◌≢◌, ◌<◌, ◌≤◌, ℕ, ◌
 use Rattle.std.proofs.lemmas.Bool.{cases_lt}
 use Rattle.boot_audit.specs.declared.sweep.ByteState.TheVariants as states
 use Rattle.boot_audit.specs.Sweep.{byte_state_at}
-use Rattle.boot_audit.specs.Verdicts.{is_lost, is_not_free}
+use Rattle.boot_audit.specs.Verdicts.{is_lost, is_in_block_but_not_free}
 use Rattle.boot_audit.proofs.FrameLaws.{bytes_tell, same_state}
 use Rattle.boot_audit.proofs.SweepLaws.{at_start, carried_on, carried_near, lost_at_end, none_at_end, first_not_free}
 use Rattle.boot_audit.proofs.sweep.sweep.Goals as goal
@@ -25,7 +25,7 @@ loop-at-init c =
       none_bad = λ x below. absurd (omega arith);
       so_far = at_start (byte_state_at c.args.limit s.map.items s.owners.items s.blocks.items)
           (is_lost c.args.limit s.map.items s.owners.items s.blocks.items)
-          (is_not_free c.args.limit s.map.items s.owners.items s.blocks.items)
+          (is_in_block_but_not_free c.args.limit s.map.items s.owners.items s.blocks.items)
           (bytes_tell c.args.limit s.map.items s.owners.items s.blocks.items c.requires.aligned);
     }
 
@@ -38,19 +38,19 @@ returns-in-NotFree-clause-not_free c =
     (inv.held_same c.loop-at.at (omega arith)) in
     first_not_free (byte_state_at c.args.limit s.map.items s.owners.items s.blocks.items)
     (is_lost c.args.limit s.map.items s.owners.items s.blocks.items)
-    (is_not_free c.args.limit s.map.items s.owners.items s.blocks.items)
+    (is_in_block_but_not_free c.args.limit s.map.items s.owners.items s.blocks.items)
     (bytes_tell c.args.limit s.map.items s.owners.items s.blocks.items c.requires.aligned)
     c.loop-at.at c.loop-at-test.true inv.none_bad
-    (same ∙ c.state_from-piece.ensures.state c.loop-at.at (omega arith) c.state_from-piece.ensures.forward ∙ c.in-NotFree.is)
+    (same ∙ c.state_run_from-piece.ensures.state c.loop-at.at (omega arith) c.state_run_from-piece.ensures.forward ∙ c.in-NotFree.is)
 
 pub loop-at-preserved : goal.loop-at-preserved
 loop-at-preserved c =
     let s = c.args.saved.now in
     let inv = c.loop-at.invariant in
-    let p = c.state_from-piece.ensures in
-    let until = c.state_from-piece.result.until in
+    let p = c.state_run_from-piece.ensures in
+    let until = c.state_run_from-piece.result.until in
     let state : (x : ℕ) → c.loop-at.at ≤ x → x < until
-    → byte_state_at c.args.limit s.map.items s.owners.items s.blocks.items x ≡ c.state_from-piece.result.state =
+    → byte_state_at c.args.limit s.map.items s.owners.items s.blocks.items x ≡ c.state_run_from-piece.result.state =
     λ x above below. same_state c.args.limit c.loop-at.runs.now s.map.items c.loop-at.owners.now s.owners.items
     c.loop-at.held.now s.blocks.items x (inv.run_same x above) (inv.owner_same x above) (inv.held_same x above)
     ∙ p.state x above below in
@@ -58,9 +58,9 @@ loop-at-preserved c =
       near = p.near;
       from_near = rw c.advance_lost_frame-next.ensures (carried_near (byte_state_at c.args.limit s.map.items s.owners.items s.blocks.items)
           (is_lost c.args.limit s.map.items s.owners.items s.blocks.items)
-          (is_not_free c.args.limit s.map.items s.owners.items s.blocks.items)
+          (is_in_block_but_not_free c.args.limit s.map.items s.owners.items s.blocks.items)
           (bytes_tell c.args.limit s.map.items s.owners.items s.blocks.items c.requires.aligned)
-          c.loop-at.from until c.loop-at.lost c.state_from-piece.result.state inv.from_near p.near);
+          c.loop-at.from until c.loop-at.lost c.state_run_from-piece.result.state inv.from_near p.near);
       run_order = c.skip_lines_below-runs-in-loop-at.ensures.order;
       run_behind = c.skip_lines_below-runs-in-loop-at.ensures.behind;
       run_same = λ x above. c.skip_lines_below-runs-in-loop-at.ensures.says x above ∙ inv.run_same x (omega (arith, p.forward));
@@ -77,9 +77,9 @@ loop-at-preserved c =
           ];
       so_far = rw c.advance_lost_frame-next.ensures (carried_on (byte_state_at c.args.limit s.map.items s.owners.items s.blocks.items)
           (is_lost c.args.limit s.map.items s.owners.items s.blocks.items)
-          (is_not_free c.args.limit s.map.items s.owners.items s.blocks.items)
+          (is_in_block_but_not_free c.args.limit s.map.items s.owners.items s.blocks.items)
           (bytes_tell c.args.limit s.map.items s.owners.items s.blocks.items c.requires.aligned)
-          c.loop-at.from c.loop-at.at until c.loop-at.lost c.state_from-piece.result.state p.forward p.near
+          c.loop-at.from c.loop-at.at until c.loop-at.lost c.state_run_from-piece.result.state p.forward p.near
           (λ x above below. state x above below) inv.so_far);
     }
 
@@ -88,7 +88,7 @@ returns-clause-not_free c =
     let s = c.args.saved.now in
     none_at_end (byte_state_at c.args.limit s.map.items s.owners.items s.blocks.items)
     (is_lost c.args.limit s.map.items s.owners.items s.blocks.items)
-    (is_not_free c.args.limit s.map.items s.owners.items s.blocks.items)
+    (is_in_block_but_not_free c.args.limit s.map.items s.owners.items s.blocks.items)
     (bytes_tell c.args.limit s.map.items s.owners.items s.blocks.items c.requires.aligned)
     c.loop-at.at c.loop-at-test.false c.loop-at.invariant.none_bad
 
@@ -97,6 +97,6 @@ returns-clause-lost c = λ none.
     let s = c.args.saved.now in
     lost_at_end (byte_state_at c.args.limit s.map.items s.owners.items s.blocks.items)
     (is_lost c.args.limit s.map.items s.owners.items s.blocks.items)
-    (is_not_free c.args.limit s.map.items s.owners.items s.blocks.items)
+    (is_in_block_but_not_free c.args.limit s.map.items s.owners.items s.blocks.items)
     (bytes_tell c.args.limit s.map.items s.owners.items s.blocks.items c.requires.aligned)
     c.loop-at.from c.loop-at.at c.loop-at.lost c.loop-at-test.false c.loop-at.invariant.so_far

@@ -1,6 +1,6 @@
 use Rattle.memblock_model.specs.Same.{same_owner}
-use Rattle.memblock_model.proofs.SameLaws.{owner_tells}
+use Rattle.memblock_model.proofs.SameLaws.{same_owner_decides_equality}
 use Rattle.boot_journal.proofs.owners.apply_change.Goals as goal
 
-pub amend-requires-clause-tells : goal.amend-requires-clause-tells
-amend-requires-clause-tells g c = (same_owner, owner_tells)
+pub edit_without_cover-requires-clause-tells : goal.edit_without_cover-requires-clause-tells
+edit_without_cover-requires-clause-tells g c = (same_owner, same_owner_decides_equality)

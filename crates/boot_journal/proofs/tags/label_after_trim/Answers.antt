@@ -1,12 +1,12 @@
 use Rattle.std.proofs.Common.{sym, ◌∙◌, refl}
-use Rattle.boot_journal.proofs.ByteLaws.{kept-whole, kept-parts}
+use Rattle.boot_journal.proofs.ByteLaws.{label_after_trim-agrees, label_after_trim-differs}
 use Rattle.boot_journal.proofs.tags.label_after_trim.Goals as goal
 
 pub returns-then-not-frame_agrees : goal.returns-then-not-frame_agrees
 returns-then-not-frame_agrees c =
     let some = c.if-not-frame_agrees.ensures.differs refl in
-    sym (kept-parts c.args.whole.now c.args.items.now c.args.x some.0 some.1)
+    sym (label_after_trim-differs c.args.whole.now c.args.items.now c.args.x some.0 some.1)
 
 pub returns : goal.returns
 returns c = c.label_after_items.ensures
-    ∙ sym (kept-whole c.args.whole.now c.args.items.now c.args.x (c.if-not-frame_agrees.ensures.agrees refl))
+    ∙ sym (label_after_trim-agrees c.args.whole.now c.args.items.now c.args.x (c.if-not-frame_agrees.ensures.agrees refl))

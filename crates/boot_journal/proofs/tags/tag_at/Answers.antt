@@ -2,7 +2,7 @@ use Rattle.std.proofs.Common.{ℕ, ◌+◌, List, sym, ◌∙◌, ap, arith}
 use Rattle.std.proofs.lemmas.List.{take_rest, length-drop}
 use Rattle.memblock_model.specs.declared.item.Item.{Item}
 use Rattle.memblock_model.specs.Labels.{tag_for}
-use Rattle.boot_journal.proofs.ByteLaws.{turn, last_turn}
+use Rattle.boot_journal.proofs.ByteLaws.{turn, items_after_last_trim}
 use Rattle.boot_journal.proofs.tags.tag_at.Goals as goal
 
 pub loop-i-preserved : goal.loop-i-preserved
@@ -18,4 +18,4 @@ loop-i-preserved c =
 
 pub returns : goal.returns
 returns c = c.tag_for.ensures ∙ ap tag_for (c.label_after_items.ensures ∙ sym
-    (last_turn c.loop-i.whole c.loop-i.rest.now c.args.x (sym c.in_default.ensures.first)) ∙ c.loop-i.invariant.label)
+    (items_after_last_trim c.loop-i.whole c.loop-i.rest.now c.args.x (sym c.in_default.ensures.first)) ∙ c.loop-i.invariant.label)

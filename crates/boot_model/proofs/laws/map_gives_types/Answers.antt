@@ -1,5 +1,5 @@
-use Rattle.boot_model.proofs.BootLaws.{types_told, room_told}
+use Rattle.boot_model.proofs.BootLaws.{map_has_claimed_types, accepted_map_fits}
 use Rattle.boot_model.proofs.laws.map_gives_types.Goals as goal
 
 pub returns : goal.returns
-returns c = record { types = types_told; room = room_told }
+returns c = record { types = map_has_claimed_types; room = accepted_map_fits }

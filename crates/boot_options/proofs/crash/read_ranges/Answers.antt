@@ -3,7 +3,7 @@ use Rattle.text_words.specs.declared.separators.Separators.TheVariants.{Byte}
 use Rattle.text_words.specs.Parts.{parts_of_rest}
 use Rattle.text_words.proofs.WordsLaws.{text_of}
 use Rattle.boot_options.specs.Crash.{crash_range_of, crash_ranges_of}
-use Rattle.boot_options.proofs.CrashLaws.{in_front, in_front-one}
+use Rattle.boot_options.proofs.CrashLaws.{ranges_before, ranges_before-one}
 use Rattle.boot_options.proofs.crash.read_ranges.Goals as goal
 
 pub loop-rest-preserved : goal.loop-rest-preserved
@@ -17,5 +17,5 @@ loop-rest-preserved c =
     let parts : parts_of_rest (Byte 44) (text_of c.loop-rest.rest) ≡ text ∷ texts = rw c.in-Some.is c.next_part.ensures.parts in (
       kept ++ range ∷ [],
       c.append_item.ensures kept c.loop-rest.invariant.1,
-      in_front-one kept text texts range is ∙ ap (λ (ts : List (List ℕ)). in_front kept (crash_ranges_of ts)) (sym parts) ∙ so_far,
+      ranges_before-one kept text texts range is ∙ ap (λ (ts : List (List ℕ)). ranges_before kept (crash_ranges_of ts)) (sym parts) ∙ so_far,
     )

@@ -5,7 +5,7 @@ use Rattle.text_words.proofs.WordsLaws.{text_of, left}
 use Rattle.boot_options.specs.declared.crash.CrashRange.{CrashRange}
 use Rattle.boot_options.specs.Crash.{crash_ranges_of}
 use Rattle.boot_options.specs.Kept.{KeepsItems}
-use Rattle.boot_options.proofs.CrashLaws.{in_front}
+use Rattle.boot_options.proofs.CrashLaws.{ranges_before}
 use Rattle.boot_options.proofs.crash.read_ranges.Given as goal
 
 -- the ranges read so far, followed by those of the texts that are left, are the ranges of all
@@ -13,7 +13,7 @@ use Rattle.boot_options.proofs.crash.read_ranges.Given as goal
 abbrev pub invariant-loop-rest : goal.invariant-loop-rest
 invariant-loop-rest l =
     (kept : List CrashRange) × KeepsItems l.ranges kept
-    × (in_front kept (crash_ranges_of (parts_of_rest (Byte 44) (text_of l.rest)))
+    × (ranges_before kept (crash_ranges_of (parts_of_rest (Byte 44) (text_of l.rest)))
     ≡ crash_ranges_of (parts_of_rest (Byte 44) (text_of l.initial.rest)))
 
 abbrev pub decreases-loop-rest : goal.decreases-loop-rest

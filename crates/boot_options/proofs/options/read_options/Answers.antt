@@ -6,7 +6,7 @@ use Rattle.boot_options.specs.Options.{options_view, options_of}
 use Rattle.boot_options.specs.Reading.{at_line_end}
 use Rattle.boot_options.proofs.UserMapLaws.{options-read, options-fault}
 use Rattle.boot_options.proofs.ReadingLaws.{state_at}
-use Rattle.boot_options.proofs.LineBounds.{types-given, ranges-given, crash-given, numbered_map_options-given, options-remembered}
+use Rattle.boot_options.proofs.LineBounds.{types-given, ranges-given, crash-given, numbered_map_options-given, options_of-not_memory}
 use Rattle.boot_options.proofs.options.read_options.Goals as goal
 
 -- the fault of a word
@@ -15,7 +15,7 @@ returns-in_err-reading-clause-memory c =
     let told : c.from_residual-in_err-reading.result ≡ Err c.in_err-reading.field-0.0 = grind (arith, common_steps) in
     let faulty : options_of c.args.bytes.now ≡ Err c.in_err-reading.field-0.0
     = options-fault c.args.bytes.now c.in_ok-line.line.now c.in_err-reading.field-0.0 c.in_ok-line.ensures.line c.in_err-reading.ensures in
-    λ is. absurd (options-remembered c.args.bytes.now cc)
+    λ is. absurd (options_of-not_memory c.args.bytes.now cc)
 
 pub returns-in_err-reading-clause-words : goal.returns-in_err-reading-clause-words
 returns-in_err-reading-clause-words c =

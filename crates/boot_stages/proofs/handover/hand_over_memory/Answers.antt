@@ -6,10 +6,10 @@ use Rattle.memblock_model.specs.declared.owner.Which.TheVariants as which
 use Rattle.memblock_model.specs.Tables.{records_of}
 use Rattle.memblock_ranges.specs.declared.region.Heads.{Heads}
 use Rattle.memblock_ranges.specs.Tables.{head_of}
-use Rattle.growth_model.specs.Bytes.{table_for}
+use Rattle.growth_model.specs.Bytes.{table_from_items}
 use Rattle.memblock_grow.specs.MemblockView.{MemblockView as Memblock}
 use Rattle.address_runs.specs.Runs.{RunOf, value_at}
-use Rattle.buddy_handover.specs.BuddyView.{buddy_frames}
+use Rattle.buddy_handover.specs.BuddyView.{node_of_free_frame}
 use Rattle.page_alloc.specs.PagesView.{page_state_of}
 use Rattle.page_alloc.specs.Pages.{first_page_state}
 use Rattle.boot_model.specs.View.{inputs_view}
@@ -48,7 +48,7 @@ returns-clause-told c = λ ids fills. (
     let heads = c.into_parts-store.ensures.heads in
     let memory = c.requires.tables which.Memory in
     let reserved = c.requires.tables which.Reserved in
-    let begins : page_state_of c.new-after.result ≡ first_page_state (buddy_frames c.in_ok-buddy.buddy) =
+    let begins : page_state_of c.new-after.result ≡ first_page_state (node_of_free_frame c.in_ok-buddy.buddy) =
     c.new-after.ensures ∙ ap (λ (rs : List (RunOf ℕ)). first_page_state (value_at rs)) c.in_ok-copy.ensures in
     finish_boot-by (inputs_view c.args.inputs) c.args.map.items c.args.memblock c.args.later ids fills _ _ _ _ _ _ _ c.requires.kernel
     (ap (λ (j : JournalView). j.items) c.into_parts-store.ensures.journal) (cc) (c.in_ok-spans.ensures ∙ spans-told stands)
@@ -61,7 +61,7 @@ pub returns-clause-reserved : goal.returns-clause-reserved
 returns-clause-reserved c =
     let m : Memblock = c.args.memblock in
     record {
-      table = table_for which.Reserved m.kernel m.journal.items;
+      table = table_from_items which.Reserved m.kernel m.journal.items;
       stands = c.into_parts-store.ensures.reserved;
       told = ap (λ (h : Heads). h.reserved) c.into_parts-store.ensures.heads ∙ ap head_of (c.requires.tables which.Reserved);
       records = ap (λ (j : JournalView). records_of which.Reserved j.items) (sym c.into_parts-store.ensures.journal);

@@ -9,7 +9,7 @@ use Rattle.memblock_model.specs.Labels.{LabelView}
 use Rattle.memblock_model.specs.Tables.{records_of}
 use Rattle.memblock_ranges.specs.Tables.{TableView}
 use Rattle.memblock_grow.proofs.GoingLaws.{goes-then}
-use Rattle.sparse_sections.specs.Present.{IsWholeWithNode, present}
+use Rattle.sparse_sections.specs.Present.{IsWholeFramesWithNode, present}
 use Rattle.sparse_sections.proofs.AscendLaws.{present-ascends}
 use Rattle.sparse_sections.proofs.NodedLaws.{noded-records, noded-runs, noded-told}
 use Rattle.boot_stages.proofs.ExitLaws.{exit}
@@ -26,10 +26,10 @@ listed c =
 pub present-requires : goal.present-requires
 present-requires c =
     let items : List Item = c.args.memblock.now.journal.items in
-    let told : All IsWholeWithNode (records_of which.Memory items) =
+    let told : All IsWholeFramesWithNode (records_of which.Memory items) =
     noded-records (memory_of items) (records_of which.Memory items) (noded-runs (2 ^ 52) items (omega arith) c.requires.noded)
     c.requires.noded in
-    subst (λ (rs : List (RunOf LabelView)). All IsWholeWithNode rs) (sym (ap (λ (t : TableView). t.records) c.tables.ensures.memory)) told
+    subst (λ (rs : List (RunOf LabelView)). All IsWholeFramesWithNode rs) (sym (ap (λ (t : TableView). t.records) c.tables.ensures.memory)) told
 
 pub returns-in_err-sections-clause-ends : goal.returns-in_err-sections-clause-ends
 returns-in_err-sections-clause-ends c =

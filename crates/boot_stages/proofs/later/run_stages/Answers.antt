@@ -4,23 +4,23 @@ use Rattle.address_runs.specs.Runs.{RunOf}
 use Rattle.memblock_model.specs.declared.item.Item.{Item}
 use Rattle.memblock_grow.specs.MemblockView.{MemblockView}
 use Rattle.growth_model.specs.Requests.{carry_out_items}
-use Rattle.stage_steps.specs.Causes.{refusal_for, stage_stop}
+use Rattle.stage_steps.specs.Causes.{refusal_for, error_of_stage_cause}
 use Rattle.stage_steps.proofs.DoingLaws.{ends-begun}
-use Rattle.early_memory.specs.FirstItems.{first_items}
+use Rattle.early_memory.specs.FirstItems.{early_items}
 use Rattle.early_script.specs.declared.outcome.Answer.{Answer}
 use Rattle.early_script.specs.LiveView.{LiveView}
-use Rattle.early_script.specs.Lines.{before_sections, lines_after_sections}
+use Rattle.early_script.specs.Lines.{lines_before_sections, lines_after_sections}
 use Rattle.numa_nodes.specs.declared.stage.Nodes.{Nodes}
 use Rattle.numa_nodes.specs.Assignment.{assign_nodes, nodes_view}
 use Rattle.crash_kernel.specs.declared.crash.Crash.{Crash}
 use Rattle.crash_kernel.specs.Reservation.{reserve_crash_area}
-use Rattle.boot_model.specs.Boot.{InputsView, BootSoFar, begin_with_map, early_inputs, crash_area_stage, memory_stage, nodes_stage, sections_stage, later_stages, made_with_crash_area, result_with_nodes, made_with_sections, reach, script_stage}
+use Rattle.boot_model.specs.Boot.{InputsView, BootSoFar, begin_with_map, early_inputs, crash_area_stage, memory_stage, nodes_stage, sections_stage, later_stages, made_with_crash_area, made_with_nodes, made_with_sections, reach, script_stage}
 use Rattle.boot_model.specs.First.{items_with_growths}
 use Rattle.boot_model.specs.Sections.{place_present_sections}
 use Rattle.boot_model.specs.Stop.{cause_of_growth, cause_of_stage}
 use Rattle.boot_model.specs.View.{inputs_view, sections_view}
 use Rattle.boot_model.proofs.MemoryLaws.{crash_labels, lines_labels}
-use Rattle.boot_model.proofs.NodedLaws.{first_known, noded_behind}
+use Rattle.boot_model.proofs.NodedLaws.{first_known, later_memory_has_nodes}
 use Rattle.boot_model.proofs.ReachLaws.{reach-small}
 use Rattle.boot_stages.specs.Boots.{StagesStopWith, made_after_lines}
 use Rattle.boot_stages.proofs.ItemsLaws.{carried-by}
@@ -38,7 +38,7 @@ abbrev with_map : InputsView → List (RunOf ℕ) → BootSoFar
 with_map given map = begin_with_map map given.options
 
 abbrev with_nodes : InputsView → List (RunOf ℕ) → Nodes → BootSoFar
-with_nodes given map nodes = result_with_nodes (nodes_view nodes) (with_map given map)
+with_nodes given map nodes = made_with_nodes (nodes_view nodes) (with_map given map)
 
 abbrev with_crash : InputsView → List (RunOf ℕ) → Nodes → Crash → BootSoFar
 with_crash given map nodes area = made_with_crash_area area (with_nodes given map nodes)
@@ -50,7 +50,7 @@ row1 c =
     row-next (row-first given c.args.map.now c.args.memblock.now c.requires.first c.requires.kernel c.requires.bytes)
     (memory_stage given) _ _
     (λ fills. steps-on cause_of_growth (λ done next.
-    next) refusal_for (items_with_growths (first_items (early_inputs given) c.args.map.now)) _ _ tt
+    next) refusal_for (items_with_growths (early_items (early_inputs given) c.args.map.now)) _ _ tt
     c.in_ok-make_memory.ensures.ends) c.in_ok-make_memory.ensures.goes_on
 
 row2 : (c : In_ok-nodes) → Behind (inputs_view c.args.inputs.now) c.args.map.now 1
@@ -60,7 +60,7 @@ row2 : (c : In_ok-nodes) → Behind (inputs_view c.args.inputs.now) c.args.map.n
 row2 c row =
     let given : InputsView = inputs_view c.args.inputs.now in
     row-next row (nodes_stage given) _ _
-    (λ fills. steps-on cause_of_stage result_with_nodes stage_stop (assign_nodes given.domains given.options.numa_off)
+    (λ fills. steps-on cause_of_stage made_with_nodes error_of_stage_cause (assign_nodes given.domains given.options.numa_off)
     (made_after_lines (with_map given c.args.map.now) c.make_memory.new.memblock [] fills []) _ (nodes_view c.in_ok-nodes.nodes)
     (rw c.as_ref.ensures.value at c.in_ok-nodes.ensures.ends)) c.in_ok-nodes.ensures.goes_on
 
@@ -82,8 +82,8 @@ row4 : (c : In_ok-run_script_lines) → Behind (inputs_view c.args.inputs.now) c
     c.run_script_lines.new.live c.run_script_lines.new.answers.items
 row4 c row =
     let given : InputsView = inputs_view c.args.inputs.now in
-    let lines = c.split_at_sections.ensures.before ∙ ap before_sections c.deref.ensures.value in
-    row-lines row (before_sections given.lines) _ _ _ c.in_ok-run_script_lines.ensures.kernel
+    let lines = c.split_at_sections.ensures.before ∙ ap lines_before_sections c.deref.ensures.value in
+    row-lines row (lines_before_sections given.lines) _ _ _ c.in_ok-run_script_lines.ensures.kernel
     ((rw (c.new-live.ensures, c.new-answers.ensures.items, lines) at c.in_ok-run_script_lines.ensures.ok) row.fills row.holds)
 
 row5 : (c : In_ok-roots) → Behind (inputs_view c.args.inputs.now) c.args.map.now 4
@@ -96,7 +96,7 @@ row5 : (c : In_ok-roots) → Behind (inputs_view c.args.inputs.now) c.args.map.n
 row5 c row =
     let given : InputsView = inputs_view c.args.inputs.now in
     row-next row (sections_stage given) _ _
-    (λ fills. steps-on cause_of_stage made_with_sections stage_stop (place_present_sections given.width)
+    (λ fills. steps-on cause_of_stage made_with_sections error_of_stage_cause (place_present_sections given.width)
     (made_after_lines
     (with_crash given c.args.map.now c.in_ok-nodes.nodes c.in_ok-crash.crash) c.run_script_lines.new.mb c.run_script_lines.new.live fills
     c.run_script_lines.new.answers.items) _ (sections_view c.in_ok-roots.roots c.in_ok-roots.placed) c.in_ok-roots.ensures.ends)
@@ -121,7 +121,7 @@ returns-in_err-make_memory-clause-stopped c =
     stops-so _ _ (StagesStopWith given map) c.from_residual.ensures.1 (λ stop told other.
     row-stops (row-first given map c.args.memblock.now c.requires.first c.requires.kernel c.requires.bytes) (memory_stage given)
     (drop 1 (later_stages given)) stop (steps-stop cause_of_growth (λ done next. next) refusal_for
-    (items_with_growths (first_items (early_inputs given) map)) _ _ _ stop c.in_err-make_memory.ensures.ends told other))
+    (items_with_growths (early_items (early_inputs given) map)) _ _ _ stop c.in_err-make_memory.ensures.ends told other))
 
 pub returns-in_err-nodes-clause-stopped : goal.returns-in_err-nodes-clause-stopped
 returns-in_err-nodes-clause-stopped c =
@@ -129,7 +129,7 @@ returns-in_err-nodes-clause-stopped c =
     stops-so _ _ (StagesStopWith given c.args.map.now) c.from_residual-in_err-nodes.ensures.1 (λ stop told other.
     row-stops (row1 (goal.at.returns-in_err-nodes-clause-stopped c).In_ok-make_memory) (nodes_stage given)
     (drop 2 (later_stages given)) stop
-    (steps-stop cause_of_stage result_with_nodes stage_stop (assign_nodes given.domains given.options.numa_off)
+    (steps-stop cause_of_stage made_with_nodes error_of_stage_cause (assign_nodes given.domains given.options.numa_off)
     (made_after_lines (with_map given c.args.map.now) c.make_memory.new.memblock [] _ []) _ _ stop
     (rw c.as_ref.ensures.value at c.in_err-nodes.ensures.ends) told other))
 
@@ -151,7 +151,7 @@ returns-in_err-roots-clause-stopped c =
     row-stops (row4 at.In_ok-run_script_lines (row3 at.In_ok-crash (row2 at.In_ok-nodes (row1 at.In_ok-make_memory))))
     (sections_stage given)
     (drop 5 (later_stages given)) stop
-    (steps-stop cause_of_stage made_with_sections stage_stop (place_present_sections given.width)
+    (steps-stop cause_of_stage made_with_sections error_of_stage_cause (place_present_sections given.width)
     (made_after_lines
     (with_crash given c.args.map.now c.in_ok-nodes.nodes c.in_ok-crash.crash) c.run_script_lines.new.mb c.run_script_lines.new.live _
     c.run_script_lines.new.answers.items) _ _ stop c.in_err-roots.ensures.ends told other))
@@ -161,15 +161,15 @@ pub assign-requires-clause-limit : goal.assign-requires-clause-limit
 assign-requires-clause-limit c =
     let given : InputsView = inputs_view c.args.inputs.now in
     let items : List Item = c.make_memory.new.memblock.journal.items in
-    let carried : carry_out_items (first_items (early_inputs given) c.args.map.now) [] ≡ Ok items =
-    rw c.requires.first at (carried-by (first_items (early_inputs given) c.args.map.now) _ items c.in_ok-make_memory.ensures.ends) in
+    let carried : carry_out_items (early_items (early_inputs given) c.args.map.now) [] ≡ Ok items =
+    rw c.requires.first at (carried-by (early_items (early_inputs given) c.args.map.now) _ items c.in_ok-make_memory.ensures.ends) in
     (first_known given (with_map given c.args.map.now) items c.requires.judged carried).some
 
 pub reserve-requires : goal.reserve-requires
 reserve-requires c =
     let given : InputsView = inputs_view c.args.inputs.now in
     record {
-      begun = ends-begun (Ok (nodes_view c.in_ok-nodes.nodes)) stage_stop c.make_memory.new.memblock.journal.items _
+      begun = ends-begun (Ok (nodes_view c.in_ok-nodes.nodes)) error_of_stage_cause c.make_memory.new.memblock.journal.items _
           (assign_nodes given.domains given.options.numa_off) c.in_ok-make_memory.ensures.begun
           (rw c.as_ref.ensures.value at c.in_ok-nodes.ensures.ends);
     }
@@ -180,6 +180,6 @@ place_sections-requires-clause-noded c =
     let at = goal.at.place_sections-requires-clause-noded c in
     let row = row4 at.In_ok-run_script_lines (row3 at.In_ok-crash (row2 at.In_ok-nodes (row1 at.In_ok-make_memory))) in
     noded-within (reach given) (2 ^ 52) _
-    (noded_behind given (with_map given c.args.map.now) _
-    (crash_area_stage given ∷ script_stage given.kernel (before_sections given.lines) ∷ [])
-    c.requires.judged (crash_labels given, (lines_labels given.kernel (before_sections given.lines), tt)) row.come) (reach-small given)
+    (later_memory_has_nodes given (with_map given c.args.map.now) _
+    (crash_area_stage given ∷ script_stage given.kernel (lines_before_sections given.lines) ∷ [])
+    c.requires.judged (crash_labels given, (lines_labels given.kernel (lines_before_sections given.lines), tt)) row.come) (reach-small given)

@@ -2,7 +2,7 @@
 -- runs.
 use Rattle.std.proofs.Common.{drop}
 use Rattle.address_runs.specs.Runs.{AreRuns}
-use Rattle.growth_model.specs.Tables.{HasBegun}
+use Rattle.growth_model.specs.Tables.{HasFirstItem}
 use Rattle.early_memory.specs.FirstItems.{items_of_map}
 use Rattle.memblock_grow.specs.Continues.{ContinuesMemblock}
 use Rattle.boot_stages.proofs.ItemsLaws.{Leaves}
@@ -13,6 +13,6 @@ invariant-loop-run l = record {
   left : Leaves (items_of_map l.reach l.map) (items_of_map l.reach (drop l.run-index l.map)) l.fn.memblock.journal.items
       l.memblock.journal.items;
   runs : AreRuns (drop l.run-index l.map);
-  begun : HasBegun l.memblock.journal.items;
+  begun : HasFirstItem l.memblock.journal.items;
   goes_on : ContinuesMemblock l.fn.memblock l.memblock;
 }

@@ -8,7 +8,7 @@ use Rattle.growth_model.proofs.SoundLaws.{ends-begun}
 use Rattle.memblock_grow.proofs.GoingLaws.{goes-then}
 use Rattle.early_memory.specs.FirstItems.{mirror_items}
 use Rattle.boot_model.specs.Mirrors.{frame_range_of}
-use Rattle.boot_stages.proofs.ItemsLaws.{carries-change, carries-nothing, change_for-exit, leaves-all, leaves-next}
+use Rattle.boot_stages.proofs.ItemsLaws.{carries-change, carries-nothing, change_writing_item-exit, leaves-all, leaves-next}
 use Rattle.boot_stages.proofs.ExitLaws.{exit}
 use Rattle.boot_stages.proofs.MemoryLaws.{mirrors_next}
 use Rattle.boot_stages.proofs.memory.add_mirrors.Goals as goal
@@ -17,7 +17,7 @@ pub returns-in_err-set_mirror-clause-ends : goal.returns-in_err-set_mirror-claus
 returns-in_err-set_mirror-clause-ends c =
     let next = mirrors_next c.args.mirrors.now c.loop-mirror.mirror-index c.mirror-item.result (omega (arith, c.loop-mirror-test.true))
     c.mirror-item.is c.requires.whole in
-    c.loop-mirror.invariant.left.ends _ _ (rw next (change_for-exit c.in_err-set_mirror.field-0.0 _ _ _ _ _
+    c.loop-mirror.invariant.left.ends _ _ (rw next (change_writing_item-exit c.in_err-set_mirror.field-0.0 _ _ _ _ _
     (exit _ _ c.from_residual.ensures.1) c.in_err-set_mirror.ensures.ends))
 
 pub loop-mirror-init : goal.loop-mirror-init

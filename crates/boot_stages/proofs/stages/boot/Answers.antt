@@ -4,16 +4,16 @@ use Rattle.std.proofs.Common.{◌≡◌, ℕ, List, [], ◌^◌, Ok, ap, subst, 
 use Rattle.address_runs.specs.Runs.{RunOf}
 use Rattle.boot_journal.specs.JournalView.{JournalView}
 use Rattle.bm_base.specs.Range.{RangeView}
-use Rattle.address_runs.specs.Edits.{NothingFrom}
+use Rattle.address_runs.specs.Edits.{IsEmptyFrom}
 use Rattle.memblock_model.specs.declared.owner.Which.TheVariants as which
 use Rattle.memblock_model.specs.Items.{memory_of, owner_of}
 use Rattle.memblock_model.specs.Tables.{reserved_labels}
 use Rattle.memblock_ranges.specs.Tables.{table_in}
-use Rattle.growth_model.specs.Bytes.{byte_from_history, table_for}
+use Rattle.growth_model.specs.Bytes.{byte_from_history, table_from_items}
 use Rattle.phys_store.specs.Bytes.{ExtentView, byte_of}
 use Rattle.memblock_grow.specs.MemblockView.{MemblockView as Memblock}
-use Rattle.bm_base.specs.ResultSteps.{with_error}
-use Rattle.stage_steps.specs.Nodes.{HasNodes}
+use Rattle.bm_base.specs.ResultSteps.{map_error}
+use Rattle.stage_steps.specs.Nodes.{IsMemoryWithNodes}
 use Rattle.boot_model.specs.Boot.{InputsView, BootSoFar, BootedView, boot, judge_map, reach}
 use Rattle.boot_model.specs.Stop.{stop_of}
 use Rattle.boot_model.specs.View.{inputs_view}
@@ -21,10 +21,10 @@ use Rattle.boot_model.proofs.NodedLaws.{noded_told}
 use Rattle.boot_model.proofs.ReachLaws.{reach-small}
 use Rattle.conservation.proofs.HeadlineLaws.{all_touched_or_in_one, blocks_maximal, blocks_whole, no_other_in_a_block}
 use Rattle.conservation.proofs.PagedLaws.{all_in_one_or_held, no_other_in_one_or_held}
-use Rattle.boot_stages.specs.declared.later.Later.{Later}
+use Rattle.boot_stages.specs.declared.later.LaterResults.{LaterResults}
 use Rattle.boot_stages.specs.Boots.{StagesEndWith, made_after_stages}
 use Rattle.boot_stages.proofs.ExitLaws.{exit}
-use Rattle.boot_stages.proofs.MapLaws.{boot_left, boot_stops, boot_told, made_of, told_ok, told_stops}
+use Rattle.boot_stages.proofs.MapLaws.{boot_is_later_stages, boot_stops, boot_told, made_of, ok_without_error_change, boot_stop_is_reported}
 use Rattle.boot_stages.proofs.HandoverLaws.{tables-kept}
 use Rattle.boot_stages.proofs.StagesLaws.{noded-within}
 use Rattle.boot_stages.proofs.stages.boot.Goals as goal
@@ -33,14 +33,14 @@ use Rattle.boot_stages.proofs.stages.boot.Goals.{In_ok-later}
 pub returns-in_err-map-clause-boots : goal.returns-in_err-map-clause-boots
 returns-in_err-map-clause-boots c =
     let given : InputsView = inputs_view c.args.inputs in
-    told_stops _ given _ c.in_err-map.field-0.0 (exit _ _ c.from_residual.ensures.1)
+    boot_stop_is_reported _ given _ c.in_err-map.field-0.0 (exit _ _ c.from_residual.ensures.1)
     (boot_stops given c.in_err-map.field-0.0 c.in_err-map.ensures.answers)
 
 -- the map that the boot goes on with, as the stages get it
 pub run_stages-requires-clause-judged : goal.run_stages-requires-clause-judged
 run_stages-requires-clause-judged c =
     let given : InputsView = inputs_view c.args.inputs in
-    rw c.deref.ensures.value (told_ok stop_of (judge_map given) (made_of given c.in_ok-map.map) c.in_ok-map.ensures.answers)
+    rw c.deref.ensures.value (ok_without_error_change stop_of (judge_map given) (made_of given c.in_ok-map.map) c.in_ok-map.ensures.answers)
 
 pub run_stages-requires-clause-bytes : goal.run_stages-requires-clause-bytes
 run_stages-requires-clause-bytes c =
@@ -55,22 +55,22 @@ run_stages-requires-clause-bytes c =
 pub returns-in_err-later-clause-boots : goal.returns-in_err-later-clause-boots
 returns-in_err-later-clause-boots c =
     let given : InputsView = inputs_view c.args.inputs in
-    let left = boot_left given (made_of given c.in_ok-map.map) c.in_ok-map.ensures.answers in
-    told_stops _ given _ c.in_err-later.field-0.0 (exit _ _ c.from_residual-in_err-later.ensures.1)
-    (λ other. ap (with_error stop_of) left ∙ (rw c.deref.ensures.value at c.in_err-later.ensures.stopped) other)
+    let left = boot_is_later_stages given (made_of given c.in_ok-map.map) c.in_ok-map.ensures.answers in
+    boot_stop_is_reported _ given _ c.in_err-later.field-0.0 (exit _ _ c.from_residual-in_err-later.ensures.1)
+    (λ other. ap (map_error stop_of) left ∙ (rw c.deref.ensures.value at c.in_err-later.ensures.stopped) other)
 
 -- what is known after all stages have run
-record Made (given : InputsView) (map : List (RunOf ℕ)) (m : Memblock) (later : Later) : Type 0 where
+record Made (given : InputsView) (map : List (RunOf ℕ)) (m : Memblock) (later : LaterResults) : Type 0 where
   run : StagesEndWith given map m later
   boots : boot given ≡ Ok (made_after_stages given map m later run.ids run.fills)
-  noded : HasNodes (2 ^ 52) (memory_of m.journal.items)
+  noded : IsMemoryWithNodes (2 ^ 52) (memory_of m.journal.items)
 
 made : (c : In_ok-later) → Made (inputs_view c.args.inputs) c.in_ok-map.map.items c.run_stages.new.memblock c.in_ok-later.later
 made c =
     let given : InputsView = inputs_view c.args.inputs in
     let run : StagesEndWith given c.in_ok-map.map.items c.run_stages.new.memblock c.in_ok-later.later =
     rw c.deref.ensures.value at c.in_ok-later.ensures.run in
-    let boots = boot_left given (made_of given c.in_ok-map.map) c.in_ok-map.ensures.answers ∙ run.come in
+    let boots = boot_is_later_stages given (made_of given c.in_ok-map.map) c.in_ok-map.ensures.answers ∙ run.come in
     record {
       run = run;
       boots = boots;
@@ -86,19 +86,19 @@ hand_over_memory-requires-clause-kernel c = (made (goal.at.hand_over_memory-requ
 -- what the type of memblock guarantees
 pub hand_over_memory-requires-clause-tables : goal.hand_over_memory-requires-clause-tables
 hand_over_memory-requires-clause-tables c = λ w.
-    subst (λ (m : Memblock). table_in w m.tables ≡ table_for w m.kernel m.journal.items) c.memblock.view_is
+    subst (λ (m : Memblock). table_in w m.tables ≡ table_from_items w m.kernel m.journal.items) c.memblock.view_is
     (tables-kept w _ _ _ _ c.memblock.invariant.kept)
 
 pub hand_over_memory-requires-clause-within : goal.hand_over_memory-requires-clause-within
 hand_over_memory-requires-clause-within c =
-    subst (λ (m : Memblock). NothingFrom (2 ^ 64) (reserved_labels (owner_of m.journal.items))) c.memblock.view_is
+    subst (λ (m : Memblock). IsEmptyFrom (2 ^ 64) (reserved_labels (owner_of m.journal.items))) c.memblock.view_is
     (c.memblock.invariant.kept.ends which.Reserved)
 
 pub returns-clause-boots : goal.returns-clause-boots
 returns-clause-boots c =
     let given : InputsView = inputs_view c.args.inputs in
     let known = made (goal.at.returns-clause-boots c).In_ok-later in
-    ap (with_error stop_of) (boot_told given _ known.boots)
+    ap (map_error stop_of) (boot_told given _ known.boots)
     ∙ ap (λ (t : BootedView). Ok t) (sym (c.in_ok-hand_over_memory.ensures.told known.run.ids known.run.fills))
 
 pub returns-clause-bytes : goal.returns-clause-bytes
@@ -114,24 +114,24 @@ returns-clause-bytes c = λ final ends x. (
     ∙ ap (λ (n : BootSoFar). byte_from_history given.kernel n.items n.fills x) is)
 
 pub returns-clause-each : goal.returns-clause-each
-returns-clause-each c = all_touched_or_in_one (inputs_view c.args.inputs) _ (told_ok stop_of _ _ (returns-clause-boots c))
+returns-clause-each c = all_touched_or_in_one (inputs_view c.args.inputs) _ (ok_without_error_change stop_of _ _ (returns-clause-boots c))
 
 pub returns-clause-others : goal.returns-clause-others
-returns-clause-others c = no_other_in_a_block (inputs_view c.args.inputs) _ (told_ok stop_of _ _ (returns-clause-boots c))
+returns-clause-others c = no_other_in_a_block (inputs_view c.args.inputs) _ (ok_without_error_change stop_of _ _ (returns-clause-boots c))
 
 pub returns-clause-whole : goal.returns-clause-whole
-returns-clause-whole c = blocks_whole (inputs_view c.args.inputs) _ (told_ok stop_of _ _ (returns-clause-boots c))
+returns-clause-whole c = blocks_whole (inputs_view c.args.inputs) _ (ok_without_error_change stop_of _ _ (returns-clause-boots c))
 
 pub returns-clause-maximal : goal.returns-clause-maximal
-returns-clause-maximal c = blocks_maximal (inputs_view c.args.inputs) _ (told_ok stop_of _ _ (returns-clause-boots c))
+returns-clause-maximal c = blocks_maximal (inputs_view c.args.inputs) _ (ok_without_error_change stop_of _ _ (returns-clause-boots c))
 
 pub returns-clause-paged : goal.returns-clause-paged
 returns-clause-paged c =
-    all_in_one_or_held (inputs_view c.args.inputs) _ (told_ok stop_of _ _ (returns-clause-boots c)) c.args.inputs.orders_fit
+    all_in_one_or_held (inputs_view c.args.inputs) _ (ok_without_error_change stop_of _ _ (returns-clause-boots c)) c.args.inputs.orders_fit
 
 pub returns-clause-none_paged : goal.returns-clause-none_paged
 returns-clause-none_paged c =
-    no_other_in_one_or_held (inputs_view c.args.inputs) _ (told_ok stop_of _ _ (returns-clause-boots c)) c.args.inputs.orders_fit
+    no_other_in_one_or_held (inputs_view c.args.inputs) _ (ok_without_error_change stop_of _ _ (returns-clause-boots c)) c.args.inputs.orders_fit
 
 -- One of the inputs' facts is named wherever the inputs are dropped. The others are found.
 pub invariant_of-inputs-clause-entries_end : goal.invariant_of-inputs-clause-entries_end

@@ -17,7 +17,7 @@ returns-in_err-inputs-clause-fails c =
 
 pub returns-in-Err-clause-fails : goal.returns-in-Err-clause-fails
 returns-in-Err-clause-fails c =
-    rw c.no_report.ensures
+    rw c.reason_by_stop.ensures
     (boot_failed c.in-Err.stop c.new.result.files _ (bootmem_args_view c.args.wanted.now) (inputs_view c.in_ok-inputs.inputs)
     c.new.ensures.files c.in_ok-inputs.ensures.fetches c.in-Err.ensures.boots)
 

@@ -4,8 +4,8 @@ use Rattle.std.specs.List.{All}
 use Rattle.std.specs.Str.{IsUtf8}
 use Rattle.std.proofs.lemmas.List.{length-map, take_all}
 use Rattle.std.proofs.lemmas.Result.{err_from_is_err_and}
-use Rattle.bootmem_c.specs.declared.words.NoStrings.{NoStrings}
-use Rattle.bootmem_c.specs.declared.words.NoStrings.TheVariants as errors
+use Rattle.bootmem_c.specs.declared.words.StringsError.{StringsError}
+use Rattle.bootmem_c.specs.declared.words.StringsError.TheVariants as errors
 use Rattle.bootmem_c.specs.Lent.{lent_word}
 use Rattle.bootmem_c.proofs.LentLaws.{not_all, texts_more, utf8_more}
 use Rattle.bootmem_c.proofs.words.strings_of_words.Goals as goal
@@ -14,7 +14,7 @@ pub returns-in_err-string_of_word-clause-other : goal.returns-in_err-string_of_w
 returns-in_err-string_of_word-clause-other c = λ is.
     let p = err_from_is_err_and c.from_residual.result c.from_residual.ensures.1 in
     let same : c.in_err-string_of_word.field-0.0 ≡ errors.NotUtf8 = cc in
-    not_all c.args.words.now _ _ c.loop-word-test.true (c.in_err-string_of_word.ensures.other (ap (λ (e : NoStrings). Err e) same))
+    not_all c.args.words.now _ _ c.loop-word-test.true (c.in_err-string_of_word.ensures.other (ap (λ (e : StringsError). Err e) same))
 
 pub loop-word-preserved : goal.loop-word-preserved
 loop-word-preserved c = record {

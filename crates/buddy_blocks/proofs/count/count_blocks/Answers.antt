@@ -26,7 +26,7 @@ loop-run-preserved c =
     elim c.if-run-node.branch [
       | then-run-node w ↦
           w.total-is
-          ∙ ap (λ t. c.loop-run.total + t) (w.count_in_run-total.ensures.count f r.value run
+          ∙ ap (λ t. c.loop-run.total + t) (w.count_blocks_in_run-total.ensures.count f r.value run
           ∙ ap (λ n. count_by (is_block_of n c.args.zone c.args.order) (blocks_from f r.base (run_end r - r.base))) w.if-run-node.true)
       | else-run-node w ↦
           let none = other_run f r c.args.node c.args.order c.args.zone run w.if-run-node.false in
@@ -43,7 +43,7 @@ overflow_add-total c =
     let r : RunOf ℕ = record { base = c.run.inside.first; size = c.run.inside.count; value = c.run.inside.node } in
     let is = c.run.view_is ∙ c.run-item.is in
     let run = run_at rs i c.run-item.result r is c.requires.runs c.loop-run-test.true in
-    let here = c.count_in_run-total.ensures.count f r.value run in
+    let here = c.count_blocks_in_run-total.ensures.count f r.value run in
     let at_node =
     ap (λ n. count_by (is_block_of n c.args.zone c.args.order) (blocks_from f r.base (run_end r - r.base))) c.if-run-node.true in
     let parts = count_more_at f rs i c.run-item.result r (is_block_of c.args.node c.args.zone c.args.order) is c.loop-run-test.true in

@@ -3,8 +3,8 @@ use Rattle.std.proofs.lemmas.List.{append-nil}
 use Rattle.address_runs.specs.Runs.{RunOf, value_at}
 use Rattle.buddy_blocks.specs.declared.block.Block.{Block}
 use Rattle.buddy_blocks.specs.declared.block.BlockRow.{BlockRow}
-use Rattle.buddy_blocks.specs.Rows.{blocks_of_rows, AreRows}
-use Rattle.buddy_blocks.specs.Sets.{LastRowFulfils, EndsFree}
+use Rattle.buddy_blocks.specs.Rows.{blocks_of_rows, AreCanonicalRows}
+use Rattle.buddy_blocks.specs.Sets.{LastRowFulfils, LastFrameIsFree}
 use Rattle.buddy_blocks.proofs.LookLaws.{listed, listed_all, listed_none, listed_more_at, run_at}
 use Rattle.buddy_blocks.proofs.list.block_rows.Goals as goal
 
@@ -15,8 +15,8 @@ loop-run-init c =
     record {
       listed = ap (λ (rows : List BlockRow). blocks_of_rows rows ++ listed (value_at rs) rs) none
           ∙ listed_all rs c.requires.runs c.requires.low;
-      free = subst (λ (rows : List BlockRow). LastRowFulfils (EndsFree (value_at rs)) rows) (sym none) tt;
-      longest = subst (λ (rows : List BlockRow). AreRows rows) (sym none) tt;
+      free = subst (λ (rows : List BlockRow). LastRowFulfils (LastFrameIsFree (value_at rs)) rows) (sym none) tt;
+      longest = subst (λ (rows : List BlockRow). AreCanonicalRows rows) (sym none) tt;
     }
 
 pub loop-run-preserved : goal.loop-run-preserved

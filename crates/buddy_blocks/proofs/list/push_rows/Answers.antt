@@ -23,9 +23,9 @@ pub loop-at-preserved : goal.loop-at-preserved
 loop-at-preserved c =
     let first = c.args.first in let end = c.args.end in let at = c.loop-at.at in
     let o = c.set_within-set.result.order in let s = c.set_within-set.result.size in
-    let k = c.count_blocks_alike-count.result in
+    let k = c.count_equal_blocks-count.result in
     let e = c.set_within-set.ensures in
-    let b = c.count_blocks_alike-count.ensures in
+    let b = c.count_equal_blocks-count.ensures in
     let whole : at % s ≡ 0 = start_whole first end at o s c.loop-at.invariant.start e.small e.size e.fits in
     let above = c.loop-at.invariant.above in
     let made : BlockRow = record { order = o; first = at; count = k; node = c.args.node; zone = zone_of at } in

@@ -6,7 +6,7 @@ use Rattle.memblock_ranges.proofs.LentLaws.{count_is}
 use Rattle.memblock_frames.proofs.RecordLaws.{records_higher}
 use Rattle.memblock_frames.proofs.ClaimLaws.{passed_later}
 use Rattle.memblock_frames.proofs.TakeLaws.{frames_below, frames_in_order, frames_some}
-use Rattle.buddy_handover.specs.BuddyView.{buddy_frames}
+use Rattle.buddy_handover.specs.BuddyView.{node_of_free_frame}
 use Rattle.buddy_handover.proofs.HandoverLaws.{record_freed, record_left, all_handed}
 use Rattle.buddy_handover.proofs.handover.hand_over.Goals as goal
 use Rattle.buddy_handover.proofs.handover.hand_over.Goals.{in-Some+in_ok-next, in_default}
@@ -41,7 +41,7 @@ loop-i-preserved c =
     let is = c.frames_of_record-frames.ensures nobody in
     let ascend = c.requires.memory.ascend in
     let whole = c.requires.whole in
-    let was = buddy_frames c.loop-i.buddy in
+    let was = node_of_free_frame c.loop-i.buddy in
     elim c.match-frames.branch [
       | in-Some+in_ok-next w ↦ record {
         few = rw w.next-is w.in_ok-next.ensures.index;
@@ -51,7 +51,7 @@ loop-i-preserved c =
             rw w.next-is (passed_later rs w.in_ok-next.next _ _ order w.in_ok-next.ensures.passed);
         handed =
             rw w.buddy-is
-            (record_freed _ ms (value_at rs) i w.in-Some.node nobody was (buddy_frames w.free_unclaimed.new.buddy) ascend whole few
+            (record_freed _ ms (value_at rs) i w.in-Some.node nobody was (node_of_free_frame w.free_unclaimed.new.buddy) ascend whole few
             (rw is at w.in-Some.is) c.loop-i.invariant.handed (rw is at w.in_ok-next.ensures.free));
       }
       | in_default w ↦ record {
@@ -68,5 +68,5 @@ returns c =
     let ms = records_of_head c.args.store.now c.args.heads.now.memory in
     let all : c.loop-i.i ≡ length ms = omega (arith, count_is c.args.store.now c.args.heads.now.memory) in
     all_handed ms (value_at (records_of_head c.args.store.now c.args.heads.now.reserved)) c.loop-i.i
-    (buddy_frames c.loop-i.buddy) c.requires.whole all
+    (node_of_free_frame c.loop-i.buddy) c.requires.whole all
     c.loop-i.invariant.handed

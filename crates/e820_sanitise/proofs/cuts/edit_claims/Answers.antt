@@ -3,7 +3,7 @@ use Rattle.std.proofs.lemmas.Result.{on_ok_weaker}
 use Rattle.bm_base.specs.Range.{end_of}
 use Rattle.e820_model.specs.Map.{claims_of}
 use Rattle.e820_sanitise.specs.Cuts.{claim_between}
-use Rattle.e820_sanitise.proofs.CutLaws.{add_same, remove_same, remove_all_same, change_same, are_cut, are_either}
+use Rattle.e820_sanitise.proofs.CutLaws.{add_same, remove_same, remove_all_same, change_same, AreClaims-cut_out, AreClaims-edited}
 use Rattle.e820_sanitise.proofs.cuts.edit_claims.Goals as goal
 
 pub returns-in-Add-clause-same : goal.returns-in-Add-clause-same
@@ -22,8 +22,8 @@ returns-in-Remove-clause-same c =
 
 pub returns-in-Remove-clause-claims : goal.returns-in-Remove-clause-claims
 returns-in-Remove-clause-claims c =
-    are_either c.replace_with_cut.result _ _ _ c.replace_with_cut.ensures.ok c.replace_with_cut.ensures.err
-    (are_cut c.in-Remove.range (Some c.in-Remove.kind) None c.args.claims.now.items tt c.requires.claims) c.requires.claims
+    AreClaims-edited c.replace_with_cut.result _ _ _ c.replace_with_cut.ensures.ok c.replace_with_cut.ensures.err
+    (AreClaims-cut_out c.in-Remove.range (Some c.in-Remove.kind) None c.args.claims.now.items tt c.requires.claims) c.requires.claims
 
 pub returns-in-RemoveAll-clause-same : goal.returns-in-RemoveAll-clause-same
 returns-in-RemoveAll-clause-same c =
@@ -33,9 +33,9 @@ returns-in-RemoveAll-clause-same c =
 
 pub returns-in-RemoveAll-clause-claims : goal.returns-in-RemoveAll-clause-claims
 returns-in-RemoveAll-clause-claims c =
-    are_either c.replace_with_cut-in-RemoveAll.result _ _ _ c.replace_with_cut-in-RemoveAll.ensures.ok
+    AreClaims-edited c.replace_with_cut-in-RemoveAll.result _ _ _ c.replace_with_cut-in-RemoveAll.ensures.ok
     c.replace_with_cut-in-RemoveAll.ensures.err
-    (are_cut c.in-RemoveAll.range None None c.args.claims.now.items tt c.requires.claims) c.requires.claims
+    (AreClaims-cut_out c.in-RemoveAll.range None None c.args.claims.now.items tt c.requires.claims) c.requires.claims
 
 pub returns-in-Change-clause-same : goal.returns-in-Change-clause-same
 returns-in-Change-clause-same c =
@@ -46,6 +46,6 @@ returns-in-Change-clause-same c =
 pub returns-in-Change-clause-claims : goal.returns-in-Change-clause-claims
 returns-in-Change-clause-claims c =
     let types : 0 < c.in-Change.to = (rw c.in-Change.is at c.requires.types).1 in
-    are_either c.replace_with_cut-in-Change.result _ _ _ c.replace_with_cut-in-Change.ensures.ok c.replace_with_cut-in-Change.ensures.err
-    (are_cut c.in-Change.range (Some c.in-Change.from) (Some c.in-Change.to) c.args.claims.now.items (types, omega arith)
+    AreClaims-edited c.replace_with_cut-in-Change.result _ _ _ c.replace_with_cut-in-Change.ensures.ok c.replace_with_cut-in-Change.ensures.err
+    (AreClaims-cut_out c.in-Change.range (Some c.in-Change.from) (Some c.in-Change.to) c.args.claims.now.items (types, omega arith)
     c.requires.claims) c.requires.claims

@@ -2,7 +2,7 @@ use Rattle.std.proofs.Common.{◌≡◌, ◌+◌, ◌-◌, ◌*◌, ◌≤◌, �
 use Rattle.std.proofs.lemmas.List.{append-nil}
 use Rattle.e820_model.specs.declared.entry.Entry.{Entry}
 use Rattle.std.proofs.Common.{List}
-use Rattle.e820_table.specs.Made.{made_entries_from, frames_of_entry, made_entries}
+use Rattle.e820_table.specs.Made.{generated_entries_from, frames_of_entry, generated_entries}
 use Rattle.e820_table.proofs.MadeLaws.{Split, none_more, one_more, page_of_all, split_more}
 use Rattle.e820_table.proofs.generator.made.Goals as goal
 
@@ -10,10 +10,10 @@ pub loop-index-preserved : goal.loop-index-preserved
 loop-index-preserved c =
     let l = c.loop-index in
     let x = c.next_generator_state-number.result in
-    let e = c.made_entry-entry.result in
+    let e = c.generated_entry-entry.result in
     let front = l.page.items ++ l.ext.items in
-    let place : e.addr ≡ l.base = rw c.made_entry-entry.ensures refl in
-    let size : e.size ≡ 4096 * frames_of_entry x = rw c.made_entry-entry.ensures refl in
+    let place : e.addr ≡ l.base = rw c.generated_entry-entry.ensures refl in
+    let size : e.size ≡ 4096 * frames_of_entry x = rw c.generated_entry-entry.ensures refl in
     let short : e.size ≤ 65536 = rw size (omega arith) in
     let split : Split c.put_entry.new.page.items c.put_entry.new.ext.items (front ++ e ∷ []) =
     split_more l.page.items l.ext.items front c.put_entry.new.page.items c.put_entry.new.ext.items e
@@ -25,10 +25,10 @@ loop-index-preserved c =
       others_space = l.invariant.extension_space;
     })
     c.in_ok-put_entry.ensures.room c.in_ok-put_entry.ensures.full (omega arith) in
-    let behind : List Entry = made_entries_from (c.args.n - (l.index + 1)) (l.index + 1) (l.base + e.size) x in
-    let step : made_entries_from (c.args.n - l.index) l.index l.base l.number ≡ e ∷ behind =
+    let behind : List Entry = generated_entries_from (c.args.n - (l.index + 1)) (l.index + 1) (l.base + e.size) x in
+    let step : generated_entries_from (c.args.n - l.index) l.index l.base l.number ≡ e ∷ behind =
     one_more (c.args.n - l.index) (c.args.n - (l.index + 1)) l.index l.base l.number x e (omega arith)
-    c.next_generator_state-number.ensures c.made_entry-entry.ensures in
+    c.next_generator_state-number.ensures c.generated_entry-entry.ensures in
     record {
       entries = ap (λ (es : List Entry). es ++ behind) split.whole ∙ append_assoc front (e ∷ []) behind
           ∙ ap (λ (es : List Entry). front ++ es) (sym step) ∙ l.invariant.entries;
@@ -43,7 +43,7 @@ loop-index-preserved c =
 pub returns-clause-page : goal.returns-clause-page
 returns-clause-page c =
     let l = c.loop-index in
-    let all : l.page.items ++ l.ext.items ≡ made_entries c.args.n =
+    let all : l.page.items ++ l.ext.items ≡ generated_entries c.args.n =
     sym (append-nil (l.page.items ++ l.ext.items))
     ∙ ap (λ (es : List Entry). (l.page.items ++ l.ext.items) ++ es)
     (sym (none_more (c.args.n - l.index) l.index l.base l.number (omega arith))) ∙ l.invariant.entries in
@@ -52,7 +52,7 @@ returns-clause-page c =
 pub returns-clause-extension : goal.returns-clause-extension
 returns-clause-extension c =
     let l = c.loop-index in
-    let all : l.page.items ++ l.ext.items ≡ made_entries c.args.n =
+    let all : l.page.items ++ l.ext.items ≡ generated_entries c.args.n =
     sym (append-nil (l.page.items ++ l.ext.items))
     ∙ ap (λ (es : List Entry). (l.page.items ++ l.ext.items) ++ es)
     (sym (none_more (c.args.n - l.index) l.index l.base l.number (omega arith))) ∙ l.invariant.entries in

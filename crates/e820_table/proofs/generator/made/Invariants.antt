@@ -1,11 +1,11 @@
 use Rattle.std.proofs.Common.{◌≡◌, ◌+◌, ◌*◌, ◌-◌, ◌<◌, ◌≤◌, ◌++◌, [], length}
 use Rattle.e820_model.specs.Claims.{EntriesFit}
-use Rattle.e820_table.specs.Made.{made_entries_from, made_entries}
+use Rattle.e820_table.specs.Made.{generated_entries_from, generated_entries}
 use Rattle.e820_table.proofs.generator.made.Given as goal
 
 abbrev pub invariant-loop-index : goal.invariant-loop-index
 invariant-loop-index l = record {
-  entries : (l.page.items ++ l.ext.items) ++ made_entries_from (l.n - l.index) l.index l.base l.number ≡ made_entries l.n;
+  entries : (l.page.items ++ l.ext.items) ++ generated_entries_from (l.n - l.index) l.index l.base l.number ≡ generated_entries l.n;
   fits : length l.page.items ≤ 128;
   so_many : length l.page.items ≤ l.index;
   alone : length l.page.items < 128 → l.ext.items ≡ [];

@@ -1,7 +1,7 @@
 use Rattle.std.proofs.Common.{◌≡◌, ℕ, ◌-◌, List, subst, arith}
 use Rattle.address_runs.specs.Runs.{RunOf}
 use Rattle.memblock_model.specs.Labels.{LabelView}
-use Rattle.memblock_find.specs.Walk.{nth_record, BeginBelow}
+use Rattle.memblock_find.specs.Walk.{nth_record, ExactlyFirstBeginBelow}
 use Rattle.memblock_find.proofs.SlotLaws.{read_of}
 use Rattle.memblock_find.proofs.DownLaws.{look_bottom, look_gap, look_in}
 use Rattle.memblock_find.proofs.down.look_down.Goals as goal
@@ -9,7 +9,7 @@ use Rattle.memblock_find.proofs.down.look_down.Goals as goal
 pub returns-then-slot-eq0 : goal.returns-then-slot-eq0
 returns-then-slot-eq0 c =
     let rs : List (RunOf LabelView) = c.args.records.now in
-    look_bottom rs c.args.at (subst (λ (n : ℕ). BeginBelow c.args.at rs n) c.if-slot-eq0.true c.requires)
+    look_bottom rs c.args.at (subst (λ (n : ℕ). ExactlyFirstBeginBelow c.args.at rs n) c.if-slot-eq0.true c.requires)
 
 pub returns-then-end-at : goal.returns-then-end-at
 returns-then-end-at c =

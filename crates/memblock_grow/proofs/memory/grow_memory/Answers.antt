@@ -4,7 +4,7 @@ use Rattle.memblock_model.specs.declared.owner.Which.TheVariants as which
 use Rattle.memblock_model.specs.Tables.{room_of, moved_to}
 use Rattle.growth_model.specs.Growth.{old_frames}
 use Rattle.growth_model.proofs.PlacedMemoryLaws.{IsTaken}
-use Rattle.memblock_grow.specs.Invariant.{KeepsTables, KeepsBytes}
+use Rattle.memblock_grow.specs.Invariant.{KeepsTables, BytesFollowItems}
 use Rattle.memblock_grow.specs.Prepared.{Prepares}
 use Rattle.growth_model.proofs.ToldLaws.{move-told}
 use Rattle.memblock_grow.proofs.WholeLaws.{keeps-then, bytes-then}
@@ -35,7 +35,7 @@ record HasMoved (c : After-tables_are_in_store) : Type 0 where
       ≡ old_frames (room_of which.Memory c.args.journal.now.items) (moved_to which.Memory c.args.journal.now.items)
   twice : 2 * c.head-head.result.room ≡ 2 * room_of which.Memory c.args.journal.now.items
   kept : KeepsTables c.args.journal.now.items c.args.tables.now c.push.new.self.items c.relocate.new.self c.args.aim
-  bytes : KeepsBytes c.args.journal.now.items c.args.tables.now c.push.new.self.items c.relocate.new.self c.args.aim
+  bytes : BytesFollowItems c.args.journal.now.items c.args.tables.now c.push.new.self.items c.relocate.new.self c.args.aim
   prepared : Prepares c.args.journal.now.items c.push.new.self.items c.args.tables.now.store c.relocate.new.self.store
 
 moved : (c : After-tables_are_in_store) → IsBest c.args.journal.now.items c.in-Some.place → HasMoved c

@@ -1,7 +1,7 @@
 use Rattle.std.proofs.Common.{refl}
 use Rattle.memblock_model.specs.declared.owner.Which.TheVariants as which
 use Rattle.memblock_model.specs.declared.item.Item.TheVariants as item
-use Rattle.growth_model.specs.Growth.{memory_growth, split_record_count, make_table_room, set_range_mirror}
+use Rattle.growth_model.specs.Growth.{memory_growth, max_records_added_by_split, make_table_room, set_range_mirror}
 use Rattle.growth_model.proofs.ToldLaws.{edit-told}
 use Rattle.memblock_grow.proofs.KeptLaws.{kept-mirror}
 use Rattle.memblock_grow.proofs.PreparedLaws.{prepares-item, by-item}
@@ -11,14 +11,14 @@ use Rattle.memblock_grow.proofs.memory.set_mirror.Goals as goal
 pub returns-in_err-make_memory_room-clause-ends : goal.returns-in_err-make_memory_room-clause-ends
 unfolding set_range_mirror
 returns-in_err-make_memory_room-clause-ends c =
-    change-fails (make_table_room which.Memory split_record_count memory_growth)
+    change-fails (make_table_room which.Memory max_records_added_by_split memory_growth)
     (item.Mirror c.args.range) _ _ _ _ c.from_residual.ensures.1
     c.in_err-make_memory_room.ensures.ends
 
 pub returns-in_err-push-clause-ends : goal.returns-in_err-push-clause-ends
 unfolding set_range_mirror
 returns-in_err-push-clause-ends c =
-    change-wants (make_table_room which.Memory split_record_count memory_growth)
+    change-wants (make_table_room which.Memory max_records_added_by_split memory_growth)
     (item.Mirror c.args.range) _ _ _ _ c.from_residual-in_err-push.ensures.1
     c.in_ok-make_memory_room.ensures.ends (λ k. (c.in_err-push.ensures.err k).items)
 
@@ -30,7 +30,7 @@ returns-in_err-push-clause-prepared c =
 pub returns-clause-ends : goal.returns-clause-ends
 unfolding set_range_mirror
 returns-clause-ends c =
-    change-done (make_table_room which.Memory split_record_count memory_growth)
+    change-done (make_table_room which.Memory max_records_added_by_split memory_growth)
     (item.Mirror c.args.range) _ _ _ c.in_ok-make_memory_room.ensures.ends
     c.in_ok-push.ensures.ok
 

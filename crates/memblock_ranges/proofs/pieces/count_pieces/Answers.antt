@@ -5,7 +5,7 @@ use Rattle.address_runs.specs.Runs.{value_at}
 use Rattle.address_runs.specs.Edits.{gaps_in_range}
 use Rattle.address_runs.specs.Sweep.{IsRestFrom}
 use Rattle.address_runs.proofs.SweepLaws.{ends_sooner}
-use Rattle.run_edits.specs.Ends.{edges, total}
+use Rattle.run_edits.specs.Ends.{run_ends_at, total}
 use Rattle.memblock_model.specs.Labels.{LabelView, plain_label}
 use Rattle.memblock_model.specs.Same.{same_label}
 use Rattle.memblock_ranges.proofs.PieceLaws.{no_pieces, more_pieces, all_pieces, one_at_most, none_told}
@@ -27,7 +27,7 @@ loop-from-init g c =
       ends = c.value_and_end-first.ensures.ends rest.ends;
       behind = c.value_and_end-first.ensures.behind rest.ends;
       few = omega arith;
-      count = sym (ap (λ n. total (edges same_label (gaps_in_range r plain_label f)) 0 n) base ∙ no_pieces r f);
+      count = sym (ap (λ n. total (run_ends_at same_label (gaps_in_range r plain_label f)) 0 n) base ∙ no_pieces r f);
     }
 
 pub loop-from-preserved : goal.loop-from-preserved
@@ -75,4 +75,4 @@ returns g c =
     let i = c.loop-from.invariant in
     let at : c.loop-from.from ≡ r.base + r.size = omega (arith, i.last, c.loop-from-test.false, c.end-until.ensures.value) in
     all_pieces r f c.loop-from.count (omega (arith, c.end-until.ensures.small))
-    (i.count ∙ ap (λ n. total (edges same_label (gaps_in_range r plain_label f)) 0 n) at)
+    (i.count ∙ ap (λ n. total (run_ends_at same_label (gaps_in_range r plain_label f)) 0 n) at)

@@ -1,7 +1,7 @@
 use Rattle.std.proofs.Common.{◌≡◌, ℕ, ◌+◌, ◌-◌, ◌%◌, ◌^◌, ◌<◌, ◌≤◌, Option, Some, List, [], ◌∷◌, ◌++◌, length, take, drop, sym, ◌∙◌, ap, subst, arith, append-nil}
 use Rattle.std.proofs.lemmas.List.{drop_more, drop_all}
 use Rattle.address_runs.specs.Runs.{RunOf, run_end, value_at, IsRunsOf}
-use Rattle.address_runs.specs.Edits.{NothingFrom}
+use Rattle.address_runs.specs.Edits.{IsEmptyFrom}
 use Rattle.address_runs.specs.Sweep.{IsSweptTo}
 use Rattle.run_edits.specs.Records.{stretch}
 use Rattle.memblock_model.specs.Labels.{LabelView}
@@ -38,21 +38,21 @@ loop-read-preserved g c =
     let with_value : LabelView → List (RunOf LabelView) =
     λ v. take c.loop-read.write t ++ stretch c.whole_frame_bounds-start.result.0 c.whole_frame_bounds-start.result.1
     (Some v) in
-    let written : take c.emit.result.0 (g.T.Rows.list c.emit.new.table) ≡ with_value r.value =
-    c.emit.ensures.written ∙ ap with_value c.value.ensures in
+    let written : take c.write_run.result.0 (g.T.Rows.list c.write_run.new.table) ≡ with_value r.value =
+    c.write_run.ensures.written ∙ ap with_value c.value.ensures in
     record {
-      order = c.emit.ensures.order;
-      within = c.emit.ensures.within;
-      keeps = g.met.T.Slots.keeps_on c.args.table.now c.loop-read.table c.emit.new.table i.keeps c.emit.ensures.keeps;
+      order = c.write_run.ensures.order;
+      within = c.write_run.ensures.within;
+      keeps = g.met.T.Slots.keeps_on c.args.table.now c.loop-read.table c.write_run.new.table i.keeps c.write_run.ensures.keeps;
       swept = (
         run_end r,
         subst (λ xs. IsSweptTo (trim_frames f) (run_end r) xs) (sym written) step,
-        subst (λ rs. Turns f (run_end r) rs) (sym c.emit.ensures.rest) (turns_next f at r rest turns),
+        subst (λ rs. Turns f (run_end r) rs) (sym c.write_run.ensures.rest) (turns_next f at r rest turns),
       );
     }
 
 -- all records have been read
-all_cut : (f : ℕ → Option LabelView) (at write read : ℕ) (t new : List (RunOf LabelView)) → NothingFrom (2 ^ 64) f →
+all_cut : (f : ℕ → Option LabelView) (at write read : ℕ) (t new : List (RunOf LabelView)) → IsEmptyFrom (2 ^ 64) f →
     IsSweptTo (trim_frames f) at (take write t) →
     Turns f at (drop read t) →
     length t ≤ read → new ≡ take write t ++ drop (write + (read - write)) t → write ≤ read →

@@ -2,7 +2,7 @@
 use Rattle.std.proofs.Common.{Ok, Err, get_or, refl, ap}
 use Rattle.std.proofs.lemmas.Result.{err_from_is_err_and}
 use Rattle.memblock_model.specs.declared.query.Request.{Request}
-use Rattle.stage_steps.specs.Causes.{stage_stop}
+use Rattle.stage_steps.specs.Causes.{error_of_stage_cause}
 use Rattle.stage_steps.proofs.DoingLaws.{ends-begun}
 use Rattle.memblock_grow.proofs.GoingLaws.{goes-then}
 use Rattle.numa_nodes.specs.Assignment.{place_node_data}
@@ -37,7 +37,7 @@ loop-node-preserved c =
     (Ok c.in_ok-place_or_stop.field-0) node here mid c.node_data_request-request.result c.node_data_request-request.ensures
     c.in_ok-place_or_stop.ensures.ends in
     record {
-      begun = ends-begun (Ok tt) stage_stop here mid (place_node_data tt node) c.loop-node.invariant.begun was;
+      begun = ends-begun (Ok tt) error_of_stage_cause here mid (place_node_data tt node) c.loop-node.invariant.begun was;
       ends = turn-next c.loop-node.invariant.ends node 0 mid c.loop-node-test.true refl was;
       goes_on = λ start goes.
           goes-then start c.loop-node.memblock c.place_or_stop.new.memblock

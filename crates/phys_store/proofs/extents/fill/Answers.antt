@@ -4,7 +4,7 @@ use borrow.Rule.Slice.PartMut.{put_mid}
 use Rattle.bm_base.specs.Range.{RangeView}
 use Rattle.phys_store.specs.declared.extents.Extent.{Extent}
 use Rattle.phys_store.specs.Bytes.{ArePrepared, WritesBytes}
-use Rattle.phys_store.specs.Extents.{extent_view, AreApart}
+use Rattle.phys_store.specs.Extents.{extent_view, AreSortedAndApart}
 use Rattle.phys_store.proofs.Lookup.{Holds, holds, none_ready}
 use Rattle.phys_store.proofs.Writes.{wrote-mid, wrote-none, filled}
 use Rattle.phys_store.proofs.extents.fill.Goals as goal
@@ -47,7 +47,7 @@ filled_in c =
 
 all_filled : (c : After-fill) → Holds c.args.extents.now c.range.inside.base c.range.inside.size c.in-Some.i
     (get_or c.args.extents.now c.in-Some.i c.index-extents-i.result) →
-    AreApart 0 (map extent_view (set c.args.extents.now c.in-Some.i (filled_in c)))
+    AreSortedAndApart 0 (map extent_view (set c.args.extents.now c.in-Some.i (filled_in c)))
     × WritesBytes (map extent_view c.args.extents.now)
     (map extent_view (set c.args.extents.now c.in-Some.i (filled_in c))) c.range.inside.base
     c.range.inside.size (λ _. c.args.byte)

@@ -2,7 +2,7 @@ use Rattle.std.proofs.Common.{◌≡◌, ◌+◌, ◌-◌, min, max, Some, None,
 use Rattle.std.specs.List.{position}
 use Rattle.phys_store.specs.declared.extents.Extent.{Extent}
 use Rattle.phys_store.specs.Bytes.{is_in_extent, byte_of, WritesBytes}
-use Rattle.phys_store.specs.Extents.{extent_view, AreApart}
+use Rattle.phys_store.specs.Extents.{extent_view, AreSortedAndApart}
 use Rattle.phys_store.proofs.Lookup.{Holds, holds, none_ready}
 use Rattle.phys_store.proofs.Writes.{wrote-copied, wrote-none}
 use Rattle.phys_store.proofs.extents.move_bytes.Goals as goal
@@ -53,7 +53,7 @@ copied_in c =
 copied : (c : After-copy_within) → Holds c.args.extents.now (min c.args.from c.args.to)
     (max c.args.from c.args.to - min c.args.from c.args.to + c.args.count) c.in-Some.i
     (get_or c.args.extents.now c.in-Some.i c.index-extents-i.result) →
-    AreApart 0 (map extent_view (set c.args.extents.now c.in-Some.i (copied_in c)))
+    AreSortedAndApart 0 (map extent_view (set c.args.extents.now c.in-Some.i (copied_in c)))
     × WritesBytes (map extent_view c.args.extents.now)
     (map extent_view (set c.args.extents.now c.in-Some.i (copied_in c))) c.args.to c.args.count
     (λ k. byte_of (map extent_view c.args.extents.now) (c.args.from + k))

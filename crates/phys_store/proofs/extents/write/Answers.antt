@@ -3,7 +3,7 @@ use Rattle.std.specs.Vec.{with_items}
 use borrow.Rule.Slice.PartMut.{put_mid}
 use Rattle.phys_store.specs.declared.extents.Extent.{Extent}
 use Rattle.phys_store.specs.Bytes.{WritesBytes}
-use Rattle.phys_store.specs.Extents.{extent_view, AreApart}
+use Rattle.phys_store.specs.Extents.{extent_view, AreSortedAndApart}
 use Rattle.phys_store.proofs.Lookup.{Holds, holds, none_ready}
 use Rattle.phys_store.proofs.Writes.{wrote-mid, wrote-none}
 use Rattle.phys_store.proofs.extents.write.Goals as goal
@@ -46,7 +46,7 @@ written_in c =
 
 written : (c : After-copy_from_slice) → Holds c.args.extents.now c.args.at (length c.args.bytes.now) c.in-Some.i
     (get_or c.args.extents.now c.in-Some.i c.index-extents-i.result) →
-    AreApart 0 (map extent_view (set c.args.extents.now c.in-Some.i (written_in c)))
+    AreSortedAndApart 0 (map extent_view (set c.args.extents.now c.in-Some.i (written_in c)))
     × WritesBytes (map extent_view c.args.extents.now) (map extent_view (set c.args.extents.now c.in-Some.i (written_in c))) c.args.at
     (length c.args.bytes.now) (λ j. get_or c.args.bytes.now j 0)
 written c h =

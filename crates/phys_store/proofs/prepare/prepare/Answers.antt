@@ -3,7 +3,7 @@ use Rattle.std.proofs.lemmas.Bool.{false≢true}
 use Rattle.bm_base.specs.Range.{covers}
 use Rattle.phys_store.specs.declared.extents.Extent.{Extent}
 use Rattle.phys_store.specs.Bytes.{is_prepared_at, ArePrepared}
-use Rattle.phys_store.specs.Extents.{extent_view, TouchRange}
+use Rattle.phys_store.specs.Extents.{extent_view, AreTouchedExtents}
 use Rattle.phys_store.proofs.Joining.{Prepared, prepared}
 use Rattle.phys_store.proofs.prepare.prepare.Goals as goal
 use Rattle.phys_store.proofs.prepare.prepare.Goals.{In_ok-merge_or_insert}
@@ -18,8 +18,8 @@ done c =
     subst (λ (ds : List Extent). ArePrepared (map extent_view ds) c.args.range.base c.args.range.size → ⊥) c.deref.ensures.value
     (λ (ready : ArePrepared (map extent_view c.deref.result.now) c.args.range.base c.args.range.size). false≢true
     (c.if-are_prepared.ensures.1 ready)) in
-    let joins : TouchRange ps h.first h.behind h.low h.high = subst
-    (λ (ds : List Extent). TouchRange (map extent_view ds) h.first h.behind h.low h.high) c.deref-2.ensures.value
+    let joins : AreTouchedExtents ps h.first h.behind h.low h.high = subst
+    (λ (ds : List Extent). AreTouchedExtents (map extent_view ds) h.first h.behind h.low h.high) c.deref-2.ensures.value
     c.touched_extents-reach.ensures.joins in
     let ready = subst (λ (ds : List Extent). (x : ℕ) → h.low ≤ x → x < h.high →
     IsTrue (covers c.args.range x || is_prepared_at (map extent_view ds) x)) c.deref-2.ensures.value

@@ -25,7 +25,7 @@ error_in (Err error) = error
 pub returns-in-Err-clause-refused : goal.returns-in-Err-clause-refused
 returns-in-Err-clause-refused c = λ is none.
     let made = c.in_ok-command.ensures in
-    let usage = c.error_of.ensures (ap error_in is) in
+    let usage = c.args_error_of_clap.ensures (ap error_in is) in
     let same = ap (λ app. fault_of app (bytes_of_words c.args.words.now)) made ∙ none in
     elim (c.in-Err.ensures.kinds (ap is_simple_and_free made ∙ simple_and_free)) [
       | inl memory ↦ absurd (usage (c.kind.ensures ∙ memory))

@@ -1,5 +1,5 @@
 -- The clauses of `run` follow from how its end fits the outcome.
-use Rattle.program_end.proofs.EndLaws.{ends_told}
+use Rattle.program_end.proofs.EndLaws.{failure_status_has_line}
 use Rattle.program_args.specs.Args.{read_args, bytes_of_words}
 use Rattle.program_run.specs.Bootmem.{bootmem}
 use Rattle.program_run.specs.Line.{bootmem_failure_line}
@@ -18,7 +18,7 @@ returns-clause-line g c = λ some.
     let wanted = read_args (bytes_of_words c.args.words.now) in
     let before = g.F.Files.faults c.args.files.now in
     let now = g.F.Files.faults end.new.files in
-    ends_told bootmem g.E.Sink (bootmem_failure_line wanted) before now wanted _ _ _ _ end.result _ c.exit_status.ensures end.ensures.cause
+    failure_status_has_line bootmem g.E.Sink (bootmem_failure_line wanted) before now wanted _ _ _ _ end.result _ c.exit_status.ensures end.ensures.cause
     end.ensures.told _ (bootmem_outcome wanted) end.ensures.writes some
     (never_eight before now wanted end.result _ c.exit_status.ensures end.ensures.cause)
 

@@ -1,7 +1,7 @@
 -- The parts of the line, one after another.
 use Rattle.std.proofs.Common.{◌++◌, codes, arith}
 use Rattle.std.proofs.lemmas.Grind.{common_steps}
-use Rattle.address_runs.specs.Runs.{extent_of}
+use Rattle.address_runs.specs.Runs.{range_of_run}
 use Rattle.report_memory.specs.Lines.{index_text, range_text}
 use Rattle.report_memory.specs.OwnersText.{owner_text}
 use Rattle.report_memory.proofs.PutLaws.{goes_on}
@@ -11,5 +11,5 @@ pub returns : goal.returns
 returns c =
     let run = c.args.run.now in
     goes_on c.args.text.now c.put_owner.new.text c.put_text-2.new.out c.put_text-2.result
-    (index_text c.args.index ++ range_text (extent_of run) ++ codes " " ++ owner_text run.value) (codes "\n")
+    (index_text c.args.index ++ range_text (range_of_run run) ++ codes " " ++ owner_text run.value) (codes "\n")
     c.put_text-2.ensures.puts (grind (arith, common_steps)) (grind (arith, common_steps))

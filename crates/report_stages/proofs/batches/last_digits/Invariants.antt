@@ -1,10 +1,10 @@
 -- The digits so far are at the end, and those that are left are the digits of the quotient.
 use Rattle.std.proofs.Common.{◌≡◌, ◌-◌, length, drop, []}
-use Rattle.bm_base.proofs.TextLaws.{hex_onto}
+use Rattle.bm_base.proofs.TextLaws.{prepend_hex_digits}
 use Rattle.report_stages.proofs.batches.last_digits.Given as goal
 
 abbrev pub invariant-loop-i : goal.invariant-loop-i
 invariant-loop-i l = record {
   long : length l.digits ≡ 8;
-  digits : hex_onto (8 - l.i) l.left (drop (8 - l.i) l.digits) ≡ hex_onto 8 l.number [];
+  digits : prepend_hex_digits (8 - l.i) l.left (drop (8 - l.i) l.digits) ≡ prepend_hex_digits 8 l.number [];
 }

@@ -18,8 +18,8 @@ part_of_row-requires-2 c =
     let parts = great_parts c.args.row.now c.requires.great c.requires.many c.requires.placed in
     omega arith
 
-pub put_batches-requires-clause-fill : goal.put_batches-requires-clause-fill
-put_batches-requires-clause-fill c =
+pub put_row_in_batches-requires-clause-fill : goal.put_row_in_batches-requires-clause-fill
+put_row_in_batches-requires-clause-fill c =
     rw c.part_of_row-2.ensures (great_parts c.args.row.now c.requires.great c.requires.many c.requires.placed).fill
 
 pub part_of_row-requires-3 : goal.part_of_row-requires-3
@@ -35,7 +35,7 @@ returns c =
     let row = c.args.row.now in
     let parts = great_parts row c.requires.great c.requires.many c.requires.placed in
     parts_put row _ _ c.put_each_block-2.result _ _ _ _ parts (rw c.part_of_row.ensures at c.in_ok-put_each_block.ensures.0)
-    (rw c.part_of_row-2.ensures at c.in_ok-put_batches.ensures)
+    (rw c.part_of_row-2.ensures at c.in_ok-put_row_in_batches.ensures)
     (rw c.part_of_row-3.ensures at
-    (puts_ok c.put_batches.new.text c.put_each_block-2.new.text c.put_each_block-2.result
+    (puts_ok c.put_row_in_batches.new.text c.put_each_block-2.new.text c.put_each_block-2.result
     (row_text c.part_of_row-3.result) c.put_each_block-2.ensures))

@@ -2,14 +2,14 @@
 -- has no less room than before.
 use Rattle.std.proofs.Common.{◌≡◌, ◌≤◌, ◌-◌, ◌++◌, vec_capacity}
 use Rattle.std.specs.List.{flat_map, range_with_len}
-use Rattle.buddy_handover.specs.BuddyView.{buddy_frames}
+use Rattle.buddy_handover.specs.BuddyView.{node_of_free_frame}
 use Rattle.buddy_blocks.specs.BlockList.{blocks_of}
 use Rattle.report_stages.specs.ZonesText.{block_count_text}
 use Rattle.report_stages.proofs.zones.put_block_counts.Given as goal
 
 abbrev pub invariant-loop-order : goal.invariant-loop-order
 invariant-loop-order l =
-    let counts = block_count_text (blocks_of (buddy_frames l.buddy)) l.span.node l.span.zone in
+    let counts = block_count_text (blocks_of (node_of_free_frame l.buddy)) l.span.node l.span.zone in
     record {
       text : l.text.items ++ flat_map counts (range_with_len l.order (11 - l.order))
           ≡ l.fn.text.items ++ flat_map counts (range_with_len 0 11);

@@ -1,6 +1,6 @@
 -- The sequence ends as the maps that remain end.
 use Rattle.std.proofs.Common.{◌≡◌, ◌≤◌, ◌+◌, ◌*◌, drop, vec_len, vec_capacity}
-use Rattle.growth_model.specs.Tables.{HasBegun}
+use Rattle.growth_model.specs.Tables.{HasFirstItem}
 use Rattle.memblock_grow.specs.Continues.{ContinuesMemblock}
 use Rattle.section_maps.proofs.MapLaws.{Goes}
 use Rattle.section_maps.proofs.each.place_each_map.Given as goal
@@ -12,6 +12,6 @@ invariant-loop-section l = record {
   usages : l.at ≡ l.usage + 40 * l.section-index;
   len : vec_len l.placed ≤ vec_len l.fn.placed + l.section-index;
   capacity : vec_capacity l.fn.placed ≤ vec_capacity l.placed;
-  begun : HasBegun l.memblock.journal.items;
+  begun : HasFirstItem l.memblock.journal.items;
   goes_on : ContinuesMemblock l.fn.memblock l.memblock;
 }

@@ -2,7 +2,7 @@
 use Rattle.std.proofs.Common.{Ok, take, get_or, arith}
 use Rattle.std.proofs.lemmas.List.Sums.{prefix_len-le-length}
 use Rattle.std.proofs.lemmas.Result.{err_from_is_err_and}
-use Rattle.stage_steps.specs.Causes.{stage_stop}
+use Rattle.stage_steps.specs.Causes.{error_of_stage_cause}
 use Rattle.stage_steps.proofs.DoingLaws.{ends-begun}
 use Rattle.memblock_grow.proofs.GoingLaws.{goes-then}
 use Rattle.section_maps.specs.Maps.{place_group}
@@ -53,7 +53,7 @@ loop-rest-preserved c =
           c.loop-rest.invariant.goes);
       few = omega arith;
       room = omega arith;
-      begun = ends-begun (Ok longer) stage_stop now mid
+      begun = ends-begun (Ok longer) error_of_stage_cause now mid
           (place_group c.loop-rest.placed.items (get_or rest 0 no_section) (take (own_part no_section rest) rest))
           c.loop-rest.invariant.begun was;
       goes_on = goes-then c.args.memblock.now c.loop-rest.memblock c.place_group.new.memblock c.loop-rest.invariant.goes_on

@@ -4,11 +4,11 @@ use Rattle.std.proofs.lemmas.List.{take_all}
 use Rattle.std.proofs.lemmas.List.Folds.{list_any_more}
 use Rattle.std.specs.List.{list_any}
 use Rattle.bm_base.specs.declared.zone.Zone.TheVariants as zones
-use Rattle.buddy_handover.specs.BuddyView.{BuddyView, buddy_frames}
+use Rattle.buddy_handover.specs.BuddyView.{BuddyView, node_of_free_frame}
 use Rattle.buddy_blocks.specs.PickedBlock.{picked_first_frame}
 use Rattle.page_alloc.specs.PagesView.{page_state_of}
 use Rattle.slit_zonelists.specs.declared.order.ListZone.{ListZone}
-use Rattle.slit_zonelists.specs.Lists.{distance_in, zones_of}
+use Rattle.slit_zonelists.specs.Lists.{distance_in, zone_list_of}
 use Rattle.slit_zonelists.specs.Near.{has_block}
 use Rattle.slit_zonelists.proofs.ListLaws.{none_of, some_of, found_any, found_none}
 use Rattle.slit_zonelists.proofs.near_request.outcome_without_list.Goals as goal
@@ -25,13 +25,13 @@ returns-then-has_block-clause-memory c =
     let z = get_or items i nothing in
     let p : ListZone → Bool = has_block (page_state_of c.args.pages.now) c.args.order in
     let on : p z ≡ true =
-    sym (subst (λ (d : BuddyView). c.has_block.result ≡ is_some (picked_first_frame (buddy_frames d) z.node z.zone c.args.order))
+    sym (subst (λ (d : BuddyView). c.has_block.result ≡ is_some (picked_first_frame (node_of_free_frame d) z.node z.zone c.args.order))
     c.buddy.ensures c.has_block.ensures)
     ∙ c.if-has_block.true in
     let low : distance_in k node z.node < 256 = c.distance_is_a_byte.ensures in
     let there = subst (λ (zs : List ListZone). (i < length zs) × (p (get_or zs i nothing) ≡ true)
     × (distance_in k node (get_or zs i nothing).node < 256)) c.loop-entry.invariant.same (c.loop-entry-test.true, on, low) in
-    found_any p (zones_of k node) (some_of k p node i nothing there.0 there.1 there.2)
+    found_any p (zone_list_of k node) (some_of k p node i nothing there.0 there.1 there.2)
 
 pub loop-entry-preserved : goal.loop-entry-preserved
 loop-entry-preserved c =
@@ -40,7 +40,7 @@ loop-entry-preserved c =
     let z = get_or items i nothing in
     let p : ListZone → Bool = has_block (page_state_of c.args.pages.now) c.args.order in
     let off : p z ≡ false =
-    sym (subst (λ (d : BuddyView). c.has_block.result ≡ is_some (picked_first_frame (buddy_frames d) z.node z.zone c.args.order))
+    sym (subst (λ (d : BuddyView). c.has_block.result ≡ is_some (picked_first_frame (node_of_free_frame d) z.node z.zone c.args.order))
     c.buddy.ensures c.has_block.ensures)
     ∙ c.if-has_block.false in
     record {
@@ -56,4 +56,4 @@ returns-clause-none c =
     let none : list_any p k.zones ≡ false =
     ap (list_any p) (sym (take_all c.loop-entry.entry-index items c.loop-entry-test.false ∙ c.loop-entry.invariant.same))
     ∙ c.loop-entry.invariant.none in
-    (refl, found_none p (zones_of k c.args.node) (none_of k p c.args.node none))
+    (refl, found_none p (zone_list_of k c.args.node) (none_of k p c.args.node none))

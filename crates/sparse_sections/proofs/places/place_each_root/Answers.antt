@@ -2,7 +2,7 @@
 use Rattle.std.proofs.Common.{◌≡◌, ℕ, false, Some, Ok, get_or, sym, ◌∙◌, ap, arith}
 use Rattle.std.proofs.lemmas.Result.{err_from_is_err_and}
 use Rattle.memblock_grow.specs.declared.stop.Section.{Section}
-use Rattle.stage_steps.specs.Causes.{stage_stop}
+use Rattle.stage_steps.specs.Causes.{error_of_stage_cause}
 use Rattle.stage_steps.proofs.DoingLaws.{ends-begun}
 use Rattle.memblock_grow.proofs.GoingLaws.{goes-then}
 use Rattle.sparse_sections.specs.Roots.{root_of, is_last_root, place_root}
@@ -51,7 +51,7 @@ loop-section-preserved c =
             goes = goes-next entry sections now mid before w.place_root.new.roots.items last i no_section c.loop-section-test.true
                 (told ∙ w.if-not-is_last_root.true) w.in_ok-place_root.ensures.ends c.loop-section.invariant.goes;
             room = omega (arith, w.place_root.ensures.len, w.place_root.ensures.capacity, c.loop-section.invariant.room);
-            begun = ends-begun (Ok w.place_root.new.roots.items) stage_stop now mid (place_root before s)
+            begun = ends-begun (Ok w.place_root.new.roots.items) error_of_stage_cause now mid (place_root before s)
                 c.loop-section.invariant.begun w.in_ok-place_root.ensures.ends;
             goes_on = goes-then c.args.memblock.now c.loop-section.memblock w.place_root.new.memblock c.loop-section.invariant.goes_on
                 w.in_ok-place_root.ensures.goes_on;

@@ -1,6 +1,6 @@
 use Rattle.std.proofs.Common.{◌≡◌, ◌↔◌, Bool, true, drop, subst, sym, arith}
 use Rattle.std.proofs.lemmas.List.{map-id}
-use Rattle.address_runs.specs.Runs.{RunOf, extent_of, value_at}
+use Rattle.address_runs.specs.Runs.{RunOf, range_of_run, value_at}
 use Rattle.address_runs.specs.Sweep.{IsRestFrom}
 use Rattle.bm_base.specs.Range.{RangeView, Meet}
 use Rattle.srat_nodes.proofs.MemoryLaws.{nothing_left, first_tells}
@@ -18,6 +18,6 @@ returns c =
     let rs = c.args.memory.now.items in
     let rest = subst (λ (g : RangeView). IsRestFrom (value_at rs) g.base (drop c.seek-first.result rs)) c.range.view_is
     (rw (map-id rs) at c.seek-first.ensures.rest) in
-    let tells = subst (λ (r : RunOf Bool). c.overlaps.result ≡ true ↔ Meet (extent_of r) c.args.range.now) c.run.view_is
+    let tells = subst (λ (r : RunOf Bool). c.overlaps.result ≡ true ↔ Meet (range_of_run r) c.args.range.now) c.run.view_is
     c.overlaps.ensures in
     first_tells rs c.seek-first.result c.args.range.now c.index.result.now rest (omega arith) c.index.ensures c.overlaps.result tells

@@ -1,6 +1,6 @@
 use Rattle.std.proofs.Common.{◌≡◌, true, false, sym, ◌∙◌, arith}
 use Rattle.std.proofs.lemmas.Grind.{common_steps}
-use Rattle.srat_reader.specs.Entries.{is_whole_entry, is_memory_overflowing, srat_entry_at}
+use Rattle.srat_reader.specs.Entries.{is_whole_entry, is_block_too_far, srat_entry_at}
 use Rattle.srat_reader.proofs.ChainLaws.{whole_bounds, broken_fault, far_fault, later_fault, no_fault}
 use Rattle.srat_reader.proofs.table.find_entry_fault.Goals as goal
 
@@ -9,10 +9,10 @@ returns-then-not-is_whole_entry c =
     let broken : is_whole_entry c.loop-at.at c.args.bytes.now ≡ false = grind (arith, common_steps) in
     sym (broken_fault c.loop-at.at c.args.bytes.now c.loop-at-test.true broken) ∙ c.loop-at.invariant.sound_before
 
-pub returns-then-is_memory_overflowing : goal.returns-then-is_memory_overflowing
-returns-then-is_memory_overflowing c =
+pub returns-then-is_block_too_far : goal.returns-then-is_block_too_far
+returns-then-is_block_too_far c =
     let whole : is_whole_entry c.loop-at.at c.args.bytes.now ≡ true = grind (arith, common_steps) in
-    let far : is_memory_overflowing (srat_entry_at c.loop-at.at c.args.bytes.now) ≡ true = cc in
+    let far : is_block_too_far (srat_entry_at c.loop-at.at c.args.bytes.now) ≡ true = cc in
     sym (far_fault c.loop-at.at c.args.bytes.now c.loop-at-test.true whole far) ∙ c.loop-at.invariant.sound_before
 
 pub entry_length_at-at-requires : goal.entry_length_at-at-requires
@@ -30,7 +30,7 @@ loop-at-smaller c =
 pub loop-at-preserved : goal.loop-at-preserved
 loop-at-preserved c =
     let whole : is_whole_entry c.loop-at.at c.args.bytes.now ≡ true = grind (arith, common_steps) in
-    let near : is_memory_overflowing (srat_entry_at c.loop-at.at c.args.bytes.now) ≡ false = cc in
+    let near : is_block_too_far (srat_entry_at c.loop-at.at c.args.bytes.now) ≡ false = cc in
     let bounds = whole_bounds c.loop-at.at c.args.bytes.now whole in
     let from = c.loop-at.invariant.behind_header in
     record {

@@ -4,7 +4,7 @@ use Rattle.srat_reader.specs.declared.entries.SratEntry.{SratEntry}
 use Rattle.srat_reader.specs.declared.table.SratBlock.{SratBlock}
 use Rattle.srat_reader.specs.Entries.{is_whole_entry, srat_entry_at}
 use Rattle.srat_reader.specs.Table.{processor_of, srat_block_of, processor_domain_at, srat_block_at, processors_of, srat_blocks_of}
-use Rattle.srat_reader.proofs.ChainLaws.{rest_from, whole_bounds, whole_here, near_here, sound_behind, told_here, told_end, some_told}
+use Rattle.srat_reader.proofs.ChainLaws.{rest_from, whole_bounds, whole_here, near_here, no_fault_after_entry, values_from_entry, values_at_end, values_not_empty}
 use Rattle.srat_reader.proofs.table.read_srat_entries.Goals as goal
 
 pub srat_entry_at-requires-clause-whole : goal.srat_entry_at-requires-clause-whole
@@ -35,11 +35,11 @@ loop-at-preserved c =
     let from = l.invariant.behind_header in
     record {
       behind_header = omega arith;
-      sound = rw c.entry_length_at-at.ensures (sound_behind l.at bytes c.loop-at-test.true l.invariant.sound);
+      sound = rw c.entry_length_at-at.ensures (no_fault_after_entry l.at bytes c.loop-at-test.true l.invariant.sound);
       processors = rw (c.entry_length_at-at.ensures, c.in_ok-append_srat_entry.ensures.processors, c.srat_entry_at.ensures)
-          (sym (told_here (processor_domain_at bytes) l.at bytes l.srat.cpus.items c.loop-at-test.true whole) ∙ l.invariant.processors);
+          (sym (values_from_entry (processor_domain_at bytes) l.at bytes l.srat.cpus.items c.loop-at-test.true whole) ∙ l.invariant.processors);
       blocks = rw (c.entry_length_at-at.ensures, c.in_ok-append_srat_entry.ensures.blocks, c.srat_entry_at.ensures)
-          (sym (told_here (srat_block_at bytes) l.at bytes l.srat.blocks.items c.loop-at-test.true whole) ∙ l.invariant.blocks);
+          (sym (values_from_entry (srat_block_at bytes) l.at bytes l.srat.blocks.items c.loop-at-test.true whole) ∙ l.invariant.blocks);
     }
 
 -- a value of any entry makes one of the two lists of the table non-empty
@@ -50,10 +50,10 @@ one_more : (at : ℕ) (bytes cpus : List ℕ) (blocks : List SratBlock) (said : 
     → IsSome (processor_of said) ⊎ IsSome (srat_block_of said) → (0 < length (processors_of bytes)) ⊎ (0 < length (srat_blocks_of bytes))
 one_more at bytes cpus blocks said here whole is processors others (inl some) =
     inl (subst (λ (told : List ℕ). 0 < length told) processors
-    (some_told (processor_domain_at bytes) at bytes cpus here whole (subst (λ (s : SratEntry). IsSome (processor_of s)) is some)))
+    (values_not_empty (processor_domain_at bytes) at bytes cpus here whole (subst (λ (s : SratEntry). IsSome (processor_of s)) is some)))
 one_more at bytes cpus blocks said here whole is processors others (inr some) =
     inr (subst (λ (told : List SratBlock). 0 < length told) others
-    (some_told (srat_block_at bytes) at bytes blocks here whole (subst (λ (s : SratEntry). IsSome (srat_block_of s)) is some)))
+    (values_not_empty (srat_block_at bytes) at bytes blocks here whole (subst (λ (s : SratEntry). IsSome (srat_block_of s)) is some)))
 
 pub returns-in_err-append_srat_entry-clause-some : goal.returns-in_err-append_srat_entry-clause-some
 returns-in_err-append_srat_entry-clause-some c = λ err.
@@ -65,10 +65,10 @@ returns-in_err-append_srat_entry-clause-some c = λ err.
 
 pub returns-clause-processors : goal.returns-clause-processors
 returns-clause-processors c =
-    sym (told_end (processor_domain_at c.args.bytes.now) c.loop-at.at c.args.bytes.now c.loop-at.srat.cpus.items c.loop-at-test.false)
+    sym (values_at_end (processor_domain_at c.args.bytes.now) c.loop-at.at c.args.bytes.now c.loop-at.srat.cpus.items c.loop-at-test.false)
     ∙ c.loop-at.invariant.processors
 
 pub returns-clause-blocks : goal.returns-clause-blocks
 returns-clause-blocks c =
-    sym (told_end (srat_block_at c.args.bytes.now) c.loop-at.at c.args.bytes.now c.loop-at.srat.blocks.items c.loop-at-test.false)
+    sym (values_at_end (srat_block_at c.args.bytes.now) c.loop-at.at c.args.bytes.now c.loop-at.srat.blocks.items c.loop-at-test.false)
     ∙ c.loop-at.invariant.blocks

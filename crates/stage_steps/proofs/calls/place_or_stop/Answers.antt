@@ -9,5 +9,5 @@ returns-in-Ok-clause-ends c =
 
 pub returns-in-Err-clause-ends : goal.returns-in-Err-clause-ends
 returns-in-Err-clause-ends c =
-    rw c.stop_for.ensures (ends-placed c.args.what (Err c.in-Err.refusal) c.args.memblock.now.journal.items
+    rw c.stop_for_refusal.ensures (ends-placed c.args.what (Err c.in-Err.refusal) c.args.memblock.now.journal.items
     c.alloc.new.self.journal.items c.args.request.now c.args.owner c.in-Err.ensures.ends)

@@ -11,5 +11,5 @@ returns-in-Ok-clause-ends c =
 
 pub returns-in-Err-clause-ends : goal.returns-in-Err-clause-ends
 returns-in-Err-clause-ends c =
-    rw c.stop_for.ensures (ends-carried (what.NodeData c.args.node) (Err c.in-Err.refusal) c.args.memblock.now.journal.items
+    rw c.stop_for_refusal.ensures (ends-carried (what.NodeData c.args.node) (Err c.in-Err.refusal) c.args.memblock.now.journal.items
     c.set_node.new.self.journal.items (set_range_node c.args.range c.args.node) c.in-Err.ensures.ends)

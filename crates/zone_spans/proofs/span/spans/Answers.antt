@@ -6,7 +6,7 @@ use Rattle.memblock_ranges.specs.Tables.{records_of_head}
 use Rattle.memblock_ranges.proofs.LentLaws.{count_is}
 use Rattle.memblock_frames.specs.Frames.{node_of_frame}
 use Rattle.memblock_frames.proofs.TakeLaws.{frames_below, frames_in_order, frames_some}
-use Rattle.zone_spans.specs.Slots.{AreSpans}
+use Rattle.zone_spans.specs.Slots.{SlotsHoldSpans}
 use Rattle.zone_spans.proofs.SlotLaws.{told_none, bounded_higher, listed}
 use Rattle.zone_spans.proofs.TableLaws.{low_node, nothing_taken, taken_run, taken_left, taken_all}
 use Rattle.zone_spans.proofs.span.spans.Goals as goal
@@ -78,6 +78,6 @@ returns c =
     let ms = records_of_head c.args.store.now c.args.heads.now.memory in
     let ss = c.loop-i.slots.items in
     let all : c.loop-i.i ≡ length ms = omega (arith, count_is c.args.store.now c.args.heads.now.memory) in
-    let told : AreSpans (node_of_frame (value_at ms)) ss = rw (← taken_all ms c.loop-i.i all) c.loop-i.invariant.told in
+    let told : SlotsHoldSpans (node_of_frame (value_at ms)) ss = rw (← taken_all ms c.loop-i.i all) c.loop-i.invariant.told in
     let few : length ss ≤ 3072 = let size = c.loop-i.slots.ok.0 in omega (arith, size) in
     rw (← listed (node_of_frame (value_at ms)) ss told few, ← c.deref.ensures.value) c.spans_in_slots.ensures

@@ -6,7 +6,7 @@ use Rattle.boot_journal.specs.JournalView.{JournalView}
 use Rattle.growth_model.specs.Bytes.{Fill}
 use Rattle.growth_model.proofs.FillLaws.{holds-fill}
 use Rattle.early_script.specs.declared.outcome.Outcome.TheVariants as outcomes
-use Rattle.early_script.specs.Effects.{fill_whole, fill_effect}
+use Rattle.early_script.specs.Effects.{fill_whole_range, fill_effect}
 use Rattle.early_script.specs.FromMemblock.{state_of_memblock, memblock_bytes}
 use Rattle.early_script.proofs.HoldLaws.{holds-as, holds-by}
 use Rattle.early_script.proofs.live.Live.fill.Goals as goal
@@ -17,9 +17,9 @@ returns-clause-holds c = λ fills holds.
     let next = c.fill.new.self in
     let old = state_of_memblock c.args.self.now m in
     let f : Fill = record { range = c.in-Ok.range; byte = c.args.byte; at = length m.journal.items } in
-    let size = subst (λ (r : RangeView). r.size ≤ 65536) c.range.view_is c.if-range-gt-MOST_FILLED.false in
+    let size = subst (λ (r : RangeView). r.size ≤ 65536) c.range.view_is c.if-range-gt-MAX_FILL_BYTES.false in
     let few : nat_lt 65536 c.in-Ok.range.size ≡ false = grind (arith, nat_tests) in
-    let same = rw few at (c.in-Ok.ensures.range (fill_whole old c.args.byte)) in
+    let same = rw few at (c.in-Ok.ensures.range (fill_whole_range old c.args.byte)) in
     holds-by (Ok outcomes.Done) (state_of_memblock c.args.self.now next) (fill_effect old c.args.id c.args.byte) _
     (memblock_bytes next) fills same
     (holds-as m.kernel next.kernel m.journal.items next.journal.items (fills ++ f ∷ []) (memblock_bytes next) (memblock_bytes next)

@@ -9,8 +9,8 @@ look_down-requires c =
     (omega (arith, next.within, c.count_to_last_allowed-count.ensures.within)) c.end_of_records-at.ensures.none
     c.end_of_records-at.ensures.end
 
-pub look_past-requires-clause-below : goal.look_past-requires-clause-below
-look_past-requires-clause-below c =
+pub look_after_jump-requires-clause-below : goal.look_after_jump-requires-clause-below
+look_after_jump-requires-clause-below c =
     let ends : c.end_of_records-at.result ≤ c.args.self.now.memory.bound =
     ends_by_bound c.args.lists.now.memory c.args.self.now.at c.count_to_last_allowed-count.result c.end_of_records-at.result
     c.args.self.now.memory

@@ -1,5 +1,5 @@
 use Rattle.std.proofs.Common.{◌^◌, subst, sym}
-use Rattle.address_runs.specs.Edits.{NothingFrom}
+use Rattle.address_runs.specs.Edits.{IsEmptyFrom}
 use Rattle.memblock_model.specs.declared.owner.Which.TheVariants as which
 use Rattle.memblock_model.specs.Items.{memory_of}
 use Rattle.memblock_grow.specs.MemblockView.{MemblockView}
@@ -8,7 +8,7 @@ use Rattle.memblock_grow.proofs.memblock.Memblock.tables.Goals as goal
 
 pub returns-clause-within : goal.returns-clause-within
 returns-clause-within c =
-    subst (λ (v : MemblockView). NothingFrom (2 ^ 64) (memory_of v.journal.items)) c.self.view_is (c.self.invariant.kept.ends which.Memory)
+    subst (λ (v : MemblockView). IsEmptyFrom (2 ^ 64) (memory_of v.journal.items)) c.self.view_is (c.self.invariant.kept.ends which.Memory)
 
 pub returns-clause-still : goal.returns-clause-still
 returns-clause-still c =

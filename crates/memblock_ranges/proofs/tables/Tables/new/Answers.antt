@@ -11,8 +11,8 @@ pub invariant_of-result : goal.invariant_of-result
 invariant_of-result c =
     let end : ℕ = end_of c.args.kernel in
     let s = c.prepare-2.new.self in
-    let m : c.built_in.result ≡ first_head (end - 8192) = c.built_in.ensures.head in
-    let r : c.built_in-2.result ≡ first_head (end - 4096) = c.built_in-2.ensures.head in
+    let m : c.empty_built_in_head.result ≡ first_head (end - 8192) = c.empty_built_in_head.ensures.head in
+    let r : c.empty_built_in_head-2.result ≡ first_head (end - 4096) = c.empty_built_in_head-2.ensures.head in
     let t = c.prepare.new.self in
     let none = c.new-store.ensures in
     let second : c.bytes-2.result ≡ bytes_of_head (first_head (end - 4096)) = c.bytes-2.ensures ∙ ap bytes_of_head r in
@@ -28,6 +28,6 @@ invariant_of-result c =
     c.in_ok-prepare-2.ensures.ready x ∙ ap (λ (b : Bool). covers c.bytes-2.result x || b) (one x)
     ∙ ap (λ (e : RangeView). covers e x || covers (bytes_of_head (first_head (end - 8192))) x) second in
     let known : AreTables s (first_head (end - 8192)) (first_head (end - 4096)) =
-    new_tables s end (omega (arith, c.requires)) c.built_in.ensures.small zeros two in
-    subst (λ (h : Head). AreTables s h c.built_in-2.result) (sym m)
+    new_tables s end (omega (arith, c.requires)) c.empty_built_in_head.ensures.small zeros two in
+    subst (λ (h : Head). AreTables s h c.empty_built_in_head-2.result) (sym m)
     (subst (λ (h : Head). AreTables s (first_head (end - 8192)) h) (sym r) known)

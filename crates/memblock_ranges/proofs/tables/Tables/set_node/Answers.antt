@@ -13,13 +13,13 @@ returns-then-range-eq0-clause-memory c =
 
 pub invariant_of-self-2 : goal.invariant_of-self-2
 invariant_of-self-2 c =
-    (memory_edited _ _ _ _ _ _ c.self.invariant c.amend.new.table.table c.amend.ensures.keeps.2
+    (memory_edited _ _ _ _ _ _ c.self.invariant c.edit_without_cover.new.table.table c.edit_without_cover.ensures.keeps.2
     (edited (option_map (with_node (Some c.args.node))) c.args.range _ _ c.self.invariant.memory_records
-    (grind (arith, common_steps)) c.amend.ensures.list)).0
+    (grind (arith, common_steps)) c.edit_without_cover.ensures.list)).0
 
 pub returns : goal.returns
 returns c =
-    let e = (memory_edited _ _ _ _ _ _ c.self.invariant c.amend.new.table.table c.amend.ensures.keeps.2
+    let e = (memory_edited _ _ _ _ _ _ c.self.invariant c.edit_without_cover.new.table.table c.edit_without_cover.ensures.keeps.2
     (edited (option_map (with_node (Some c.args.node))) c.args.range _ _ c.self.invariant.memory_records
-    (grind (arith, common_steps)) c.amend.ensures.list)).1 in
+    (grind (arith, common_steps)) c.edit_without_cover.ensures.list)).1 in
     rw (← c.self.view_is) (record { memory = e.table; reserved = e.other; elsewhere = e.elsewhere; ready = e.ready })

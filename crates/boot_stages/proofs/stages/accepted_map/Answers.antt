@@ -1,0 +1,13 @@
+-- The table's answer, judged, decides the first stages.
+use Rattle.boot_model.specs.Boot.{InputsView}
+use Rattle.boot_model.specs.View.{inputs_view}
+use Rattle.boot_stages.proofs.MapLaws.{claims-told, map_answers}
+use Rattle.boot_stages.proofs.stages.accepted_map.Goals as goal
+
+pub returns-clause-answers : goal.returns-clause-answers
+returns-clause-answers c =
+    let given : InputsView = inputs_view c.args.inputs.now in
+    let same = claims-told given _ _ _ _ _ c.in_ok-table.ensures c.deref.ensures.0 c.deref-2.ensures.value
+    c.deref-3.ensures.value c.added_entries.ensures.value in
+    map_answers given c.runs.result (rw same c.runs.ensures.answers) (rw same c.runs.ensures.relation) c.accept_map.result
+    (rw (← c.reach.ensures) c.accept_map.ensures.answers)

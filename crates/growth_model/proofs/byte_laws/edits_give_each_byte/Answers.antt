@@ -1,9 +1,0 @@
--- Inside a table the byte is that of its encoding; outside both tables the edit's clauses give it.
-use Rattle.growth_model.proofs.ToldLaws.{edit-told, move-told}
-use Rattle.growth_model.proofs.byte_laws.edits_give_each_byte.Goals as goal
-
-pub returns-clause-edited : goal.returns-clause-edited
-returns-clause-edited c = edit-told
-
-pub returns-clause-moved : goal.returns-clause-moved
-returns-clause-moved c = move-told

@@ -1,5 +1,0 @@
-use Rattle.sparse_sections.proofs.NodedLaws.{noded-runs, noded-told, noded-frames, noded-records}
-use Rattle.sparse_sections.proofs.laws.memory_with_nodes_is_whole.Goals as goal
-
-pub returns : goal.returns
-returns c = record { runs = noded-runs; told = noded-told; frames = noded-frames; records = noded-records }

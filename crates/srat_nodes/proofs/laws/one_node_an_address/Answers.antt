@@ -1,5 +1,0 @@
-use Rattle.srat_nodes.proofs.MeaningLaws.{one_node}
-use Rattle.srat_nodes.proofs.laws.one_node_an_address.Goals as goal
-
-pub returns : goal.returns
-returns c = λ kept apart some x n. one_node kept apart some x n
