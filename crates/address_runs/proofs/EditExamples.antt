@@ -7,7 +7,7 @@ use Rattle.address_runs.specs.Edits.{cover_range, uncover_range, relabel_range, 
 abbrev bytes : ℕ → ℕ → RangeView
 bytes base size = record { base = base; size = size }
 
--- address 3 carries 7, other addresses nothing; the edits cover addresses 2 and 3
+-- address 3 carries 7, all others carry nothing; most edits are of addresses 2 and 3
 abbrev one_value : ℕ → Option ℕ
 one_value x = if x == 3 then Some 7 else None
 
@@ -32,6 +32,6 @@ replaced_examples : (replace_in_range (bytes 2 2) 9 one_value 2 ≡ Some 9) × (
     × (replace_in_range (bytes 2 2) 9 one_value 4 ≡ None)
 replaced_examples = (refl, refl, refl)
 
--- the last address that carries something is 3
+-- nothing is carried from address 4 on, but something is from address 3 on
 nothing_behind : IsEmptyFrom 4 one_value × (IsEmptyFrom 3 one_value → ⊥)
 nothing_behind = ((λ x le. grind (arith, nat_tests)), λ none. let same : Some 7 ≡ None = none 3 (omega arith) in cc same)

@@ -1,4 +1,4 @@
--- Values that agree are equal; and an edit below an address leaves it empty.
+-- Values that agree are equal. An edit below an address leaves everything above it empty.
 use Rattle.std.proofs.Common.{◌≡◌, ℕ, ◌+◌, ◌≤◌, Bool, true, false, Option, Some, None, refl, sym, ◌∙◌, ap, inl, inr, arith}
 use Rattle.std.proofs.lemmas.Bool.Decides.{nat_tests}
 use Rattle.std.proofs.lemmas.Bool.{cases_Bool}
@@ -11,7 +11,7 @@ pub not_covered : (r : RangeView) (x : ℕ) → r.base + r.size ≤ x → covers
 not_covered r x past = grind (arith, nat_tests)
 
 module _ {X : Type 0} where
-  -- values agree exactly if they are equal
+  -- `agree` is true exactly if the values are equal
   pub agree-yes : (same : X → X → Bool) → DecidesEquality same → (a b : Option X) → agree same a b ≡ true → a ≡ b
   agree-yes same tells None None h = refl
   agree-yes same tells None (Some b) h = cc
@@ -25,8 +25,8 @@ module _ {X : Type 0} where
   pub agree-same : (same : X → X → Bool) → DecidesEquality same → (a b : Option X) → a ≡ b → agree same a b ≡ true
   agree-same same tells a b e = ap (λ o. agree same a o) (sym e) ∙ agree-self same tells a
 
-  -- if nothing is carried at or above an address, nothing is after an edit of a range that ends
-  -- there or below
+  -- if no address at or above `at` carries anything, none does after an edit of a range that ends
+  -- at or below `at`
   pub nothing-covered : (at : ℕ) (r : RangeView) (v : X) (f : ℕ → Option X) → r.base + r.size ≤ at → IsEmptyFrom at f
       → IsEmptyFrom at (cover_range r v f)
   nothing-covered at r v f ends none x le = let past : r.base + r.size ≤ x = omega arith in rw (not_covered r x past) (none x le)

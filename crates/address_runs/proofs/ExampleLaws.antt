@@ -27,13 +27,13 @@ lies_examples : (lies_in (run 4 2 1) 3 ≡ false) × (lies_in (run 4 2 1) 4 ≡ 
 unfolding run
 lies_examples = (refl, refl, refl, refl, refl, refl)
 
--- the first run that contains the address decides
+-- if two runs contain an address, the value of the first one counts
 value_examples : (value_at (run 0 2 1 ∷ (run 4 2 3 ∷ [])) 5 ≡ Some 3) × (value_at (run 0 2 1 ∷ (run 4 2 3 ∷ [])) 2 ≡ None)
     × (value_at (run 0 4 1 ∷ (run 2 4 3 ∷ [])) 3 ≡ Some 1)
 unfolding run
 value_examples = (refl, refl, refl)
 
--- a run precedes one that begins above its end, or right at its end with another value
+-- a run comes before one that begins above its end, or at its end with another value
 before_examples : IsBefore (run 0 2 1) (run 3 1 1 ∷ []) × IsBefore (run 0 2 1) (run 2 1 5 ∷ []) × IsBefore (run 0 2 1) []
 unfolding run
 before_examples = ((omega arith, λ touch same. absurd (omega arith)), (omega arith, λ touch same. absurd (omega arith)), tt)
@@ -60,7 +60,7 @@ not_canonical = (
   λ runs. let some : 0 < 0 = runs.0 in absurd (omega arith),
 )
 
--- the runs of all addresses below 2^64: one page of RAM, and nothing at all
+-- the runs of all addresses below 2^64: one page of RAM; and no run if no address has a value
 equal_numbers_decide_equality : DecidesEquality {X = ℕ} (λ a b. a == b)
 equal_numbers_decide_equality = record { true_is_equal = λ a b h. grind (arith, nat_tests); equal_is_true = λ a b h. grind (arith, nat_tests) }
 
@@ -76,7 +76,7 @@ unfolding one_page run
 runs_of_one_page = runs_equal_runs_of (λ a b. a == b) equal_numbers_decide_equality one_page (run 0x1000 0x1000 1 ∷ []) none_behind_the_page
     (record { runs = (omega arith, tt, tt); each = λ x. refl })
 
--- values are joined by their sum
+-- an example of a join: the sum of both values
 abbrev sum_of : Option ℕ → Option ℕ → Option ℕ
 sum_of None l = l
 sum_of (Some k) None = Some k
@@ -87,8 +87,8 @@ all_overlaid_examples : (overlay_runs sum_of (run 0 4 1 ∷ (run 2 4 3 ∷ [])) 
 unfolding run
 all_overlaid_examples = (refl, refl, refl)
 
--- both sides of each fact on where a list begins and ends; a run that ends exactly at the address
--- must have another value
+-- relations of a list and an address, each with an address that just meets it and one that just
+-- doesn't. A run that ends at the address must have another value
 start_examples : StartAtOrPast 4 (run 4 2 1 ∷ []) × EndBy 6 (Some 2) (run 4 2 1 ∷ []) × FirstEndsPast 5 (run 4 2 1 ∷ [])
     × FirstEndsAtOrPast 6 (run 4 2 1 ∷ [])
 unfolding run

@@ -1,4 +1,4 @@
--- Canonical lists that agree at every address are equal, and `runs_of` returns one.
+-- Canonical lists that agree at every address are equal, and `runs_of` returns a canonical list.
 use Rattle.std.proofs.Common.{◌≡◌, ◌≢◌, ℕ, zero, suc, ◌+◌, ◌^◌, ◌<◌, ◌≤◌, ◌==◌, Bool, true, false, ◌&&◌, if◌then◌else◌, Option, Some, None, List, [], ◌∷◌, refl, sym, ◌∙◌, ap, inl, inr, arith}
 use Rattle.std.proofs.lemmas.Bool.Decides.{nat_tests}
 use Rattle.std.proofs.lemmas.Bool.{cases_lt, true≢false}
@@ -16,7 +16,7 @@ below r x h = grind (arith, nat_tests)
 pub behind : {X : Type 0} (r : RunOf X) (x : ℕ) → r.base + r.size ≤ x → lies_in r x ≡ false
 behind r x h = grind (arith, nat_tests)
 
--- nothing is carried below the first run
+-- no address below the first run has a value
 pub none_below : {X : Type 0} (at x : ℕ) (rs : List (RunOf X)) → AreRuns rs → StartAtOrPast at rs → x < at → value_at rs x ≡ None
 none_below at x [] runs start h = refl
 none_below at x (r ∷ []) runs start h = let lt : x < r.base = omega arith in rw (below r x lt) refl
@@ -25,12 +25,12 @@ none_below at x (r ∷ (s ∷ ss)) runs start h =
     let from : r.base ≤ s.base = omega arith in
     rw (below r x lt) (none_below r.base x (s ∷ ss) runs.2 from lt)
 
--- no run begins below address 0
+-- every list of runs begins at or above address 0
 pub start_zero : {X : Type 0} (rs : List (RunOf X)) → StartAtOrPast 0 rs
 start_zero [] = tt
 start_zero (r ∷ rs) = omega arith
 
--- the runs after the first one begin above its base, at or above its end
+-- the runs after the first one begin at or above its end
 pub rest_from : {X : Type 0} (r : RunOf X) (rs : List (RunOf X)) → AreRuns (r ∷ rs) → StartAtOrPast (run_end r) rs
 rest_from r [] runs = tt
 rest_from r (s ∷ ss) runs = runs.1.0
@@ -40,7 +40,7 @@ pub runs_ascend : {X : Type 0} (rs : List (RunOf X)) → AreRuns rs → Ascend r
 runs_ascend [] runs = tt
 runs_ascend (r ∷ rs) runs = (runs.0, rest_from r rs runs, runs_ascend rs runs.2)
 
--- right at the end of a run there is another value, or none
+-- the address at the end of a run has another value than the run, or none
 pub another_value_at_run_end : {X : Type 0} (r : RunOf X) (rs : List (RunOf X)) → AreRuns (r ∷ rs) → value_at rs (run_end r) ≢ Some r.value
 another_value_at_run_end r [] runs = λ same. cc
 another_value_at_run_end r (s ∷ ss) runs =
@@ -52,7 +52,7 @@ another_value_at_run_end r (s ∷ ss) runs =
           rw (inside s (run_end r) (omega arith) (omega arith)) (λ same. let equal : r.value ≡ s.value = cc in runs.1.1 touch equal)
     ]
 
--- the value at the base of the first run is its value
+-- the address at the base of the first run has its value
 value_first : {X : Type 0} (r : RunOf X) (rs : List (RunOf X)) → 0 < r.size → value_at (r ∷ rs) r.base ≡ Some r.value
 value_first r rs some = rw (inside r r.base (omega arith) (omega arith)) refl
 
@@ -62,7 +62,7 @@ value_inside r rs x above below_end = rw (inside r x above below_end) refl
 value_behind : {X : Type 0} (r : RunOf X) (rs : List (RunOf X)) (x : ℕ) → run_end r ≤ x → value_at (r ∷ rs) x ≡ value_at rs x
 value_behind r rs x h = rw (behind r x h) refl
 
--- of two lists that agree everywhere, neither begins below the other
+-- if two lists agree at every address, neither begins below the other
 no_earlier : {X : Type 0} (r s : RunOf X) (rs ss : List (RunOf X)) → AreRuns (r ∷ rs) → AreRuns (s ∷ ss)
     → ((x : ℕ) → value_at (r ∷ rs) x ≡ value_at (s ∷ ss) x) → s.base ≤ r.base
 no_earlier r s rs ss rr ra same =
@@ -73,7 +73,7 @@ no_earlier r s rs ss rr ra same =
       | inr ge ↦ ge
     ]
 
--- of two lists that agree everywhere, neither first run ends below the other
+-- if two lists agree at every address, neither's first run ends below that of the other
 no_shorter : {X : Type 0} (r s : RunOf X) (rs ss : List (RunOf X)) → AreRuns (r ∷ rs) → AreRuns (s ∷ ss)
     → ((x : ℕ) → value_at (r ∷ rs) x ≡ value_at (s ∷ ss) x) → r.base ≡ s.base → r.value ≡ s.value → run_end s ≤ run_end r
 no_shorter r s rs ss rr ra same bases values =
@@ -89,7 +89,7 @@ same_run : {X : Type 0} (r s : RunOf X) → r.base ≡ s.base → r.size ≡ s.s
 same_run r s bases sizes values =
     let same : s ≡ record { base = r.base; size = r.size; value = r.value } = rw (bases, sizes, values) refl in sym same
 
--- lists that agree everywhere still agree without their equal first runs
+-- if two lists with the same first run agree at every address, they agree without it too
 same_rest : {X : Type 0} (r : RunOf X) (rs ss : List (RunOf X)) → AreRuns (r ∷ rs) → AreRuns (r ∷ ss)
     → ((x : ℕ) → value_at (r ∷ rs) x ≡ value_at (r ∷ ss) x) → (x : ℕ) → value_at rs x ≡ value_at ss x
 same_rest r rs ss rr ra same x =
@@ -119,21 +119,21 @@ same_lists {X} (r ∷ rs) (s ∷ ss) rr ra same =
 pub runs_of_function_are_equal : {X : Type 0} (f : ℕ → Option X) (rs ss : List (RunOf X)) → IsRunsOf f rs → IsRunsOf f ss → rs ≡ ss
 runs_of_function_are_equal f rs ss rr ra = same_lists rs ss rr.runs ra.runs (λ x. rr.each x ∙ sym (ra.each x))
 
--- what the test of `prepend_address` decides
+-- if the test of `prepend_address` is true, the addresses are equal and so are the values
 touches : (same : Bool) (a b : ℕ) → ((a == b) && same) ≡ true → (a ≡ b) × (same ≡ true)
 touches same a b h = grind (arith, nat_tests)
 
 touches_not : (same : Bool) (a b : ℕ) → ((a == b) && same) ≡ false → a ≡ b → same ≡ false
 touches_not same a b h e = grind (arith, nat_tests)
 
--- a first run that grew downwards still precedes the next one
+-- the first run still comes before the next one after it has grown downwards
 before_longer : {X : Type 0} (x n : ℕ) (v : X) (r : RunOf X) (rs : List (RunOf X)) → x + n ≡ run_end r → v ≡ r.value → IsBefore r rs
     → IsBefore (record { base = x; size = n; value = v }) rs
 before_longer x n v r [] ends values before = tt
 before_longer x n v r (s ∷ ss) ends values before =
     (omega arith, λ touch equal. let at : run_end r ≡ s.base = omega arith in before.1 at (cc (values, equal)))
 
--- an address and its value before a canonical list make a canonical list
+-- putting an address and its value before a canonical list makes a canonical list
 AreRuns-prepend_address_some : {X : Type 0} (same : X → X → Bool) → DecidesEquality same → (x : ℕ) (v : X) (r : RunOf X) (rs : List (RunOf X))
     → AreRuns (r ∷ rs) → x + 1 ≤ r.base → AreRuns (prepend_address same x (Some v) (r ∷ rs))
 AreRuns-prepend_address_some same tells x v r rs runs start = by_test ((r.base == x + 1) && same v r.value) refl
@@ -168,7 +168,8 @@ StartAtOrPast-prepend_address same x (Some v) (r ∷ rs) start = by_test ((r.bas
     by_test true = omega arith
     by_test false = omega arith
 
--- at the new address the list gives the new value, elsewhere what it gave before
+-- after `prepend_address` the list gives the new value at the new address, and its old values
+-- elsewhere
 value_at-prepend_address : {X : Type 0} (same : X → X → Bool) → DecidesEquality same → (x : ℕ) (v : Option X) (rs : List (RunOf X)) (y : ℕ)
     → AreRuns rs → StartAtOrPast (x + 1) rs → value_at (prepend_address same x v rs) y ≡ (if y == x then v else value_at rs y)
 value_at-prepend_address same tells x None rs y runs start =
@@ -189,7 +190,7 @@ value_at-prepend_address same tells x (Some v) (r ∷ rs) y runs start = by_test
         grind (arith, nat_tests, equal, at_base)
     by_test false fails = grind (arith, nat_tests)
 
--- a list of the runs of n addresses, beginning with x
+-- the list has the function's runs among the n addresses that begin with x
 pub record IsRunsBetween {X : Type 0} (f : ℕ → Option X) (x n : ℕ) (rs : List (RunOf X)) : Type 0 where
   pub runs : AreRuns rs
   pub start : StartAtOrPast x rs
@@ -212,7 +213,7 @@ IsRunsBetween-prepend_address {X} same tells f x n rs known = record {
       value_at-prepend_address same tells x (f x) rs y known.runs known.start ∙ rw not_here (known.past y (omega arith));
 }
 
--- the runs of all addresses below a limit are all runs, if there are no values at or above it
+-- the runs below 2^64 are all runs of a function that has no value at or above 2^64
 all_runs : {X : Type 0} (f : ℕ → Option X) (rs : List (RunOf X)) → IsRunsBetween f 0 (2 ^ 64) rs → ((x : ℕ) → 2 ^ 64 ≤ x → f x ≡ None)
     → IsRunsOf f rs
 all_runs f rs known none = record {
@@ -223,7 +224,7 @@ all_runs f rs known none = record {
   ];
 }
 
--- `runs_from` returns the runs of its addresses
+-- `runs_from` returns the runs of the n addresses that begin with x
 pub from_runs : {X : Type 0} (same : X → X → Bool) → DecidesEquality same → (f : ℕ → Option X) (n x : ℕ)
     → IsRunsBetween f x n (runs_from same f x n)
 unfolding runs_from
@@ -236,7 +237,7 @@ pub runs_of_are_runs : {X : Type 0} (same : X → X → Bool) → DecidesEqualit
 unfolding runs_of
 runs_of_are_runs same tells f none = all_runs f (runs_from same f 0 (2 ^ 64)) (from_runs same tells f (2 ^ 64) 0) none
 
--- so every list of its runs equals this one
+-- every list of a function's runs equals `runs_of` of the function
 pub runs_equal_runs_of : {X : Type 0} (same : X → X → Bool) → DecidesEquality same → (f : ℕ → Option X) (rs : List (RunOf X))
     → ((x : ℕ) → 2 ^ 64 ≤ x → f x ≡ None) → IsRunsOf f rs → rs ≡ runs_of same f
 runs_equal_runs_of same tells f rs none known = runs_of_function_are_equal f rs (runs_of same f) known (runs_of_are_runs same tells f none)

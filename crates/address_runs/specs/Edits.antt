@@ -5,8 +5,8 @@ use Rattle.std.specs.Option.{option_map}
 use Rattle.bm_base.specs.Range.{RangeView, covers}
 
 module _ {X : Type 0} where
-  -- applies the change to what each address of the range carries, if anything; other addresses keep
-  -- theirs
+  -- applies the change to what each address of the range carries, which is `None` if it carries
+  -- nothing; the other addresses aren't changed
   abbrev pub change_range : (Option X → Option X) → RangeView → (ℕ → Option X) → ℕ → Option X
   change_range change r f x = if covers r x then change (f x) else f x
 
@@ -27,11 +27,11 @@ module _ {X : Type 0} where
   abbrev pub replace_in_range : RangeView → X → (ℕ → Option X) → ℕ → Option X
   replace_in_range r v f x = change_range (λ carried. Some v) r f x
 
-  -- only the addresses of the range that carry nothing, each with the value
+  -- gives the value to the addresses of the range that carry nothing, and nothing to all others
   abbrev pub gaps_in_range : RangeView → X → (ℕ → Option X) → ℕ → Option X
   gaps_in_range r v f x = if covers r x && is_none (f x) then Some v else None
 
-  -- whether both carry nothing, or the same
+  -- whether both are `None`, or both are values that the test calls equal
   abbrev pub agree : (X → X → Bool) → Option X → Option X → Bool
   agree same None None = true
   agree same None (Some b) = false

@@ -3,8 +3,8 @@ use Rattle.std.specs.Prelude.{◌≡◌, refl, Option, Some, None}
 use Rattle.std.specs.Option.{option_or}
 
 module _ {X : Type 0} where
-  -- the first of two values, if there are any: no value is neutral, and the order of joining three
-  -- doesn't matter
+  -- joining by `option_or` keeps the first of two values. `None` is neutral, and joining is
+  -- associative.
   pub first_none : (v : Option X) → option_or None v ≡ v
   first_none v = refl
 

@@ -20,7 +20,7 @@ module _ {X : Type 0} where
   abbrev pub run_end : RunOf X → ℕ
   run_end r = r.base + r.size
 
-  -- the range of its addresses
+  -- the range of the run's addresses
   abbrev pub range_of_run : RunOf X → RangeView
   range_of_run r = record { base = r.base; size = r.size }
 
@@ -28,23 +28,23 @@ module _ {X : Type 0} where
   abbrev pub lies_in : RunOf X → ℕ → Bool
   lies_in r x = covers (range_of_run r) x
 
-  -- what a list of runs gives at an address: the value of the first run that contains it, if any
-  -- does
+  -- the value that a list of runs gives an address: that of the first run that contains it, or
+  -- `None`
   abbrev pub value_at : List (RunOf X) → ℕ → Option X
   value_at [] x = None
   value_at (r ∷ rs) x = if lies_in r x then Some r.value else value_at rs x
 
-  -- the list begins above the run, or right at its end with another value
+  -- the list begins above the run's end, or at its end with another value
   abbrev pub IsBefore : RunOf X → List (RunOf X) → Type 0
   IsBefore r [] = Unit {0}
   IsBefore r (s ∷ ss) = (run_end r ≤ s.base) × (run_end r ≡ s.base → r.value ≢ s.value)
 
-  -- the list is canonical: ascending, no run empty, no two runs that could be one
+  -- the list is canonical: it ascends, no run is empty, and no two runs can be merged
   abbrev pub AreRuns : List (RunOf X) → Type 0
   AreRuns [] = Unit {0}
   AreRuns (r ∷ rs) = (0 < r.size) × IsBefore r rs × AreRuns rs
 
-  -- the list is canonical and gives at each address what the function gives
+  -- the list is canonical and gives each address the function's value
   pub record IsRunsOf (f : ℕ → Option X) (rs : List (RunOf X)) : Type 0 where
     pub runs : AreRuns rs
     pub each : (x : ℕ) → value_at rs x ≡ f x
@@ -53,8 +53,9 @@ module _ {X : Type 0} where
   abbrev pub one_address : ℕ → X → RunOf X
   one_address x v = record { base = x; size = 1; value = v }
 
-  -- puts an address and its value before runs that begin above it: the first run grows by it, or a
-  -- new run begins
+  -- the runs with one more address and its value, given runs that begin above the address: the
+  -- first run is extended down to it, or it becomes a run of its own. Without a value, nothing
+  -- changes.
   abbrev pub prepend_address : (X → X → Bool) → ℕ → Option X → List (RunOf X) → List (RunOf X)
   prepend_address same x None rs = rs
   prepend_address same x (Some v) [] = one_address x v ∷ []
@@ -63,7 +64,7 @@ module _ {X : Type 0} where
       then record { base = x; size = r.size + 1; value = v } ∷ rs
       else (one_address x v ∷ (r ∷ rs))
 
-  -- the runs of the n addresses that begin with x
+  -- the runs of the n addresses from x on
   unfoldable pub runs_from : (X → X → Bool) → (ℕ → Option X) → ℕ → ℕ → List (RunOf X)
   runs_from same f x zero = []
   runs_from same f x (suc n) = prepend_address same x (f x) (runs_from same f (x + 1) n)

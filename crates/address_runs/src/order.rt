@@ -1,9 +1,9 @@
 //! Tests whether records already are a list of runs: ascending, disjoint, and no two of them
 //! mergeable.
 //!
-//! Firmware usually passes its table in this order, and a sanitised table always has it. The
-//! test looks at each record and the next one; for two lists of runs it looks only at the last of
-//! one and the first of the other.
+//! Firmware usually passes its table in this order, and a sanitised table always has it.
+//! `are_runs` looks at each record and the next one. `are_apart` is for two lists of runs, and
+//! looks only at the last of one and the first of the other.
 
 ghost use Rattle.std.specs.Prelude.{◌≡◌, ◌↔◌, ◌++◌, ℕ, ◌^◌, ◌≤◌, Bool, Option, None, List, map, IsTrue};
 ghost use Rattle.address_runs.specs.Runs.{RunOf, AreRuns, IsBefore, IsRunsOf, DecidesEquality, runs_of};
@@ -11,8 +11,8 @@ ghost use Rattle.address_runs.specs.Overlay.{HaveAddresses};
 
 use crate::stretch::Stretch;
 
-/// Returns whether the record, followed by the list of runs, is a list of runs too: the record ends
-/// at or below the start of the first run, and has another value if they touch.
+/// Returns whether the list of runs is still one with the record put before it: the list is empty,
+/// or the record ends below the first run, or touches it and has another value.
 fn is_before<S: Stretch>(stretch: &S, others: &[S]) -> bool
     ensures { IsTrue result ↔ IsBefore (S.run stretch.now) (map S.run others.now) }
 {
@@ -39,8 +39,8 @@ pub fn are_runs<S: Stretch>(stretches: &[S]) -> bool
     true
 }
 
-/// Returns whether the runs of `first`, followed by those of `second`, are one list of runs: all of
-/// `second` lies above `first`, and no two runs can be merged.
+/// Returns whether the runs of `first`, followed by those of `second`, are one list of runs: all
+/// of `second` lies above `first`, and no two runs can be merged.
 pub fn are_apart<S: Stretch>(first: &[S], second: &[S]) -> bool
     requires first { AreRuns (map S.run first.now) }
     requires second { AreRuns (map S.run second.now) }

@@ -1,4 +1,4 @@
-//! A record of a range and a value, for code that isn't bound to another format.
+//! A record of a range and a value, for code that needs no particular format.
 
 ghost use Rattle.std.specs.Prelude.{◌≡◌, ◌↔◌, Option, IsTrue};
 ghost use Rattle.std.specs.Option.{option_or};
@@ -27,8 +27,8 @@ impl RunValue for bool {
     }
 }
 
-/// A range of addresses and the value that each of them carries. If several overlap, the value of
-/// the first one holds.
+/// A range of addresses and the value that each of them carries. If several such records overlap,
+/// the value of the first one holds.
 #[derive(Clone, Copy, Debug, PartialEq, Eq)]
 pub struct RunOf<V> {
     /// The range.

@@ -1,7 +1,7 @@
-//! The traits of a record that lists of runs can be made of.
+//! The traits of records from which lists of runs are made.
 //!
-//! [`Stretch`] has a range and a value, as `struct e820_entry` and `struct memblock_region` do.
-//! [`Overlay`] also decides which value holds if two records cover an address, such as the
+//! A [`Stretch`] has a range and a value, as `struct e820_entry` and `struct memblock_region` do.
+//! An [`Overlay`] also decides which value holds if two records cover an address, for example the
 //! greater type of memory.
 
 ghost use Rattle.std.specs.Prelude.{◌≡◌, ◌↔◌, Option, None, IsTrue};
@@ -14,7 +14,7 @@ pub trait Stretch: Copy {
     /// The type of the values.
     type Value: Copy;
 
-    // the record as a run, which clauses use
+    // the record as a run, as contracts see it
     ghost run: { Self → RunOf Self.Value };
 
     /// Makes a record of a range and a value.
@@ -37,12 +37,12 @@ pub trait Stretch: Copy {
 
 /// A record whose values can be joined if records overlap.
 pub trait Overlay: Stretch {
-    // the result of `join`
+    // the result of `join`, as contracts see it
     ghost join_of: { Option Self.Value → Option Self.Value → Option Self.Value };
 
-    /// Returns the value at an address for which one record gives `first` and the other `second`.
-    /// `None` is a record that doesn't cover the address, so the other value holds. Joining is
-    /// associative.
+    /// Returns the value at an address that two records of a list may cover. `first` is the value
+    /// of the record that comes first in the list, `second` that of the other. `None` means that
+    /// the record does not cover the address; the other value then holds. Joining is associative.
     fn join(first: Option<Self::Value>, second: Option<Self::Value>) -> Option<Self::Value>
         ensures { result ≡ join_of first second };
 

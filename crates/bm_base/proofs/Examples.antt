@@ -73,7 +73,8 @@ error_answers = ((λ other. refl), (λ said. grind (arith, said (λ same. omega 
 zone_examples : (zone_of 0 ≡ Dma) × (zone_of 4095 ≡ Dma) × (zone_of 4096 ≡ Dma32) × (zone_of 1048575 ≡ Dma32) × (zone_of 1048576 ≡ Normal)
 zone_examples = (refl, refl, refl, refl, refl)
 
--- 64 TiB and 4 PiB: 2^19 and 2^25 sections of 128 MiB, 256 of them a root, 8 bytes a root
+-- the limits are 64 TiB and 4 PiB: 2^19 and 2^25 sections of 128 MiB. The table has 8 bytes for
+-- each root of 256 sections
 width_examples : (address_limit_of Bits46 ≡ 70368744177664) × (address_limit_of Bits52 ≡ 4503599627370496)
     × (root_table_size_of Bits46 ≡ 2 ^ 19 / 256 * 8) × (root_table_size_of Bits52 ≡ 2 ^ 25 / 256 * 8)
 width_examples = (refl, refl, refl, refl)
@@ -83,8 +84,8 @@ width_examples = (refl, refl, refl, refl)
 frame_numbers : (FRAME_SIZE ≡ 2 ^ 12) × (MAX_DMA_FRAME * FRAME_SIZE ≡ 16 * 1048576) × (MAX_DMA32_FRAME * FRAME_SIZE ≡ 2 ^ 32)
 frame_numbers = (refl, refl, refl)
 
--- the whole frames of a range that begins and ends inside a frame; of one frame; of less than a
--- frame
+-- the whole frames of a range that begins and ends inside a frame, of a range that is one frame,
+-- and of a range of nearly two frames that contains no whole frame
 whole_frames_examples : (frames_within (record { base = 0x0FFF; size = 0x2002 }) ≡ Some (record { base = 0x1000; size = 0x2000 }))
     × (frames_within second_page ≡ Some second_page) × (frames_within (record { base = 0x1001; size = 0x1FFE }) ≡ None)
     × (range_between 5 5 ≡ None)

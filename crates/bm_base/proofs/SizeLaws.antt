@@ -29,18 +29,19 @@ is_digit-mark mark radix small is = general (digit_value mark) is
     general : (d : ℕ) → nat_lt d 36 ≡ false → nat_lt d radix ≡ false
     general d is = grind (arith, nat_tests)
 
--- such a byte differs from every byte that is a digit
+-- a byte that is neither a digit nor a letter differs from every digit and letter
 pub mark-other : (mark b : ℕ) → is_digit mark 36 ≡ false → is_digit b 36 ≡ true → mark == b ≡ false
 mark-other mark b is digit = ne_eqb mark b (λ same. true≢false (sym digit ∙ (rw same at is)))
 
--- the digits at the start end before such a byte
+-- the digits at the start of a text end before a byte that isn't a digit of the base
 pub front_digits-mark : (radix : ℕ) (text : List ℕ) (mark : ℕ) (rest : List ℕ)
     → is_digit mark radix ≡ false → front_digits radix (text ++ (mark ∷ rest)) ≡ front_digits radix text
 front_digits-mark radix [] mark rest is = rw is refl
 front_digits-mark radix (b ∷ bs) mark rest is =
     ap (λ (ds : List ℕ). if is_digit b radix then b ∷ ds else []) (front_digits-mark radix bs mark rest is)
 
--- the first three bytes decide the base
+-- a byte that is neither a digit nor a letter, put after a text, doesn't change the text's first
+-- digit, its prefix or its base
 pub begins_with_digit-mark : (text : List ℕ) (mark : ℕ) (rest : List ℕ)
     → is_digit mark 36 ≡ false → begins_with_digit (text ++ (mark ∷ rest)) ≡ begins_with_digit text
 begins_with_digit-mark [] mark rest is = is_digit-mark mark 10 (omega arith) is
@@ -144,7 +145,8 @@ suffix_of-mark [] mark rest is =
     refl
 suffix_of-mark (b ∷ bs) mark rest is = refl
 
--- a number or size ends before the next byte that is neither a digit nor a letter
+-- a byte that is neither a digit nor a letter ends a number or size: it and the bytes after it
+-- don't change what is read
 pub number_of-mark : (text rest : List ℕ) (mark : ℕ)
     → is_digit mark 36 ≡ false → number_of (text ++ (mark ∷ rest)) ≡ number_of text
 number_of-mark text rest mark is =
@@ -162,7 +164,7 @@ size_of-mark text rest mark is =
     )
     refl
 
--- all of a text of decimal digits is its digits at the start
+-- in a text of decimal digits, the digits at the start are the whole text
 pub front_digits-all : (ds : List ℕ) → AllDigits 10 ds → front_digits 10 ds ≡ ds
 front_digits-all [] all = refl
 front_digits-all (d ∷ ds) all =
@@ -201,7 +203,7 @@ size_of-digits d ds all above small =
     spelled begins radix prefix text is base none whole small =
         rw (is, base, none, whole, zero-add (length text), drop-length text) (sized (digits_value 10 text) (length text) small)
 
--- a number is read back from what `{}` prints
+-- a number is read back from its decimal text, which `{}` prints
 pub size_of-decimal : (n : ℕ) → n < 2 ^ 64 → size_of (decimal n) ≡ Ok (n, length (decimal n))
 size_of-decimal zero small = rw (decimal_digit 0 (omega arith)) refl
 size_of-decimal (suc n) small =

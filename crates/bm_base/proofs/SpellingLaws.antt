@@ -12,7 +12,7 @@ use Rattle.bm_base.specs.Size.{front_digits, front_digits_value, is_hexadecimal,
 use Rattle.bm_base.proofs.SizeLaws.{is_hexadecimal-short, is_hexadecimal-other}
 use Rattle.bm_base.specs.Spelling.{SpellsIn, hexadecimal, octal, decimal, SpellsNumber, SpellsSize, number_alone, number_with_suffix}
 
--- a text is its digits at the start and a rest that doesn't begin with a digit
+-- a text splits into the digits at its start and a rest that doesn't begin with a digit
 record SplitDigits (radix : ℕ) (text digits : List ℕ) : Type 0 where
   all : AllDigits radix digits
   whole : text ≡ digits ++ drop (length digits) text
@@ -33,7 +33,7 @@ split_digits radix (a ∷ text) = by_test (is_digit a radix) refl (split_digits 
     by_test false digit rest =
         record { all = tt; whole = refl; stops = λ b bs is. let same : a ≡ b = cc in rw same at digit }
 
--- a number at the start of a text, not followed by another digit
+-- a number that the start of a text spells, not followed by another digit
 record SpelledFront (text : List ℕ) (radix value end : ℕ) : Type 0 where
   front : List ℕ
   number : SpellsIn radix front value
@@ -41,7 +41,7 @@ record SpelledFront (text : List ℕ) (radix value end : ℕ) : Type 0 where
   taken : length front ≡ end
   stops : (b : ℕ) (bs : List ℕ) → drop end text ≡ b ∷ bs → is_digit b radix ≡ false
 
--- digits without a prefix
+-- a number without the prefix `0x`
 by_radix : (text : List ℕ) (radix : ℕ) → SpellsIn radix (front_digits radix text) (front_digits_value radix text)
     → SpelledFront text radix (front_digits_value radix text) (0 + length (front_digits radix text))
 by_radix text radix number =
@@ -79,7 +79,7 @@ hexadecimal_front x d rest is digit =
       stops = digits.stops;
     })
 
--- the prefix `0x` or `0X` before a digit
+-- the bytes of the prefix `0x` or `0X`, and the digit after it
 prefix_bytes : (z x d : ℕ) → (z == 48) && ((x == 120) || (x == 88)) && is_digit d 16 ≡ true
     → (z ≡ 48) × ((x ∷ [] ≡ codes "x") ⊎ (x ∷ [] ≡ codes "X")) × (is_digit d 16 ≡ true)
 prefix_bytes z x d = by_tests (z == 48) refl (x == 120) refl (x == 88) refl (is_digit d 16)
@@ -91,7 +91,7 @@ prefix_bytes z x d = by_tests (z == 48) refl (x == 120) refl (x == 88) refl (is_
     by_tests true a_is true b_is c c_is e is = (eqb-true z 48 a_is, inl (ap (λ (n : ℕ). n ∷ []) (eqb-true x 120 b_is)), is)
     by_tests true a_is false b_is true c_is e is = (eqb-true z 48 a_is, inr (ap (λ (n : ℕ). n ∷ []) (eqb-true x 88 c_is)), is)
 
--- for each form that the start of the text can have
+-- a number that doesn't begin with `0x` is octal if it begins with `0`, else decimal
 without_prefix : (z : ℕ) (rest : List ℕ) → is_digit z 10 ≡ true → is_hexadecimal (z ∷ rest) ≡ false
     → SpelledFront (z ∷ rest) (radix_of (z ∷ rest)) (number_value (z ∷ rest)) (number_end (z ∷ rest))
 without_prefix z rest digit hex = rw hex (by_test (z == 48) refl)
@@ -117,7 +117,7 @@ spelled_front (z ∷ x ∷ d ∷ rest) begins = by_test (is_hexadecimal (z ∷ x
         (sym bytes.0) (hexadecimal_front x d rest bytes.1 bytes.2))
     by_test false hex = without_prefix z (x ∷ d ∷ rest) begins hex
 
--- a text at whose start a number is read
+-- a number of value `n` and length `end` is read at the start of the text, unless it is too large
 record ReadsFront (text : List ℕ) (n end : ℕ) : Type 0 where
   begins : begins_with_digit text ≡ true
   value : number_value text ≡ n
@@ -168,7 +168,7 @@ number_read radix front n rest (decimal d ds all other) short stops =
       taken = rw (radix, prefix, digits) end;
     }
 
--- from here on: if a number is read, the text spells it
+-- from here on: the text spells each number that is read
 abbrev if_fits : Bool → ℕ → ℕ → Result (ℕ × ℕ) NumFault
 if_fits t value taken = if t then Ok (value, taken) else Err TooLarge
 
@@ -182,7 +182,7 @@ fit_in_u64-ok value taken n end = by_test (nat_lt value (2 ^ 64)) refl
         let pair : (value, taken) ≡ (n, end) = cc in
         (ap (λ (p : ℕ × ℕ). p.0) pair, ap (λ (p : ℕ × ℕ). p.1) pair, ltb-true value (2 ^ 64) small)
 
--- the part of the text before the index is spelled as a number or size
+-- the text is `front`, of length `end`, which spells the number or size, and the rest
 abbrev pub IsSpelledTo : List ℕ → ℕ → (List ℕ → Type 0) → Type 0
 IsSpelledTo text end Spells = (front : List ℕ) × Spells front × (text ≡ front ++ drop end text) × (length front ≡ end)
 
@@ -248,7 +248,7 @@ size-spelled_front text radix value end spelled rest behind n taken is = by_rest
             with_letter b bs behind (suffix_at b).0 suffix (rw one at is)
         by_suffix (inr none) is = alone (rw none at is)
 
--- numbers and sizes begin with a digit
+-- if a number is read at the start of a text, that start spells it
 pub number-spelled : (text : List ℕ) (n end : ℕ) → number_of text ≡ Ok (n, end) → IsSpelledTo text end (λ front. SpellsNumber front n)
 number-spelled text n end = by_test (begins_with_digit text) refl
   where
@@ -298,7 +298,7 @@ size-read text n (number_with_suffix radix m factor b front spells suffix other 
     size_of-front (front ++ (b ∷ [])) m (length front) reads
     ∙ rw (drop-append_seam front (b ∷ []), suffix, length_push front b) (fit_in_u64-small (m * factor) (length front + 1) fits)
 
--- if the whole text is read, the whole text is spelled
+-- if the number or size is as long as the text, the whole text spells it
 whole-spelled : (Spells : List ℕ → Type 0) (text : List ℕ) → IsSpelledTo text (length text) Spells → Spells text
 whole-spelled Spells text to =
     let whole : text ≡ to.0 = to.2 ∙ rw (drop-length text) (append-nil to.0) in subst Spells (sym whole) to.1
@@ -311,7 +311,8 @@ pub number-exactly : (text : List ℕ) (n : ℕ) → IsNumber text n ↔ SpellsN
 number-exactly text n =
     (λ is. whole-spelled (λ front. SpellsNumber front n) text (number-spelled text n (length text) is), λ spells. number-read text n spells)
 
--- what is read at the start of a text is a size or number by itself
+-- if a size or number is read at the start of a text, that start by itself is the same size or
+-- number
 pub size-front : (text : List ℕ) (n end : ℕ) → size_of text ≡ Ok (n, end) → IsSpelledTo text end (λ front. IsSize front n)
 size-front text n end is = let to = size-spelled text n end is in (to.0, size-read to.0 n to.1, to.2, to.3)
 

@@ -1,4 +1,4 @@
--- The digits that the code writes one by one are those of `digits`.
+-- The hexadecimal and decimal digits that the code writes one by one are those of `digits`.
 use Rattle.std.proofs.Common.{◌≡◌, ℕ, zero, suc, ◌+◌, ◌-◌, ◌/◌, ◌%◌, ◌^◌, ◌<◌, ◌≤◌, false, nat_eq, List, [], ◌∷◌, ◌++◌, length, take, drop, set, min, replicate, codes, refl, ap, sym, ◌∙◌, append-nil, arith, ⊎_elim}
 use Rattle.std.proofs.lemmas.Bool.{cases_lt}
 use Rattle.std.proofs.lemmas.Bool.Decides.{nat_tests}
@@ -10,7 +10,7 @@ use Rattle.bm_base.specs.Text.{hex_text, padded_decimal}
 abbrev pub padded : ℕ → List ℕ → List ℕ
 padded w ds = replicate (w - length ds) 48 ++ ds
 
--- the last k hexadecimal digits of n, then the rest
+-- writes the last k hexadecimal digits of n to the left of the rest
 unfoldable pub prepend_hex_digits : ℕ → ℕ → List ℕ → List ℕ
 prepend_hex_digits zero n rest = rest
 prepend_hex_digits (suc k) n rest = prepend_hex_digits k (n / 16) (digit_glyph false (n % 16) ∷ rest)
@@ -30,7 +30,7 @@ unfolding prepend_hex_digits
 hex_zeros zero rest = refl
 hex_zeros (suc k) rest = hex_zeros k (48 ∷ rest) ∙ zero_moves_to_padding k rest
 
--- a number below 16 is zeros and one digit
+-- a number below 16, padded, is zeros and one digit
 one_digit : (k j n : ℕ) (rest : List ℕ) → n < 16
     → prepend_hex_digits (suc k) n rest ≡ padded (suc k + length rest) (digits_onto (suc j) 16 false n rest)
 unfolding prepend_hex_digits
@@ -58,7 +58,8 @@ pub hex_sixteen : (n : ℕ) → n < 2 ^ 64 → codes "0x" ++ prepend_hex_digits 
 unfolding digits
 hex_sixteen n small = ap (λ ds. codes "0x" ++ ds) (padded_onto 15 63 n [] (omega arith) (omega arith))
 
--- writing the next digit to the left keeps what is to be written in all
+-- one step writes one digit to the left; the digits written and those still to be written make the
+-- same text as before
 pub hex_step : (text : List ℕ) (i left : ℕ) → i < 16 → length text ≡ 18
     → prepend_hex_digits (16 - (i + 1)) (left / 16) (drop (18 - (i + 1)) (set text (17 - i) (digit_glyph false (left % 16))))
     ≡ prepend_hex_digits (16 - i) left (drop (18 - i) text)

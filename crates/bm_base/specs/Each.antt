@@ -2,7 +2,7 @@
 use Rattle.std.specs.Prelude.{ℕ, zero, suc, ◌+◌, Bool, true, ◌&&◌}
 use Rattle.bm_base.specs.Range.{RangeView}
 
--- whether each of the n numbers that begin with x passes the test
+-- whether each of the n numbers from x on passes the test
 unfoldable pub each_from : (ℕ → Bool) → ℕ → ℕ → Bool
 each_from p x zero = true
 each_from p x (suc n) = p x && each_from p (x + 1) n

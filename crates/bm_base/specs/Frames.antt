@@ -12,11 +12,11 @@ bytes_of_frame frame = record { base = FRAME_SIZE * frame; size = FRAME_SIZE }
 abbrev pub frame_around : ℕ → RangeView
 frame_around x = record { base = x - x % FRAME_SIZE; size = FRAME_SIZE }
 
--- the addresses from the first to the second, without the second; none if that is empty
+-- the range from the first address to the second, without the second, or `None` if it is empty
 abbrev pub range_between : ℕ → ℕ → Option RangeView
 range_between from until = if nat_lt from until then Some (record { base = from; size = until - from }) else None
 
 -- the whole frames of the range: its start is rounded up to a frame (`PFN_UP`), its end down
--- (`PFN_DOWN`); none if that is empty
+-- (`PFN_DOWN`); `None` if there are no whole frames
 abbrev pub frames_within : RangeView → Option RangeView
 frames_within r = range_between (next_multiple_of r.base FRAME_SIZE) (end_of r - end_of r % FRAME_SIZE)

@@ -7,12 +7,12 @@ use Rattle.std.specs.Str.Parse.{digits_value}
 use Rattle.bm_base.specs.declared.size.NumFault.{NumFault}
 use Rattle.bm_base.specs.declared.size.NumFault.TheVariants.{NoDigits, TooLarge}
 
--- all digits at the start of the text
+-- all digits of the base at the start of the text
 abbrev pub front_digits : ℕ → List ℕ → List ℕ
 front_digits radix [] = []
 front_digits radix (b ∷ bs) = if is_digit b radix then b ∷ front_digits radix bs else []
 
--- the value of these digits in the base
+-- the value, in the base, of the digits at the start of the text
 abbrev pub front_digits_value : ℕ → List ℕ → ℕ
 front_digits_value radix text = digits_value radix (front_digits radix text)
 
@@ -33,12 +33,12 @@ abbrev pub begins_with_digit : List ℕ → Bool
 begins_with_digit [] = false
 begins_with_digit (b ∷ bs) = is_digit b 10
 
--- the number of bytes before the digits: 2 for `0x`, else 0. The `0` of an octal number counts as a
--- digit.
+-- the number of bytes before the digits: 2 for `0x`, else 0. The leading `0` of an octal number is
+-- one of its digits.
 abbrev pub prefix_of : List ℕ → ℕ
 prefix_of text = if is_hexadecimal text then 2 else 0
 
--- the base of the number: 16, 8 or 10
+-- the base of the number at the start of the text: 16, 8 or 10
 abbrev pub radix_of : List ℕ → ℕ
 radix_of text = if is_hexadecimal text then 16 else (if begins_with_zero text then 8 else 10)
 
@@ -50,7 +50,8 @@ number_value text = front_digits_value (radix_of text) (drop (prefix_of text) te
 abbrev pub number_end : List ℕ → ℕ
 number_end text = prefix_of text + length (front_digits (radix_of text) (drop (prefix_of text) text))
 
--- the factor of a suffix, in upper or lower case, and its length, 1; for any other byte 1 and 0
+-- the factor that this byte means as a suffix, in upper or lower case, and its length 1; factor 1
+-- and length 0 if the byte is no suffix
 abbrev pub suffix_at : ℕ → ℕ × ℕ
 suffix_at b =
     if (b == 75) || (b == 107) then (2 ^ 10, 1) else
@@ -60,25 +61,27 @@ suffix_at b =
     (if (b == 80) || (b == 112) then (2 ^ 50, 1) else
     (if (b == 69) || (b == 101) then (2 ^ 60, 1) else (1, 0))))))
 
--- the factor and the length of the suffix at the start of a text: K, M, G, T, P or E, or none (1
--- and 0)
+-- the factor and the length of the suffix (K, M, G, T, P or E) at the start of a text; factor 1
+-- and length 0 if there is none
 abbrev pub suffix_of : List ℕ → ℕ × ℕ
 suffix_of [] = (1, 0)
 suffix_of (b ∷ bs) = suffix_at b
 
--- the value and its length in bytes, or TooLarge if the value is no u64
+-- the value and the number of bytes read, or TooLarge if the value exceeds 2^64 - 1
 abbrev pub fit_in_u64 : ℕ → ℕ → Result (ℕ × ℕ) NumFault
 fit_in_u64 value taken = if nat_lt value (2 ^ 64) then Ok (value, taken) else Err TooLarge
 
--- the value times the factor of the suffix, and the length of both
+-- the value times the factor of the suffix, and the length in bytes of number and suffix together;
+-- TooLarge if the product exceeds 2^64 - 1
 abbrev pub with_suffix : ℕ → ℕ → ℕ × ℕ → Result (ℕ × ℕ) NumFault
 with_suffix value end suffix = fit_in_u64 (value * suffix.0) (end + suffix.1)
 
--- the number at the start of the text, without a suffix
+-- the value and the length in bytes of the number at the start of the text, without a suffix
 abbrev pub number_of : List ℕ → Result (ℕ × ℕ) NumFault
 number_of text = if begins_with_digit text then fit_in_u64 (number_value text) (number_end text) else Err NoDigits
 
--- the size at the start of the text: a number and at most one suffix
+-- the value and the length in bytes of the size at the start of the text: a number and at most one
+-- suffix
 abbrev pub size_of : List ℕ → Result (ℕ × ℕ) NumFault
 size_of text =
     if begins_with_digit text

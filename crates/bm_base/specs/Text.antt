@@ -6,10 +6,10 @@ use Rattle.std.specs.Fmt.{digits}
 abbrev pub hex_digits : ℕ → List ℕ
 hex_digits n = digits 16 false n
 
--- an address: `0x` and 16 digits (`%#018llx` in the kernel's log)
+-- the text of an address: `0x` and 16 hexadecimal digits (`%#018llx` in the kernel's log)
 abbrev pub hex_text : ℕ → List ℕ
 hex_text n = codes "0x" ++ replicate (16 - length (hex_digits n)) 48 ++ hex_digits n
 
--- a decimal number, padded on the left with spaces to the width (`%*llu`)
+-- the text of a decimal number, padded on the left with spaces to the width (`%*llu`)
 abbrev pub padded_decimal : ℕ → ℕ → List ℕ
 padded_decimal width n = replicate (width - length (decimal n)) 32 ++ decimal n

@@ -19,7 +19,7 @@
 //! `memparse` does. Values above 2^64 - 1 don't wrap: they are a [`NumFault`].
 //!
 //! A law is an empty function whose contract is a proven fact. In contracts, a name means the
-//! definition in `specs/`, also if a function has the same name.
+//! definition in `specs/`, even if a function has the same name.
 #![tactic(auto)]
 
 mod memory;
@@ -34,4 +34,4 @@ pub use range::{FRAME_SIZE, Range, round_down, round_up};
 pub use size::{NumFault, read_number, read_size, sizes_are_spelled, spelled_sizes_are_read};
 pub use text::{put_dec, put_hex, put_text};
 pub use width::Width;
-pub use zone::{MAX_DMA_FRAME, MAX_DMA32_FRAME, Zone, zone_of};
+pub use zone::{MAX_DMA_FRAME, MAX_DMA32_FRAME, MAX_NODES, Zone, zone_of};

@@ -7,12 +7,12 @@ ghost use Rattle.bm_base.specs.Frames.{frames_within};
 
 use std::marker::Model;
 
-/// The bytes of a frame (`PAGE_SIZE` of x86-64). Frame n begins at address n times this
-/// (`PFN_PHYS`).
+/// The size of a frame in bytes (`PAGE_SIZE` of x86-64). Frame n begins at address n *
+/// `FRAME_SIZE` (`PFN_PHYS`).
 pub const FRAME_SIZE: u64 = 4096;
 
 /// A range of `size` bytes that begins at address `base`. The sum of both is at most 2^64 - 1, so
-/// the end is a `u64` too. A range of size 0 has no address.
+/// the end is a `u64` too. A range of size 0 contains no address.
 #[derive(Clone, Copy, Debug, PartialEq, Eq)]
 pub struct Range {
     /// The first address, in bytes.
@@ -44,7 +44,8 @@ impl Range {
         Some(Range { base, size })
     }
 
-    /// Returns the range from `from` to `until`, without `until`, or `None` if that is empty.
+    /// Returns the range from `from` to `until`, without `until`, or `None` if this range is
+    /// empty.
     pub fn between(from: u64, until: u64) -> Option<Range>
         ensures { SomeIff result (from < until) (record { base = from; size = until - from }) }
     {

@@ -16,11 +16,12 @@ pub enum NumFault {
     TooLarge,
 }
 
-/// Reads the size at the start of `text` and returns it with its length in bytes (`memparse`).
+/// Reads the size at the start of `text` (`memparse`). Returns its value in bytes, and the number
+/// of bytes of `text` that spell it.
 ///
 /// `0x` or `0X` before a hexadecimal digit begins a hexadecimal number, any other leading `0` an
-/// octal one. Other numbers are decimal. All digits that follow are read. One suffix may follow, in
-/// upper or lower case: K, M, G, T, P or E, for 2^10, 2^20 and so on up to 2^60.
+/// octal one. Other numbers are decimal. All digits that follow are read. One suffix may follow,
+/// in upper or lower case: K, M, G, T, P or E, for 2^10, 2^20 and so on up to 2^60.
 ///
 /// # Errors
 ///
@@ -35,8 +36,8 @@ pub fn read_size(text: &[u8]) -> Result<(u64, usize), NumFault>
     Ok((value, end + taken))
 }
 
-/// Reads the number at the start of `text` and returns it with its length in bytes
-/// (`simple_strtoull`). This is [`read_size`] without a suffix.
+/// Reads the number at the start of `text` (`simple_strtoull`). Returns its value, and the number
+/// of bytes of `text` that spell it. This is [`read_size`] without a suffix.
 ///
 /// # Errors
 ///
@@ -55,9 +56,8 @@ pub fn read_number(text: &[u8]) -> Result<(u64, usize), NumFault>
     Ok((value, prefix + count))
 }
 
-/// Law: a size or number ends at or before the first byte that is neither a digit nor a letter. The
-/// bytes from there on don't change its value or its length. The decimal digits of a `u64` are read
-/// as that `u64`.
+/// Law: the size or number at the start of a text depends only on the bytes before the first one
+/// that is neither a digit nor a letter. The decimal digits of a `u64` are read as that `u64`.
 pub fn spelled_sizes_are_read()
     ensures size { (text rest : List ℕ) (mark : ℕ) → is_digit mark 36 ≡ false →
         size_of (text ++ (mark ∷ rest)) ≡ size_of text }
@@ -101,7 +101,7 @@ fn is_hex(text: &[u8]) -> bool
     }
 }
 
-/// Returns the base of the number at the start: 16, 8 or 10.
+/// Returns the base of the number at the start of the text: 16, 8 or 10.
 fn radix_at(text: &[u8]) -> u32
     ensures value { result ≡ radix_of text.now }
     ensures lower_bound { 2 ≤ result }
@@ -116,8 +116,8 @@ fn radix_at(text: &[u8]) -> u32
     }
 }
 
-/// Returns the value of the digits at the start, and how many there are, or `None` if the value
-/// exceeds 2^64 - 1.
+/// Returns the value of the digits of base `radix` at the start of the text, and how many there
+/// are, or `None` if the value exceeds 2^64 - 1.
 fn read_digits(text: &[u8], radix: u32) -> Option<(u64, usize)>
     requires lower_bound { 2 ≤ radix }
     requires upper_bound { radix ≤ 36 }
@@ -137,7 +137,8 @@ fn read_digits(text: &[u8], radix: u32) -> Option<(u64, usize)>
     Some((value, text.len()))
 }
 
-/// Appends one digit to the number `value`; `None` if the result exceeds 2^64 - 1.
+/// Returns the number `value` with one more digit on the right, in base `radix`, or `None` if the
+/// result exceeds 2^64 - 1.
 fn with_digit(value: u64, radix: u64, digit: u64) -> Option<u64>
     ensures { SomeIff result (value * radix + digit < 2 ^ 64) (value * radix + digit) }
 {

@@ -43,7 +43,8 @@ pub fn put_hex(out: &mut Vec<u8>, value: u64) -> Result<(), Memory>
 }
 
 /// Appends a decimal number, padded on the left with spaces to `width` characters (`%*llu`). A
-/// number with more digits isn't cut. `width` must be at most 20, the digits of 2^64 - 1.
+/// number with more digits isn't cut. `width` must be at most 20, the number of digits of 2^64 -
+/// 1.
 ///
 /// # Errors
 ///
@@ -59,7 +60,7 @@ pub fn put_dec(out: &mut Vec<u8>, value: u64, width: u32) -> Result<(), Memory>
     put_text(out, &text[from..])
 }
 
-/// Returns the lower-case hexadecimal digit of this value, which must be below 16.
+/// Returns the lower-case hexadecimal digit of `digit`, which must be below 16.
 fn hex_digit(digit: u64) -> u8
     requires { digit < 16 }
     ensures { result ≡ digit_glyph false digit }

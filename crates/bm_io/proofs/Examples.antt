@@ -15,7 +15,7 @@ use Rattle.bm_io.proofs.PutsLaws.{put_ok_keeps_wants}
 counts : (count_after 5 3 ≡ 8) × (count_after (2 ^ 64 - 2) 3 ≡ 2 ^ 64 - 1)
 counts = (refl, refl)
 
--- a rise shows, except at 2^64 - 1
+-- a counter that rises becomes greater, unless it is 2^64 - 1 already
 rose_examples : Rose 5 6 × Rose (2 ^ 64 - 1) (2 ^ 64 - 1)
 rose_examples = (omega arith, omega arith)
 
@@ -51,7 +51,7 @@ own_names = (refl, (refl, tt))
 one_name_twice : HaveOwnNames (record { name = codes "zp"; bytes = [] } ∷ record { name = codes "zp"; bytes = codes "a" } ∷ []) → ⊥
 one_name_twice own = let none : true ≡ false = own.0 in cc none
 
--- a call fails by its number or by its name
+-- a call fails if its number is planned to fail, or if no file has the name
 refused_by_number : IsRefused two_files 2 (codes "zp")
 refused_by_number = inl (0, omega arith, refl)
 
@@ -68,11 +68,12 @@ after_failure = record { written = codes "abc"; failing = 2 ∷ []; calls = 2; f
 half_of_a_chunk : AppendsFront (Some before_failure.written) (Some after_failure.written) (codes "cd")
 half_of_a_chunk = (1, omega arith, refl)
 
--- the bytes and counters of an output in memory are known
+-- an output in memory: its bytes and counters are known
 abbrev held_sink : SinkOf MemSinkView
 held_sink = record { written = λ s. Some s.written; faults = λ s. s.faults; wants = λ s. s.wants }
 
--- that call failed with a cause; without a counted fault it couldn't have failed
+-- the second call failed and raised the counter of faults; with an unchanged counter the failure
+-- would break the contract
 failed_put : Puts held_sink before_failure after_failure (Err put.Failed) (codes "cd")
 failed_put = record {
   whole = tt;
@@ -87,8 +88,8 @@ failed_put = record {
 no_cause : Puts held_sink before_failure before_failure (Err put.Failed) (codes "cd") → ⊥
 no_cause puts = let rose = puts.failed refl in omega (arith, rose)
 
--- an output may count a fault, retry and append everything, with the result Ok. Running out of
--- memory is always reported
+-- an output may count a fault, retry, append everything and return Ok. A put that returns Ok can't
+-- have run out of memory
 retried_put : Puts held_sink before_failure after_failure (Ok tt) (codes "c")
 retried_put = record {
   whole = refl;
@@ -107,11 +108,11 @@ ok_never_counts_want puts = let still = put_ok_keeps_wants puts in omega (arith,
 none_taken : TakesKnown (Some (codes "x")) (Some (codes "xa")) (codes "abc") None → ⊥
 none_taken kept = cc kept
 
--- a file with bytes left isn't finished
+-- a read that gives nothing while bytes are left breaks the contract
 not_at_the_end : GivesKnown (Some (codes "c")) (Some (codes "c")) (Some []) → ⊥
 not_at_the_end gives = let end : codes "c" ≡ [] = gives.1 refl in cc end
 
--- three bytes in two writes: the second was offered what the first left
+-- three bytes in two writes: the second write is offered the bytes that the first one didn't take
 abbrev known_writes : List ℕ → List ℕ → Option ℕ → List ℕ → Type 0
 known_writes before bytes taken after = TakesKnown (Some before) (Some after) bytes taken
 
@@ -119,7 +120,7 @@ by_two_writes : HasTaken known_writes (codes "abc") [] 3 (codes "abc")
 by_two_writes = took {k = 2} {n = 1} {mid = codes "ab"}
     (took {k = 0} {n = 2} {mid = []} nothing_taken refl (omega arith)) refl (omega arith)
 
--- a put fails if its second write failed, whatever the number of bytes
+-- a put fails if its second write fails, even though the first one took bytes
 refused_by_a_write : IsPutBy known_writes [] (codes "abc") (Err put.Failed) (codes "ab")
 refused_by_a_write = (2, codes "ab", omega arith, took {k = 0} {n = 2} {mid = []} nothing_taken refl (omega arith), inl refl)
 

@@ -11,14 +11,14 @@ use Rattle.bm_io.specs.Puts.{Puts}
 use Rattle.bm_io.specs.declared.writing.Put.{Put}
 use Rattle.bm_io.specs.declared.writing.Sink.{Ghosts as SinkOf}
 
--- the bytes of one more chunk come after those of the chunks before it
+-- the bytes of the first i + 1 chunks are those of the first i chunks and then those of chunk i
 pub joined_more : {P : Type 0} (bytes : P → List ℕ) (chunks : List P) (i : ℕ) (d : P) → i < length chunks
     → flat_map bytes (take (i + 1) chunks) ≡ flat_map bytes (take i chunks) ++ bytes (get_or chunks i d)
 joined_more bytes chunks i d inside =
     ap (λ t. flat_map bytes t) (take_more chunks i d inside) ∙ flat_map-append bytes (take i chunks) (get_or chunks i d ∷ [])
     ∙ ap (λ (t : List ℕ). flat_map bytes (take i chunks) ++ t) (append-nil (bytes (get_or chunks i d)))
 
--- the bytes of the chunks before one, of that chunk, and of those after it
+-- the bytes of all chunks are those before one chunk, those of that chunk, and those after it
 pub joined_at : {P : Type 0} (bytes : P → List ℕ) (chunks : List P) (i : ℕ) (d : P) → i < length chunks
     → flat_map bytes (take i chunks) ++ (bytes (get_or chunks i d) ++ flat_map bytes (drop (i + 1) chunks)) ≡ flat_map bytes chunks
 joined_at bytes chunks i d inside =
@@ -26,7 +26,7 @@ joined_at bytes chunks i d inside =
     ap (λ t. flat_map bytes (take i chunks) ++ flat_map bytes t) (sym rest)
     ∙ sym (flat_map-append bytes (take i chunks) (drop i chunks)) ∙ ap (λ t. flat_map bytes t) (take-append-drop i chunks)
 
--- if two joined lists of bytes are empty, both are
+-- if two lists of bytes make an empty list when concatenated, both are empty
 pub both_empty_first : (xs ys : List ℕ) → xs ++ ys ≡ [] → xs ≡ []
 both_empty_first [] ys none = refl
 both_empty_first (x ∷ xs) ys none = cc
@@ -35,7 +35,7 @@ pub both_empty_second : (xs ys : List ℕ) → xs ++ ys ≡ [] → ys ≡ []
 both_empty_second [] ys none = none
 both_empty_second (x ∷ xs) ys none = cc
 
--- bytes that were written whole and then the first bytes of others are the first bytes of all
+-- appending some bytes whole, and then the first bytes of others, appends the first bytes of all
 front_then : (old mid new : Option (List ℕ)) (first bytes rest : List ℕ)
     → Appends old mid first → AppendsFront mid new bytes → AppendsFront old new (first ++ (bytes ++ rest))
 front_then old mid new first bytes rest before front =
@@ -47,7 +47,7 @@ front_then old mid new first bytes rest before front =
       rw (← out) (Appends-trans old mid new first (take n bytes) before front.2),
     )
 
--- writing bytes whole didn't run out of memory
+-- a put that returns Ok leaves `wants`, the count of puts that ran out of memory, unchanged
 pub put_ok_keeps_wants : {S : Type 0} {sink : SinkOf S} {old new : S} {done : Unit {0}} {bytes : List ℕ} → Puts sink old new (Ok done) bytes
     → sink.wants new ≡ sink.wants old
 put_ok_keeps_wants puts = elim puts.no_want [
@@ -55,7 +55,7 @@ put_ok_keeps_wants puts = elim puts.no_want [
   | inr same ↦ same
 ]
 
--- an error after bytes that were written whole is the error of all
+-- if a put fails after others that returned Ok, all of them together fail with its error
 pub puts_refused : {S : Type 0} (sink : SinkOf S) (old mid new : S) (answer : Result (Unit {0}) Put) (error : Put)
     (first bytes rest all : List ℕ)
     → answer ≡ Err error → first ++ (bytes ++ rest) ≡ all → Appends (sink.written old) (sink.written mid) first

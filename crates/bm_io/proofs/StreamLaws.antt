@@ -10,7 +10,7 @@ remaining_slice rest k = take (length rest - k) (drop k rest)
 left_is : (rest : List ℕ) (k : ℕ) → remaining_slice rest k ≡ drop k rest
 left_is rest k = take_all (length rest - k) (drop k rest) (rw (length-drop k rest) (omega arith))
 
--- the number of bytes of the chunk that were taken
+-- the number of bytes of the chunk that were taken, after k more
 pub taken_count_after_write : (chunk rest : List ℕ) (k : ℕ) → rest ≡ drop (length chunk - length rest) chunk → k ≤ length rest
     → length chunk - length (remaining_slice rest k) ≡ (length chunk - length rest) + k
 taken_count_after_write chunk rest k left small =
@@ -18,7 +18,7 @@ taken_count_after_write chunk rest k left small =
     ap (λ (t : List ℕ). length t) left ∙ length-drop (length chunk - length rest) chunk in
     rw (left_is rest k, length-drop k rest) (omega arith)
 
--- the rest after k more bytes is the rest of the chunk
+-- what remains after k more bytes is the end of the chunk
 pub remaining_after_write : (chunk rest : List ℕ) (k : ℕ) → rest ≡ drop (length chunk - length rest) chunk → k ≤ length rest
     → remaining_slice rest k ≡ drop (length chunk - length (remaining_slice rest k)) chunk
 remaining_after_write chunk rest k left small =
@@ -26,7 +26,7 @@ remaining_after_write chunk rest k left small =
     ∙ drop-drop k (length chunk - length rest) chunk
     ∙ sym (ap (λ (n : ℕ). drop n chunk) (taken_count_after_write chunk rest k left small))
 
--- the bytes so far and k more of the rest are the first bytes of the chunk
+-- the bytes taken before and the next k bytes are together the first bytes of the chunk
 pub front_after_write : (old mid new : Option (List ℕ)) (chunk rest : List ℕ) (k : ℕ)
     → Appends old mid (take (length chunk - length rest) chunk) → rest ≡ drop (length chunk - length rest) chunk
     → k ≤ length rest → Appends mid new (take k rest)

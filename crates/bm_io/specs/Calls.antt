@@ -1,5 +1,6 @@
--- A put and a fetch as sequences of calls of the operating system. `writes`, `reads` and `opens`
--- stand for one call each, as `RawWriter`, `RawReader` and `RawFiles` have them.
+-- The effect of a put or a fetch, as a sequence of calls of the operating system. The parameters
+-- `writes`, `reads` and `opens` are the relations for a single call: the ghost members of
+-- `RawWriter`, `RawReader` and `RawFiles`.
 use Rattle.std.specs.Prelude.{◌≡◌, ℕ, ◌+◌, ◌<◌, ◌≤◌, List, [], ◌++◌, length, drop, Option, Some, None, Result, Ok, Err, ◌⊎◌, Vec}
 use Rattle.std.specs.declared.alloc.Global.{Global}
 use Rattle.bm_io.specs.declared.reading.Fetch.{Fetch}
@@ -7,14 +8,16 @@ use Rattle.bm_io.specs.declared.reading.Fetch.TheVariants as fetch
 use Rattle.bm_io.specs.declared.writing.Put.{Put}
 use Rattle.bm_io.specs.declared.writing.Put.TheVariants as put
 
--- the stream took that many of the first bytes, by writes that each were offered all remaining
--- bytes and took some of them
+-- `HasTaken writes bytes before n after`: the stream took the first n of `bytes`, by writes that
+-- lead from the state `before` to the state `after`. Each write was offered all remaining bytes
+-- and took at least one.
 pub data HasTaken {W : Type 0} (writes : W → List ℕ → Option ℕ → W → Type 0) (bytes : List ℕ) (before : W) : ℕ → W → Type 0 where
   nothing_taken : HasTaken writes bytes before 0 before
   took : {k n : ℕ} {mid after : W} → HasTaken writes bytes before k mid
       → writes mid (drop k bytes) (Some n) after → 0 < n → HasTaken writes bytes before (k + n) after
 
--- the file gave those bytes, by reads that each gave some
+-- `HasGiven reads before bytes after`: the file gave these bytes, by reads that lead from the
+-- state `before` to the state `after` and gave at least one byte each
 pub data HasGiven {F : Type 0} (reads : F → Option (List ℕ) → F → Type 0) (before : F) : List ℕ → F → Type 0 where
   nothing_given : HasGiven reads before [] before
   gave : {given bytes : List ℕ} {mid after : F} → HasGiven reads before given mid
@@ -29,9 +32,9 @@ IsPutBy {W} writes before bytes (Err put.Failed) after =
     × (writes mid (drop k bytes) None after ⊎ writes mid (drop k bytes) (Some 0) after)
 IsPutBy writes before bytes (Err put.Memory) after = ⊥
 
--- the result of reading a file up to a limit, and `taken`, the number of bytes read: Ok at a read
--- that gives nothing, Failed at the first that fails, TooLong at the first that exceeds the limit,
--- Memory after any read that gave bytes
+-- the result of reading a file that may have at most `limit` bytes, and `taken`, the number of
+-- bytes read. Ok at the first read that gives nothing; Failed at the first that fails; TooLong at
+-- the first that exceeds the limit. Memory is possible after any read that gave bytes.
 abbrev pub IsReadBy : {F : Type 0} → (F → Option (List ℕ) → F → Type 0) → F → ℕ → Result (Vec ℕ Global) Fetch → ℕ → F → Type 0
 IsReadBy {F} reads before limit (Ok bytes) taken after =
     (end : F) × HasGiven reads before bytes.items end × (length bytes.items ≤ limit) × reads end (Some []) after
@@ -45,8 +48,8 @@ IsReadBy {F} reads before limit (Err fetch.TooLong) taken after =
 IsReadBy reads before limit (Err fetch.Memory) taken after =
     (given : List ℕ) × HasGiven reads before given after × (0 < length given) × (length given ≤ limit) × (taken ≡ length given)
 
--- the result of a fetch, and the number of bytes read: the file couldn't be opened, or was opened
--- and read
+-- the result of a fetch, and the number of bytes read: Failed if the file couldn't be opened, else
+-- the result of reading the file
 abbrev pub IsFetchedBy : {D F : Type 0} → (D → List ℕ → Option F → D → Type 0) → (F → Option (List ℕ) → F → Type 0)
     → D → List ℕ → ℕ → Result (Vec ℕ Global) Fetch → ℕ → D → Type 0
 IsFetchedBy {D} {F} opens reads before name limit answer taken after =

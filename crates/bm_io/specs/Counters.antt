@@ -1,4 +1,4 @@
--- What contracts see of the adapters to the operating system.
+-- What contracts see of the files and outputs of the operating system.
 use Rattle.std.specs.Prelude.{ℕ}
 
 -- what contracts see of a `RealFiles`: the files, the number of failed fetches of any name, and

@@ -8,20 +8,20 @@ abbrev pub TakesKnown : Option (List ℕ) → Option (List ℕ) → List ℕ →
 TakesKnown old new bytes None = Keeps old new
 TakesKnown old new bytes (Some n) = Appends old new (take n bytes)
 
--- a read gave those bytes, none only at the end, or failed and took nothing away
+-- a read gave the next bytes of the file (none only at its end), or failed and consumed nothing
 abbrev pub GivesKnown : Option (List ℕ) → Option (List ℕ) → Option (List ℕ) → Type 0
 GivesKnown old new None = Keeps old new
 GivesKnown old new (Some bytes) = Consumes old new bytes × (bytes ≡ [] → IsAtEnd new)
 
--- if the contents of files are known, the file with this name has these bytes
+-- the file with this name has these bytes, unless the contents of files are unknown
 abbrev pub IsKnownAs : Option (List ℕ → Option (List ℕ)) → List ℕ → List ℕ → Type 0
 IsKnownAs holds name bytes = IfSome holds (λ held. held name ≡ Some bytes)
 
--- if the contents of files are known, the file with this name has more bytes than the limit
+-- the file with this name has more bytes than the limit, unless the contents of files are unknown
 abbrev pub IsKnownLonger : Option (List ℕ → Option (List ℕ)) → List ℕ → ℕ → Type 0
 IsKnownLonger holds name limit =
     IfSome holds (λ held. (bytes : List ℕ) × (held name ≡ Some bytes) × (limit < length bytes))
 
--- if the output is known, it grew by the first bytes of the chunk, or by none
+-- the output grew by the first bytes of the chunk (none, some or all), unless it is unknown
 abbrev pub AppendsFront : Option (List ℕ) → Option (List ℕ) → List ℕ → Type 0
 AppendsFront old new chunk = (n : ℕ) × (n ≤ length chunk) × Appends old new (take n chunk)

@@ -42,7 +42,7 @@ abbrev pub HaveOwnNames : List MemFileView → Type 0
 HaveOwnNames [] = Unit {0}
 HaveOwnNames (f ∷ fs) = IsNone (file_bytes fs f.name) × HaveOwnNames fs
 
--- the call with that number fails: it is to fail, or there is no such file
+-- the call with that number fails: it was planned to fail, or there is no file with the name
 abbrev pub IsRefused : MemFilesView → ℕ → List ℕ → Type 0
 IsRefused held number name = Contains held.failing number ⊎ IsNone (file_bytes held.files name)
 
@@ -50,15 +50,15 @@ IsRefused held number name = Contains held.failing number ⊎ IsNone (file_bytes
 abbrev pub IsOverLimit : MemFilesView → List ℕ → ℕ → Type 0
 IsOverLimit held name limit = (bytes : List ℕ) × (file_bytes held.files name ≡ Some bytes) × (limit < length bytes)
 
--- the number of failures, 0 or 1, that a result counts as
+-- what a fetch with this result adds to the count of failed calls: 1 for Failed, else 0
 abbrev pub fetch_failures : Result (Vec ℕ Global) Fetch → ℕ
 fetch_failures (Ok bytes) = 0
 fetch_failures (Err fetch.Failed) = 1
 fetch_failures (Err fetch.TooLong) = 0
 fetch_failures (Err fetch.Memory) = 0
 
--- the number of bytes that a result counts as read: all of the file's if it was returned or too
--- long
+-- what a fetch with this result adds to the count of bytes read: the length of the file if it was
+-- returned or too long, else 0
 abbrev pub bytes_taken : Result (Vec ℕ Global) Fetch → Option (List ℕ) → ℕ
 bytes_taken answer None = 0
 bytes_taken (Ok given) (Some bytes) = length bytes

@@ -18,8 +18,8 @@ put_failures (Ok done) = 0
 put_failures (Err put.Failed) = 1
 put_failures (Err put.Memory) = 0
 
--- what a put with this result adds to `wants`, the count of puts that ran out of memory: 1 if it
--- is one of them, else 0
+-- what a put with this result adds to `wants`, the count of puts that ran out of memory: 1 if this
+-- one did, else 0
 abbrev pub out_of_memory_puts : Result (Unit {0}) Put → ℕ
 out_of_memory_puts (Ok done) = 0
 out_of_memory_puts (Err put.Failed) = 0

@@ -13,7 +13,7 @@ pub record Puts {S : Type 0} (sink : SinkOf S) (old new : S) (answer : Result (U
   -- with Ok all bytes were appended, with an error the first of them (none, some or all)
   pub whole : OnOk answer (Appends (sink.written old) (sink.written new) bytes)
   pub front : OnErr answer (AppendsFront (sink.written old) (sink.written new) bytes)
-  -- the cause of each error
+  -- what each error implies
   pub failed : IsErrOf answer put.Failed → Rose (sink.faults old) (sink.faults new)
   pub wanting : IsErrOf answer put.Memory → Rose (sink.wants old) (sink.wants new)
   -- `wants` rises only with `Memory`, and no counter falls

@@ -1,7 +1,7 @@
 //! Writes several chunks with the contract of a single put.
 //!
-//! A report's line has fixed parts and parts in small buffers. This writes them one by one,
-//! without allocating the whole line.
+//! A line of a report has fixed parts, and parts that are in small buffers. [`put_all`] writes
+//! them one by one, so that no memory is allocated for the whole line.
 ghost use Rattle.std.specs.Prelude.{◌≡◌, []};
 ghost use Rattle.std.specs.List.{flat_map};
 ghost use Rattle.bm_io.specs.Puts.{Puts};
@@ -9,8 +9,8 @@ ghost use Rattle.bm_io.specs.Puts.{Puts};
 use crate::writing::{Put, Sink};
 use std::convert::AsSlice;
 
-/// Appends the chunks to the output, in order, and stops at the first error. The promise is that
-/// of a single put of all their bytes. An empty chunk makes no call.
+/// Appends the chunks to the output, in order, and stops at the first error. Empty chunks are
+/// skipped. Callers can rely on the contract of a single put of all the bytes.
 ///
 /// # Errors
 ///
@@ -25,7 +25,7 @@ pub fn put_all<S: Sink, P: AsSlice<u8>>(out: &mut S, chunks: &[P]) -> Result<(),
     Ok(())
 }
 
-/// Appends the chunk, with one put. An empty chunk makes no call.
+/// Appends the chunk with one put, or does nothing if the chunk is empty.
 ///
 /// # Errors
 ///

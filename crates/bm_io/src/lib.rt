@@ -4,17 +4,19 @@
 //! Any call may fail. The crates above are proved for every implementation of both traits.
 //!
 //! A trait has ghost members that only contracts see: the bytes of a file, the bytes that were
-//! written (each `None` if unknown), and counters of faults. A counter never falls. It is a `u64`
-//! that stops at 2^64 - 1. Each error raises a counter. So the counters distinguish a failure
-//! outside the program from a bug in it. [`Fetch::Memory`] raises none: it may happen at any time.
-//! Only [`Put::Memory`] raises the counter of puts that ran out of memory. A call may raise a
-//! counter of faults and still succeed: it may have retried.
+//! written (each `None` if unknown), and counters of faults. A counter is a `u64` that never falls
+//! and stops at 2^64 - 1. Each error raises a counter, so the counters distinguish a failure
+//! outside the program from a bug in it. The one exception is [`Fetch::Memory`], which raises
+//! none, since memory may run out at any time. [`Put::Memory`] has a counter of its own, which no
+//! other error raises. A call may raise a counter of faults and still succeed: it may have
+//! retried.
 //!
-//! [`MemFiles`] and [`MemSink`] hold their bytes in memory and fail at the calls that a test
-//! names. [`RealFiles`] and [`StdSink`] use the operating system, through traits for a single
+//! [`MemFiles`] and [`MemSink`] hold their bytes in memory, and fail at the calls whose numbers a
+//! test lists. [`RealFiles`] and [`StdSink`] use the operating system, through traits for a single
 //! system call each ([`RawFiles`], [`RawReader`], [`RawWriter`]). It is proved which calls they
-//! make, and that they fail only if a call failed. The trusted edge is [`SystemFiles`] and
-//! [`SystemStream`], which make these calls in one line each.
+//! make, and that they return `Failed` only if a call failed or a write took nothing.
+//! [`SystemFiles`] and [`SystemStream`] make these calls, in one line each. Only these lines are
+//! trusted without a proof.
 #![tactic(auto)]
 
 mod joined;

@@ -1,5 +1,5 @@
-//! Files in memory, for tests and proofs. Their contents are known to contracts, and their
-//! failures are planned by the numbers of the calls.
+//! Files in memory, for tests and proofs. Contracts know the contents of the files. A test plans
+//! failures: it lists the numbers of the calls that are to fail.
 ghost use Rattle.std.specs.Prelude.{◌≡◌, ◌-◌, ◌^◌, ◌<◌, ◌≤◌, ◌↔◌, length, Option, Some, IfOk, IsErrOf, find};
 ghost use Rattle.std.specs.Option.{option_copied};
 ghost use Rattle.bm_io.specs.Counts.{count_after};
@@ -16,7 +16,7 @@ pub struct MemFile {
     pub bytes: Vec<u8>,
 }
 
-/// Files in memory, with planned failures. Calls of `fetch` are numbered from 1.
+/// Files in memory, some of whose fetches fail as planned. Calls of `fetch` are numbered from 1.
 #[derive(Drop)]
 pub struct MemFiles {
     files: Vec<MemFile>,
@@ -75,8 +75,8 @@ impl Files for MemFiles {
     ///
     /// # Errors
     ///
-    /// `Failed` if the call's number is one that is to fail, or there is no such file. `TooLong`
-    /// if neither holds and the file has more than `limit` bytes. `Memory` if the copy can't be
+    /// `Failed` if the call is one of those that are to fail, or no file has the name. Otherwise
+    /// `TooLong` if the file has more than `limit` bytes, and `Memory` if the copy can't be
     /// allocated.
     fn fetch(&mut self, alloc: Global, name: &str, limit: u64) -> Result<Vec<u8>, Fetch>
         ensures bounded { IfOk result (λ bytes. length bytes.items ≤ limit) }
@@ -120,14 +120,14 @@ impl Files for MemFiles {
     }
 }
 
-/// Returns the bytes of the file with the name.
+/// Returns the bytes of the first file with the name, or `None` if there is no such file.
 fn bytes_named<'a>(files: &'a [MemFile], name: &str) -> Option<&'a [u8]>
     ensures { option_copied result ≡ file_bytes (file_views files.now) name.now }
 {
     Some(file_named(files, name)?.bytes.as_slice())
 }
 
-/// Returns the file with the name, if there is one.
+/// Returns the first file with the name, or `None` if there is no such file.
 fn file_named<'a>(files: &'a [MemFile], name: &str) -> Option<&'a MemFile>
     ensures { option_copied result ≡ find (has_name name.now) files.now }
 {

@@ -1,5 +1,5 @@
-//! An output in memory, for tests and proofs. Its bytes are known to contracts, and its failures
-//! are planned by the numbers of the calls.
+//! An output in memory, for tests and proofs. Contracts know the bytes that were written. A test
+//! plans failures: it lists the numbers of the calls that are to fail.
 ghost use Rattle.std.specs.Prelude.{◌≡◌, ◌+◌, ◌-◌, ◌/◌, ◌^◌, ◌<◌, ◌≤◌, [], ◌++◌, length, take, Some, Contains, OnOk, IsErrOf};
 ghost use Rattle.bm_io.specs.Counts.{count_after};
 ghost use Rattle.bm_io.specs.MemSink.{put_failures, out_of_memory_puts};
@@ -7,7 +7,7 @@ ghost use Rattle.bm_io.specs.MemSink.{put_failures, out_of_memory_puts};
 use crate::writing::{Put, Sink};
 use std::marker::Model;
 
-/// An output in memory, with planned failures. Calls of `put` are numbered from 1.
+/// An output in memory, some of whose puts fail as planned. Calls of `put` are numbered from 1.
 #[derive(Drop)]
 pub struct MemSink {
     written: Vec<u8>,
@@ -72,7 +72,7 @@ impl Sink for MemSink {
     ///
     /// # Errors
     ///
-    /// `Failed` if the call's number is one that is to fail; the first half of the chunk, rounded
+    /// `Failed` if the call is one of those that are to fail; the first half of the chunk, rounded
     /// down, is then appended. `Memory` if the output can't grow; nothing is then appended.
     fn put(&mut self, chunk: &[u8]) -> Result<(), Put>
         ensures whole { OnOk result (self.new.written ≡ self.old.written ++ chunk.now) }

@@ -1,10 +1,10 @@
 //! Traits for a single call of the operating system.
 //!
-//! Contracts don't know what a real file holds or what a real stream does with bytes. But they
-//! can say which calls were made, in which order, with which results. Each trait has a relation
-//! between the state before a call, its result and the state after. A loop that is proved for
-//! every such relation can't give up early, retry or hide a failure. `crate::system` implements
-//! the traits.
+//! Contracts can't know what a real file holds or what a real stream does with bytes. They can say
+//! which calls were made, in which order, with which results. Each trait has a relation between
+//! the state before a call, its result and the state after it. A loop that is proved for every
+//! such relation can't give up early, retry or hide a failure. `crate::system` implements the
+//! traits.
 ghost use Rattle.std.specs.Prelude.{ℕ, ◌<◌, ◌≤◌, List, length, take, Option, IfSome};
 ghost use Rattle.std.specs.Option.{option_map};
 ghost use Rattle.bm_io.specs.Known.{TakesKnown, GivesKnown};
@@ -18,8 +18,8 @@ pub trait RawWriter {
     // and the stream after.
     ghost writes: { Self → List ℕ → Option ℕ → Self → Type 0 };
 
-    /// Offers bytes to the stream and returns how many it took, from the first on, or `None` if
-    /// the write failed.
+    /// Offers bytes to the stream. Returns how many of them, from the first one on, it took, or
+    /// `None` if the write failed.
     fn write(&mut self, bytes: &[u8]) -> Option<usize>
         ensures bound { IfSome result (λ n. n ≤ length bytes.now) }
         ensures known { TakesKnown (contents self.old) (contents self.new) bytes.now result }
@@ -35,8 +35,8 @@ pub trait RawReader {
     // after.
     ghost reads: { Self → Option (List ℕ) → Self → Type 0 };
 
-    /// Reads bytes to the start of the buffer, which isn't empty. Returns how many, 0 only at the
-    /// end of the file, or `None` if the read failed.
+    /// Reads bytes into the start of the buffer, which must not be empty. Returns how many were
+    /// read, 0 only at the end of the file, or `None` if the read failed.
     fn read(&mut self, buffer: &mut [u8]) -> Option<usize>
         requires { 0 < length buffer.old }
         ensures bound { IfSome result (λ n. n ≤ length buffer.new) }
@@ -53,7 +53,8 @@ pub trait RawFiles {
     // the files after.
     ghost opens: { Self → List ℕ → Option Self.File → Self → Type 0 };
 
-    /// Opens the file with the name at its start, or returns `None` if that failed.
+    /// Opens the file with the name, to be read from its start. Returns `None` if it couldn't be
+    /// opened.
     fn open(&mut self, name: &str) -> Option<Self::File>
         ensures call { opens self.old name.now result self.new };
 }

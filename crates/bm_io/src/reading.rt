@@ -1,6 +1,7 @@
-//! The trait of what the program reads: named files, each fetched whole.
+//! The trait of the files that the program reads. A call fetches one whole file by its name.
 //!
-//! A boot's inputs are small (a zero page has 4,096 bytes), so a file is a single value.
+//! The inputs of a boot are small (a zero page has 4,096 bytes), so a fetch returns all bytes of
+//! the file at once.
 ghost use Rattle.std.specs.Prelude.{◌≡◌, ℕ, ◌^◌, ◌<◌, ◌≤◌, List, length, Option, IfOk, IsErrOf};
 ghost use Rattle.bm_io.specs.Counts.{Rose, RoseByMoreThan};
 ghost use Rattle.bm_io.specs.Known.{IsKnownAs, IsKnownLonger};
@@ -10,9 +11,9 @@ use std::alloc::Global;
 /// Why a file couldn't be fetched.
 #[derive(Clone, Copy, Debug, PartialEq, Eq)]
 pub enum Fetch {
-    /// It couldn't be opened or read, or doesn't exist.
+    /// The file couldn't be opened or read, or doesn't exist.
     Failed,
-    /// It has more bytes than the limit.
+    /// The file has more bytes than the limit.
     TooLong,
     /// The program itself ran out of memory.
     Memory,
@@ -20,17 +21,17 @@ pub enum Fetch {
 
 /// Files that can be fetched by name.
 pub trait Files {
-    // The bytes of each name, or `None` if unknown.
+    // For each name, the bytes of the file with that name. `None` if the files are unknown.
     ghost holds: { Self → Option (List ℕ → Option (List ℕ)) };
 
-    // The number of faults of each name. There may be a single count for all names, and it may
-    // include faults that a retry overcame.
+    // For each name, how often fetching the file with that name failed. An implementation may use
+    // one count for all names, and may count failures that a retry overcame.
     ghost faults: { Self → List ℕ → ℕ };
 
     // The number of bytes that were read from files.
     ghost taken: { Self → ℕ };
 
-    /// Returns the bytes of the file, at most `limit` of them.
+    /// Returns all bytes of the file with the name. The file may have at most `limit` bytes.
     ///
     /// # Errors
     ///
@@ -40,7 +41,7 @@ pub trait Files {
         ensures bounded { IfOk result (λ bytes. length bytes.items ≤ limit) }
         ensures told { IfOk result (λ bytes. IsKnownAs (holds self.old) name.now bytes.items) }
 
-        // The cause of each error. `Memory` may happen at any time.
+        // What each error implies. `Memory` may happen at any time.
         ensures failed { IsErrOf result Fetch.Failed
             → Rose (faults self.old name.now) (faults self.new name.now) }
         ensures too_long { IsErrOf result Fetch.TooLong

@@ -1,7 +1,8 @@
 //! Reads the files of the operating system.
 //!
-//! A read may give only a part of a file, so a fetch opens the file and loops over reads. It is
-//! proved that it makes exactly those calls, and fails only if one of them does.
+//! A read may give only a part of a file, so a fetch opens the file and reads until the end. It is
+//! proved that a fetch makes exactly those calls, and that it returns `Failed` only if one of them
+//! fails.
 ghost use Rattle.std.specs.Prelude.{◌≡◌, ℕ, ◌^◌, ◌<◌, ◌≤◌, length, None, IfSome, IfOk, IsErrOf};
 ghost use Rattle.bm_io.specs.Counts.{count_after, Rose, RoseByMoreThan};
 ghost use Rattle.bm_io.specs.Known.{IsKnownAs};
@@ -51,7 +52,8 @@ impl<'a, R: rt::Files> RealFiles<SystemFiles<'a, R>> {
 }
 
 impl<D: RawFiles + Drop> RealFiles<D> {
-    /// Reads the file to its end, at most `limit` bytes. A failed read counts as a fault.
+    /// Reads the whole file, which may have at most `limit` bytes. A failed read counts as a
+    /// fault.
     ///
     /// # Errors
     ///
@@ -104,7 +106,7 @@ impl<D: RawFiles + Drop> Files for RealFiles<D> {
 
     ghost taken = { λ s. s.taken };
 
-    /// Opens the file and reads it to its end, at most `limit` bytes.
+    /// Opens the file and reads all of it. It may have at most `limit` bytes.
     ///
     /// # Errors
     ///

@@ -1,7 +1,8 @@
 //! An output to a stream of the operating system.
 //!
-//! A write may take only some of the bytes, so a put is a loop over writes. It is proved for
-//! every stream that the loop makes exactly those writes, and fails only if one of them does.
+//! A write may take only some of the bytes, so a put writes until all are taken. It is proved for
+//! every stream that a put makes exactly those writes, and fails only if one of them fails or
+//! takes nothing.
 ghost use Rattle.std.specs.Prelude.{◌≡◌, ◌^◌, ◌<◌, ◌≤◌, OnOk, OnErr, IsErrOf};
 ghost use Rattle.std.specs.Io.KnownBytes.{Appends};
 ghost use Rattle.bm_io.specs.Counts.{count_after, Rose};
@@ -55,8 +56,8 @@ impl<W: RawWriter + Drop> Sink for StdSink<W> {
 
     ghost wants = { λ s. 0 };
 
-    /// Writes the chunk. If the stream takes only some of the bytes, the others follow in further
-    /// writes.
+    /// Writes the chunk. If the stream takes only some of the bytes, the rest is written next,
+    /// until all bytes are taken.
     ///
     /// # Errors
     ///

@@ -1,6 +1,6 @@
 //! The three calls of the operating system, one line each.
 //!
-//! This is the trusted edge: no contract can say that these lines reach the file or stream that
+//! These lines are the trusted edge: no contract can say that they reach the file or stream that
 //! they were given.
 ghost use Rattle.bm_io.specs.Known.{TakesKnown, GivesKnown};
 
@@ -17,7 +17,7 @@ pub struct SystemStream<T: Drop> {
 impl<W: Write + Drop> RawWriter for SystemStream<W> {
     ghost contents = { λ s. W.contents s.inner };
 
-    // All that is known of a write.
+    // All that is known of a write: the stream's contents grew by the bytes that it took.
     ghost writes = { λ before bytes taken after.
         TakesKnown (W.contents before.inner) (W.contents after.inner) bytes taken };
 
@@ -29,7 +29,7 @@ impl<W: Write + Drop> RawWriter for SystemStream<W> {
 impl<F: Read + Drop> RawReader for SystemStream<F> {
     ghost remaining = { λ s. F.remaining s.inner };
 
-    // All that is known of a read.
+    // All that is known of a read: the bytes that it gave were the next ones of the file.
     ghost reads = { λ before given after.
         GivesKnown (F.remaining before.inner) (F.remaining after.inner) given };
 
@@ -47,7 +47,7 @@ pub struct SystemFiles<'a, R: rt::Files> {
 impl<'a, R: rt::Files> RawFiles for SystemFiles<'a, R> {
     type File = SystemStream<R::File>;
 
-    // Nothing is known of what a name opens.
+    // Nothing is known of the file that a name opens.
     ghost opens = { λ before name opened after. Unit {0} };
 
     fn open(&mut self, name: &str) -> Option<SystemStream<R::File>> {

@@ -1,6 +1,6 @@
-//! The trait of what the program writes to: an output that takes bytes in chunks.
+//! The trait of an output that the program writes to in chunks.
 //!
-//! Both the report and the line of an error are written to such an output.
+//! The report and the line that reports an error are written to such outputs.
 ghost use Rattle.std.specs.Prelude.{◌≡◌, ℕ, ◌^◌, ◌<◌, ◌≤◌, List, Option, OnOk, OnErr, IsErrOf, ◌⊎◌};
 ghost use Rattle.std.specs.Io.KnownBytes.{Appends};
 ghost use Rattle.bm_io.specs.Counts.{Rose};
@@ -11,7 +11,7 @@ ghost use Rattle.bm_io.specs.Known.{AppendsFront};
 pub enum Put {
     /// The output refused the chunk.
     Failed,
-    /// This program is out of memory: an output in memory couldn't grow.
+    /// The program itself is out of memory: an output in memory couldn't grow.
     Memory,
 }
 
@@ -20,7 +20,8 @@ pub trait Sink {
     // The bytes written so far, or `None` if unknown.
     ghost written: { Self → Option (List ℕ) };
 
-    // The number of faults. It may include faults that a retry overcame.
+    // How often the output failed to take bytes. Failures that a retry overcame may be counted
+    // too.
     ghost faults: { Self → ℕ };
 
     // The number of puts that failed with `Memory`.
@@ -37,7 +38,7 @@ pub trait Sink {
         ensures front { OnErr result
             (AppendsFront (written self.old) (written self.new) chunk.now) }
 
-        // The cause of each error.
+        // What each error implies.
         ensures failed { IsErrOf result Put.Failed → Rose (faults self.old) (faults self.new) }
         ensures wanting { IsErrOf result Put.Memory → Rose (wants self.old) (wants self.new) }
 

@@ -1,5 +1,5 @@
--- A function that is changed over a range: below the range, inside and above it; and room for its
--- runs while they are written.
+-- A function before and after an edit of a range: its values below, inside and above the range,
+-- and the room for its runs during the edit.
 use Rattle.std.proofs.Common.{◌≡◌, ℕ, ◌+◌, ◌-◌, ◌^◌, ◌<◌, ◌≤◌, Bool, true, false, Option, None, List, length, take, drop, refl, sym, ◌∙◌, ap, arith}
 use Rattle.std.specs.Prelude.{is_some}
 use Rattle.std.proofs.lemmas.Bool.Decides.{nat_tests}
@@ -32,7 +32,7 @@ module _ {X : Type 0} where
       ≡ f x
   amended_behind change r f x past = rw (not_covered r x past) refl
 
-  -- if a function is constant, so is the changed one inside the range
+  -- inside the range, while the function is constant, the edited function is constant too
   pub amended_stays : (change : Option X → Option X) (r : RangeView) (f : ℕ → Option X) (from to next : ℕ) (v : Option X) → r.base ≤ from
       → to ≤ r.base + r.size → to ≤ next
       → HasValueBetween f from next (f from) → v ≡ change (f from) → HasValueBetween (change_range change r f) from to v
@@ -45,7 +45,8 @@ module _ {X : Type 0} where
   amended_stays_behind change r f from next v past stays is x above under = amended_behind change r f x (omega arith)
       ∙ stays x above under ∙ sym is
 
-  -- nothing is changed above the range
+  -- if nothing is carried from an address on, and the range ends at or below it, nothing is carried
+  -- from it on after the edit either
   pub amended_ends : (change : Option X → Option X) (r : RangeView) (f : ℕ → Option X) (at : ℕ) → r.base + r.size ≤ at → IsEmptyFrom at f
       → IsEmptyFrom at (change_range change r f)
   amended_ends change r f at ends none x le = amended_behind change r f x (omega arith) ∙ none x le

@@ -1,5 +1,5 @@
--- How many runs an edit adds at most: covering a range one for each gap, uncovering it one, any
--- other change two.
+-- How many runs an edit adds at most: covering a range one for each gap in it, uncovering a range
+-- one, any other edit two.
 use Rattle.std.proofs.Common.{◌≡◌, ℕ, ◌+◌, ◌-◌, ◌^◌, ◌≤◌, ◌==◌, Bool, true, false, ◌&&◌, if◌then◌else◌, is_none, Option, Some, None, List, length, refl, ◌∙◌, ap, inl, inr, arith}
 use Rattle.std.specs.Prelude.{unwrap_or}
 use Rattle.std.specs.Option.{option_map}
@@ -14,7 +14,7 @@ use Rattle.run_edits.specs.Records.{EndsNoRun}
 use Rattle.run_edits.specs.Ends.{total, run_ends_between, run_ends_at, one_right_below, HasRoomToEdit}
 use Rattle.run_edits.proofs.EndLaws.{total-fewer, total-add, total-split, spikes_few, run_ends_between-self, run_ends_between-few, all_ends}
 
--- the range begins, or ends, between two neighbours
+-- two neighbouring addresses, one of them in the range: the range begins or ends between them
 begins_here : (r : RangeView) (x : ℕ) → covers r x ≡ false → covers r (x + 1) ≡ true → (x + 1 == r.base) ≡ true
 begins_here r x out in_it = grind (arith, nat_tests)
 
@@ -56,7 +56,7 @@ module _ {X : Type 0} where
       let sums = total-more same (value_at rs) (value_at ss) s few 0 (2 ^ 64) each some in
       omega (arith, first, second, sums)
 
-  -- a change that can't end a run inside its range doesn't
+  -- inside the range, the edit makes a run end only where one ended before
   inside_edges : (same : X → X → Bool) → DecidesEquality same → (change : Option X → Option X) → EndsNoRun change → (a b : Option X)
       → run_ends_between same (change a) (change b) ≤ run_ends_between same a b
   inside_edges same tells change (inl stays) None b = rw stays (omega arith)
@@ -70,7 +70,7 @@ module _ {X : Type 0} where
       ]
   inside_edges same tells change (inr one) a b = rw (one a, one b, run_ends_between-self same tells (change None)) (omega arith)
 
-  -- so it ends at most one run at the start of the range, and one at the end
+  -- an edit makes at most one more run end right below the range, and one at its last address
   pub amended_edges : (same : X → X → Bool) → DecidesEquality same → (change : Option X → Option X) → EndsNoRun change
       → (r : RangeView) (f : ℕ → Option X) (x : ℕ)
       → run_ends_at same (change_range change r f) x ≤ run_ends_at same f x + (one_right_below r.base x + one_right_below (r.base + r.size) x)
@@ -88,7 +88,7 @@ module _ {X : Type 0} where
         ]
       ]
 
-  -- uncovering a range ends no run at the end of the range
+  -- uncovering a range makes no more run end at its last address
   pub uncovered_edges : (same : X → X → Bool) (r : RangeView) (f : ℕ → Option X) (x : ℕ)
       → run_ends_at same (uncover_range r f) x ≤ run_ends_at same f x + one_right_below r.base x
   uncovered_edges same r f x =
@@ -100,7 +100,7 @@ module _ {X : Type 0} where
         ]
       ]
 
-  -- covering a range ends no run except at the end of a gap
+  -- covering a range makes no more run end, except at the end of a gap
   cover_at : (same : X → X → Bool) → DecidesEquality same → (v w : X) (here next : Bool) (a b : Option X)
       → run_ends_between same (if here then Some (unwrap_or a v) else a) (if next then Some (unwrap_or b v) else b)
       ≤ run_ends_between same a b + run_ends_between same (if here && is_none a then Some w else None) (if next && is_none b then Some w else None)
@@ -119,11 +119,11 @@ module _ {X : Type 0} where
       → run_ends_at same (cover_range r v f) x ≤ run_ends_at same f x + run_ends_at same (gaps_in_range r w f) x
   covered_edges same tells r v w f x = cover_at same tells v w (covers r x) (covers r (x + 1)) (f x) (f (x + 1))
 
-  -- the gaps of a range, counted by their ends
+  -- no address at or above 2^64 is in a gap of the range
   bare_ends : (r : RangeView) (w : X) (f : ℕ → Option X) → r.base + r.size ≤ 2 ^ 64 → IsEmptyFrom (2 ^ 64) (gaps_in_range r w f)
   bare_ends r w f ends x le = let past : r.base + r.size ≤ x = omega arith in rw (not_covered r x past) refl
 
-  -- the number of runs of a function
+  -- the number of a function's runs is the number of addresses at which one ends
   length-runs_of : (same : X → X → Bool) → DecidesEquality same → (f : ℕ → Option X) → IsEmptyFrom (2 ^ 64) f → length (runs_of same f)
       ≡ total (run_ends_at same f) 0 (2 ^ 64)
   length-runs_of same tells f none =
@@ -136,7 +136,7 @@ module _ {X : Type 0} where
       → length (runs_of same (gaps_in_range r w f)) ≡ total (run_ends_at same (gaps_in_range r w f)) 0 (2 ^ 64)
   gaps_count_ends same tells r w f ends = length-runs_of same tells (gaps_in_range r w f) (bare_ends r w f ends)
 
-  -- the number of runs that an edit adds
+  -- if an edit makes at most `few` more runs end, it adds at most `few` runs
   runs_of-adds_few : (same : X → X → Bool) → DecidesEquality same → (f g : ℕ → Option X) (s : ℕ → ℕ) (few : ℕ) → IsEmptyFrom (2 ^ 64) f
       → IsEmptyFrom (2 ^ 64) g
       → ((y : ℕ) → run_ends_at same g y ≤ run_ends_at same f y + s y) → total s 0 (2 ^ 64) ≤ few

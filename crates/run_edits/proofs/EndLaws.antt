@@ -52,7 +52,7 @@ pub total-next : (g : ℕ → ℕ) (x n : ℕ) → total g x (suc n) ≡ g x + t
 unfolding total
 total-next g x n = refl
 
--- the sum of a spike is at most 1
+-- the sum of `one_right_below` over any addresses is at most 1
 pub spikes_few : (b x n : ℕ) → total (one_right_below b) x n ≤ 1
 unfolding total
 spikes_few b x zero = omega arith
@@ -66,7 +66,8 @@ spikes_few b x (suc n) =
       | inr other ↦ rw other (let rest : total (one_right_below b) (x + 1) n ≤ 1 = spikes_few b (x + 1) n in omega arith)
     ]
 
--- no run ends between equal neighbours, and one ends before another value
+-- no run ends between neighbours that carry the same; a run ends before a neighbour that carries
+-- something else
 pub run_ends_between-self : {X : Type 0} (same : X → X → Bool) → DecidesEquality same → (a : Option X) → run_ends_between same a a ≡ 0
 run_ends_between-self same tells None = refl
 run_ends_between-self same tells (Some a) = rw (tells.equal_is_true a a refl) refl
@@ -90,7 +91,7 @@ pub behind_run : {X : Type 0} (r : RunOf X) (rs : List (RunOf X)) → AreRuns (r
 behind_run r [] runs = tt
 behind_run r (s ∷ ss) runs = let order = runs.1.0 in let some = runs.2.0 in omega arith
 
--- a run doesn't end before its last address
+-- no run ends at an address below the last one of the first run
 no_end_inside_run : {X : Type 0} (same : X → X → Bool) → DecidesEquality same → (r : RunOf X) (rs : List (RunOf X)) (y : ℕ) → AreRuns (r ∷ rs)
     → y + 1 < run_end r
     → run_ends_at same (value_at (r ∷ rs)) y ≡ 0
@@ -104,7 +105,7 @@ no_end_inside_run same tells r rs y runs under =
           rw (here, next) (run_ends_between-self same tells (Some r.value))
     ]
 
--- the number of runs of a list is the number of their ends
+-- the length of a canonical list is the number of addresses at which a run of it ends
 pub length_ends : {X : Type 0} (same : X → X → Bool) → DecidesEquality same → (rs : List (RunOf X)) (x n : ℕ) → AreRuns rs
     → FirstEndsPast x rs
     → ((y : ℕ) → x + n ≤ y → value_at rs y ≡ None) → length rs ≡ total (run_ends_at same (value_at rs)) x n
@@ -135,7 +136,8 @@ length_ends {X} same tells (r ∷ rs) x n runs ends none =
     let moved : total (run_ends_at same f) (e - 1 + 1) rest ≡ total (run_ends_at same f) e rest = ap (λ (y : ℕ). total (run_ends_at same f) y rest) at_end in
     omega arith
 
--- a run that ends exactly at an address has another value than the address
+-- in a list that is complete up to an address, a run that ends there has another value than the
+-- address
 last_other : {X : Type 0} (at y : ℕ) (v : Option X) (w : X) (rs : List (RunOf X)) → EndBy at v rs → y + 1 ≡ at → value_at rs y ≡ Some w
     → v ≢ Some w
 last_other at y v w [] ends next is = cc
@@ -155,7 +157,7 @@ edge_at_end : {X : Type 0} (same : X → X → Bool) → DecidesEquality same �
 edge_at_end same tells None b other = refl
 edge_at_end same tells (Some a) b other = sym (run_ends_between-other same tells a b (other a refl))
 
--- the number of runs of a list that was built up to an address is that of the ends below it
+-- a list that is complete up to an address has as many runs as end below that address
 pub swept_ends : {X : Type 0} (same : X → X → Bool) → DecidesEquality same → (g : ℕ → Option X) (at : ℕ) (xs : List (RunOf X))
     → IsSweptTo g at xs
     → length xs ≡ total (run_ends_at same g) 0 at
@@ -172,7 +174,7 @@ swept_ends same tells g at xs swept =
           rw (here, none, value) (edge_at_end same tells (g y) (g at) (λ w is. last_other at y (g at) w xs swept.ends end (here ∙ is)))
     ])
 
--- the number of runs of the rest of a list is that of the ends at or above the address
+-- what remains of a list from an address on has as many runs as end at or above that address
 pub rest_ends : {X : Type 0} (same : X → X → Bool) → DecidesEquality same → (f : ℕ → Option X) (at : ℕ) (rs : List (RunOf X))
     → IsRestFrom f at rs
     → IsEmptyFrom (2 ^ 64) f → at ≤ 2 ^ 64
@@ -184,7 +186,7 @@ rest_ends same tells f at rs rest none le =
     let next : value_at rs (y + 1) ≡ f (y + 1) = rest.each (y + 1) (omega arith) in
     rw (here, next) refl)
 
--- the number of runs of a whole list is that of all ends
+-- a whole list has as many runs as end at any address
 pub all_ends : {X : Type 0} (same : X → X → Bool) → DecidesEquality same → (rs : List (RunOf X)) → AreRuns rs
     → IsEmptyFrom (2 ^ 64) (value_at rs)
     → length rs ≡ total (run_ends_at same (value_at rs)) 0 (2 ^ 64)

@@ -7,7 +7,7 @@ use Rattle.run_edits.specs.Ends.{total, run_ends_at, one_right_below}
 abbrev run : ℕ → ℕ → ℕ → RunOf ℕ
 run base size value = record { base = base; size = size; value = value }
 
--- a stretch of no address, or without a value, is no run
+-- a run of no address, or without a value, is no run
 stretch_examples : (stretch 4 6 (Some 1) ≡ run 4 2 1 ∷ []) × (stretch {X = ℕ} 4 4 (Some 1) ≡ []) × (stretch {X = ℕ} 4 6 None ≡ [])
 stretch_examples = (refl, refl, refl)
 
@@ -15,7 +15,7 @@ stretch_examples = (refl, refl, refl)
 ends_below : EndBelow 7 (run 1 2 5 ∷ (run 4 2 1 ∷ [])) × (EndBelow 6 (run 4 2 1 ∷ []) → ⊥)
 ends_below = ((omega arith, (omega arith, tt)), λ ends. let below = ends.0 in omega (arith, below))
 
--- only an address strictly inside a run cuts it
+-- an address cuts a run only if it is strictly inside the run
 uncut_at_its_ends : (CutsNoRun 5 (run 4 2 1 ∷ []) → ⊥) × CutsNoRun 4 (run 4 2 1 ∷ []) × CutsNoRun 6 (run 4 2 1 ∷ [])
 uncut_at_its_ends = (
   λ uncut. let ends = uncut (omega arith) in omega (arith, ends),
@@ -23,7 +23,7 @@ uncut_at_its_ends = (
   λ lt. omega arith,
 )
 
--- uncovering and replacing end no run inside the range; covering may
+-- uncovering and replacing make no run end inside the range; covering may
 ending_none : EndsNoRun (λ (carried : Option ℕ). None) × EndsNoRun (λ (carried : Option ℕ). Some 7)
 ending_none = (inl refl, inr (λ carried. refl))
 
@@ -41,15 +41,16 @@ covering : EndsNoRun cover → ⊥
 covering (inl stays) = something_is_nothing 7 stays
 covering (inr one) = let equal : 8 ≡ 7 = same_value 8 7 (one (Some 8)) in omega (arith, equal)
 
--- 0 and 1 carry 1, 2 carries 2, other addresses nothing
+-- addresses 0 and 1 carry 1, address 2 carries 2, all others carry nothing
 abbrev two_runs : ℕ → Option ℕ
 two_runs x = if nat_lt x 2 then Some 1 else (if x == 2 then Some 2 else None)
 
--- the first run ends at its last address only
+-- a run ends at address 1, the last one of the first run, and not at address 0
 edges_examples : (run_ends_at (λ m n. m == n) two_runs 1 ≡ 1) × (run_ends_at (λ m n. m == n) two_runs 0 ≡ 0)
 edges_examples = (refl, refl)
 
--- two runs end in all; a spike counts if its address is among those counted
+-- two runs end among the first ten addresses; `one_right_below` adds 1 if the address right below
+-- its argument is among those that are summed
 total_examples : (total (run_ends_at (λ m n. m == n) two_runs) 0 10 ≡ 2) × (total (one_right_below 5) 0 10 ≡ 1) × (total (one_right_below 5) 5 10 ≡ 0)
 unfolding total
 total_examples = (refl, refl, refl)

@@ -1,4 +1,5 @@
--- A range carries one value exactly if the value of its first address goes on to its end.
+-- All addresses of a range carry the value exactly if the first one carries it and nothing changes
+-- before the end of the range.
 use Rattle.std.proofs.Common.{◌≡◌, ℕ, ◌<◌, ◌≤◌, Option, Some, None, sym, ◌∙◌, inl, inr, arith}
 use Rattle.std.proofs.lemmas.Bool.{cases_lt}
 use Rattle.address_runs.specs.Sweep.{HasValueBetween}

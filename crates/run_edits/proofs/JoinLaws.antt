@@ -1,4 +1,5 @@
--- The list that was built and the rest of the old list make a whole; and how an edit begins.
+-- The list built up to an address and the old list's rest from there on make the whole list. The
+-- state with which an edit begins.
 use Rattle.std.proofs.Common.{◌≡◌, ◌≢◌, ℕ, ◌+◌, ◌-◌, ◌^◌, ◌<◌, ◌≤◌, Bool, true, nat_lt, Option, Some, None, List, [], ◌∷◌, ◌++◌, length, get_or, take, drop, refl, sym, ◌∙◌, ap, subst, inl, inr, arith}
 use Rattle.std.proofs.lemmas.Bool.Decides.{nat_tests}
 use Rattle.std.proofs.lemmas.Bool.{cases_lt, cases_Bool}
@@ -42,7 +43,7 @@ module _ {X : Type 0} where
   runs_join at v (x ∷ []) rs runs ends more starts is = (runs.0, before_joined at v x rs ends.0 ends.1 more starts is, more)
   runs_join at v (x ∷ (y ∷ ys)) rs runs ends more starts is = (runs.0, runs.1, runs_join at v (y ∷ ys) rs runs.2 ends.2 more starts is)
 
-  -- the list built below an address, then the rest from the address on, are all runs
+  -- a list complete up to an address, followed by the runs from that address on, has all runs
   pub swept_join : (f g : ℕ → Option X) (at : ℕ) (xs rs : List (RunOf X)) → IsSweptTo g at xs → IsRestFrom f at rs → StartAtOrPast at rs
       → ((x : ℕ) → at ≤ x → g x ≡ f x)
       → IsRunsOf g (xs ++ rs)
@@ -54,7 +55,7 @@ module _ {X : Type 0} where
     ];
   }
 
-  -- one more run is written
+  -- the list stays complete when one more run has been written
   pub swept_stretch : (g : ℕ → Option X) (start until : ℕ) (v : Option X) (xs : List (RunOf X)) → IsSweptTo g start xs → start ≤ until
       → HasValueBetween g start until v
       → (g until ≡ v → v ≡ None) → IsSweptTo g until (xs ++ stretch start until v)
@@ -71,7 +72,7 @@ module _ {X : Type 0} where
             rw (none, append-nil xs) moved
       ]
 
-  -- so the open run ends, and another begins
+  -- when a value changes, the open run is written and another one opens
   pub built_stretch : (g : ℕ → Option X) (start from until : ℕ) (v w : Option X) (xs : List (RunOf X)) → IsBuiltTo g from xs start v
       → g from ≡ w → v ≢ w → from ≤ until
       → HasValueBetween g from until w → IsBuiltTo g until (xs ++ stretch start from v) from w
@@ -152,7 +153,7 @@ module _ {X : Type 0} where
   ends_from at [] runs ends = tt
   ends_from at (r ∷ rs) runs ends = let some : 0 < r.size = runs.0 in omega arith
 
-  -- the runs that don't end below an address are the rest from the address before it
+  -- without the runs that end below `at`, a list is what remains of it from address `at - 1` on
   pub rest_before : (whole : List (RunOf X)) (at : ℕ) (xs rs : List (RunOf X)) → xs ++ rs ≡ whole → AreRuns whole → EndBelow at xs
       → FirstEndsAtOrPast at rs
       → IsRestFrom (value_at whole) (at - 1) rs
@@ -164,7 +165,7 @@ module _ {X : Type 0} where
         each = λ x above. sym (value_append_none xs rs x (none_past at x xs ends (omega arith))) ∙ ap (λ l. value_at l x) is;
       }
 
-  -- if a run ends below an address, so do those before it
+  -- each run ends at or below the base of every later run
   ends_order : (r : RunOf X) (rs : List (RunOf X)) (i : ℕ) (xs ys : List (RunOf X)) (s : RunOf X) → AreRuns (r ∷ rs) → rs ≡ xs ++ s ∷ ys
       → run_end r ≤ s.base
   ends_order r rs i [] ys s runs is = let before : IsBefore r (s ∷ ys) = rw is at runs.1 in before.0
@@ -176,7 +177,7 @@ module _ {X : Type 0} where
       let first : run_end r ≤ x.base = before.0 in
       omega arith
 
-  -- so the records up to it all end below the address
+  -- if a run ends below an address, all records up to it do
   pub before_more : (at : ℕ) (xs ys : List (RunOf X)) (s : RunOf X) → AreRuns (xs ++ s ∷ ys) → run_end s < at → EndBelow at (xs ++ s ∷ [])
   before_more at [] ys s runs under = (under, tt)
   before_more at (x ∷ xs) ys s runs under =

@@ -1,4 +1,4 @@
--- Inserting and removing records, in lists and in the runs that they stand for.
+-- Inserting and removing records: what it does to the list of records and to their runs.
 use Rattle.std.proofs.Common.{◌≡◌, ℕ, zero, suc, ◌+◌, ◌-◌, ◌≤◌, List, [], ◌∷◌, ◌++◌, length, take, drop, map, refl, sym, ◌∙◌, ap, arith}
 use Rattle.std.specs.List.{copy_within}
 use Rattle.std.proofs.lemmas.List.{map-append, take-map, take_at, drop_at, take_rest, length-drop, length-take-le, length_push, append_assoc}
@@ -9,12 +9,12 @@ drop-map run zero xs = refl
 drop-map run (suc n) [] = refl
 drop-map run (suc n) (x ∷ xs) = drop-map run n xs
 
--- inserting a record before the one at the index
+-- inserting a record inserts its run at the same index
 pub map_insert : {S R : Type 0} (run : S → R) (i : ℕ) (s : S) (xs : List S) → map run (take i xs ++ s ∷ drop i xs) ≡ take i (map run xs)
     ++ run s ∷ drop i (map run xs)
 map_insert run i s xs = map-append run (take i xs) (s ∷ drop i xs) ∙ rw (take-map run i xs, drop-map run i xs) refl
 
--- removing n records; those after them move down
+-- removing n records moves those after them down by n places
 pub closed : {S : Type 0} (i n count : ℕ) (xs : List S) → count ≡ length xs → i + n ≤ count
     → take (count - n) (copy_within xs (i + n) count i) ≡ take i xs ++ drop (i + n) xs
 closed i n count xs is fits =
@@ -30,7 +30,7 @@ pub map_closed : {S R : Type 0} (run : S → R) (i n : ℕ) (xs : List S) → ma
     ++ drop (i + n) (map run xs)
 map_closed run i n xs = map-append run (take i xs) (drop (i + n) xs) ∙ rw (take-map run i xs, drop-map run (i + n) xs) refl
 
--- the records before an inserted one, the inserted one, and those after it
+-- after an insertion, the first i + 1 records are the old first i and the new one
 pub take_insert : {R : Type 0} (i : ℕ) (r : R) (xs : List R) → i ≤ length xs → take (i + 1) (take i xs ++ r ∷ drop i xs) ≡ take i xs
     ++ r ∷ []
 take_insert i r xs within =

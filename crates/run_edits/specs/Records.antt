@@ -3,7 +3,8 @@ use Rattle.std.specs.Prelude.{◌≡◌, ◌⊎◌, ℕ, ◌-◌, ◌<◌, ◌�
 use Rattle.address_runs.specs.Runs.{RunOf, run_end}
 
 module _ {X : Type 0} where
-  -- the run from one address to the other, or nothing if that is empty or has no value
+  -- the run from `start` to `until`, without `until`, as a list; the empty list if the run has no
+  -- address or no value
   abbrev pub stretch : ℕ → ℕ → Option X → List (RunOf X)
   stretch start until None = []
   stretch start until (Some v) = if nat_lt start until then record { base = start; size = until - start; value = v } ∷ [] else []
@@ -13,12 +14,13 @@ module _ {X : Type 0} where
   EndBelow at [] = Unit {0}
   EndBelow at (r ∷ rs) = (run_end r < at) × EndBelow at rs
 
-  -- the address isn't strictly inside the first run of the list
+  -- the address isn't inside the first run of the list: it is at or below the run's base, or at or
+  -- above its end
   abbrev pub CutsNoRun : ℕ → List (RunOf X) → Type 0
   CutsNoRun at [] = Unit {0}
   CutsNoRun at (r ∷ rs) = r.base < at → run_end r ≤ at
 
-  -- the change can't end a run inside its range: it leaves empty addresses empty, or gives all
-  -- addresses the same
+  -- the change can't make a run end inside its range: it leaves addresses that carry nothing as
+  -- they are, or gives all addresses the same
   abbrev pub EndsNoRun : (Option X → Option X) → Type 0
   EndsNoRun change = (change None ≡ None) ⊎ ((carried : Option X) → change carried ≡ change None)

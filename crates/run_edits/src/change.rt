@@ -2,7 +2,8 @@
 
 ghost use Rattle.std.specs.Prelude.{◌≡◌, Option, Some, None, unwrap_or};
 
-/// A change of what a single address carries. An edit applies it to each address of a range.
+/// A change of what a single address carries. An edit applies one change to each address of a
+/// range.
 pub trait Change<V: Copy>: Copy {
     // what an address carries after the change, given what it carried before
     ghost makes: { Self → Option V → Option V };
@@ -41,7 +42,7 @@ impl<V: Copy> Change<V> for Uncover {
     }
 }
 
-/// The change that gives the value to an address, whatever it carries.
+/// The change that gives the value to every address, whatever it carries.
 #[derive(Clone, Copy)]
 pub struct Replace<V>(pub V);
 

@@ -1,9 +1,9 @@
 //! The sweep that carries out every edit.
 //!
-//! It visits the records that meet or touch the range, in ascending order, with an index to read
-//! from and an index to write to. A record is read before its slot is overwritten. Records above
-//! the range are moved once. The kernel has a loop for each kind of edit (`memblock_add_range`
-//! and others) and merges neighbours afterwards.
+//! The sweep visits the records that meet or touch the range, in ascending order. It reads at one
+//! index and writes at another, and reads a record before overwriting its slot. Records above the
+//! range are moved once. The kernel has a loop for each kind of edit (`memblock_add_range` and
+//! others) and merges neighbours afterwards.
 
 ghost use Rattle.std.specs.Prelude.{◌≡◌, ◌≢◌, ◌+◌, ◌-◌, ◌^◌, ◌<◌, ◌≤◌, ℕ, Bool, true, Option, Some, None, ◌++◌, length, take, drop, is_some};
 ghost use Rattle.address_runs.specs.Runs.{DecidesEquality, AreRuns, IsRunsOf, value_at};
@@ -29,7 +29,7 @@ struct Sweep<V> {
     value: Option<V>,
 }
 
-/// Starts a sweep at the address.
+/// Returns the state of a sweep that starts at the address.
 fn begin<S: Stretch, T: Rows<S>>(table: &T, at: u64) -> Sweep<S::Value>
     requires { AreRuns (T.list table.now) }
     ensures built { (g : ℕ → Option S.Value) →
@@ -66,12 +66,12 @@ fn stretch_at<S: Stretch, T: Rows<S>>(table: &T, first: u64, at: u64) -> (u64, O
     }
 }
 
-/// Writes the run from `start` to `until` with the value at index `write`, unless the run is
-/// empty or has no value.
+/// Writes the run from `start` to `until` with the value at index `write`, unless the run is empty
+/// or has no value.
 ///
-/// The records before index `write` and those from index `read` on are kept; those between are
-/// free slots. A record is inserted if there is no free slot. Returns both indices as they are
-/// afterwards.
+/// The records before index `write` and those from index `read` on are kept; the slots between
+/// them are free. If no slot is free, the record is inserted. Returns the indices `write` and
+/// `read` after the call.
 pub fn write_run<S: Stretch, T: Slots<S>>(
     table: &mut T,
     write: u64,
@@ -106,8 +106,8 @@ pub fn write_run<S: Stretch, T: Slots<S>>(
     }
 }
 
-/// Continues the sweep with `value` from address `from` on, and writes the open run if its value
-/// differs.
+/// Continues the sweep with `value` from address `from` on. If the open run has another value, it
+/// is written first.
 fn advance<S: Stretch, T: Slots<S>>(
     table: &mut T,
     sweep: Sweep<S::Value>,
@@ -190,9 +190,14 @@ pub fn edit_range<S: Stretch, T: Slots<S>, C: Change<S::Value>>(
 }
 
 /// Applies a change to each address of the range. The table then holds the runs of the result. The
-/// change must not be a cover: it must leave empty addresses empty, or give the same to all
-/// addresses. The range must not be empty, and the table must have room for two more records.
-pub fn edit_without_cover<S: Stretch, T: Slots<S>, C: Change<S::Value>>(table: &mut T, range: &Range, change: C)
+/// change must leave addresses that carry nothing as they are, or give all addresses the same, so
+/// it can't be a [`crate::Cover`]. The range must not be empty, and the table must have room for
+/// two more records.
+pub fn edit_without_cover<S: Stretch, T: Slots<S>, C: Change<S::Value>>(
+    table: &mut T,
+    range: &Range,
+    change: C,
+)
     requires some { 0 < range.now.size }
     requires runs { AreRuns (T.list table.old) }
     requires within { IsEmptyFrom (2 ^ 64) (value_at (T.list table.old)) }

@@ -6,17 +6,17 @@
 //!
 //! The kernel has a function for each edit (`memblock_add_range`, `memblock_remove_range`,
 //! `memblock_setclr_flag`, `memblock_set_node`, ..) and merges neighbours afterwards
-//! (`memblock_merge_regions`). Here an edit is a [`Change`]: what it does to a single address,
-//! such as [`Cover`], [`Uncover`] and [`Replace`]. One function carries out all of them. It
-//! sweeps once over the records that meet or touch the range.
+//! (`memblock_merge_regions`). Here an edit is a [`Change`], which says what happens to a single
+//! address: [`Cover`], [`Uncover`], [`Replace`] and others. One function carries out all of them.
+//! It sweeps once over the records that meet or touch the range.
 //!
 //! A table may be a `Vec`, or lie in the memory that it describes. [`Rows`] reads its records;
 //! [`Slots`] also writes, inserts and removes them. No function here allocates.
 //!
 //! After [`edit_range`] or [`edit_without_cover`] the table holds the runs of the changed values,
-//! and nothing else has changed. [`edit_without_cover`] takes any change except a cover and needs
-//! room for two more records. [`edit_range`] takes any change and needs as much room as the runs
-//! need on the way.
+//! and nothing else has changed. [`edit_without_cover`] takes any change except a cover, and needs
+//! room for two more records. [`edit_range`] takes any change; it needs room, at each address that
+//! the sweep reaches, for the new runs below and the old runs above.
 #![tactic(auto)]
 
 mod change;
@@ -26,7 +26,7 @@ mod reading;
 mod slots;
 
 pub use change::{Change, Cover, Replace, Uncover};
-pub use edits::{edit_without_cover, write_run, edit_range};
+pub use edits::{edit_range, edit_without_cover, write_run};
 pub use laws::{edits_add_few, range_end_fits};
 pub use reading::{has_value_throughout, seek, skip_ended, value_and_end, value_at};
 pub use slots::{Rows, Slots};

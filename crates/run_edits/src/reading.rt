@@ -1,5 +1,5 @@
-//! Reads a table of runs: which record contains an address, what an address carries, and how far
-//! that goes.
+//! Reads a table of runs: which record contains an address, what the address carries, and which is
+//! the next address that carries something else.
 
 ghost use Rattle.std.specs.Prelude.{◌≡◌, ◌+◌, ◌-◌, ◌^◌, ◌<◌, ◌≤◌, ℕ, Option, Some, None, [], ◌∷◌, length, take, drop, IsTrue, ◌↔◌, MatchOption};
 ghost use Rattle.bm_base.specs.Range.{end_of};
@@ -67,7 +67,8 @@ pub fn skip_ended<S: Stretch, T: Rows<S>>(table: &T, read: u64, at: u64) -> u64
 }
 
 /// Returns what the address `from` carries, and the first address above it that carries something
-/// else (2^64 - 1 if no record is left). The records are read from index `read` on.
+/// else (2^64 - 1 if no record is left). Reads the record at index `read`, the first one that ends
+/// above `from`.
 pub fn value_and_end<S: Stretch, T: Rows<S>>(
     table: &T,
     read: u64,

@@ -1,4 +1,4 @@
-//! How the sweep reaches a table.
+//! Traits by which the sweep reads and changes a table.
 //!
 //! The journal keeps its runs in a `Vec`. memblock keeps its tables in the memory that they
 //! describe. Both implement [`Rows`] to read records, and [`Slots`] to change them.
@@ -23,12 +23,13 @@ pub trait Rows<S: Stretch> {
         ensures { S.run result ≡ get_or (list self.now) i (S.run result) };
 }
 
-/// A sequence of records that can be changed, with a fixed room. No call allocates.
+/// A sequence of records that can be changed, with room for a fixed number of records. No call
+/// allocates.
 pub trait Slots<S: Stretch>: Rows<S> {
     // the number of records that there is room for
     ghost room: { Self → ℕ };
 
-    // what else of the table stays the same when records are written
+    // what of the table, apart from its records, stays the same when records are written
     ghost keeps: { Self → Self → Type 0 };
 
     /// Overwrites the record at the index.

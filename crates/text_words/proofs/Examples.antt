@@ -5,7 +5,7 @@ use Rattle.text_words.specs.Parts.{separates, quotes, parts_in, text_before, spl
 use Rattle.text_words.specs.Spelling.{HasWords, blank_first, word_alone, word_first, QuotesClose}
 use Rattle.text_words.specs.Words.{words_in, unquote, IsClosed, IsWord}
 
--- blanks separate, and of a command line the bytes 0x09 to 0x0D; 0x08, 0x0E and 0xA0 don't
+-- a blank separates, and so do the bytes 0x09 to 0x0D of a command line; 0x08, 0x0E and 0xA0 don't
 line_separators : (separates CommandLine 0x20 ≡ true) × (separates CommandLine 0x09 ≡ true) × (separates CommandLine 0x0D ≡ true)
     × (separates CommandLine 0x08 ≡ false) × (separates CommandLine 0x0E ≡ false) × (separates CommandLine 0xA0 ≡ false)
 line_separators = (refl, refl, refl, refl, refl, refl)
@@ -15,25 +15,26 @@ script_separators : (separates Script 0x20 ≡ true) × (separates Script 0x09 �
     × (separates Script 0x0A ≡ false) × (separates Script 0x0C ≡ false)
 script_separators = (refl, refl, refl, refl, refl)
 
--- `"` quotes in a command line alone, `'` nowhere
+-- only `"` opens a quotation, and only in a command line
 quoting : (quotes CommandLine 34 ≡ true) × (quotes CommandLine 39 ≡ false) × (quotes Script 34 ≡ false) × (quotes (Byte 34) 34 ≡ false)
 quoting = (refl, refl, refl, refl)
 
--- a part may be empty, also the last one
+-- a part may be empty, even the last one
 parts_between_commas : parts_in (Byte 44) (codes "2G@0,,4G@2G") ≡ codes "2G@0" ∷ [] ∷ codes "4G@2G" ∷ []
 parts_between_commas = refl
 
 trailing_comma : parts_in (Byte 44) (codes "2G@0,") ≡ codes "2G@0" ∷ [] ∷ []
 trailing_comma = refl
 
--- a separator inside a quotation doesn't separate, and one that isn't closed goes on to the end
+-- a separator inside a quotation doesn't separate, and an unclosed quotation goes on to the end of
+-- the text
 quoted_blank : parts_in CommandLine (codes "a=\"b c\" d") ≡ codes "a=\"b c\"" ∷ codes "d" ∷ []
 quoted_blank = refl
 
 open_quotation : parts_in CommandLine (codes "a \"b c") ≡ codes "a" ∷ codes "\"b c" ∷ []
 open_quotation = refl
 
--- a line ends at the first zero byte, if it has one
+-- a command line ends at the first zero byte, if it has one
 before_zero : (text_before 0 (97 ∷ 98 ∷ 0 ∷ 99 ∷ 0 ∷ []) ≡ codes "ab") × (text_before 0 (codes "ab") ≡ codes "ab")
     × (text_before 0 (0 ∷ 97 ∷ []) ≡ [])
 before_zero = (refl, refl, refl)
@@ -45,7 +46,7 @@ cut_at_the_first = refl
 nothing_to_cut : split_once 61 (codes "quiet") ≡ None
 nothing_to_cut = refl
 
--- several separators make no empty words, and neither do those at the start or the end
+-- several separators in a row make no empty words, and neither do those at the start or the end
 words_of_a_line : words_in CommandLine (codes "\n quiet\t mem=4G ") ≡ codes "quiet" ∷ codes "mem=4G" ∷ []
 words_of_a_line = refl
 
@@ -58,7 +59,8 @@ unquoted_texts : (unquote (codes "\"a b\"") ≡ codes "a b")
     × (unquote (codes "\"\"") ≡ [])
 unquoted_texts = (refl, refl, refl, refl, refl)
 
--- a text with a quotation that closes is closed; with an open one, or a blank, it isn't
+-- a text with a closed quotation is one part; a text with an open quotation, or with a blank,
+-- isn't
 closed_text : IsClosed CommandLine false (codes "a=\"b c\"")
 closed_text = (refl, (refl, (refl, refl)))
 
@@ -74,8 +76,8 @@ spelled_word = record { some = omega arith; closed = closed_text }
 empty_is_no_word : IsWord CommandLine [] → ⊥
 empty_is_no_word word = let some = word.some in omega arith
 
--- two words with blanks around them, the second with a blank in a quotation; and a quotation that
--- stays open
+-- a text of two words with blanks around them, the second with a blank in a quotation; and a text
+-- with a quotation that doesn't close
 words_in_text_examples : HasWords CommandLine (codes " a \"b c\"") (codes "a" ∷ codes "\"b c\"" ∷ [])
     × (QuotesClose CommandLine false (codes "a \"b") → ⊥)
 words_in_text_examples = (

@@ -1,4 +1,4 @@
--- Parts of a text, byte by byte, and texts that are spelled as parts.
+-- The parts of a text, byte by byte. A text that is made of parts is split into these parts.
 use Rattle.std.proofs.Common.{◌≡◌, ℕ, Bool, true, false, ◌&&◌, not, List, [], ◌∷◌, ◌++◌, refl, ap, sym, append_assoc, ◌+◌, ◌<◌, length, take, drop, get_or, Some, add-one, drop-cons, eq-eqb, suc}
 use Rattle.std.specs.Option.{option_map}
 use Rattle.std.proofs.Math.Bool.{and-false}
@@ -7,7 +7,7 @@ use Rattle.text_words.specs.declared.separators.Separators.{Separators}
 use Rattle.text_words.specs.Parts.{separates, quoted_after, prepend_byte, parts_from, parts_in, prepend_text, split_once}
 use Rattle.text_words.specs.Words.{IsClosed}
 
--- prepends the text to the first part
+-- the parts with a text before them: it is prepended to the first part
 abbrev pub prepend_to_first_part : List ℕ → List (List ℕ) → List (List ℕ)
 prepend_to_first_part [] [] = []
 prepend_to_first_part (b ∷ bs) [] = (b ∷ bs) ∷ []
@@ -25,14 +25,14 @@ prepend_to_first_part-prepend_byte (a ∷ front) b [] = refl
 prepend_to_first_part-prepend_byte [] b (p ∷ ps) = refl
 prepend_to_first_part-prepend_byte (a ∷ front) b (p ∷ ps) = ap (λ (part : List ℕ). (a ∷ part) ∷ ps) (sym (append_assoc front (b ∷ []) p))
 
--- a separator ends the part
+-- a separator outside quotations ends the part
 pub parts-end : (s : Separators) (quoted : Bool) (front : List ℕ) (b : ℕ) (rest : List ℕ)
     → separates s b ≡ true → quoted ≡ false → prepend_to_first_part front (parts_from s quoted (b ∷ rest)) ≡ front ∷ parts_in s rest
 parts-end s true front b rest is closed = cc
 parts-end s false [] b rest is closed = rw is refl
 parts-end s false (a ∷ front) b rest is closed = rw is (ap (λ (part : List ℕ). (a ∷ part) ∷ parts_in s rest) (append-nil front))
 
--- any other byte belongs to the part
+-- any other byte belongs to the current part
 pub parts-more : (s : Separators) (quoted : Bool) (front : List ℕ) (b : ℕ) (rest : List ℕ)
     → separates s b && not quoted ≡ false
     → prepend_to_first_part front (parts_from s quoted (b ∷ rest)) ≡ prepend_to_first_part (front ++ (b ∷ [])) (parts_from s (quoted_after s quoted b) rest)
@@ -61,13 +61,13 @@ parts-one s true (a ∷ part) closed =
 parts-one s false (a ∷ part) closed =
     rw (closed.0) (ap (prepend_byte a) (parts-one s (quoted_after s false a) part closed.1))
 
--- the text is split at the first byte that is the mark
+-- a text whose byte at `i` is the first `mark` is split there
 pub split_once-found : (mark : ℕ) (text : List ℕ) (i : ℕ) → i < length text → get_or text i 0 ≡ mark
     → option_map (prepend_text (take i text)) (split_once mark (drop i text)) ≡ Some (take i text, drop (i + 1) text)
 split_once-found mark text i inside is =
     rw (add-one, drop-cons text i 0, eq-eqb (get_or text i 0) mark is) (rw append-nil refl)
 
--- a separator outside quotations ends the first part
+-- if the byte at `i` is the first separator outside quotations, the first part ends there
 pub part-found : (s : Separators) (quoted : Bool) (text : List ℕ) (i : ℕ) → i < length text
     → separates s (get_or text i 0) ≡ true → quoted ≡ false
     → prepend_to_first_part (take i text) (parts_from s quoted (drop i text)) ≡ take i text ∷ parts_in s (drop (i + 1) text)

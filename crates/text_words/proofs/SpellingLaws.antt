@@ -40,7 +40,7 @@ first_part s false (a ∷ text) close = by_test (separates s a) refl (first_part
     by_test false is (inr found) =
         inr (a ∷ found.0, found.1, found.2, ap (λ (bs : List ℕ). a ∷ bs) found.3, (is, found.4), found.5, found.6)
 
--- words that are read are spelled in the text
+-- the words of a text are words of the text by the grammar
 one_word : (s : Separators) (text : List ℕ) → IsClosed s false text → HasWords s text (words_in s text)
 one_word s [] closed = no_byte
 one_word s (a ∷ bs) closed =
@@ -84,7 +84,7 @@ words_exactly s text words close = (
   has_words s text words,
 )
 
--- a text ends with a quotation mark, or doesn't
+-- a text either ends with a quotation mark or doesn't
 abbrev EndsOrNot : List ℕ → Type 0
 EndsOrNot text =
     ((front : List ℕ) × (text ≡ front ++ codes "\"") × (without_last 34 text ≡ front))
@@ -118,7 +118,7 @@ ends_or_not (b ∷ c ∷ bs) = longer (ends_or_not (c ∷ bs))
 no_quote : (b : ℕ) (bs : List ℕ) → b == 34 ≡ false → (rest : List ℕ) → b ∷ bs ≢ codes "\"" ++ rest
 no_quote b bs isnt rest same = let is : b ≡ 34 = cc in let test : b == 34 ≡ true = eq-eqb b 34 is in cc
 
--- unquoting, for each form of the text
+-- unquoting removes the marks that the grammar says, for each form of the text
 unquote-spelled : (text : List ℕ) → Unquotes text (unquote text)
 unquote-spelled [] = no_mark [] (λ rest same. cc)
 unquote-spelled (b ∷ bs) = by_test (b == 34) refl (ends_or_not bs)

@@ -22,7 +22,7 @@ quotes (Byte mark) b = false
 abbrev pub quoted_after : Separators → Bool → ℕ → Bool
 quoted_after s quoted b = if quotes s b then not quoted else quoted
 
--- prepends the byte to the first part
+-- the parts of a text that has one more byte at its start: the byte begins the first part
 abbrev pub prepend_byte : ℕ → List (List ℕ) → List (List ℕ)
 prepend_byte b [] = (b ∷ []) ∷ []
 prepend_byte b (p ∷ ps) = (b ∷ p) ∷ ps
@@ -41,12 +41,12 @@ parts_from s quoted (b ∷ bs) =
 abbrev pub parts_in : Separators → List ℕ → List (List ℕ)
 parts_in s text = parts_from s false text
 
--- the parts of the text after a separator; none if there was no separator
+-- the parts of the text after a separator, or none if no separator follows
 abbrev pub parts_of_rest : Separators → Option (List ℕ) → List (List ℕ)
 parts_of_rest s None = []
 parts_of_rest s (Some text) = parts_in s text
 
--- the text before the first such byte, or the whole text if it has no such byte
+-- the text before the first byte `mark`, or the whole text if it doesn't contain `mark`
 abbrev pub text_before : ℕ → List ℕ → List ℕ
 text_before mark [] = []
 text_before mark (b ∷ bs) = if b == mark then [] else b ∷ text_before mark bs
@@ -55,7 +55,7 @@ text_before mark (b ∷ bs) = if b == mark then [] else b ∷ text_before mark b
 abbrev pub prepend_text : List ℕ → List ℕ × List ℕ → List ℕ × List ℕ
 prepend_text front halves = (front ++ halves.0, halves.1)
 
--- the texts before and after the first such byte, if there is one
+-- the texts before and after the first byte `mark`, or None if the text doesn't contain `mark`
 abbrev pub split_once : ℕ → List ℕ → Option (List ℕ × List ℕ)
 split_once mark [] = None
 split_once mark (b ∷ bs) = if b == mark then Some ([], bs) else option_map (prepend_text (b ∷ [])) (split_once mark bs)

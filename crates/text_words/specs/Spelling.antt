@@ -4,7 +4,7 @@ use Rattle.text_words.specs.declared.separators.Separators.{Separators}
 use Rattle.text_words.specs.Parts.{separates, quoted_after}
 use Rattle.text_words.specs.Words.{IsWord}
 
--- each quotation of the text closes. The flag says whether one is open at the start
+-- each quotation of the text closes. The flag says whether a quotation is open at the start.
 abbrev pub QuotesClose : Separators → Bool → List ℕ → Type 0
 QuotesClose s quoted [] = quoted ≡ false
 QuotesClose s quoted (b ∷ bs) = QuotesClose s (quoted_after s quoted b) bs
@@ -19,8 +19,8 @@ pub data HasWords (s : Separators) : List ℕ → List (List ℕ) → Type 0 whe
   word_first : (word : List ℕ) (b : ℕ) (text : List ℕ) (words : List (List ℕ)) → IsWord s word → separates s b ≡ true
       → HasWords s text words → HasWords s (word ++ (b ∷ text)) (word ∷ words)
 
--- unquoting the first text gives the second: only a text that begins with `"` loses it, and then
--- one at its end
+-- unquoting the first text gives the second. A text that begins with `"` loses it, and a `"` at
+-- its end; any other text stays as it is.
 pub data Unquotes : List ℕ → List ℕ → Type 0 where
   no_mark : (text : List ℕ) → ((rest : List ℕ) → text ≢ codes "\"" ++ rest) → Unquotes text text
   both_marks : (inner : List ℕ) → Unquotes (codes "\"" ++ (inner ++ codes "\"")) inner

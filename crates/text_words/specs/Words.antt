@@ -3,7 +3,7 @@ use Rattle.std.specs.Prelude.{◌≡◌, ℕ, ◌<◌, ◌==◌, Bool, true, fal
 use Rattle.text_words.specs.declared.separators.Separators.{Separators}
 use Rattle.text_words.specs.Parts.{separates, quoted_after, parts_in}
 
--- the part is a word: it isn't empty
+-- whether the part is a word: it isn't empty
 abbrev pub is_word : List ℕ → Bool
 is_word [] = false
 is_word (b ∷ bs) = true
@@ -12,7 +12,7 @@ is_word (b ∷ bs) = true
 abbrev pub words_in : Separators → List ℕ → List (List ℕ)
 words_in s text = filter is_word (parts_in s text)
 
--- the text without its last byte, if that is the mark
+-- the text without its last byte, if that byte is the mark
 abbrev pub without_last : ℕ → List ℕ → List ℕ
 without_last mark [] = []
 without_last mark (b ∷ []) = if b == mark then [] else b ∷ []
@@ -24,7 +24,7 @@ unquote [] = []
 unquote (b ∷ bs) = if b == 34 then without_last 34 bs else b ∷ bs
 
 -- the text has no separator outside quotations, and each of its quotations closes. The flag says
--- whether one is open at the start
+-- whether a quotation is open at the start.
 abbrev pub IsClosed : Separators → Bool → List ℕ → Type 0
 IsClosed s quoted [] = quoted ≡ false
 IsClosed s true (b ∷ bs) = IsClosed s (quoted_after s true b) bs

@@ -13,7 +13,7 @@
 //! tie them to the grammar (`specs/Spelling.antt`): words that are spelled are read
 //! ([`spelled_words_are_read`], [`spelled_parts_are_read`]), and words that are read are spelled
 //! ([`words_are_spelled`]). A law is an empty function whose contract is a proven fact. In
-//! contracts, a name means the definition in `specs/`, also if a function has the same name.
+//! contracts, a name means the definition in `specs/`, even if a function has the same name.
 #![tactic(auto)]
 
 mod parts;

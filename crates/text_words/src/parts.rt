@@ -10,8 +10,8 @@ ghost use Rattle.text_words.specs.Words.{IsClosed};
 
 use crate::Separators;
 
-/// Returns the first part of the text, and the text after the separator that ends it. The latter is
-/// `None` if no separator follows: the part is then the last one.
+/// Returns the first part of the text, and the text after the separator that ends it. The second
+/// value is `None` if no separator follows; the part is then the last one.
 pub fn next_part(text: &[u8], separators: Separators) -> (&[u8], Option<&[u8]>)
     ensures parts { parts_in separators text.now
         ≡ result.0.now ∷ parts_of_rest separators (option_map (λ rest. rest.now) result.1) }
@@ -30,7 +30,7 @@ pub fn next_part(text: &[u8], separators: Separators) -> (&[u8], Option<&[u8]>)
     (text, None)
 }
 
-/// Returns the text before the first byte `mark`, or the whole text if it has no such byte.
+/// Returns the text before the first byte `mark`, or the whole text if it doesn't contain `mark`.
 pub fn text_before(text: &[u8], mark: u8) -> &[u8]
     ensures { result.now ≡ text_before mark text.now }
 {
@@ -42,7 +42,8 @@ pub fn text_before(text: &[u8], mark: u8) -> &[u8]
     text
 }
 
-/// Returns the texts before and after the first byte `mark`, or `None` if there is none.
+/// Returns the texts before and after the first byte `mark`, or `None` if the text doesn't contain
+/// `mark`.
 pub fn split_once(text: &[u8], mark: u8) -> Option<(&[u8], &[u8])>
     ensures { option_map (λ found. (found.0.now, found.1.now)) result ≡ split_once mark text.now }
 {

@@ -18,7 +18,7 @@ pub enum Separators {
 impl Separators {
     ghost use Rattle.text_words.specs.Parts.{separates, quotes};
 
-    /// Returns whether the byte separates, outside quotations.
+    /// Returns whether the byte separates parts outside quotations.
     pub fn separates(self, byte: u8) -> bool
         ensures { result ≡ separates self byte }
     {

@@ -1,8 +1,8 @@
 //! Words, the parts of a text that aren't empty, and the quotation marks around a word or a
 //! value.
 //!
-//! The kernel does both in one pass and writes into the line (`next_arg` of lib/cmdline.c). Here
-//! the text isn't changed, and a word is a slice of it.
+//! The kernel finds words and removes their quotation marks in one pass, and writes into the line
+//! (`next_arg` of lib/cmdline.c). Here the text isn't changed, and a word is a slice of it.
 
 ghost use Rattle.std.specs.Prelude.{◌≡◌, ◌↔◌, ℕ, ◌<◌, ◌≤◌, true, false, List, [], ◌∷◌, ◌++◌, length, IfSome, IfNone};
 ghost use Rattle.text_words.specs.declared.separators.Separators.{Separators as SomeSeparators};
@@ -31,8 +31,8 @@ pub fn next_word(text: &[u8], separators: Separators) -> Option<(&[u8], &[u8])>
     None
 }
 
-/// Returns the text without the `"` at its start and the `"` at its end. A text that doesn't begin
-/// with `"` is returned unchanged. One that doesn't end with `"` loses only the first.
+/// Returns the text without the `"` at its start and, if there is one, the `"` at its end. A text
+/// that doesn't begin with `"` is returned unchanged.
 pub fn unquote(text: &[u8]) -> &[u8]
     ensures { result.now ≡ unquote text.now }
 {
@@ -65,7 +65,7 @@ pub fn spelled_words_are_read()
 {}
 
 /// Law: if all quotations of a text close, its words are exactly those that the grammar finds in
-/// it. Unquoting removes exactly the quotation marks that the grammar names.
+/// it. Unquoting a text gives the text that the grammar gives (`Unquotes`).
 pub fn words_are_spelled()
     ensures words { (s : SomeSeparators) (text : List ℕ) (words : List (List ℕ)) →
         QuotesClose s false text → words_in s text ≡ words ↔ HasWords s text words }

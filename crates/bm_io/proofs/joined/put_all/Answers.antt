@@ -1,4 +1,5 @@
--- One more chunk was written or failed: what was written are then the first bytes of all.
+-- One more chunk was written or failed. The bytes written until then are the first bytes of all
+-- chunks.
 use Rattle.std.proofs.Common.{◌≡◌, ◌∙◌, Err, ap, arith, get_or, sym}
 use Rattle.std.proofs.lemmas.Result.{err_from_is_err_and}
 use Rattle.std.proofs.KnownBytes.{Appends-trans}

@@ -1,5 +1,5 @@
--- The chunks so far were appended, without running out of memory; if they were empty, the output
--- is unchanged.
+-- The chunks before this one were appended, without running out of memory. If they were all empty,
+-- the output is unchanged.
 use Rattle.std.proofs.Common.{◌≡◌, ◌≤◌, [], take}
 use Rattle.std.specs.List.{flat_map}
 use Rattle.std.specs.Io.KnownBytes.{Appends}

@@ -1,4 +1,4 @@
--- The search over the program's files finds what the definition says.
+-- The search by name finds the file whose bytes the definition returns.
 use Rattle.std.proofs.Common.{arith}
 use Rattle.std.proofs.lemmas.Grind.{common_steps}
 use Rattle.bm_io.proofs.HeldFilesLaws.{bytes_of_found}

@@ -4,8 +4,8 @@ use Rattle.address_runs.specs.Edits.{change_range}
 use Rattle.address_runs.specs.Sweep.{IsBuiltTo, IsRestFrom}
 use Rattle.run_edits.proofs.edits.edit_range.Given as goal
 
--- the changed runs are written up to address `from`, and the old records from there on are still to
--- be read
+-- the new runs are written up to address `from`, and the old records from there on are still to be
+-- read
 abbrev pub invariant-loop-from : goal.invariant-loop-from
 invariant-loop-from g l = record {
   first : l.range.base ≤ l.from;

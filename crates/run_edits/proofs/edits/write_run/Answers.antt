@@ -5,7 +5,7 @@ use Rattle.run_edits.specs.Records.{stretch}
 use Rattle.run_edits.proofs.SlotLaws.{take_insert, drop_insert}
 use Rattle.run_edits.proofs.edits.write_run.Goals as goal
 
--- the run is the record that is written for it
+-- the list with the run from `start` to `until` has one member, the record that is written
 one_stretch : {X : Type 0} (start until : ℕ) (value : Option X) (v : X) (r : RunOf X) → value ≡ Some v → start < until
     → r ≡ record { base = start; size = until - start; value = v } → stretch start until value ≡ r ∷ []
 one_stretch start until value v r is lt run = let test : nat_lt start until ≡ true = grind (arith, nat_tests) in rw (is, test, run) refl

@@ -3,7 +3,7 @@ use Rattle.address_runs.specs.Sweep.{FirstEndsAtOrPast}
 use Rattle.run_edits.specs.Records.{EndBelow}
 use Rattle.run_edits.proofs.reading.first_ending_from.Given as goal
 
--- the records below `low` end below the address, and the one at `high` doesn't
+-- the records before index `low` end below the address, and those from index `high` on don't
 abbrev pub invariant-loop-low : goal.invariant-loop-low
 invariant-loop-low g l = record {
   order : l.low ≤ l.high;

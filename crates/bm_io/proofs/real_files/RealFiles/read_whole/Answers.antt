@@ -1,4 +1,5 @@
--- One more read: its bytes are appended, or exceed the limit, or there was no memory for them.
+-- After one more read: its bytes were appended, or exceed the limit, or there was no memory for
+-- them.
 use Rattle.std.proofs.Common.{◌≡◌, ◌+◌, ◌++◌, rules, arith, take, length, vec_items, vec_len, refl, length-append, ◌∙◌, true}
 use Rattle.std.specs.Prelude.{is_ok}
 use Rattle.std.proofs.lemmas.List.{length-take-le}

@@ -1,4 +1,5 @@
--- The bytes so far are what the file gave, within the limit, and all were counted.
+-- The bytes read until now are what the file gave. They are within the limit, and all were
+-- counted.
 use Rattle.std.proofs.Common.{◌≡◌, ◌-◌, ◌^◌, ◌<◌, ◌≤◌, vec_len, vec_items}
 use Rattle.std.specs.Io.KnownBytes.{Consumes}
 use Rattle.bm_io.specs.Counts.{count_after}

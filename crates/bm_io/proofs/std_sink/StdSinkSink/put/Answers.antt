@@ -1,4 +1,4 @@
--- One more write of the rest.
+-- One more write of the bytes that remain.
 use Rattle.std.proofs.Common.{rules}
 use Rattle.bm_io.proofs.StreamLaws.{front_after_write, remaining_after_write}
 use Rattle.bm_io.proofs.CallsLaws.{taken_none, taken_more}

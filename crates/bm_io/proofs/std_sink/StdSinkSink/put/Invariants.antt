@@ -1,4 +1,4 @@
--- The stream took the first bytes of the chunk, and `rest` is the remaining ones.
+-- The stream took the first bytes of the chunk; `rest` has the remaining ones.
 use Rattle.std.proofs.Common.{◌≡◌, ◌-◌, length, take, drop}
 use Rattle.std.specs.Io.KnownBytes.{Appends}
 use Rattle.bm_io.specs.Calls.{HasTaken}
