@@ -1,4 +1,4 @@
--- Lemmas on the forms of `crashkernel=`: a plain form has at least one range, and each range ends
+-- Bounds of the forms of `crashkernel=`: a plain form has at least one range, and each range ends
 -- above its start.
 use Rattle.std.proofs.Common.{◌≡◌, ℕ, ◌<◌, if◌then◌else◌, Bool, true, false, is_some, Option, Some, None, List, [], ◌∷◌, length, refl, IfSome, arith, codes}
 use Rattle.std.proofs.lemmas.Bool.{ltb-true}

@@ -36,9 +36,9 @@ ranged_values : (crash_form_of (codes "0-64M:8M,64M-:16M")
 unfolding crash_form_of
 ranged_values = (refl, refl, refl, refl)
 
--- malformed values: no size, one that is too large, or one that isn't a size throughout; an
--- unknown suffix, or two; ranges that are empty or incomplete, with a base between them, or with a
--- suffix
+-- malformed values: no size, a size that is too large, or other text after a size; an unknown
+-- suffix, or two suffixes; ranges that are empty or incomplete, that have a base between them, or
+-- that have a suffix
 malformed_values : (crash_form_of [] ≡ None) × (crash_form_of (codes "x") ≡ None) × (crash_form_of (codes "64M@") ≡ None)
     × (crash_form_of (codes "@64M") ≡ None)
     × (crash_form_of (codes "64M,") ≡ None) × (crash_form_of (codes "64M,HIGH") ≡ None) × (crash_form_of (codes "64M,high,low") ≡ None)
@@ -81,7 +81,7 @@ wants_some : OptionsNeedMemory (options_of_words ((1, OfCrash (Plain (plain [] 0
     × (OptionsNeedMemory (options_of_words ((1, NumaOff) ∷ [])) → ⊥)
 wants_some = (search rules, λ wants. grind (arith, wants))
 
--- what the reader has if memory ran out for a range
+-- a plain form for whose range the reader ran out of memory
 abbrev lost : Memory → PlainRead
 lost m = record { ranges = Err m; base = 5 }
 

@@ -1,4 +1,4 @@
--- Lemmas: what is spelled as a form of `crashkernel=` is read as that form.
+-- A value that spells a form of `crashkernel=` is read as that form.
 use Rattle.std.proofs.Common.{◌≡◌, ℕ, ◌+◌, ◌*◌, ◌^◌, ◌≤◌, ◌==◌, nat_lt, if◌then◌else◌, Bool, true, false, ◌||◌, is_some, Option, Some, None, List, [], ◌∷◌, ◌++◌, length, drop, refl, sym, ap, ◌∙◌, append_assoc, length-append, length-drop, eq-eqb, codes, Ok, Err, IfOk, arith}
 use Rattle.std.proofs.lemmas.Bool.{ne_eqb}
 use Rattle.std.proofs.lemmas.Bool.Decides.{nat_tests}
@@ -91,7 +91,7 @@ lacks-from front (b ∷ bs) mark n is size = (
 pub lacks-size : (s : List ℕ) (mark n : ℕ) → is_digit mark 36 ≡ false → IsSize s n → Lacks mark s
 lacks-size s mark n is size = lacks-from [] s mark n is size
 
--- the size and the base of a plain form
+-- the size and the base of a plain form are read as spelled
 place-none : (s : List ℕ) → Lacks 64 s → text_and_base s ≡ Some (s, 0)
 place-none s lacks = rw (split_once-none 64 s lacks) refl
 
@@ -99,7 +99,7 @@ place-base : (s b : List ℕ) (base : ℕ) → Lacks 64 s → IsSize b base → 
 place-base s b base lacks size =
     rw (split_once-mark 64 s b lacks) (ap (λ (o : Option ℕ). option_map (λ x. (s, x)) o) (whole_size-end b base size))
 
--- one size, with a base and without
+-- a plain form of one size is read as spelled, with a base and without
 abbrev one : ℕ → ℕ → CrashFormView
 one size base = Plain (record { ranges = record { start = 0; end = None; size = size } ∷ []; base = base })
 
@@ -124,7 +124,7 @@ form-placed s b n base size at =
     (lacks-append 44 s (64 ∷ b) (lacks-size s 44 n refl size) (refl, lacks-size b 44 base refl at))
     ∙ simple-placed (s ++ (64 ∷ b)) s base n (place-base s b base (lacks-size s 64 n refl size) at) size
 
--- a size with a suffix
+-- a size with a suffix is read as spelled
 form-suffixed : (s name : List ℕ) (n : ℕ) (form : CrashFormView) → IsSize s n → Lacks 58 name → form_by_suffix name n ≡ Some form
     → crash_form_of (s ++ (44 ∷ name)) ≡ Some form
 unfolding crash_form_of
@@ -140,7 +140,7 @@ form-high s n size = form-suffixed s (codes "high") n (High n) size (refl, (refl
 form-low : (s : List ℕ) (n : ℕ) → IsSize s n → crash_form_of (s ++ codes ",low") ≡ Some (Low n)
 form-low s n size = form-suffixed s (codes "low") n (Low n) size (refl, (refl, (refl, tt))) refl
 
--- the end of a range, and a range
+-- the end of a range, and then a range, are read as spelled
 end-spelled : (text : List ℕ) (end : Option ℕ) (start : ℕ) → SpellsEnd text end start
     → (end_of_range text ≡ Some end) × (is_above end start ≡ true)
 end-spelled text None start spells = (rw spells refl, refl)
@@ -194,7 +194,7 @@ range-spelled text r spells =
     (whole_size-end spells.size_text r.size spells.size)
     ∙ rw end.1 refl
 
--- ranges with commas between them
+-- ranges with commas between them are read as spelled
 pub lacks-closed : (text : List ℕ) → Lacks 44 text → IsClosed (Byte 44) false text
 lacks-closed [] lacks = refl
 lacks-closed (b ∷ bs) lacks = (lacks.0, lacks-closed bs lacks.1)
@@ -265,7 +265,7 @@ form-ranges-placed text texts rs b base spell size =
     (has-colon text texts rs (64 ∷ b) spell)
     (place-base (join_with_commas (text ∷ texts)) b base (lacks-joined (text ∷ texts) rs spell) size) (ranges-spelled text texts rs spell)
 
--- each form that is spelled is read as that form
+-- each value that spells a form is read as that form
 pub form-read : (value : List ℕ) (form : CrashFormView) → SpellsForm value form → crash_form_of value ≡ Some form
 form-read value form (one_size s _ size _ is no_base) = rw (append-nil s) (form-simple s size is)
 form-read value form (one_size s _ size base is (a_base b _ at)) = form-placed s b size base is at

@@ -49,14 +49,14 @@ map_option_forms : (map_option_of (codes "1M@2M") ≡ Some (Adding (Some (Add (r
     × (map_option_of (codes "1M%2M") ≡ Some (Other (Some (RemoveAll (range 0x200000 0x100000)))))
 map_option_forms = (refl, refl, refl, refl, refl, refl, refl, refl, refl, refl, refl)
 
--- the largest range, the last byte, and RAM that ends at 0 or isn't limited
+-- the largest range, a range of only the last byte, RAM that ends at 0, and RAM without a limit
 edges : (map_option_of (codes "0xFFFFFFFFFFFFFFFF@0") ≡ Some (Adding (Some (Add (range 0 (2 ^ 64 - 1)) 1))))
     × (map_option_of (codes "1@18446744073709551614") ≡ Some (Adding (Some (Add (range (2 ^ 64 - 2) 1) 1))))
     × (map_option_of (codes "0") ≡ Some (Other (Some (Remove (range 0 (2 ^ 64 - 1)) 1))))
     × (map_option_of (codes "0xFFFFFFFFFFFFFFFF") ≡ Some (Other None))
 edges = (refl, refl, refl, refl)
 
--- the type 0 counts as not given
+-- a type that is 0 counts as not given
 types_of_zero : (map_option_of (codes "1%2-0+5") ≡ map_option_of (codes "1%2+5"))
     × (map_option_of (codes "1%2-5+0") ≡ map_option_of (codes "1%2-5"))
     × (map_option_of (codes "1%2-0+0") ≡ Some (Other (Some (RemoveAll (range 2 1)))))
@@ -76,8 +76,8 @@ empty_or_malformed : (map_option_of (codes "0@1M") ≡ Some (Adding None)) × (m
     × (map_option_of (codes "15E@15E") ≡ None)
 empty_or_malformed = (refl, refl, refl, refl, refl, refl, refl)
 
--- malformed: text before, after and between the parts; names that are almost right; ranges past
--- 2^64 - 1
+-- malformed map options: with text before, after or between the parts, with names that are almost
+-- right, or with ranges past 2^64 - 1
 no_map_options : (map_option_of (codes "@1M") ≡ None) × (map_option_of (codes "1KK") ≡ None) × (map_option_of (codes "1M@2M@3M") ≡ None)
     × (map_option_of (codes "1M@-2M") ≡ None) × (map_option_of (codes "exactmapx") ≡ None) × (map_option_of (codes "EXACTMAP") ≡ None)
     × (map_option_of (codes "16E@0") ≡ None) × (map_option_of (codes "2@0xFFFFFFFFFFFFFFFE") ≡ None)
@@ -106,7 +106,7 @@ lines = (refl, refl)
 checked_lines : (checked_line (replicate 2047 97) ≡ Ok (replicate 2047 97)) × (checked_line (replicate 2048 34) ≡ Err faults.TooLong)
 checked_lines = (refl, refl)
 
--- each text between commas must be a map option, also the one after the last comma
+-- each text between commas must be a map option, even one after the last comma
 options_in_order : (memmap_of (codes "exactmap,8@0") ≡ Some (OfMap (ExactMap ∷ Adding (Some (Add (range 0 8) 1)) ∷ [])))
     × (memmap_of (codes "exactmap,") ≡ None) × (memmap_of [] ≡ None)
 options_in_order = (refl, refl, refl)
@@ -157,8 +157,8 @@ two_behind_it : (last_exact (all_map_options three_words) ≡ Some (1, 2)) × (c
     × (count_adding ((1, ExactMap) ∷ (2, Other None) ∷ []) ≡ 0)
 two_behind_it = (refl, refl, refl)
 
--- two words with `exactmap`: after the last there is one map option that adds memory; and a line
--- without `exactmap`
+-- after the last of two words with `exactmap` one map option adds a range; a line without
+-- `exactmap` has none
 last_exactmap : (last_exact ((1, ExactMap) ∷ (1, a_page) ∷ (2, ExactMap) ∷ (3, a_page) ∷ (4, Other None) ∷ []) ≡ Some (2, 1))
     × (last_exact ((1, a_page) ∷ (2, Other None) ∷ []) ≡ None)
 last_exactmap = (refl, refl)
@@ -196,15 +196,15 @@ whole_lines : (options_of (codes "quiet mem=4G memmap=1G!2G\n")
     × (options_of (codes "a memmap=exactmap memmap=1M@0") ≡ Err (faults.UserMapInvalid 2))
 whole_lines = (refl, refl, refl, refl, refl, refl, refl)
 
--- edits with and without an empty range, and numbers of words in faults
+-- edits with and without an empty range, and faults with and without a word's number
 ranges_of_edits : HaveRanges (Add (range 0 8) 1 ∷ Clear ∷ []) × (HaveRanges (Clear ∷ RemoveAll (range 5 0) ∷ []) → ⊥)
 ranges_of_edits = ((omega arith, (tt, tt)), λ have. let has = have.1.0 in omega arith)
 
 numbered_faults : IsNumbered (faults.BadMem 1) × IsNumbered faults.OpenQuote
 numbered_faults = (omega arith, tt)
 
--- in the middle of a line: after `exactmap` two map options that add a range are needed, and each
--- one that is read is one fewer
+-- in the middle of a line: after `exactmap` two map options that add a range are missing, and one
+-- fewer after each one that is read
 read_three_words : after_words start_state three_words
     ≡ record {
       edits = Clear ∷ Add (range 0 8) 1 ∷ [];
@@ -246,7 +246,7 @@ half_read m = record {
   user_map = None;
 }
 
--- even without memory for the edits, the reader has everything else of its state
+-- a reader that ran out of memory for the edits still has everything else of its state
 at_a_state_without_memory : (m : Memory)
     → IsReadTo (half_read m) (reading_after_word 1 (after_map_option 1 start_state (Other (Some Clear))) NumaOff)
 at_a_state_without_memory m =

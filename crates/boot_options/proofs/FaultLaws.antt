@@ -1,5 +1,5 @@
--- Lemmas: a word has a fault exactly if it is malformed, and the line has the fault of the lowest
--- such word.
+-- A word has a fault exactly if it is malformed, and the line has the fault of the lowest
+-- malformed word.
 use Rattle.std.proofs.Common.{◌≡◌, ◌≢◌, ◌↔◌, ℕ, ◌+◌, ◌%◌, ◌==◌, nat_lt, if◌then◌else◌, Bool, true, false, not, suc, Option, Some, None, List, [], ◌∷◌, ◌++◌, length, map, refl, subst, ap, sym, ◌∙◌, codes, Result, Ok, Err, arith}
 use Rattle.std.proofs.lemmas.Bool.{eqb-true}
 use Rattle.std.proofs.lemmas.List.Sums.{sum_by-cons}
@@ -62,14 +62,14 @@ abbrev NoValue : Name → Option (List ℕ) → Type 0
 NoValue n None = Unit {0}
 NoValue n (Some value) = IsValue n value → ⊥
 
--- the meaning of a value
+-- the meaning of a value, by the name of its word
 abbrev pub value_meaning : Name → Option (List ℕ) → Option WordMeaning
 value_meaning mem value = option_map meaning_of_map_option (option_and_then mem_of value)
 value_meaning memmap value = option_and_then memmap_of value
 value_meaning crash value = option_and_then crash_of value
 value_meaning numa value = option_and_then numa_of value
 
--- nothing is read exactly if nothing is spelled
+-- a text can't be read exactly if it spells nothing
 none-exactly : {A B : Type 0} (o : Option A) (f : A → B) (Spells : A → Type 0) → ((a : A) → o ≡ Some a ↔ Spells a)
     → option_map f o ≡ None ↔ (((a : A) × Spells a) → ⊥)
 none-exactly None f Spells exact = (λ is spells. let read = (exact spells.0).1 spells.1 in cc read, λ none. refl)
@@ -133,7 +133,7 @@ word_meaning-malformed number memmap name value is none = rw is (rw ((said_none 
 word_meaning-malformed number crash name value is none = rw is (rw ((said_none crash value).1 none) refl)
 word_meaning-malformed number numa name value is none = rw is (rw ((said_none numa value).1 none) refl)
 
--- a malformed word, by its name and its value
+-- a word is malformed exactly if it has one of the names, and no value that this name may have
 pub lacks_equals : (n : Name) → Lacks 61 (text_of n)
 lacks_equals mem = (refl, (refl, (refl, tt)))
 lacks_equals memmap = (refl, (refl, (refl, (refl, (refl, (refl, tt))))))
@@ -335,7 +335,7 @@ line-fault bytes n w = by_tests (nat_lt LONGEST_LINE (length (raw_line bytes))) 
     by_tests false false is = open_fault n w cc
     by_tests false true is = cc
 
--- nor does the check of the user map
+-- the check of the user map doesn't return the fault of a word either
 user_map-fault : (said : List (ℕ × WordMeaning)) (n : Name) (w : ℕ) → options_with_user_map said ≢ Err (fault_at n w)
 user_map-fault said n w = by_exact (last_exact (all_map_options said))
   where
@@ -347,7 +347,7 @@ user_map-fault said n w = by_exact (last_exact (all_map_options said))
     by_exact None is = cc
     by_exact (Some exact) is = by_count exact.0 (nat_lt exact.1 2) is
 
--- the fault of a word is reported exactly if it is that of the lowest malformed word
+-- the fault of a word is reported exactly if that word is the lowest malformed one
 pub first-exactly : (n : Name) (bytes : List ℕ) (w : ℕ)
     → options_of bytes ≡ Err (fault_at n w) ↔ IsFirstWordFault bytes w (IsMalformed (text_of n) (IsValue n))
 first-exactly n bytes w = (by_line (command_line_of bytes) refl, told)

@@ -1,5 +1,5 @@
--- Lemmas on the options of a line: types are above 0, ranges aren't empty, and words are numbered
--- from 1.
+-- Bounds of a line's options: types are above 0, ranges aren't empty, and words are numbered from
+-- 1.
 use Rattle.std.proofs.Common.{◌≡◌, ◌≢◌, ℕ, ◌+◌, ◌<◌, nat_lt, if◌then◌else◌, Bool, true, false, Option, Some, None, List, [], ◌∷◌, length, Result, Ok, Err, IfSome, IfOk, IfErr, arith, codes}
 use Rattle.std.specs.List.{cons_option}
 use Rattle.std.specs.Option.{option_and_then, option_map, option_or}
@@ -62,7 +62,7 @@ pub fit-if : {A : Type 0} (P : A → Type 0) (t : Bool) (x y : Result A OptionFa
 fit-if P true x y a b = a
 fit-if P false x y a b = b
 
--- the meaning of a word is sound, and its fault has the word's number
+-- the meaning of a word is sound, and the fault of a malformed word has its number
 pub fit-said_by : (number : ℕ) (word : List ℕ × Option (List ℕ)) → 0 < number → IsSoundOrFault IsSoundWord (word_meaning number word)
 fit-said_by number word above =
     fit-if IsSoundWord (bytes_eq word.0 (codes "mem")) _ _
@@ -84,8 +84,8 @@ fit-said_by number word above =
     ifsome-if IsSoundWord (bytes_eq value (codes "off")) (Some NumaOff) None tt tt)))
     (fit-if IsSoundWord (bytes_eq word.0 (codes "add_efi_memmap")) _ _ tt tt))))
 
--- if one step's result is sound, and the next step's result is sound for each sound input, so is
--- that of both
+-- two steps in a row have a sound result if the first one has, and if the second one has for each
+-- sound input
 pub fit-then : {A B : Type 0} (P : A → Type 0) (Q : B → Type 0) (r : Result A OptionFault) (f : A → Result B OptionFault)
     → IsSoundOrFault P r → ((a : A) → P a → IsSoundOrFault Q (f a)) → IsSoundOrFault Q (r >>= f)
 fit-then P Q (Ok a) f is each = each a is
@@ -114,7 +114,7 @@ sound-all_map_options ((number, OfCrash form) ∷ said) are = sound-all_map_opti
 sound-all_map_options ((number, NumaOff) ∷ said) are = sound-all_map_options said are.2
 sound-all_map_options ((number, AddEfi) ∷ said) are = sound-all_map_options said are.2
 
--- the last plain form has ranges, in order
+-- the last plain form has at least one range, and each range ends above its start
 pub sound-last_plain : (said : List (ℕ × WordMeaning)) → AreSoundWords said → IfSome (last_value plain_crash_value said) IsPlain
 sound-last_plain [] are = tt
 sound-last_plain (s ∷ said) are = or_this (last_value plain_crash_value said) s.1 (sound-last_plain said are.2) are.1
@@ -218,6 +218,6 @@ numbered_map_options-given bytes (Err fault) is = by_fault fault is
     by_fault (faults.BadNuma word) is = rw (is (λ same. cc)) at (fit-options bytes)
     by_fault faults.Memory is = tt
 
--- "out of memory" is never a fault of the bytes
+-- no bytes have the fault `Memory`
 pub options_of-not_memory : (bytes : List ℕ) → options_of bytes ≢ Err faults.Memory
 options_of-not_memory bytes is = rw is at (fit-options bytes)

@@ -1,4 +1,4 @@
--- Lemmas on map options: their types are above 0, and their ranges aren't empty.
+-- Bounds of map options: their types are above 0, and their ranges aren't empty.
 use Rattle.std.proofs.Common.{◌≡◌, ℕ, ◌<◌, ◌==◌, nat_lt, if◌then◌else◌, Bool, true, false, Option, Some, None, List, [], ◌∷◌, refl, IfSome, arith, codes}
 use Rattle.std.proofs.lemmas.Bool.{ltb-true}
 use Rattle.std.proofs.lemmas.Bool.Decides.{nat_tests}
@@ -26,7 +26,8 @@ abbrev pub AreSound : List MapOption → Type 0
 AreSound [] = Unit {0}
 AreSound (p ∷ ps) = IsSoundOption p × AreSound ps
 
--- a fact on the result of the second step, if it holds for every input of that step
+-- two steps in a row have a result with a property if the second one's result has it for every
+-- input
 pub ifsome-then : {A B : Type 0} (P : B → Type 0) (o : Option A) (f : A → Option B) → ((a : A) → IfSome (f a) P) → IfSome (o >>= f) P
 ifsome-then P None f each = tt
 ifsome-then P (Some a) f each = each a

@@ -1,4 +1,4 @@
--- Lemmas on reading a line word by word: the next word, and the user map at the end.
+-- Reading a line word by word: the next word, and the user map at the end.
 use Rattle.std.proofs.Common.{◌≡◌, ℕ, ◌+◌, false, List, ◌∷◌, refl, sym, codes, Result, Ok, Err}
 use Rattle.std.specs.Str.{bytes_eq}
 use Rattle.text_words.specs.declared.separators.Separators.TheVariants.{CommandLine}
@@ -9,20 +9,20 @@ use Rattle.boot_options.specs.Options.{WordMeaning, name_value_of, word_meaning,
 use Rattle.boot_options.specs.declared.reading.Reading.{Reading}
 use Rattle.boot_options.specs.Reading.{ReadingState, IsReadTo, IsInState, reading_after_word, after_meaning, after_meanings}
 
--- the first word, if it isn't `--`, followed by the words after it; stated for the values that the
--- reader compares
+-- the option words of a line are its first word, unless that is `--`, and those of the rest;
+-- stated for the values that the reader compares
 pub option_words-read : (line word behind bare dashes : List ℕ) → words_in CommandLine line ≡ word ∷ words_in CommandLine behind
     → bare ≡ unquote word → dashes ≡ codes "--" → false ≡ bytes_eq bare dashes → option_words line ≡ bare ∷ option_words behind
 option_words-read line word behind bare dashes is unquotes marks test =
     let other : bytes_eq (unquote word) (codes "--") ≡ false = sym (rw (unquotes, marks) at test) in
     rw unquotes (rw is (rw other refl))
 
--- the state in which the reader is
+-- the reader is in the state that the definition gives
 pub state_at : (r : Reading) (d : Result ReadingState OptionFault) → IsInState r d → (st : ReadingState) × IsReadTo r st × (d ≡ Ok st)
 state_at r (Ok st) has = (st, has, refl)
 state_at r (Err fault) has = absurd has
 
--- the fault of the next word is the fault of the line from there on
+-- the fault of the next word is the fault of the rest of the line
 pub after_meanings-fault : (number : ℕ) (st : ReadingState) (fault : OptionFault) (word : List ℕ) (words : List (List ℕ))
     → after_meaning number st (word_meaning number (name_value_of word)) ≡ Err fault
     → after_meanings st (word_meanings_from number (word ∷ words)) ≡ Err fault

@@ -1,4 +1,4 @@
--- Lemmas: a word has exactly the meaning that it spells, and so has a line.
+-- A word, and then a line, has exactly the meaning that it spells.
 use Rattle.std.proofs.Common.{◌≡◌, ◌↔◌, ℕ, ◌+◌, if◌then◌else◌, Bool, true, false, Option, Some, None, List, [], ◌∷◌, ◌++◌, map, refl, subst, ap, sym, ◌∙◌, codes, Result, Ok, Err}
 use Rattle.std.proofs.lemmas.Slice.Eq.{bytes_eq-Decides}
 use Rattle.std.specs.Option.{option_map}
@@ -20,7 +20,7 @@ use Rattle.boot_options.proofs.FaultLaws.{Name, crash, line-read, mem, memmap, n
 use Rattle.boot_options.proofs.SpelledCrashLaws.{split_once-spelled, form-exactly}
 use Rattle.boot_options.proofs.SpelledLaws.{map-some, map_options-exactly, mem-exactly}
 
--- the meaning of a value is spelled after the name of its word
+-- a word with a name and a value spells the meaning of that value
 said-spelled : (n : Name) (raw : List ℕ) (said : WordMeaning) → value_meaning n (Some (unquote raw)) ≡ Some said
     → SpellsMeaning (text_of n ++ (61 ∷ raw)) said
 said-spelled mem raw said is =
@@ -44,7 +44,7 @@ said-spelled numa raw said is = by_test (bytes_eq (unquote raw) (codes "off")) r
         rw (← said_is) (numa_word raw ((unquoted_exactly raw (codes "off")).0 ((bytes_eq-Decides (unquote raw) (codes "off")).0 test)))
     by_test false test is = cc
 
--- the name of a word and its value
+-- a word whose name is read has that name
 named : (name word : List ℕ) → (name_value_of word).0 ≡ name → HasName name word
 named name word = by_cut (split_once 61 word) (split_once-spelled 61 word)
   where
@@ -128,7 +128,7 @@ word-spelled number word said =
           efi = isnt_name (codes "add_efi_memmap") lacks_efi e_is;
         }))
 
--- what is spelled is the meaning
+-- a word has the meaning that it spells
 valued-read : (n : Name) (number : ℕ) (raw value : List ℕ) (said : WordMeaning) → Unquotes raw value → value_meaning n (Some value) ≡ Some said
     → word_meaning number (name_value_of (text_of n ++ (61 ∷ raw))) ≡ Ok said
 valued-read n number raw value said unquotes says =
@@ -175,7 +175,7 @@ pub word-exactly : (number : ℕ) (word : List ℕ) (said : WordMeaning)
     → word_meaning number (name_value_of word) ≡ Ok said ↔ SpellsMeaning word said
 word-exactly number word said = (word-spelled number word said, word-read number word said)
 
--- the meanings of all words
+-- the words of a list spell exactly their meanings
 each-spelled : (number : ℕ) (words : List (List ℕ)) (said : List (ℕ × WordMeaning)) → word_meanings_from number words ≡ Ok said
     → SpellEach number words said
 each-spelled number [] said is = let none : [] ≡ said = cc in subst (SpellEach number []) none tt
@@ -205,7 +205,7 @@ each-read number (word ∷ words) [] each = absurd each
 each-read number (word ∷ words) ((k, one) ∷ said) each =
     rw (word-read number word one each.1, each-read (number + 1) words said each.2, each.0) refl
 
--- the words of a line that is read
+-- a line that is accepted spells exactly the meanings of its words
 pub line-exactly : (bytes line : List ℕ) (said : List (ℕ × WordMeaning)) → command_line_of bytes ≡ Ok line
     → word_meanings_from 1 (option_words line) ≡ Ok said ↔ SpellsLine line said
 line-exactly bytes line said read = (spelled, told)

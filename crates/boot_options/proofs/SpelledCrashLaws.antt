@@ -1,4 +1,4 @@
--- Lemmas: what is read as a form of `crashkernel=` was spelled as that form.
+-- A value that is read as a form of `crashkernel=` spells that form.
 use Rattle.std.proofs.Common.{◌≡◌, ◌↔◌, ℕ, ◌==◌, if◌then◌else◌, Bool, true, false, is_some, Option, Some, None, List, [], ◌∷◌, ◌++◌, refl, subst, ap, sym, ◌∙◌, append_assoc, codes}
 use Rattle.std.proofs.lemmas.Bool.{eqb-true, ltb-true}
 use Rattle.std.proofs.lemmas.List.{append-nil}
@@ -34,7 +34,7 @@ split_once-spelled mark (b ∷ bs) halves is = by_test (b == mark) refl (split_o
         subst (λ (halves : List ℕ × List ℕ). b ∷ bs ≡ halves.0 ++ (mark ∷ halves.1)) rest.2
         (ap (λ (bs : List ℕ). b ∷ bs) (spelled rest.0 rest.1))
 
--- the end of a range, and a range
+-- the end of a range, and then a range, that are read are spelled
 end-spelled : (text : List ℕ) (end : Option ℕ) (start : ℕ) → end_of_range text ≡ Some end → is_above end start ≡ true
     → SpellsEnd text end start
 end-spelled [] None start is above = refl
@@ -86,7 +86,7 @@ ranges-spelled (text ∷ texts) rs is =
     let same : range.0 ∷ rest.0 ≡ rs = cc rest.2 in
     subst (SpellRanges (text ∷ texts)) same (range-spelled text range.0 range.1, ranges-spelled texts rest.0 rest.1)
 
--- the base
+-- a base that is read is spelled
 place-spelled : (text : List ℕ) (place : List ℕ × ℕ) → text_and_base text ≡ Some place
     → (b : List ℕ) × SpellsBase b place.1 × (text ≡ place.0 ++ b)
 place-spelled text place = by_cut (split_once 64 text) (split_once-spelled 64 text)
@@ -102,7 +102,7 @@ place-spelled text place = by_cut (split_once 64 text) (split_once-spelled 64 te
         subst (λ (place : List ℕ × ℕ). (b : List ℕ) × SpellsBase b place.1 × (text ≡ place.0 ++ b)) base.2
         (64 ∷ halves.1, a_base halves.1 base.0 (whole_size-spelled halves.1 base.0 base.1), spelled halves refl)
 
--- each form
+-- each form that is read is spelled
 ranges_form-spelled : (value : List ℕ) (form : CrashFormView) → ranges_form value ≡ Some form → SpellsForm value form
 ranges_form-spelled value form is =
     let place = then-both (text_and_base value) _ form is in

@@ -1,5 +1,4 @@
--- Lemmas: what is read as a map option of `memmap=`, or as the value of `mem=`, was spelled as
--- that.
+-- A text that is read as a map option of `memmap=`, or as the value of `mem=`, spells it.
 use Rattle.std.proofs.Common.{◌≡◌, ◌≢◌, ◌↔◌, ℕ, ◌+◌, ◌^◌, ◌<◌, ◌==◌, nat_lt, if◌then◌else◌, Bool, true, false, Option, Some, None, List, [], ◌∷◌, ◌++◌, refl, subst, ap, sym, ◌∙◌, length, drop, codes, Result, Ok, Err, arith}
 use Rattle.std.proofs.lemmas.Bool.{eqb-true, ltb-true}
 use Rattle.std.proofs.lemmas.Bool.Decides.{nat_tests}
@@ -30,7 +29,7 @@ pub then-both : {A B : Type 0} (o : Option A) (f : A → Option B) (y : B) → (
 then-both None f y is = cc
 then-both (Some x) f y is = (x, refl, is)
 
--- a size or a number that is read at the start of a text was spelled there
+-- if a size or a number is read at the start of a text, the start spells it
 front_size-spelled : (text : List ℕ) (front : NumberAndRest) → front_size text ≡ Some front
     → (s : List ℕ) × IsSize s front.0 × (text ≡ s ++ front.1)
 front_size-spelled text front = by_read (size_of text) (size-front text)
@@ -57,7 +56,7 @@ front_number-spelled text front = by_read (number_of text) (number-front text)
         let same : (found.0, drop found.1 text) ≡ front = cc in
         subst (λ (front : NumberAndRest). (s : List ℕ) × IsNumber s front.0 × (text ≡ s ++ front.1)) same (to.0, to.1, to.2)
 
--- nothing is left of the text
+-- if a whole text was read, its rest is empty
 value_if_at_end-ends : {A : Type 0} (rest : List ℕ) (o : Option A) (y : A) → value_if_at_end rest o ≡ Some y → (rest ≡ []) × (o ≡ Some y)
 value_if_at_end-ends [] o y is = (refl, is)
 value_if_at_end-ends (b ∷ bs) o y is = cc
@@ -101,7 +100,7 @@ adding_option-spelled kind s a size option size_is is =
     let range = then-both (range_if_addressable base.0 size) (λ range. Some (Adding (unless_empty range (Add range kind)))) option base.2 in
     (range.0, place-spelled s a size base.0 range.0 size_is (whole_size-spelled a base.0 base.1) range.1, cc range.2)
 
--- a type after its mark, or no type
+-- a type after its mark that is read is spelled, and so is no type
 type_if_fits-is : (found front : NumberAndRest) → type_if_fits found ≡ Some front → (found ≡ front) × (found.0 < 2 ^ 32)
 type_if_fits-is found front = by_test (nat_lt found.0 (2 ^ 32)) refl
   where
@@ -137,7 +136,7 @@ kind-no_type : (mark : ℕ) (text : List ℕ) (kind : ℕ) → kind ≡ 0 → Is
 kind-no_type mark text kind none not_there = nothing
 kind-no_type mark text kind none (there number _ is small) = type_zero number (rw none at is)
 
--- the forms with `%`
+-- a map option with `%` that is read is spelled
 abbrev retyped_if : Bool → Bool → Bool → RangeView → ℕ → ℕ → Option MapOption
 retyped_if no_from no_to same range from to =
     if no_from
@@ -189,7 +188,7 @@ percent_map_option-spelled s size place option size_is is =
     (retype_option-spelled s a.0 f.0 t.0 range.0 from.0.0 to.0.0 option
     (place-spelled s a.0 size base.0.0 range.0 size_is a.1 range.1) f.1 t.1 ends.1)
 
--- the form that the mark selects
+-- a map option that is read by its mark is spelled
 abbrev marked_if : Bool → Bool → Bool → Bool → Bool → ℕ → List ℕ → Option MapOption
 marked_if a b c d e size place =
     if a then adding_option 1 size place else
@@ -240,7 +239,7 @@ map_option-spelled text option = by_test (bytes_eq text (codes "exactmap")) refl
 pub map_option-exactly : (text : List ℕ) (option : MapOption) → map_option_of text ≡ Some option ↔ SpellsMapOption text option
 map_option-exactly text option = (map_option-spelled text option, map_option-read text option)
 
--- a map option contains no comma
+-- a text that spells a map option contains no comma
 number-size : (text : List ℕ) (n : ℕ) → IsNumber text n → IsSize text n
 number-size text n is = (size-exactly text n).1 (number_alone text n ((number-exactly text n).0 is))
 
@@ -341,7 +340,7 @@ map_options-exactly value options = (spelled (join_with_commas-parts value), map
         → map_options_of (parts_in (Byte 44) value) ≡ Some options → SpellsMapOptions value options
     spelled parts is = subst (λ text. SpellsMapOptions text options) parts.3 (each-spelled parts.0 parts.1 options (rw parts.2 at is))
 
--- the value of `mem=`
+-- a value of `mem=` that is read is spelled
 mem-spelled : (value : List ℕ) (option : MapOption) → mem_of value ≡ Some option → SpellsMem value option
 mem-spelled value option = by_test (bytes_eq value (codes "nopentium")) refl
   where

@@ -17,7 +17,7 @@ use Rattle.boot_options.proofs.SpelledLaws.{map_option-exactly, map_options-exac
 abbrev range : ℕ → ℕ → RangeView
 range base size = record { base = base; size = size }
 
--- a range up to the last byte is spelled; one past it isn't
+-- a range may end at 2^64 - 1, and not above
 places : SpellsPlace (codes "1") (codes "0xFFFFFFFFFFFFFFFE") (range (2 ^ 64 - 2) 1)
     × (SpellsPlace (codes "2") (codes "0xFFFFFFFFFFFFFFFE") (range (2 ^ 64 - 2) 2) → ⊥)
 places = (record { size = refl; base = refl; ends = omega arith }, λ place. let ends = place.ends in omega arith)
@@ -29,8 +29,8 @@ types = (a_type (codes "12") 12 refl (omega arith) (omega arith), nothing, type_
 abbrev a_place : SpellsPlace (codes "1M") (codes "0x200000") (range 0x200000 0x100000)
 a_place = record { size = refl; base = refl; ends = omega arith }
 
--- a form that adds memory; one with two types, the first of which counts as not given; without
--- types; a size alone; and no form, since the base is missing
+-- map options: one that adds memory; one with two types, the first of which is 0; one without
+-- types; a size alone; and a text that is none, since its base is missing
 map_options : SpellsMapOption (codes "1M@0x200000") (Adding (Some (Add (range 0x200000 0x100000) 1)))
     × SpellsMapOption (codes "1M%0x200000-0+5") (Adding (Some (Add (range 0x200000 0x100000) 5)))
     × SpellsMapOption (codes "1M%0x200000") (Other (Some (RemoveAll (range 0x200000 0x100000))))
@@ -45,7 +45,7 @@ map_options = (
   λ option spells. let is : None ≡ Some option = (map_option-exactly (codes "1M@") option).1 spells in cc is,
 )
 
--- two map options; an empty one after a comma is malformed
+-- a value of two map options; a value with an empty text after a comma is malformed
 memmap_values : SpellsMapOptions (codes "exactmap,1M@0x200000") (ExactMap ∷ Adding (Some (Add (range 0x200000 0x100000) 1)) ∷ [])
     × (IsMemmapValue (codes "exactmap,") → ⊥)
 memmap_values = (
@@ -66,8 +66,8 @@ crash_values = (
   λ value. let is : None ≡ Some value.0 = (form-exactly (codes "16M,HIGH") value.0).1 value.1 in cc is,
 )
 
--- malformed words, one without a value and one with a malformed value; and a sound word of another
--- name
+-- malformed words, one without a value and one with a malformed value; and a word with another
+-- name, which is sound
 words : IsBadMem (codes "mem") × IsBadMemmap (codes "memmap=\"exactmap,\"") × IsSoundWord (codes "quiet")
 words = (
   no_value,

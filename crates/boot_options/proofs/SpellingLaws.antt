@@ -1,4 +1,4 @@
--- Lemmas: what is spelled as a map option of `memmap=` is read as that map option.
+-- A text that spells a map option of `memmap=` is read as that map option.
 use Rattle.std.proofs.Common.{◌≡◌, ℕ, ◌+◌, ◌^◌, ◌<◌, ◌==◌, if◌then◌else◌, Bool, true, false, Option, Some, List, [], ◌∷◌, ◌++◌, length, drop, refl, ◌∙◌, eq-eqb, codes, Result, Ok, Err, arith}
 use Rattle.std.proofs.Math.Seq.{drop-append_seam, drop-length}
 use Rattle.bm_base.specs.declared.size.NumFault.TheVariants.{NoDigits}
@@ -18,7 +18,7 @@ use Rattle.boot_options.specs.MapOptions.{number_and_rest, front_size, front_num
 use Rattle.boot_options.specs.declared.map_option.MapOption.{MapOption}
 use Rattle.boot_options.specs.Spelling.{SpellsPlace, SpellsType, a_type, SpellsNoType, nothing, type_zero, SpellsMapOption, exactmap, ram, acpi, reserved, persistent, size_alone, every_type, one_type, new_type, other_type}
 
--- the second step alone, if the first gives a value
+-- two steps in a row are the second step on the value of the first, if the first gives a value
 pub then-some : {A B : Type 0} (o : Option A) (f : A → Option B) (x : A) → o ≡ Some x → (o >>= f) ≡ f x
 then-some o f x is = rw is refl
 
@@ -89,7 +89,7 @@ adding_option-spelled kind s a range spell =
     ∙ then-some (range_if_addressable range.base range.size) (λ r.
     Some (Adding (unless_empty r (Add r kind)))) range (range_if_addressable-ends range spell.ends)
 
--- a form whose mark adds memory of this type
+-- a form whose mark adds a range of this type is read as spelled
 pub map_option-adding : (s a : List ℕ) (range : RangeView) (mark kind : ℕ) → is_digit mark 36 ≡ false
     → map_option_by_mark range.size (mark ∷ a) ≡ adding_option kind range.size a → SpellsPlace s a range
     → map_option_of (s ++ (mark ∷ a)) ≡ Some (Adding (unless_empty range (Add range kind)))
@@ -100,7 +100,7 @@ map_option-adding s a range mark kind is means spell =
 pub type_if_fits-below : (n : ℕ) (rest : List ℕ) → n < 2 ^ 32 → type_if_fits (n, rest) ≡ Some (n, rest)
 type_if_fits-below n rest is = rw (lt-ltb n (2 ^ 32) is) refl
 
--- the form `S`
+-- the form `S` is read as spelled
 pub map_option-above : (s : List ℕ) (size : ℕ) → IsSize s size → map_option_of s ≡ Some (Other (ram_above size))
 map_option-above s size is =
     let other : bytes_eq s (codes "exactmap") ≡ false = rw (append-nil s) at (exactmap-other s [] (begins_with_digit-size s size is)) in
@@ -132,7 +132,7 @@ pub no_type-kind : (mark : ℕ) (text : List ℕ) → SpellsNoType (mark ∷ [])
 no_type-kind mark text nothing = not_there
 no_type-kind mark text (type_zero number is) = there number 0 is (omega arith)
 
--- the text doesn't begin with this mark, so a type before it is read as spelled
+-- the text doesn't begin with this mark
 abbrev pub BeginsOther : ℕ → List ℕ → Type 0
 BeginsOther mark [] = Unit {0}
 BeginsOther mark (b ∷ bs) = b == mark ≡ false
@@ -162,7 +162,7 @@ both-marked : (f t : List ℕ) (from to : ℕ) → IsKind 45 f from → IsKind 4
 both-marked f t from to not_there to_is = kind-marked 43 t to refl to_is
 both-marked f t from to (there _ _ number small) to_is = refl
 
--- the forms with `%`
+-- a form with `%` is read as spelled
 pub map_option-changed : (s a f t : List ℕ) (range : RangeView) (from to : ℕ) → SpellsPlace s a range → IsKind 45 f from → IsKind 43 t to
     → map_option_of (s ++ (37 ∷ (a ++ (f ++ t)))) ≡ retype_option range from to
 map_option-changed s a f t range from to spell from_is to_is =

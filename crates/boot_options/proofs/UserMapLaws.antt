@@ -1,5 +1,5 @@
--- Lemmas: the state after reading word by word is the result of the definitions over the lists of
--- all words.
+-- The state after reading word by word is the result of the definitions over the list of all
+-- words.
 use Rattle.std.proofs.Common.{◌≡◌, ℕ, ◌+◌, ◌-◌, ◌==◌, nat_lt, if◌then◌else◌, Bool, ◌||◌, Option, Some, None, List, [], ◌∷◌, ◌++◌, refl, ap, sym, ◌∙◌, append_assoc, Result, Ok, Err, arith}
 use Rattle.std.proofs.Math.Bool.{or-false, or-true}
 use Rattle.std.proofs.lemmas.List.{append-nil}
@@ -68,7 +68,7 @@ add_efi-all st ((number, OfCrash form) ∷ said) = add_efi-all (reading_after_wo
 add_efi-all st ((number, NumaOff) ∷ said) = add_efi-all (reading_after_word number st NumaOff) said
 add_efi-all st ((number, AddEfi) ∷ said) = add_efi-all (reading_after_word number st AddEfi) said ∙ sym (or-true st.add_efi)
 
--- the later of two values of each form
+-- for each form, the later of two values
 abbrev pub later : CrashOptionView → CrashOptionView → CrashOptionView
 later c before = record {
   plain = option_or c.plain before.plain;
@@ -90,7 +90,7 @@ later-twice a b c = rw (or_twice a.plain b.plain c.plain, or_twice a.high b.high
 pub later-nothing : (a : CrashOptionView) → later a no_crash ≡ a
 later-nothing a = rw (or_nothing a.plain, or_nothing a.high, or_nothing a.low) refl
 
--- the last value of each form
+-- the state has the last value of each form
 pub crash-all : (st : ReadingState) (said : List (ℕ × WordMeaning)) → (after_words st said).crash ≡ later (last_crash_values said) st.crash
 crash-all st [] = refl
 crash-all st ((number, OfMap ps) ∷ said) =
@@ -137,13 +137,14 @@ user_map-all st ((number, AddEfi) ∷ said) = user_map-all (reading_after_word n
 abbrev pub fewer : ℕ → UserMap → UserMap
 fewer n m = record { word = m.word; wanting = m.wanting - n }
 
--- the user map that the last `exactmap` gives: two map options, less those that add memory after
--- it
+-- the user map after the last `exactmap`: two missing map options, less those after it that add a
+-- range
 abbrev pub wanted : Option (ℕ × ℕ) → ℕ → Option UserMap → Option UserMap
 wanted None n m = option_map (fewer n) m
 wanted (Some exact) n m = Some (record { word = exact.0; wanting = 2 - exact.1 })
 
--- counting from the start of the line gives what counting from the last `exactmap` gives
+-- counting the missing map options from the start of the line gives the same user map as counting
+-- them from the last `exactmap`
 pub user_map_after_options-wanted : (ps : List (ℕ × MapOption)) (m : Option UserMap) → user_map_after_options ps m ≡ wanted (last_exact ps) (count_adding ps) m
 user_map_after_options-wanted [] None = refl
 user_map_after_options-wanted [] (Some m) =

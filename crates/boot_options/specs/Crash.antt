@@ -28,8 +28,8 @@ comma = 44
 abbrev pub at_sign : ℕ
 at_sign = 64
 
--- the plain form: ranges of total memory, each with a size, and a base; the base 0 means that none
--- is given
+-- the plain form: ranges of total memory, each with a size, and a base; the base 0 means that no
+-- base is given
 pub record CrashPlainView : Type 0 where
   pub ranges : List CrashRange
   pub base : ℕ
@@ -40,12 +40,13 @@ pub data CrashFormView : Type 0 where
   High : (size : ℕ) → CrashFormView
   Low : (size : ℕ) → CrashFormView
 
--- the end of a range: the text after the `-` is a size, or is empty if the range has no end
+-- the end of a range of total memory: the size that the text after the `-` spells, or `Some None`
+-- if the text is empty, which means no end
 abbrev pub end_of_range : List ℕ → Option (Option ℕ)
 end_of_range [] = Some None
 end_of_range (b ∷ bs) = option_map (λ end. Some end) (whole_size (b ∷ bs))
 
--- a range ends above its start, if it has an end
+-- whether the end is above the start; true if there is no end
 abbrev pub is_above : Option ℕ → ℕ → Bool
 is_above None start = true
 is_above (Some end) start = nat_lt start end
@@ -54,7 +55,7 @@ is_above (Some end) start = nat_lt start end
 abbrev pub range_if_in_order : CrashRange → Option CrashRange
 range_if_in_order r = if is_above r.end r.start then Some r else None
 
--- one range: `start-end:S` or `start-:S`
+-- the range of a text `start-end:S` or `start-:S`
 abbrev pub crash_range_of : List ℕ → Option CrashRange
 crash_range_of text = do
   halves ← split_once colon text
@@ -72,17 +73,19 @@ crash_ranges_of (text ∷ texts) = do
   ranges ← crash_ranges_of texts
   Some (range ∷ ranges)
 
--- the text before the first `@` and the base after it, from the halves around it; without a `@`
--- (None) the base is 0
+-- the text before the first `@` of a text, and the base after it. The second argument has the
+-- halves around the `@`. It is None if there is no `@`; the result is then the whole text and base
+-- 0.
 abbrev pub text_and_base_at : List ℕ → Option (List ℕ × List ℕ) → Option (List ℕ × ℕ)
 text_and_base_at text None = Some (text, 0)
 text_and_base_at text (Some halves) = option_map (λ base. (halves.0, base)) (whole_size halves.1)
 
--- the text before the first `@`, and the base after it; the base is 0 if there is no `@`
+-- the text before the first `@`, and the base after it; the whole text and base 0 if there is no
+-- `@`
 abbrev pub text_and_base : List ℕ → Option (List ℕ × ℕ)
 text_and_base text = text_and_base_at text (split_once at_sign text)
 
--- one range or more, with commas between them, and an optional base
+-- the form of a value with one or more ranges, with commas between them, and an optional base
 abbrev pub ranges_form : List ℕ → Option CrashFormView
 ranges_form value = do
   place ← text_and_base value
@@ -93,7 +96,7 @@ ranges_form value = do
 abbrev pub one_range : ℕ → ℕ → CrashPlainView
 one_range size base = record { ranges = record { start = 0; end = None; size = size } ∷ []; base = base }
 
--- the form `S` or `S@BASE`
+-- the form of a value `S` or `S@BASE`
 abbrev pub simple_form : List ℕ → Option CrashFormView
 simple_form value = do
   place ← text_and_base value
@@ -106,14 +109,14 @@ form_by_suffix name size =
     if bytes_eq name (codes "high") then Some (High size)
     else (if bytes_eq name (codes "low") then Some (Low size) else None)
 
--- the form `S,high` or `S,low`, from the texts before and after the comma
+-- the form of a value `S,high` or `S,low`, from the texts before and after the comma
 abbrev pub suffix_form : List ℕ × List ℕ → Option CrashFormView
 suffix_form halves = do
   size ← whole_size halves.0
   form_by_suffix halves.1 size
 
--- the form of a value without a colon. With a comma it is `S,high` or `S,low`, and `halves` are the
--- texts around the first one. Without a comma it is `S` or `S@BASE`
+-- the form of a value without a colon. With a comma it is `S,high` or `S,low`, and the second
+-- argument has the texts around the first comma. Without a comma it is `S` or `S@BASE`.
 abbrev pub form_without_colon : List ℕ → Option (List ℕ × List ℕ) → Option CrashFormView
 form_without_colon value None = simple_form value
 form_without_colon value (Some halves) = suffix_form halves
@@ -145,8 +148,8 @@ abbrev pub AreInOrder : List CrashRange → Type 0
 AreInOrder [] = Unit {0}
 AreInOrder (r ∷ rs) = IfSome r.end (λ end. r.start < end) × AreInOrder rs
 
--- what is true of every plain form: it has at least one range, and each that ends does so above
--- its start
+-- what holds for every plain form: it has at least one range, and each range that has an end ends
+-- above its start
 pub record IsPlain (form : CrashPlainView) : Type 0 where
   pub some : 0 < length form.ranges
   pub order : AreInOrder form.ranges

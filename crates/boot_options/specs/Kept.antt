@@ -1,4 +1,5 @@
--- The lists that a reader builds, for which it may have run out of memory.
+-- How the lists that the reader has built compare with those of the definitions. The reader lacks
+-- a list if it ran out of memory for it.
 use Rattle.std.specs.Prelude.{◌≡◌, ◌<◌, Option, Some, None, List, length, Result, Ok, Err, Vec}
 use Rattle.std.specs.declared.alloc.Global.{Global}
 use Rattle.bm_base.specs.declared.memory.Memory.{Memory}
@@ -8,20 +9,20 @@ use Rattle.boot_options.specs.declared.crash.CrashRange.{CrashRange}
 use Rattle.boot_options.specs.declared.crash.PlainRead.{PlainRead}
 use Rattle.boot_options.specs.Crash.{CrashFormView, CrashPlainView, Plain, High, Low}
 
--- the list has these items; if the reader ran out of memory for the list, there is at least one
--- item
+-- the reader has exactly these items; or it ran out of memory for the list, and there is at least
+-- one item
 abbrev pub KeepsItems : {A : Type 0} → Result (Vec A Global) Memory → List A → Type 0
 KeepsItems (Ok kept) items = kept.items ≡ items
 KeepsItems (Err memory) items = 0 < length items
 
--- this fact for ranges that may be malformed: then neither the reader nor the definition has
--- ranges
+-- the reader has exactly these ranges, or ran out of memory for them; or both the reader and the
+-- definition find them malformed (None)
 abbrev pub KeepsRanges : Option (Result (Vec CrashRange Global) Memory) → Option (List CrashRange) → Type 0
 KeepsRanges None said = said ≡ None
 KeepsRanges (Some kept) None = ⊥
 KeepsRanges (Some kept) (Some ranges) = KeepsItems kept ranges
 
--- the reader has this plain form, except that it may have run out of memory for its ranges
+-- the reader has this plain form, but may have run out of memory for its ranges
 pub record KeepsPlain (kept : PlainRead) (form : CrashPlainView) : Type 0 where
   pub ranges : KeepsItems kept.ranges form.ranges
   pub base : kept.base ≡ form.base

@@ -40,24 +40,26 @@ from_mark = 45
 abbrev pub to_mark : ℕ
 to_mark = 43
 
--- a number at the start of a text, and the rest of the text after it
+-- a number at the start of a text, and the text after it
 abbrev pub NumberAndRest : Type 0
 NumberAndRest = ℕ × List ℕ
 
--- the number that was found at the start of the text, and the text after it
+-- the number that was read at the start of the text, and the text after it; None if no number
+-- could be read
 abbrev pub number_and_rest : List ℕ → Result (ℕ × ℕ) NumFault → Option NumberAndRest
 number_and_rest text (Ok found) = Some (found.0, drop found.1 text)
 number_and_rest text (Err fault) = None
 
--- the size at the start of a text, and the rest
+-- the size at the start of a text, and the text after it
 abbrev pub front_size : List ℕ → Option NumberAndRest
 front_size text = number_and_rest text (size_of text)
 
--- the number at the start of a text, and the rest, to which a suffix belongs
+-- the number at the start of a text, and the text after it, which begins with the suffix if there
+-- is one
 abbrev pub front_number : List ℕ → Option NumberAndRest
 front_number text = number_and_rest text (number_of text)
 
--- what was read, if nothing is left of the text; else None
+-- what was read, if the rest of the text is empty; else None
 abbrev pub value_if_at_end : {A : Type 0} → List ℕ → Option A → Option A
 value_if_at_end [] read = read
 value_if_at_end (b ∷ bs) read = None
@@ -68,7 +70,7 @@ whole_size text = do
   front ← front_size text
   value_if_at_end front.1 (Some front.0)
 
--- the range of this size from the address on, if both together are at most 2^64 - 1
+-- the range of this size from the address on, if the address plus the size is at most 2^64 - 1
 abbrev pub range_if_addressable : ℕ → ℕ → Option RangeView
 range_if_addressable base size = if nat_lt (base + size) (2 ^ 64) then Some (record { base = base; size = size }) else None
 
@@ -76,16 +78,17 @@ range_if_addressable base size = if nat_lt (base + size) (2 ^ 64) then Some (rec
 abbrev pub unless_empty : RangeView → Edit → Option Edit
 unless_empty range edit = if nat_lt 0 range.size then Some edit else None
 
--- the range from this address up to 2^64 - 2 (a range ends at 2^64 - 1 or below)
+-- the range from the address up to 2^64 - 2, the highest address that a range can have
 abbrev pub range_above : ℕ → RangeView
 range_above size = record { base = size; size = 2 ^ 64 - 1 - size }
 
--- the edit that removes RAM from this address on, or None if there is no such address
+-- the edit that removes RAM from the address on, or None if there is no such address
 abbrev pub ram_above : ℕ → Option Edit
 ram_above size = unless_empty (range_above size) (Remove (range_above size) E820_TYPE_RAM)
 
--- the option `S@A`, `S#A`, `S$A` or `S!A`: adds the range with type `kind`, of `size` bytes from
--- the address that `place` spells. An empty range makes an adding option without an edit
+-- the option `S@A`, `S#A`, `S$A` or `S!A`: it adds the range of type `kind` and of `size` bytes
+-- from the address that `place` spells. If the range is empty, the option still counts as one that
+-- adds a range, but has no edit.
 abbrev pub adding_option : ℕ → ℕ → List ℕ → Option MapOption
 adding_option kind size place = do
   base ← whole_size place
@@ -102,12 +105,14 @@ abbrev pub kind_after_mark : ℕ → List ℕ → Option NumberAndRest
 kind_after_mark mark [] = Some (0, [])
 kind_after_mark mark (b ∷ bs) = if b == mark then front_number bs >>= type_if_fits else Some (0, b ∷ bs)
 
--- if no type `f` is given: type `t` is added, or without `t` all types are removed
+-- the option without a type `f`: it adds the type `t`, or removes all types if `t` isn't given
+-- either
 abbrev pub retype_every_type : RangeView → ℕ → Option MapOption
 retype_every_type range to =
     if to == 0 then Some (Other (unless_empty range (RemoveAll range))) else Some (Adding (unless_empty range (Add range to)))
 
--- if a type `f` is given: it is removed, or changed to `t`, which must differ from it
+-- the option with a type `f`: it removes this type, or changes it to `t`, which must differ from
+-- it
 abbrev pub retype_one_type : RangeView → ℕ → ℕ → Option MapOption
 retype_one_type range from to =
     if to == 0 then Some (Other (unless_empty range (Remove range from))) else
@@ -126,7 +131,7 @@ percent_map_option size place = do
   to ← kind_after_mark to_mark from.1
   value_if_at_end to.1 (retype_option range from.0 to.0)
 
--- the option that the mark after `S` selects; without a mark, RAM ends at `S`
+-- the option that the mark after `S` selects; without a mark, it makes RAM end at `S`
 abbrev pub map_option_by_mark : ℕ → List ℕ → Option MapOption
 map_option_by_mark size [] = Some (Other (ram_above size))
 map_option_by_mark size (mark ∷ place) =
@@ -146,7 +151,7 @@ sized_map_option text = do
 abbrev pub map_option_of : List ℕ → Option MapOption
 map_option_of text = if bytes_eq text (codes "exactmap") then Some ExactMap else sized_map_option text
 
--- the option of `mem=S`: RAM ends at `S`, which must be above 0
+-- the option of `mem=S`: it makes RAM end at `S`, which must be above 0
 abbrev pub ram_up_to : ℕ → Option MapOption
 ram_up_to size = if size == 0 then None else Some (Other (ram_above size))
 

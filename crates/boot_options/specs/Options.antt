@@ -24,11 +24,12 @@ use Rattle.boot_options.specs.MapOptions.{map_option_of, mem_of}
 abbrev pub raw_line : List ℕ → List ℕ
 raw_line bytes = without_last 10 (text_before 0 bytes)
 
--- each quotation of the line closes: it has an even number of `"`
+-- whether each quotation of the line closes: the line has an even number of `"`
 abbrev pub is_closed : List ℕ → Bool
 is_closed line = count_by (λ b. b == 34) line % 2 == 0
 
--- the line, if it has at most 2,047 bytes (`COMMAND_LINE_SIZE` less the zero byte) and is closed
+-- the line, or its fault: it must have at most 2,047 bytes (`COMMAND_LINE_SIZE` less the zero
+-- byte), and its quotations must close
 abbrev pub checked_line : List ℕ → Result (List ℕ) OptionFault
 checked_line line =
     if nat_lt LONGEST_LINE (length line) then Err faults.TooLong
@@ -66,14 +67,14 @@ crash_of value = option_map OfCrash (crash_form_of value)
 abbrev pub numa_of : List ℕ → Option WordMeaning
 numa_of value = if bytes_eq value (codes "off") then Some NumaOff else None
 
--- the meaning of a word, or this fault if it has none
+-- the meaning of a word, or the given fault if it has none
 abbrev pub meaning_or_fault : OptionFault → Option WordMeaning → Result WordMeaning OptionFault
 meaning_or_fault fault None = Err fault
 meaning_or_fault fault (Some said) = Ok said
 
--- the meaning of a word, by its name; a word with another name has no effect. A word with one of
--- these names but without a value is malformed. The exception is `add_efi_memmap`, which means the
--- same with and without a value (`setup_add_efi_memmap`).
+-- the meaning of a word, by its name. A word whose name isn't one of the five options has no
+-- effect. An option without a value is malformed, except `add_efi_memmap`, which means the same
+-- with and without a value (`setup_add_efi_memmap`).
 abbrev pub word_meaning : ℕ → List ℕ × Option (List ℕ) → Result WordMeaning OptionFault
 word_meaning number word =
     if bytes_eq word.0 (codes "mem") then meaning_or_fault (faults.BadMem number)
@@ -134,7 +135,7 @@ edit_of (Other edit) = edit
 abbrev pub edits_of : List (ℕ × MapOption) → List Edit
 edits_of ps = filter_map (λ p. edit_of p.1) ps
 
--- some word is `numa=off`
+-- whether some word is `numa=off`
 abbrev pub is_numa_off : List (ℕ × WordMeaning) → Bool
 is_numa_off [] = false
 is_numa_off ((number, OfMap ps) ∷ said) = is_numa_off said
@@ -142,7 +143,7 @@ is_numa_off ((number, OfCrash form) ∷ said) = is_numa_off said
 is_numa_off ((number, NumaOff) ∷ said) = true
 is_numa_off ((number, AddEfi) ∷ said) = is_numa_off said
 
--- some word is `add_efi_memmap`
+-- whether some word is `add_efi_memmap`
 abbrev pub is_efi_added : List (ℕ × WordMeaning) → Bool
 is_efi_added [] = false
 is_efi_added ((number, OfMap ps) ∷ said) = is_efi_added said
@@ -177,7 +178,7 @@ low_crash_value (OfCrash (Low size)) = Some size
 low_crash_value NumaOff = None
 low_crash_value AddEfi = None
 
--- the value that `pick` finds in a word, for the last word in which it finds one
+-- the last value that `pick` finds in a word
 abbrev pub last_value : {A : Type 0} → (WordMeaning → Option A) → List (ℕ × WordMeaning) → Option A
 last_value pick [] = None
 last_value pick (s ∷ said) = option_or (last_value pick said) (pick s.1)
@@ -187,16 +188,16 @@ abbrev pub last_crash_values : List (ℕ × WordMeaning) → CrashOptionView
 last_crash_values said =
     record { plain = last_value plain_crash_value said; high = last_value high_crash_value said; low = last_value low_crash_value said }
 
--- the number of map options that add a range
+-- the number of map options that add a range, even an empty one
 abbrev pub count_adding : List (ℕ × MapOption) → ℕ
 count_adding [] = 0
 count_adding ((number, ExactMap) ∷ ps) = count_adding ps
 count_adding ((number, Adding edit) ∷ ps) = count_adding ps + 1
 count_adding ((number, Other edit) ∷ ps) = count_adding ps
 
--- The last `exactmap` of a list of map options, if the first option is `p` in the word `number`.
--- The first argument is the last `exactmap` of the options after `p`; `behind` counts those of them
--- that add a range.
+-- The last `exactmap` of a list of map options whose first option is `p`, in the word `number`.
+-- The first argument is the last `exactmap` of the options after `p`; `behind` counts the options
+-- after `p` that add a range.
 abbrev pub last_exact_map : Option (ℕ × ℕ) → ℕ → MapOption → ℕ → Option (ℕ × ℕ)
 last_exact_map (Some found) number p behind = Some found
 last_exact_map None number ExactMap behind = Some (number, behind)
@@ -234,7 +235,8 @@ options_of_words said = record {
   add_efi = is_efi_added said;
 }
 
--- after the last `exactmap` there must be at least two map options that add a range
+-- the options, or the fault that fewer than two map options that add a range follow the last
+-- `exactmap`
 abbrev pub check_user_map : OptionsView → Option (ℕ × ℕ) → Result OptionsView OptionFault
 check_user_map options_view None = Ok options_view
 check_user_map options_view (Some exact) = if nat_lt exact.1 2 then Err (faults.UserMapInvalid exact.0) else Ok options_view
@@ -251,7 +253,7 @@ options_of bytes = do
   said ← word_meanings_from 1 (option_words line)
   options_with_user_map said
 
--- the range of the edit isn't empty
+-- the edit's range, if it has one, isn't empty
 abbrev pub HasRange : Edit → Type 0
 HasRange (Add range kind) = 0 < range.size
 HasRange (Remove range kind) = 0 < range.size
@@ -264,7 +266,7 @@ abbrev pub HaveRanges : List Edit → Type 0
 HaveRanges [] = Unit {0}
 HaveRanges (e ∷ es) = HasRange e × HaveRanges es
 
--- the number of a word in a fault is 1 or more
+-- the number of the word in the fault, if it has one, is 1 or more
 abbrev pub IsNumbered : OptionFault → Type 0
 IsNumbered faults.TooLong = Unit {0}
 IsNumbered faults.OpenQuote = Unit {0}
@@ -275,6 +277,6 @@ IsNumbered (faults.UserMapInvalid word) = 0 < word
 IsNumbered (faults.BadNuma word) = 0 < word
 IsNumbered faults.Memory = Unit {0}
 
--- the line needs memory: for an edit, or for the ranges of a plain form of `crashkernel=`
+-- reading the line allocates: it has an edit, or the ranges of a plain form of `crashkernel=`
 abbrev pub OptionsNeedMemory : OptionsView → Type 0
 OptionsNeedMemory options_view = (0 < length options_view.edits) ⊎ IsSome options_view.crash.plain

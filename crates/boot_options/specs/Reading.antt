@@ -1,6 +1,6 @@
--- The state of the reader in the middle of a command line: the result of the words so far. Of the
--- user map, the state has only the last `exactmap` and how many map options that add a range are
--- still needed.
+-- The state of the reader in the middle of a command line: the result of the words that it has
+-- read. Of the user map, the state has only the last `exactmap` and how many map options that add
+-- a range must still follow it.
 use Rattle.std.specs.Prelude.{◌≡◌, ℕ, ◌-◌, ◌==◌, if◌then◌else◌, Bool, true, false, Option, Some, None, List, [], ◌∷◌, ◌++◌, Result, Ok, Err, IsErr}
 use Rattle.std.specs.List.{cons_option}
 use Rattle.std.specs.Option.{option_map}
@@ -29,7 +29,7 @@ pub record ReadingState : Type 0 where
 abbrev pub start_state : ReadingState
 start_state = record { edits = []; crash = no_crash; numa_off = false; add_efi = false; user_map = None }
 
--- the user map after an option that adds a range: one fewer such option is missing
+-- the user map after one more option that adds a range: one fewer is still missing
 abbrev pub user_map_less_one : UserMap → UserMap
 user_map_less_one m = record { word = m.word; wanting = m.wanting - 1 }
 
@@ -96,9 +96,9 @@ after_meanings st (Err fault) = Err fault
 abbrev pub read_map_options : ℕ → ReadingState → Option (List MapOption) → Option ReadingState
 read_map_options number st ps = option_map (after_map_options number st) ps
 
--- The options at the end of the line. After the last `memmap=exactmap` at least two further map
--- options must add a range; otherwise the fault names the word of that `exactmap`. `wanting` is the
--- number of such options that are still missing.
+-- The options at the end of the line. After the last `memmap=exactmap` at least two map options
+-- must add a range; otherwise the fault names the word of that `exactmap`. `wanting` is the number
+-- of such options that are still missing.
 abbrev pub options_of_end_state : OptionsView → Option UserMap → Result OptionsView OptionFault
 options_of_end_state chosen None = Ok chosen
 options_of_end_state chosen (Some m) = if m.wanting == 0 then Ok chosen else Err (UserMapInvalid m.word)
@@ -108,14 +108,13 @@ abbrev pub at_line_end : ReadingState → Result OptionsView OptionFault
 at_line_end st =
     options_of_end_state (record { edits = st.edits; crash = st.crash; numa_off = st.numa_off; add_efi = st.add_efi }) st.user_map
 
--- the reader has these `crashkernel=` options, except that it may have run out of memory for the
--- ranges
+-- the reader has these `crashkernel=` options, but may have run out of memory for the ranges
 pub record KeepsCrash (r : CrashRead) (c : CrashOptionView) : Type 0 where
   pub plain : KeepsLast r.plain c.plain
   pub high : r.high ≡ c.high
   pub low : r.low ≡ c.low
 
--- the reader is in this state, except that it may have run out of memory for its edits or ranges
+-- the reader is in this state, but may have run out of memory for its edits or ranges
 pub record IsReadTo (r : Reading) (st : ReadingState) : Type 0 where
   pub edits : KeepsItems r.edits st.edits
   pub crash : KeepsCrash r.crash st.crash
@@ -123,12 +122,13 @@ pub record IsReadTo (r : Reading) (st : ReadingState) : Type 0 where
   pub add_efi : r.add_efi ≡ st.add_efi
   pub user_map : r.user_map ≡ st.user_map
 
--- the definition gives a state, and the reader is in it
+-- the definition gives a state and no fault, and the reader is in that state
 abbrev pub IsInState : Reading → Result ReadingState OptionFault → Type 0
 IsInState r (Ok st) = IsReadTo r st
 IsInState r (Err fault) = ⊥
 
--- the result matches the definition: the reader is in its state, or returns its fault
+-- the result matches the definition: the reader is in the state that the definition gives, or
+-- returns the fault that it gives
 abbrev pub ReadsAs : {X : Type 0} → (X → Reading) → Result X OptionFault → Result ReadingState OptionFault → Type 0
 ReadsAs view (Ok x) definition = IsInState (view x) definition
 ReadsAs view (Err fault) definition = definition ≡ Err fault

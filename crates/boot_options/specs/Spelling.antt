@@ -16,22 +16,23 @@ use Rattle.boot_options.specs.Crash.{CrashFormView, Plain, High, Low, comma, one
 use Rattle.boot_options.specs.MapOptions.{ram_above, unless_empty}
 use Rattle.boot_options.specs.Options.{AddEfi, NumaOff, OfCrash, OfMap, WordMeaning, command_line_of}
 
--- the two texts spell the size and the address of the range; both together are at most 2^64 - 1
+-- the texts `s` and `a` spell the size and the address of the range; the address plus the size is
+-- at most 2^64 - 1
 pub record SpellsPlace (s a : List ℕ) (range : RangeView) : Type 0 where
   pub size : IsSize s range.size
   pub base : IsSize a range.base
   pub ends : range.base + range.size < 2 ^ 64
 
--- a type after its mark: a number from 1 to 2^32 - 1
+-- the text is the mark and a type, a number from 1 to 2^32 - 1
 pub data SpellsType (mark : List ℕ) : List ℕ → ℕ → Type 0 where
   a_type : (text : List ℕ) (kind : ℕ) → IsNumber text kind → 0 < kind → kind < 2 ^ 32 → SpellsType mark (mark ++ text) kind
 
--- no type: nothing, or a 0 after the mark
+-- the text gives no type: it is empty, or the mark and a 0
 pub data SpellsNoType (mark : List ℕ) : List ℕ → Type 0 where
   nothing : SpellsNoType mark []
   type_zero : (text : List ℕ) → IsNumber text 0 → SpellsNoType mark (mark ++ text)
 
--- one map option of `memmap=`; an empty range makes no edit
+-- the text spells a map option of `memmap=`; the option has no edit if its range is empty
 pub data SpellsMapOption : List ℕ → MapOption → Type 0 where
   exactmap : SpellsMapOption (codes "exactmap") ExactMap
   ram : (s a : List ℕ) (range : RangeView) → SpellsPlace s a range
@@ -55,18 +56,19 @@ pub data SpellsMapOption : List ℕ → MapOption → Type 0 where
       → SpellsType (codes "+") t to → from ≢ to
       → SpellsMapOption (s ++ (codes "%" ++ (a ++ (f ++ t)))) (Other (unless_empty range (Change range from to)))
 
--- the value of `memmap=`: one or more map options, with commas between them
+-- the value of `memmap=` spells these map options, one or more, with commas between them
 pub data SpellsMapOptions : List ℕ → List MapOption → Type 0 where
   last_option : (text : List ℕ) (option : MapOption) → SpellsMapOption text option → SpellsMapOptions text (option ∷ [])
   next_option : (text value : List ℕ) (option : MapOption) (options : List MapOption) → SpellsMapOption text option
       → SpellsMapOptions value options → SpellsMapOptions (text ++ (codes "," ++ value)) (option ∷ options)
 
--- the value of `mem=`
+-- the value of `mem=` spells this map option
 pub data SpellsMem : List ℕ → MapOption → Type 0 where
   nopentium : SpellsMem (codes "nopentium") (Other None)
   end_of_ram : (s : List ℕ) (size : ℕ) → IsSize s size → 0 < size → SpellsMem s (Other (ram_above size))
 
--- the text spells the end of a range, which is above its start; an empty text spells no end
+-- the text spells the end of a range, which is above the range's start; an empty text means that
+-- there is no end
 abbrev pub SpellsEnd : List ℕ → Option ℕ → ℕ → Type 0
 SpellsEnd text None start = text ≡ []
 SpellsEnd text (Some end) start = IsSize text end × (start < end)
@@ -81,7 +83,7 @@ pub record SpellsRange (spelled : List ℕ) (r : CrashRange) : Type 0 where
   pub end : SpellsEnd end_text r.end r.start
   pub size : IsSize size_text r.size
 
--- each text spells the range at its place in the list
+-- each text spells the range at the same index of the other list
 abbrev pub SpellRanges : List (List ℕ) → List CrashRange → Type 0
 SpellRanges [] [] = Unit {0}
 SpellRanges [] (r ∷ rs) = ⊥
@@ -94,12 +96,12 @@ join_with_commas [] = []
 join_with_commas (text ∷ []) = text
 join_with_commas (text ∷ next ∷ texts) = text ++ (comma ∷ join_with_commas (next ∷ texts))
 
--- the base of a plain form: nothing, which means 0, or a size after `@`
+-- the text spells the base of a plain form: a size after `@`, or nothing, which means 0
 pub data SpellsBase : List ℕ → ℕ → Type 0 where
   no_base : SpellsBase [] 0
   a_base : (text : List ℕ) (base : ℕ) → IsSize text base → SpellsBase (codes "@" ++ text) base
 
--- the value of `crashkernel=`
+-- the value of `crashkernel=` spells this form
 pub data SpellsForm : List ℕ → CrashFormView → Type 0 where
   one_size : (s b : List ℕ) (size base : ℕ) → IsSize s size → SpellsBase b base → SpellsForm (s ++ b) (Plain (one_range size base))
   by_ranges : (text b : List ℕ) (texts : List (List ℕ)) (ranges : List CrashRange) (base : ℕ) → SpellRanges (text ∷ texts) ranges
@@ -107,24 +109,24 @@ pub data SpellsForm : List ℕ → CrashFormView → Type 0 where
   high : (s : List ℕ) (size : ℕ) → IsSize s size → SpellsForm (s ++ codes ",high") (High size)
   low : (s : List ℕ) (size : ℕ) → IsSize s size → SpellsForm (s ++ codes ",low") (Low size)
 
--- the values that `mem` may have
+-- the value is one that `mem` may have
 abbrev pub IsMemValue : List ℕ → Type 0
 IsMemValue value = (option : MapOption) × SpellsMem value option
 
--- the values that `memmap` may have
+-- the value is one that `memmap` may have
 abbrev pub IsMemmapValue : List ℕ → Type 0
 IsMemmapValue value = (options : List MapOption) × SpellsMapOptions value options
 
--- the values that `crashkernel` may have
+-- the value is one that `crashkernel` may have
 abbrev pub IsCrashValue : List ℕ → Type 0
 IsCrashValue value = (form : CrashFormView) × SpellsForm value form
 
--- the only value that `numa` may have
+-- the value is the only one that `numa` may have
 abbrev pub IsNumaValue : List ℕ → Type 0
 IsNumaValue value = value ≡ codes "off"
 
--- a malformed word with this name: it has no `=`, or its value, without quotation marks, isn't one
--- that the name may have
+-- the word has this name and is malformed: it has no `=`, or its value, without quotation marks,
+-- isn't one that the name may have
 pub data IsMalformed (name : List ℕ) (IsValue : List ℕ → Type 0) : List ℕ → Type 0 where
   no_value : IsMalformed name IsValue name
   other_value : (raw value : List ℕ) → Unquotes raw value → (IsValue value → ⊥) → IsMalformed name IsValue (name ++ (codes "=" ++ raw))
@@ -145,22 +147,22 @@ IsBadCrash = IsMalformed (codes "crashkernel") IsCrashValue
 abbrev pub IsBadNuma : List ℕ → Type 0
 IsBadNuma = IsMalformed (codes "numa") IsNumaValue
 
--- a word with another name, or with a value that its name may have
+-- the word isn't malformed: it has none of these names, or a value that its name may have
 pub record IsSoundWord (word : List ℕ) : Type 0 where
   pub mem : IsBadMem word → ⊥
   pub memmap : IsBadMemmap word → ⊥
   pub crash : IsBadCrash word → ⊥
   pub numa : IsBadNuma word → ⊥
 
--- the words without their quotation marks, up to the first `--`
+-- the second list has the words of the first without their quotation marks, up to the first `--`
 pub data OptionWords : List (List ℕ) → List (List ℕ) → Type 0 where
   line_end : OptionWords [] []
   two_dashes : (raw : List ℕ) (raws : List (List ℕ)) → Unquotes raw (codes "--") → OptionWords (raw ∷ raws) []
   a_word : (raw word : List ℕ) (raws words : List (List ℕ)) → Unquotes raw word → word ≢ codes "--" → OptionWords raws words
       → OptionWords (raw ∷ raws) (word ∷ words)
 
--- the lowest malformed word of the line in these bytes: it has this number, counted from 1, and
--- this fault
+-- the lowest malformed word of the line in these bytes has this number, counted from 1, and is
+-- malformed as `IsBad` says
 pub record IsFirstWordFault (bytes : List ℕ) (number : ℕ) (IsBad : List ℕ → Type 0) : Type 0 where
   pub line : List ℕ
   pub raws : List (List ℕ)
@@ -179,7 +181,7 @@ pub data HasName (name : List ℕ) : List ℕ → Type 0 where
   alone : HasName name name
   with_value : (raw : List ℕ) → HasName name (name ++ (codes "=" ++ raw))
 
--- a word with none of the five names
+-- the word has none of the five names `mem`, `memmap`, `crashkernel`, `numa` and `add_efi_memmap`
 pub record IsOtherWord (word : List ℕ) : Type 0 where
   pub mem : HasName (codes "mem") word → ⊥
   pub memmap : HasName (codes "memmap") word → ⊥
@@ -187,8 +189,8 @@ pub record IsOtherWord (word : List ℕ) : Type 0 where
   pub numa : HasName (codes "numa") word → ⊥
   pub efi : HasName (codes "add_efi_memmap") word → ⊥
 
--- the meaning of a word, by its name and its value without quotation marks; a word with another
--- name has no effect
+-- the word has this meaning, by its name and its value without quotation marks. A word with none
+-- of the five names has no effect.
 pub data SpellsMeaning : List ℕ → WordMeaning → Type 0 where
   mem_word : (raw value : List ℕ) (option : MapOption) → Unquotes raw value → SpellsMem value option
       → SpellsMeaning (codes "mem" ++ (codes "=" ++ raw)) (OfMap (option ∷ []))
@@ -200,14 +202,15 @@ pub data SpellsMeaning : List ℕ → WordMeaning → Type 0 where
   efi_word : (word : List ℕ) → HasName (codes "add_efi_memmap") word → SpellsMeaning word AddEfi
   other_word : (word : List ℕ) → IsOtherWord word → SpellsMeaning word (OfMap [])
 
--- each word has the meaning at its place in the list, and the words are numbered from `number` on
+-- each word has the meaning at the same place in the list, and the words are numbered from
+-- `number` on
 abbrev pub SpellEach : ℕ → List (List ℕ) → List (ℕ × WordMeaning) → Type 0
 SpellEach number [] [] = Unit {0}
 SpellEach number [] (s ∷ said) = ⊥
 SpellEach number (word ∷ words) [] = ⊥
 SpellEach number (word ∷ words) (s ∷ said) = (s.0 ≡ number) × SpellsMeaning word s.1 × SpellEach (number + 1) words said
 
--- the words of the line have these meanings
+-- the words of the line have these meanings, in order
 pub record SpellsLine (line : List ℕ) (said : List (ℕ × WordMeaning)) : Type 0 where
   pub raws : List (List ℕ)
   pub words : List (List ℕ)

@@ -1,10 +1,10 @@
 //! Reads the value of `crashkernel=`: how much memory is set aside for a crash kernel, and where.
 //!
-//! There are three forms (kernel/crash_core.c). The plain form may give several ranges of total
+//! There are three forms (kernel/crash_core.c). The plain form may have several ranges of total
 //! memory, each with a size of its own. `S,high` requests an area that may lie above 4 GiB, and
-//! `S,low` a part below 4 GiB. A function here reads one value, and returns `None` if it is
-//! malformed. Only the ranges of the plain form allocate. If memory runs out, the value is still
-//! read to its end, so a malformed value is never reported as out of memory.
+//! `S,low` a part below 4 GiB. Each function here reads one value, or a part of one, and returns
+//! `None` if it is malformed. Only the ranges of the plain form allocate. If memory runs out, the
+//! value is still read to its end, so a malformed value is never reported as out of memory.
 
 ghost use Rattle.std.specs.Prelude.{◌≡◌, ◌↔◌, ℕ, List, ◌∷◌, [], Some};
 ghost use Rattle.std.specs.Option.{option_map};
@@ -26,8 +26,8 @@ use text_words::{Separators, next_part, split_once};
 pub struct CrashRange {
     /// The least total memory of the range.
     pub start: u64,
-    /// The first total memory above the range, greater than `start`; `None` if the range has no
-    /// end.
+    /// The total memory at which the range ends, itself not in the range. It is greater than
+    /// `start`. `None` if the range has no end.
     pub end: Option<u64>,
     /// The size that is set aside; 0 means nothing.
     pub size: u64,
@@ -53,7 +53,7 @@ pub struct CrashOption {
     pub low: Option<u64>,
 }
 
-/// A plain form as it is read.
+/// A plain form that has been read. The program may have run out of memory for its ranges.
 #[derive(Drop)]
 pub struct PlainRead {
     /// The ranges, or `Memory` if the program ran out of memory for one of them.
@@ -61,7 +61,7 @@ pub struct PlainRead {
     pub base: u64,
 }
 
-/// The form that one value has.
+/// The form of one value of `crashkernel=`. `High` and `Low` have the size in bytes.
 #[derive(Drop)]
 pub enum CrashForm {
     Plain(PlainRead),
@@ -84,7 +84,8 @@ pub fn read_crash_form(alloc: Global, value: &[u8]) -> Option<CrashForm>
     }
 }
 
-/// Reads `R:S,R:S..`, with an optional `@B` at the end. Returns `None` if it is malformed.
+/// Reads a plain form with ranges: `R:S,R:S..`, with an optional `@B` at the end. Returns `None`
+/// if it is malformed.
 fn read_ranges_form(alloc: Global, value: &[u8]) -> Option<CrashForm>
     ensures { KeepsForm result (ranges_form value.now) }
 {
@@ -93,7 +94,8 @@ fn read_ranges_form(alloc: Global, value: &[u8]) -> Option<CrashForm>
     Some(CrashForm::Plain(PlainRead { ranges, base }))
 }
 
-/// Reads `S` or `S@B`: one range from 0 without an end. Returns `None` if it is malformed.
+/// Reads a plain form without ranges, `S` or `S@B`, as one range from 0 without an end. Returns
+/// `None` if it is malformed.
 fn read_simple_form(alloc: Global, value: &[u8]) -> Option<CrashForm>
     ensures { KeepsForm result (simple_form value.now) }
 {
@@ -138,8 +140,8 @@ fn read_suffix_form(size: &[u8], name: &[u8]) -> Option<CrashForm>
     None
 }
 
-/// Returns the text before the first `@`, and the base after it, or 0 if there is no `@`. Returns
-/// `None` if the base is malformed.
+/// Returns the text before the first `@`, and the base after the `@`. If there is no `@`, returns
+/// the whole text and base 0. Returns `None` if the base is malformed.
 fn text_and_base(text: &[u8]) -> Option<(&[u8], u64)>
     ensures { option_map (λ place. (place.0.now, place.1)) result ≡ text_and_base text.now }
 {
@@ -182,8 +184,8 @@ fn read_range(text: &[u8]) -> Option<CrashRange>
     Some(CrashRange { start, end, size })
 }
 
-/// Reads the end of a range, which may be missing: `Some(None)` if the text is empty, and `None`
-/// if it is malformed.
+/// Reads the end of a range of total memory. Returns `Some(None)` if the text is empty, which
+/// means that the range has no end, and `None` if the text is malformed.
 fn read_end(text: &[u8]) -> Option<Option<u64>>
     ensures { result ≡ end_of_range text.now }
 {

@@ -1,6 +1,6 @@
 //! The reason why a command line is refused. It has a file of its own because both the reader of
-//! the words and the check at the end of the line return it. For most of these the kernel logs a
-//! warning, or nothing, and continues the boot.
+//! the words and the check at the end of the line return it. For most of these faults the kernel
+//! logs a warning, or nothing, and continues the boot.
 
 use bm_base::Memory;
 

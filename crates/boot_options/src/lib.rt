@@ -1,9 +1,9 @@
 //! Reads the kernel command line: the options that change the memory set-up.
 //!
-//! The kernel's options for memory are words of one line. `mem=` ends RAM at an address. `memmap=`
-//! adds ranges, removes them, or changes their type. `crashkernel=` requests an area for a crash
-//! kernel. With `numa=off` the SRAT isn't used. With `add_efi_memmap` the entries of the EFI map
-//! are added to the map.
+//! The kernel's options for memory are words of one line. `mem=` makes RAM end at an address.
+//! `memmap=` adds ranges, removes them, or changes their type. `crashkernel=` requests an area for
+//! a crash kernel. `numa=off` means that the SRAT isn't used. `add_efi_memmap` adds the entries of
+//! the EFI map to the map.
 //!
 //! This crate follows `next_arg` and `parse_args` for the words and `memparse` for the numbers.
 //! For the values it follows `parse_memopt` and `parse_memmap_one` of arch/x86/kernel/e820.c, and

@@ -2,8 +2,8 @@
 //!
 //! Each function reads one map option, as `parse_memopt` and `parse_memmap_one` of
 //! arch/x86/kernel/e820.c do: a size, a mark that says what the range is for, and an address. If
-//! types change, they follow the address. Nothing here allocates. A malformed text gives `None`,
-//! and the caller reports the fault with the number of the word.
+//! the option changes types, they follow the address. Nothing here allocates. The functions return
+//! `None` for a malformed text, and the caller reports the fault with the number of the word.
 
 ghost use Rattle.std.specs.Prelude.{◌≡◌, ◌↔◌, ℕ, List, Some};
 ghost use Rattle.std.specs.Option.{option_map};
@@ -23,9 +23,10 @@ use e820_model::{E820_TYPE_ACPI, E820_TYPE_PRAM, E820_TYPE_RAM, E820_TYPE_RESERV
 pub enum MapOption {
     /// The map options that follow replace the firmware's map (`exactmap`).
     ExactMap,
-    /// Adds a range of some type. If the range is empty, there is no edit.
+    /// Adds a range of some type. The edit is `None` if the range is empty.
     Adding(Option<Edit>),
-    /// Removes or changes types. If the range is empty, there is no edit.
+    /// Removes or changes types. The edit is `None` if nothing changes: the range is empty, or the
+    /// option is `mem=nopentium`.
     Other(Option<Edit>),
 }
 
@@ -56,7 +57,7 @@ pub fn read_map_option(text: &[u8]) -> Option<MapOption>
 }
 
 /// Returns the map option for a size and the text after it, which begins with a mark. Returns
-/// `None` if the text is malformed. An empty text ends RAM at `size`.
+/// `None` if the text is malformed. If the text is empty, the option makes RAM end at `size`.
 fn map_option_by_mark(size: u64, text: &[u8]) -> Option<MapOption>
     ensures { result ≡ map_option_by_mark size text.now }
 {
@@ -99,7 +100,7 @@ fn percent_map_option(size: u64, place: &[u8]) -> Option<MapOption>
 }
 
 /// Returns the map option that changes type `from` to type `to` in the range. A type of 0 means
-/// that the option doesn't give it. Returns `None` if both types are given and equal.
+/// that the option's text doesn't give it. Returns `None` if both types are given and equal.
 fn retype_option(range: Range, from: u32, to: u32) -> Option<MapOption>
     ensures { result ≡ retype_option range from to }
 {
@@ -112,8 +113,8 @@ fn retype_option(range: Range, from: u32, to: u32) -> Option<MapOption>
     }
 }
 
-/// Returns the type after `mark`, if the text begins with that mark, and the rest of the text. The
-/// type is 0 if the mark isn't there. Returns `None` if the type is malformed or exceeds 2^32 - 1.
+/// If the text begins with `mark`, returns the type after it and the rest of the text. Otherwise
+/// returns type 0 and the whole text. Returns `None` if the type is malformed or exceeds 2^32 - 1.
 fn kind_after_mark(mark: u8, text: &[u8]) -> Option<(u32, &[u8])>
     ensures { option_map (λ front. (front.0, front.1.now)) result ≡ kind_after_mark mark text.now }
 {

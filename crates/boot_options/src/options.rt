@@ -1,5 +1,6 @@
-//! Reads the options of a whole line. The limits of the line are tested first, then its words are
-//! read, and then the user map is checked. This is the entry point of the crate.
+//! Reads the options of a whole line. The limits of the line are tested first. Then its words are
+//! read, and the map options after the last `exactmap` (the user map) are checked. This is the
+//! entry point of the crate.
 
 ghost use Rattle.std.specs.Prelude.{◌≡◌, ◌↔◌, ℕ, List, ◌<◌, ◌≤◌, length, MatchResult, Ok, Err, IfOk, IfErr, IfSome, Option, IsOkAnd, IsErr, OnErr, ◌⊎◌};
 ghost use Rattle.bm_base.specs.Answers.{Answers};
@@ -26,7 +27,7 @@ use text_words::{text_before, without_last};
 pub struct Options {
     /// The edits of the map from `mem=` and `memmap=`, in the order of the line.
     pub edits: Vec<Edit>,
-    /// The crash area that `crashkernel=` requests, form by form.
+    /// What the `crashkernel=` options request: the last value of each form.
     pub crash: CrashOption,
     /// True if the line has `numa=off`: the SRAT isn't used.
     pub numa_off: bool,
@@ -59,9 +60,9 @@ pub fn read_options(alloc: Global, bytes: &[u8]) -> Result<Options, OptionFault>
     finish(reading)
 }
 
-/// Law: a line has the fault [`OptionFault::BadMemmap`] of a word exactly if that word is the
-/// lowest malformed one, and its name is `memmap`. The same holds for `mem`, `crashkernel` and
-/// `numa` and their faults. A word is malformed if it has no `=`, or if its value, without
+/// Law: a line has the fault [`OptionFault::BadMemmap`] with a word's number exactly if that word
+/// is the lowest malformed one, and its name is `memmap`. The faults of `mem`, `crashkernel` and
+/// `numa` follow the same rule. A word is malformed if it has no `=`, or if its value, without
 /// quotation marks, has none of the forms that its name allows.
 pub fn malformed_words_are_faults()
     ensures mem { (bytes : List ℕ) (word : ℕ) →
@@ -75,7 +76,7 @@ pub fn malformed_words_are_faults()
 {}
 
 /// Law: a word has exactly the meaning that the grammar gives to its name and its value, without
-/// quotation marks. A line has the meanings of its words, the texts between separators, up to `--`.
+/// quotation marks. A line has the meanings of its words up to `--`.
 pub fn words_say_what_they_spell()
     ensures word { (number : ℕ) (word : List ℕ) (said : WordMeaning) →
         word_meaning number (name_value_of word) ≡ Ok said ↔ SpellsMeaning word said }
@@ -84,8 +85,7 @@ pub fn words_say_what_they_spell()
         word_meanings_from 1 (option_words line) ≡ Ok said ↔ SpellsLine line said }
 {}
 
-/// The largest number of bytes of a line without the zero byte that ends it (`COMMAND_LINE_SIZE` -
-/// 1).
+/// The largest number of bytes of a line (`COMMAND_LINE_SIZE`, less the zero byte that ends it).
 const LONGEST_LINE: usize = 2047;
 
 /// Returns the line in the file: the bytes before the first zero byte, without a newline at the

@@ -1,12 +1,13 @@
 //! Reads the words of a line, one after another.
 //!
 //! Each word has a meaning by itself, which depends on its name. A [`Reading`] has the result of
-//! all words so far. The edits are kept in the order of the line. Of the user map, only what the
-//! check at the end of the line needs is kept: the word of the last `exactmap`, and how many map
-//! options that add a range are still needed.
+//! all words read before. The edits are kept in the order of the line. Of the user map, only what
+//! the check at the end of the line needs is kept: the word of the last `exactmap`, and how many
+//! map options that add a range must still follow it.
 //!
 //! Only this file and the values of `crashkernel=` allocate. If memory runs out, the rest of the
-//! line is still read, so that a fault anywhere in it is found. No function here returns `Memory`.
+//! line is still read, so that a fault anywhere in it is found. Functions here record that memory
+//! ran out, and never return `Memory`.
 
 ghost use Rattle.std.specs.Prelude.{◌≡◌, ℕ, ◌≤◌, ◌+◌, length, Result, Ok, Err, List, [], ◌++◌};
 ghost use Rattle.std.specs.Option.{option_map};
@@ -28,7 +29,7 @@ use text_words::{Separators, next_part, next_word, split_once, unquote};
 /// The result of the words that have been read so far.
 #[derive(Drop)]
 pub struct Reading {
-    /// The edits of all words so far, or `Memory` if the program ran out of memory for one of
+    /// The edits of all words read before, or `Memory` if the program ran out of memory for one of
     /// them.
     pub edits: Result<Vec<Edit>, Memory>,
     pub crash: CrashRead,
@@ -37,7 +38,7 @@ pub struct Reading {
     pub user_map: Option<UserMap>,
 }
 
-/// The last value of each form of `crashkernel=` so far.
+/// The last value of each form of `crashkernel=` that was read.
 #[derive(Drop)]
 pub struct CrashRead {
     pub plain: Option<PlainRead>,
@@ -45,8 +46,8 @@ pub struct CrashRead {
     pub low: Option<u64>,
 }
 
-/// The last `exactmap` so far: the number of its word, and `wanting`, the number of map options
-/// that add a range and are still missing after it. At least two must follow.
+/// The last `exactmap` that was read. `word` is the number of its word. At least two map options
+/// that add a range must follow it; `wanting` is the number of those that are still missing.
 #[derive(Clone, Copy, Debug, PartialEq, Eq)]
 pub struct UserMap {
     pub word: u32,
@@ -90,7 +91,8 @@ pub fn read_option_words(alloc: Global, line: &[u8]) -> Result<Reading, OptionFa
     Ok(reading)
 }
 
-/// Reads one word, whose number in the line is `number`. A word with another name changes nothing.
+/// Reads one word, whose number in the line is `number`. A word with none of the options' names
+/// changes nothing.
 ///
 /// # Errors
 ///
@@ -189,8 +191,8 @@ fn read_crash(
     Ok(())
 }
 
-/// Adds one map option to `reading`: its edit, and what it means for the user map. The option is in
-/// the word `number`.
+/// Adds one map option of the word `number` to `reading`: its edit, and its effect on the user
+/// map.
 fn add_map_option(option: &MapOption, number: u32, reading: &mut Reading)
     ensures { (st : ReadingState) → IsReadTo reading.old st →
         IsReadTo reading.new (after_map_option number st option.now) }
@@ -211,7 +213,7 @@ fn add_map_option(option: &MapOption, number: u32, reading: &mut Reading)
     }
 }
 
-/// Returns the user map after an option that adds a range: one fewer such option is missing.
+/// Returns the user map after one more option that adds a range: one fewer is still missing.
 fn user_map_less_one(map: &Option<UserMap>) -> Option<UserMap>
     ensures { result ≡ option_map user_map_less_one map.now }
 {

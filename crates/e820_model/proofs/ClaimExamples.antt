@@ -32,7 +32,7 @@ claims_examples : (claims_of_entries ram_and_acpi 0x100000 1 ≡ true) × (claim
     × (claims_of_entries (record { addr = 0; size = 0x1000; kind = 0 } ∷ []) 0 0 ≡ false)
 claims_examples = (refl, refl, refl, refl, refl)
 
--- so the type at 1 MiB is ACPI data, although the entry of RAM comes later
+-- the type at 1 MiB is ACPI data, although the entry of RAM comes later in the table
 later_does_not_win : type_of (claims_of_entries ram_and_acpi) 0x100000 ≡ 3
 later_does_not_win =
     greatest_is (claims_of_entries ram_and_acpi 0x100000) 3 (omega arith) (λ some. refl) (λ k higher small. grind (arith, nat_tests))
@@ -43,7 +43,7 @@ settled_examples : (settled_claims (claims_of_entries ram_and_acpi) 0x100000 3 �
     × (settled_claims (claims_of_entries ram_and_acpi) 0x200000 0 ≡ false)
 settled_examples = (rw later_does_not_win refl, rw later_does_not_win refl, refl)
 
--- each edit of the page at 0x1000: `memmap=4K@0x1000` and the like
+-- one page, and what each kind of edit does to it (`memmap=4K@0x1000` and the like)
 abbrev page : RangeView
 page = record { base = 0x1000; size = 0x1000 }
 
@@ -63,7 +63,7 @@ remove_all_examples : (after_edit (edit.RemoveAll page) ram_and_nvs 0x1000 1 ≡
     × (after_edit (edit.RemoveAll page) ram_and_nvs 0x1000 4 ≡ false) × (after_edit (edit.RemoveAll page) ram_and_nvs 0x2000 4 ≡ true)
 remove_all_examples = (refl, refl, refl)
 
--- no edit has type 0
+-- an edit with type 0 has no valid types
 type_0_is_none : (¬ HasTypes (edit.Add page 0)) × (¬ HasTypes (edit.Change page 1 0)) × (¬ HasTypes (edit.Change page 0 1))
 type_0_is_none = (
   λ some. absurd (omega arith),
@@ -110,7 +110,7 @@ first_claims = zero_page_claims ram_and_acpi
 abbrev second_claims : Claims
 second_claims = with_extension extension first_claims
 
--- which step an address has its type from, if the claims before the step are a single type
+-- the steps after which an address has a single claim, and its type then
 abbrev alone : ℕ → ℕ → Bool
 alone t k = nat_lt 0 k && k == t
 
@@ -134,7 +134,8 @@ changed : (x t u : ℕ) → type_of (union_of_claims first_claims (claims_of_ent
 changed x t u known small is_in none =
     greatest_is (third_claims x) u small (λ some. rw known (is_in some)) (λ k higher below. rw known (none k higher below))
 
--- at 1.5 MiB the extension's type is greater than RAM, and then greater than the option's
+-- at 1.5 MiB the extension's type replaces RAM since it is greater, and later the option's lower
+-- type doesn't replace it
 nvs_with_extension : type_of (union_of_claims first_claims (claims_of_entries extension)) 0x180000 ≡ 4
 nvs_with_extension =
     let ram : type_of (claims_of_entries ram_and_acpi) 0x180000 ≡ 1 =
@@ -150,7 +151,7 @@ nvs_stays = changed 0x180000 4 4 nvs_with_extension (omega arith) (λ some. refl
 nvs_in_the_map : final_claims ram_and_acpi extension edits efi 0x180000 4 ≡ true
 nvs_in_the_map = rw nvs_stays refl
 
--- what the EFI map calls ACPI data was RAM before
+-- the page that the EFI map calls ACPI data was RAM before
 ram_before : type_of (union_of_claims first_claims (claims_of_entries extension)) 0x190000 ≡ 1
 ram_before =
     let ram : type_of (claims_of_entries ram_and_acpi) 0x190000 ≡ 1 =

@@ -59,7 +59,8 @@ lower_than s (suc n) some =
       | inr not_here ↦ rw not_here (omega arith)
     ]
 
--- a member of the set, or 0, with no greater member below n is the greatest below n
+-- m is the greatest type below n if m is in the set, or is 0, and no member of the set below n is
+-- greater
 pub below_is : (s : Types) (n m : ℕ) → m < n → (0 < m → s m ≡ true) → ((k : ℕ) → m < k → k < n → s k ≡ false) → greatest_below s n ≡ m
 below_is s n m small is_in none =
     let at_least : m ≤ greatest_below s n =
@@ -73,7 +74,7 @@ below_is s n m small is_in none =
       | inr ge ↦ omega arith
     ]
 
--- the greatest type of a set
+-- the greatest type of a set: its properties, from those of `greatest_below`
 pub greatest_among : (s : Types) → 0 < greatest_type s → s (greatest_type s) ≡ true
 unfolding greatest_type
 greatest_among s some = among_below s (2 ^ 32) some
@@ -105,7 +106,7 @@ settled_keeps c x =
 pub settled_one : (c : Claims) (x j k : ℕ) → settled_claims c x j ≡ true → settled_claims c x k ≡ true → j ≡ k
 settled_one c x j k is_j is_k = grind (arith, nat_tests)
 
--- if an address has at most one claim, so it has after the trim
+-- if an address has at most one claim, it has at most one after the trim
 trim_one : (low high one : Bool) (is_j is_k : Bool) (j k : ℕ) → (is_j ≡ true → is_k ≡ true → j ≡ k) → (one ≡ true → is_j ≡ true → j ≡ 1)
     → (one ≡ true → is_k ≡ true → k ≡ 1)
     → ((if low then ((one && j == 2) || (is_j && not (j == 1))) else is_j) && not (high && j == 1)) ≡ true
@@ -124,7 +125,8 @@ finished_one entries extension edits added x j k at_j at_k =
     let before : Claims = union_of_claims (after_edits edits (with_extension extension (zero_page_claims entries))) (claims_of_entries added) in
     bios_trimmed_one (settled_claims before) x j k (settled_one before x) at_j at_k
 
--- if no entries are added, the claims are those of the edits
+-- if no entries of an EFI map are added, the final claims are those of the table after the edits,
+-- settled and trimmed
 pub none_added : (entries extension : List Entry) (edits : List Edit)
     → final_claims entries extension edits []
     ≡ after_bios_trim (settled_claims (after_edits edits (with_extension extension (zero_page_claims entries))))
@@ -150,7 +152,7 @@ above_step : (lies : Bool) (value rest k : ℕ) → max (if lies then value else
 above_step true value rest k higher = grind (arith, nat_tests)
 above_step false value rest k higher = refl
 
--- the claims of two lists, at an address and a type
+-- whether one of two lists makes a claim, for an address and a type
 pub claims_append_at : (rs ss : List (RunOf ℕ)) (x k : ℕ) → claims_of (rs ++ ss) x k ≡ (claims_of rs x k || claims_of ss x k)
 claims_append_at [] ss x k = refl
 claims_append_at (r ∷ rs) ss x k =
@@ -186,7 +188,7 @@ pub type_top : (rs : List (RunOf ℕ)) (x : ℕ) → AreValidClaims rs → type_
 type_top rs x claims =
     greatest_is (claims_of rs x) (top rs x) (top_small rs x claims) (top_among rs x) (λ k higher small. top_above rs x k higher)
 
--- the same at every address
+-- two concatenated lists make the claims of both
 pub claims_append : (rs ss : List (RunOf ℕ)) → claims_of (rs ++ ss) ≡ union_of_claims (claims_of rs) (claims_of ss)
 claims_append rs ss = λ i x k. claims_append_at rs ss x k i
 
@@ -194,7 +196,7 @@ pub are_append : (rs ss : List (RunOf ℕ)) → AreValidClaims rs → AreValidCl
 are_append [] ss first second = second
 are_append (r ∷ rs) ss first second = (first.0, first.1, first.2, first.3, are_append rs ss first.4 second)
 
--- no run reaches 2^64 - 1, so nothing claims an address at or above it
+-- no run contains 2^64 - 1 or a higher address, so nothing claims such an address
 pub top_past : (rs : List (RunOf ℕ)) (x : ℕ) → AreValidClaims rs → 2 ^ 64 - 1 ≤ x → top rs x ≡ 0
 top_past [] x claims far = refl
 top_past (r ∷ rs) x claims far =
@@ -206,16 +208,16 @@ none_past rs x claims far =
     let none : type_of (claims_of rs) x ≡ 0 = type_top rs x claims ∙ top_past rs x claims far in
     rw none refl
 
--- the test of equal types decides equality
+-- `same_kind` decides whether two types are equal
 pub same_kind_decides_equality : DecidesEquality same_kind
 same_kind_decides_equality = record { true_is_equal = λ a b h. grind (arith, nat_tests); equal_is_true = λ a b h. grind (arith, nat_tests) }
 
--- claims that end below 2^64 have the runs of their types as their map
+-- the map of claims that end below 2^64 is the list of runs of their types
 pub map_runs : (c : Claims) → ((x : ℕ) → 2 ^ 64 ≤ x → kinds c x ≡ None) → IsRunsOf (kinds c) (map_of c)
 unfolding map_of
 map_runs c none = runs_of_are_runs same_kind same_kind_decides_equality (kinds c) none
 
--- and every list of these runs is that map
+-- every list of the runs of the claims' types is the map
 pub map_unique : (rs runs : List (RunOf ℕ)) → AreValidClaims rs → IsRunsOf (kinds (claims_of rs)) runs → runs ≡ map_of (claims_of rs)
 map_unique rs runs claims known =
     runs_of_function_are_equal (kinds (claims_of rs)) runs (map_of (claims_of rs)) known
@@ -273,13 +275,13 @@ value_rest r rs x k runs found =
 pub settled_runs : (c : Claims) (rs : List (RunOf ℕ)) → IsRunsOf (kinds c) rs → claims_of rs ≡ settled_claims c
 settled_runs c rs known = λ i x k. settled_at c rs x k known i
 
--- a value of the map is a type
+-- a type that the map gives is above 0 and below 2^32
 pub kind_small : (c : Claims) (x k : ℕ) → kinds c x ≡ Some k → (0 < k) × (k < 2 ^ 32)
 kind_small c x k found =
     let small : type_of c x < 2 ^ 32 = greatest_small (c x) in
     kind_of (type_of c x) k found small
 
--- canonical lists whose values are types at addresses below 2^64 - 1
+-- a canonical list of types at addresses below 2^64 - 1 makes valid claims
 types_claims : (rs : List (RunOf ℕ)) → AreRuns rs → ((x k : ℕ) → value_at rs x ≡ Some k → (x < 2 ^ 64 - 1) × (0 < k) × (k < 2 ^ 32))
     → AreValidClaims rs
 types_claims [] runs types = tt
@@ -291,7 +293,7 @@ types_claims (r ∷ rs) runs types =
     λ x k found. types x k (value_rest r rs x k runs found) in
     (runs.0, omega arith, known.1, known.2, types_claims rs runs.2 rest)
 
--- the runs of a map that ends below 2^64 are claims again
+-- the runs of a map that ends below 2^64 are valid claims
 pub runs_claims : (c : Claims) (rs : List (RunOf ℕ)) → IsRunsOf (kinds c) rs → ((x : ℕ) → 2 ^ 64 - 1 ≤ x → kinds c x ≡ None) → AreValidClaims rs
 runs_claims c rs known none =
     types_claims rs known.runs (λ x k found.

@@ -7,13 +7,13 @@ use Rattle.e820_model.specs.Map.{TypeAt}
 use Rattle.e820_model.specs.Usable.{is_memory, count_below, types_below, is_usable_frame, usable_frames}
 use Rattle.e820_model.proofs.UsableLaws.{all_bytes, count_frames_between, usable_count}
 
--- RAM and the kernel's memory count, reserved and unclaimed addresses don't
+-- RAM and the kernel's own memory count as memory; reserved and unclaimed addresses don't
 memory_examples : (is_memory (Some 1) ≡ true) × (is_memory (Some 128) ≡ true) × (is_memory (Some 2) ≡ false)
     × (is_memory (Some 0xEFFFFFFF) ≡ false) × (is_memory None ≡ false)
 memory_examples = (refl, refl, refl, refl, refl)
 
--- RAM from 0x800 to 0x3800, from 0x1800 to 0x2800 the kernel's: frames 1 and 2 are whole, 0 and 3
--- aren't
+-- RAM from 0x800 to 0x3800, with the kernel's own memory from 0x1800 to 0x2800: frames 1 and 2 are
+-- whole, 0 and 3 aren't
 kernel_inside : TypeAt
 kernel_inside =
     value_at (record { base = 0x800; size = 0x1000; value = 1 } ∷ record { base = 0x1800; size = 0x1000; value = 128 }
@@ -25,7 +25,7 @@ frame_examples : (is_usable_frame kernel_inside 0 ≡ false) × (is_usable_frame
 unfolding kernel_inside each_from each_in count_below is_usable_frame
 frame_examples = (refl, refl, refl, refl, refl)
 
--- a byte of another type in the frame, or a byte that nothing claims, makes it unusable
+-- a frame with one reserved byte, or with one byte that nothing claims, isn't usable
 one_byte_reserved : TypeAt
 one_byte_reserved =
     value_at (record { base = 0; size = 0x1234; value = 1 } ∷ record { base = 0x1234; size = 1; value = 2 }

@@ -8,7 +8,7 @@ use Rattle.bm_base.proofs.EachLaws.{each_in-all, each_in-each, each_in-fails, ea
 use Rattle.e820_model.specs.Usable.{is_memory, count_below, types_below, is_usable_frame, usable_frames}
 use Rattle.e820_model.specs.Map.{TypeAt}
 
--- how many numbers below n
+-- counting the numbers below n that pass a test
 
 -- two tests that agree below n count the same there
 pub count_same : (p q : ℕ → Bool) (n : ℕ) → ((i : ℕ) → i < n → p i ≡ q i) → count_below p n ≡ count_below q n
@@ -19,7 +19,7 @@ count_same p q (suc n) same =
     let rest : count_below p n ≡ count_below q n = count_same p q n (λ i lt. same i (omega arith)) in
     rw (here, rest) refl
 
--- no number passes
+-- if no number below n passes, the count is 0
 pub count_none : (p : ℕ → Bool) (n : ℕ) → ((i : ℕ) → i < n → p i ≡ false) → count_below p n ≡ 0
 unfolding count_below
 count_none p zero none = refl
@@ -28,7 +28,7 @@ count_none p (suc n) none =
     let rest : count_below p n ≡ 0 = count_none p n (λ i lt. none i (omega arith)) in
     rw (here, rest) refl
 
--- at most n of them pass
+-- at most n of the numbers below n pass
 pub count_at_most : (p : ℕ → Bool) (n : ℕ) → count_below p n ≤ n
 unfolding count_below
 count_at_most p zero = omega arith
@@ -36,7 +36,7 @@ count_at_most p (suc n) =
     let rest : count_below p n ≤ n = count_at_most p n in
     grind (arith, nat_tests, rest)
 
--- one test or another, never both
+-- if no number passes both tests, the counts of both add up
 pub count_either : (p q : ℕ → Bool) (n : ℕ) → ((i : ℕ) → i < n → p i ≡ true → q i ≡ false)
     → count_below (λ i. p i || q i) n ≡ count_below p n + count_below q n
 unfolding count_below
@@ -49,7 +49,7 @@ count_either p q (suc n) apart =
       | inr fails ↦ (rw fails (grind (arith, nat_tests, rest)))
     ]
 
--- the numbers from a to b
+-- how many numbers below n lie from a up to b, without b
 pub count_interval : (a b n : ℕ) → count_below (λ i. nat_le a i && nat_lt i b) n ≡ min b n - a
 unfolding count_below
 count_interval a b zero = omega arith
@@ -57,17 +57,17 @@ count_interval a b (suc n) =
     let rest : count_below (λ i. nat_le a i && nat_lt i b) n ≡ min b n - a = count_interval a b n in
     grind (arith, nat_tests, rest)
 
--- whole frames
+-- counting frames all of whose bytes pass a test
 
 -- whether every byte of the frame passes
 abbrev pub all_bytes : (ℕ → Bool) → ℕ → Bool
 all_bytes p frame = each_in (bytes_of_frame frame) p
 
--- a frame with a byte that fails
+-- a frame with a byte that fails the test fails too
 pub all_bytes-fails : (p : ℕ → Bool) (frame x : ℕ) → 4096 * frame ≤ x → x < 4096 * frame + 4096 → p x ≡ false → all_bytes p frame ≡ false
 all_bytes-fails p frame x low high fails = each_in-fails (bytes_of_frame frame) p x low high fails
 
--- each byte of a whole frame passes
+-- each byte of a frame that passes does pass
 pub all_bytes-each : (p : ℕ → Bool) (frame : ℕ) → all_bytes p frame ≡ true
     → (x : ℕ) → 4096 * frame ≤ x → x < 4096 * frame + 4096 → p x ≡ true
 all_bytes-each p frame all x low high = each_in-each (bytes_of_frame frame) p all x low high
@@ -96,7 +96,7 @@ interval_frame from until frame =
       ])
     ]
 
--- how many of the frames below n lie between the two addresses
+-- how many of the frames below n lie between two addresses
 pub count_frames_between : (from until n : ℕ)
     → count_below (all_bytes (λ x. nat_le from x && nat_lt x until)) n ≡ min (until / 4096) n - (from + 4095) / 4096
 count_frames_between from until n =
@@ -104,12 +104,14 @@ count_frames_between from until n =
     (λ frame lt. interval_frame from until frame)
     ∙ count_interval ((from + 4095) / 4096) (until / 4096) n
 
--- if all addresses below it fail one test and all above it another
+-- the address `gap` is in neither of two sets of addresses: `p` has only addresses below it, `q`
+-- only addresses above it
 pub record IsGap (p q : ℕ → Bool) (gap : ℕ) : Type 0 where
   pub below : (x : ℕ) → gap ≤ x → p x ≡ false
   pub above : (x : ℕ) → x ≤ gap → q x ≡ false
 
--- no frame lies across a gap
+-- if each byte of a frame is in one of the two sets, the frame is on one side of the gap, so all
+-- its bytes are in one set
 pub split_frame : (p q : ℕ → Bool) (gap frame : ℕ) → IsGap p q gap
     → all_bytes (λ x. p x || q x) frame ≡ (all_bytes p frame || all_bytes q frame)
 split_frame p q gap frame apart =
@@ -141,7 +143,7 @@ split_frame p q gap frame apart =
       ])
     ]
 
--- the frames of both sides of a gap are counted one by one
+-- the frames on both sides of a gap add up
 pub count_split : (p q : ℕ → Bool) (gap n : ℕ) → IsGap p q gap
     → count_below (all_bytes (λ x. p x || q x)) n ≡ count_below (all_bytes p) n + count_below (all_bytes q) n
 count_split p q gap n apart =
@@ -153,9 +155,9 @@ count_split p q gap n apart =
       | inr behind ↦ absurd (both_ways (p (4096 * frame)) (apart.below (4096 * frame) behind) first)
     ])
 
--- usable frames
+-- usable frames, as frames all of whose bytes are memory
 
--- a frame is usable exactly if it is whole in memory
+-- a frame is usable exactly if all its bytes are memory
 pub usable_whole : (f : TypeAt) (frame : ℕ) → is_usable_frame f frame ≡ all_bytes (λ x. is_memory (f x)) frame
 unfolding is_usable_frame
 usable_whole f frame = refl
@@ -170,14 +172,14 @@ pub is_usable_frame-fails : (f : TypeAt) (frame x : ℕ) → 4096 * frame ≤ x 
     → is_usable_frame f frame ≡ false
 is_usable_frame-fails f frame x low high fails = usable_whole f frame ∙ all_bytes-fails (λ x. is_memory (f x)) frame x low high fails
 
--- the usable frames are the frames that are whole in memory
+-- the number of usable frames is that of the frames all of whose bytes are memory
 pub usable_count : (f : TypeAt) → usable_frames f ≡ count_below (all_bytes (λ x. is_memory (f x))) (2 ^ 52)
 unfolding usable_frames
 usable_count f = count_same (is_usable_frame f) (all_bytes (λ x. is_memory (f x))) (2 ^ 52) (λ frame lt. usable_whole f frame)
 
--- types below the limit
+-- types of addresses below the limit
 
--- memory below the limit
+-- an address is memory below the limit exactly if it is memory and lies below the limit
 pub memory_reached : (limit : ℕ) (f : TypeAt) (x : ℕ) → is_memory (types_below limit f x) ≡ (is_memory (f x) && nat_lt x limit)
 memory_reached limit f x =
     elim (cases_Bool (nat_lt x limit)) as (λ _. is_memory (types_below limit f x) ≡ (is_memory (f x) && nat_lt x limit)) [

@@ -8,7 +8,7 @@ use Rattle.e820_model.specs.declared.entry.Entry.{Entry}
 use Rattle.e820_model.specs.declared.entry.Edit.{Edit}
 use Rattle.e820_model.specs.declared.entry.Edit.TheVariants as edit
 
--- a set of types; type 0 claims nothing, so no set has it
+-- a set of types. Type 0 claims nothing, so it is in no set.
 abbrev pub Types : Type 0
 Types = ℕ → Bool
 
@@ -16,7 +16,7 @@ Types = ℕ → Bool
 abbrev pub Claims : Type 0
 Claims = ℕ → Types
 
--- no address has a claim
+-- the claims if no address has any
 abbrev pub no_claims : Claims
 no_claims x k = false
 
@@ -51,7 +51,7 @@ type_of c x = greatest_type (c x)
 abbrev pub settled_claims : Claims → Claims
 settled_claims c x k = nat_lt 0 k && k == type_of c x
 
--- the union: an address has the claims of both arguments
+-- the union of both arguments: an address has the claims that either of them gives it
 abbrev pub union_of_claims : Claims → Claims → Claims
 union_of_claims c d x k = c x k || d x k
 
@@ -65,7 +65,7 @@ after_edit (edit.Change range from to) c x k =
     if covers range x then ((c x from && k == to) || (c x k && not (k == from))) else c x k
 after_edit edit.Clear c x k = false
 
--- no type in the edit is 0
+-- both types of the edit, or its only type, are above 0
 abbrev pub HasTypes : Edit → Type 0
 HasTypes (edit.Add range kind) = 0 < kind
 HasTypes (edit.Remove range kind) = 0 < kind
@@ -73,7 +73,7 @@ HasTypes (edit.RemoveAll range) = Unit {0}
 HasTypes (edit.Change range from to) = (0 < from) × (0 < to)
 HasTypes edit.Clear = Unit {0}
 
--- no type in any of the edits is 0
+-- all types in the edits are above 0
 abbrev pub HaveTypes : List Edit → Type 0
 HaveTypes [] = Unit {0}
 HaveTypes (e ∷ es) = HasTypes e × HaveTypes es
@@ -87,7 +87,7 @@ after_edits (e ∷ es) c = after_edits es (after_edit e c)
 abbrev pub first_page : RangeView
 first_page = record { base = 0; size = FRAME_SIZE }
 
--- the addresses from 640 KiB to 1 MiB, where there is no RAM
+-- the addresses from 640 KiB to 1 MiB, which are never RAM in the final map
 abbrev pub bios_area : RangeView
 bios_area = record { base = 0xA0000; size = 0x60000 }
 

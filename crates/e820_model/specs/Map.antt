@@ -1,4 +1,5 @@
--- The map: the runs of one type. And lists of runs read as claims.
+-- The map, which is a list of runs of addresses, each of one type; and the claims that a list of
+-- runs makes.
 use Rattle.std.specs.Prelude.{ℕ, ◌+◌, ◌^◌, ◌==◌, ◌<◌, Bool, ◌&&◌, ◌||◌, false, if◌then◌else◌, Option, Some, None, List, [], ◌∷◌}
 use Rattle.address_runs.specs.Runs.{RunOf, lies_in, runs_of}
 use Rattle.e820_model.specs.Claims.{Claims, type_of}
@@ -7,7 +8,7 @@ use Rattle.e820_model.specs.Claims.{Claims, type_of}
 abbrev pub TypeAt : Type 0
 TypeAt = ℕ → Option ℕ
 
--- the type as an option: 0 is no type
+-- `Some` of a type above 0, and `None` for type 0, which is no type
 abbrev pub type_unless_zero : ℕ → Option ℕ
 type_unless_zero k = if k == 0 then None else Some k
 
@@ -15,7 +16,7 @@ type_unless_zero k = if k == 0 then None else Some k
 abbrev pub kinds : Claims → TypeAt
 kinds c x = type_unless_zero (type_of c x)
 
--- the two types are equal
+-- whether the two types are equal
 abbrev pub same_kind : ℕ → ℕ → Bool
 same_kind a b = a == b
 

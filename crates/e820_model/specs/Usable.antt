@@ -11,7 +11,7 @@ abbrev pub is_memory : Option ℕ → Bool
 is_memory None = false
 is_memory (Some k) = k == E820_TYPE_RAM || k == E820_TYPE_RESERVED_KERN
 
--- the number of numbers below n that pass the test
+-- how many of the numbers below n pass the test
 unfoldable pub count_below : (ℕ → Bool) → ℕ → ℕ
 count_below p zero = 0
 count_below p (suc n) = if p n then count_below p n + 1 else count_below p n

@@ -1,4 +1,5 @@
-//! Entries of the firmware's table, edits of it, its size, and the types of memory.
+//! Entries of the firmware's table, edits of the table, the greatest number of runs of a map, and
+//! the types of memory.
 
 use bm_base::Range;
 
@@ -14,8 +15,8 @@ pub struct Entry {
     pub kind: u32,
 }
 
-/// An edit of the table by an option of the command line (`parse_memmap_one`). Its types are
-/// above 0.
+/// An edit of the table by an option of the command line (`parse_memmap_one`). The types in an
+/// edit are above 0.
 #[derive(Clone, Copy, Debug, PartialEq, Eq)]
 pub enum Edit {
     /// Adds the type to the claims of each address of the range (`e820__range_add`).
@@ -32,7 +33,8 @@ pub enum Edit {
     Clear,
 }
 
-/// The greatest number of runs of a map (`E820_MAX_ENTRIES` of a kernel with 1,024 nodes).
+/// The greatest number of runs that a map may have (`E820_MAX_ENTRIES` of a kernel with 1,024
+/// nodes).
 pub const E820_MAX_ENTRIES: u64 = 3200;
 
 /// Usable memory.

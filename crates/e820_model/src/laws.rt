@@ -7,15 +7,15 @@ ghost use Rattle.e820_model.specs.Map.{kinds, map_of};
 ghost use Rattle.e820_model.specs.declared.entry.Edit.{Edit as AnyEdit};
 ghost use Rattle.e820_model.specs.declared.entry.Entry.{Entry as AnyEntry};
 
-/// Law: the greatest type of a set is a member of the set, unless it is 0 (an empty set). No member
-/// exceeds it.
+/// Law: the greatest type of a set is a member of the set, unless it is 0, which means that the
+/// set is empty. No member exceeds it.
 pub fn greatest_is_greatest()
     ensures among { (s : Types) → 0 < greatest_type s → s (greatest_type s) ≡ true }
     ensures above { (s : Types) (k : ℕ) → k < 2 ^ 32 → s k ≡ true → k ≤ greatest_type s }
 {}
 
-/// Law: settling the claims (`e820__update_table`) changes the type of no address. So the kernel
-/// may do it at any time.
+/// Law: settling the claims (`e820__update_table`) changes no address's type, so settling more
+/// often than the kernel does makes no difference to types.
 pub fn settling_keeps_types()
     ensures { (c : Claims) (x : ℕ) → type_of (settled_claims c) x ≡ type_of c x }
 {}

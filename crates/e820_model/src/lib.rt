@@ -1,13 +1,13 @@
 //! The firmware's memory map: entries, edits, claims, the map and usable frames.
 //!
 //! Firmware hands the kernel a table of entries (`struct boot_e820_entry`), each a range and a
-//! type. They may overlap and come in any order. An extension may add entries, options edit them,
-//! and one option adds those of UEFI's own map.
+//! type. They may overlap and come in any order. An extension may add entries, and options may
+//! edit the table. One option adds the entries of UEFI's own map.
 //!
-//! The claims of an address are the types that these give it (`specs/Claims.antt`). The greatest
-//! claim is the address's type. The map is the list of runs of one type (`specs/Map.antt`), at most
-//! [`E820_MAX_ENTRIES`] of them. A frame is usable if each of its bytes is memory
-//! (`specs/Usable.antt`).
+//! The claims of an address are the types that the entries and the edits give it
+//! (`specs/Claims.antt`). The address's type is its greatest claim. The map is a list of runs of
+//! addresses, each of one type (`specs/Map.antt`). It has at most [`E820_MAX_ENTRIES`] runs. A
+//! frame is usable if each of its bytes is memory (`specs/Usable.antt`).
 //!
 //! [`Entry`], [`Edit`] and [`Run`] are plain data. They are here because the definitions use
 //! them. A law is an empty function whose contract is a proven fact.

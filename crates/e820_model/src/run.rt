@@ -8,7 +8,8 @@ use address_runs::{Overlay, Stretch};
 use bm_base::Range;
 use std::marker::Model;
 
-/// A range of addresses and its type. In the map it is as long as possible.
+/// A range of addresses and its type. In a map each run is as long as possible: no run of the same
+/// type touches it.
 #[derive(Clone, Copy, Debug, PartialEq, Eq)]
 pub struct Run {
     pub range: Range,
@@ -54,7 +55,7 @@ impl Stretch for Run {
     }
 }
 
-/// If two ranges overlap, the greater type holds.
+/// If two runs overlap, the greater type holds.
 impl Overlay for Run {
     ghost join_of = { greater };
 

@@ -12,7 +12,7 @@ use Rattle.e820_model.specs.declared.entry.Edit.TheVariants as edit
 use Rattle.e820_model.proofs.ClaimLaws.{is_value, claims_append_at, claims_append, are_append}
 use Rattle.e820_sanitise.specs.Cuts.{claim_between, claim_between_if_typed, parts_of_claim, is_type_to_cut, type_inside, cut_out, claim_of_entry}
 
--- the claim on the addresses of one part
+-- a part claims the addresses from `from` to below `until` for its type
 between_test : (from until kind x k : ℕ) → claims_of (claim_between from until kind) x k ≡ (nat_le from x && nat_lt x until && k == kind)
 between_test from until kind x k =
     elim (cases_Bool (nat_lt from until)) as (λ _. claims_of (claim_between from until kind) x k
@@ -26,7 +26,8 @@ between_if_test : (from until : ℕ) (kind : Option ℕ) (x k : ℕ)
 between_if_test from until None x k = grind (arith, nat_tests)
 between_if_test from until (Some kind) x k = between_test from until kind x k
 
--- the claims of the parts: the claim's own addresses, with the type `inner` inside the range
+-- the parts of a claim claim its own addresses: with the type `inner` inside the range, with the
+-- claim's type outside
 parts_test : (range : RangeView) (inner : Option ℕ) (r : RunOf ℕ) (x k : ℕ)
     → claims_of (parts_of_claim range inner r) x k ≡ (lies_in r x && (if covers range x then is_value inner k else (k == r.value)))
 parts_test range inner r x k =
@@ -52,7 +53,7 @@ inside_test v from k to =
       | inr other ↦ rw other refl
     ]
 
--- what removing or changing a type does to the first claim of a list
+-- one step over a list of claims: removing or changing a type in the first claim
 remove_step : (lies in_range rest : Bool) (v kind k : ℕ)
     → ((lies && (if in_range then is_value (if v == kind then None else Some v) k else (k == v))) || (rest && not (in_range && k == kind)))
     ≡ (((lies && k == v) || rest) && not (in_range && k == kind))
@@ -100,7 +101,7 @@ add_same range kind rs =
     alike _ _ (λ x k. claims_append_at rs (claim_between range.base (end_of range) kind) x k
     ∙ ap (λ b. claims_of rs x k || b) (between_test range.base (end_of range) kind x k))
 
--- the claims of entries
+-- the claim of an entry is on the addresses that the entry covers, for its type
 claim_test : (e : Entry) (x k : ℕ) → claims_of (claim_of_entry e) x k ≡ (is_covered_by e x && nat_lt 0 k && k == e.kind)
 claim_test e x k =
     elim (cases_Bool (nat_lt 0 e.kind)) as (λ _. claims_of (claim_of_entry e) x k ≡ (is_covered_by e x && nat_lt 0 k && k == e.kind)) [
@@ -118,7 +119,7 @@ pub entries_same : (rs : List (RunOf ℕ)) (es : List Entry)
 entries_same rs es =
     claims_append rs (flat_map claim_of_entry es) ∙ (λ i x k. claims_of rs x k || entries_test es x k i)
 
--- the parts of valid claims are valid claims: they aren't empty, end below 2^64, and have types
+-- the parts of a valid claim are valid claims: they aren't empty, end below 2^64, and have types
 -- above 0
 pub AreClaims-claim_between : (from until kind : ℕ) → until < 2 ^ 64 → 0 < kind → kind < 2 ^ 32 → AreValidClaims (claim_between from until kind)
 AreClaims-claim_between from until kind space some small =
@@ -154,7 +155,7 @@ AreClaims-cut_out range meant instead (r ∷ rs) type claims =
     (AreClaims-claim_between (max (end_of range) r.base) (run_end r) r.value (omega arith) claims.2 claims.3))
     (AreClaims-cut_out range meant instead rs type claims.4)
 
--- a list of claims that changed as intended, or is unchanged, is a list of valid claims
+-- a list of claims is valid after an edit that either changed it as intended or left it unchanged
 pub AreClaims-edited : {T E : Type 0} (r : Result T E) (new changed old : List (RunOf ℕ)) → OnOk r (new ≡ changed) → OnErr r (new ≡ old)
     → AreValidClaims changed → AreValidClaims old → AreValidClaims new
 AreClaims-edited (Ok x) new changed old ok err after before = rw ok after

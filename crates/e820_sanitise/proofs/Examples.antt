@@ -18,7 +18,8 @@ claims_between = (refl, refl, refl)
 claims_or_none : (claim_between_if_typed 2 5 (Some 1) ≡ run 2 3 1 ∷ []) × (claim_between_if_typed 2 5 None ≡ [])
 claims_or_none = (refl, refl)
 
--- a range in the middle of a claim makes three parts, at its start two, and next to it one
+-- a range in the middle of a claim cuts it into three parts, one at its start into two, and one
+-- next to it leaves it whole
 part_in_the_middle : parts_of_claim (range 4 2) (Some 7) (run 0 10 1) ≡ run 0 4 1 ∷ run 4 2 7 ∷ run 6 4 1 ∷ []
 part_in_the_middle = refl
 
@@ -32,7 +33,7 @@ nothing_inside = (refl, refl)
 meant_types : (is_type_to_cut None 3 ≡ true) × (is_type_to_cut (Some 3) 3 ≡ true) × (is_type_to_cut (Some 1) 3 ≡ false)
 meant_types = (refl, refl, refl)
 
--- `Change 1 4` inside a claim of type 1 and of type 2, and `RemoveAll` inside a claim
+-- types inside the range: `Change 1 4` of a claim of type 1 and of type 2, and `RemoveAll`
 inside_a_change : (type_inside (Some 1) (Some 4) 1 ≡ Some 4) × (type_inside (Some 1) (Some 4) 2 ≡ Some 2) × (type_inside None None 2 ≡ None)
 inside_a_change = (refl, refl, refl)
 

@@ -7,25 +7,25 @@ use Rattle.e820_sanitise.specs.declared.stop.MapStop.TheVariants as stops
 use Rattle.e820_sanitise.specs.Stop.{judge_frames}
 use Rattle.e820_sanitise.proofs.FramesLaws.{whole_by_division, frames_usable}
 
--- frame 0 isn't whole from 2 KiB on, and frame 3 isn't whole below 14 KiB
+-- from 2 KiB to 14 KiB there are two whole frames, 1 and 2
 frames_1_and_2 : count_whole_frames 0x800 0x3800 ≡ 2
 frames_1_and_2 = whole_by_division 0x800 0x3800 (omega arith)
 
 one_byte_short : count_whole_frames 0 0xFFF ≡ 0
 one_byte_short = whole_by_division 0 0xFFF (omega arith)
 
--- the first address that page tables of five levels can't reach
+-- the first address that five levels of page tables can't reach
 abbrev limit : ℕ
 limit = 2 ^ 52
 
--- RAM of this size from address 0
+-- RAM of `size` bytes from address 0
 abbrev ram : ℕ → List (RunOf ℕ)
 ram size = record { base = 0; size = size; value = 1 } ∷ []
 
 one_run : (size : ℕ) → 0 < size → Ascend (ram size)
 one_run size some = (some, tt, tt)
 
--- the usable frames of that RAM are the whole frames below its end
+-- the usable frames of this RAM are the whole frames below its end
 frames_of_ram : (size : ℕ) → 0 < size
     → usable_frames (types_below limit (value_at (ram size))) ≡ count_whole_frames 0 (min (0 + size) limit)
 frames_of_ram size some = sym (frames_usable limit (omega arith) (ram size) (one_run size some))
@@ -37,7 +37,7 @@ two_pages = frames_of_ram 0x2000 (omega arith) ∙ whole_by_division 0 0x2000 (o
 two_pages_go_on : judge_frames (types_below limit (value_at (ram 0x2000))) ≡ None
 two_pages_go_on = rw two_pages refl
 
--- less than a page of RAM is no usable frame, and the boot stops
+-- less than a page of RAM has no usable frame, and the boot stops
 part_of_a_page : usable_frames (types_below limit (value_at (ram 0x800))) ≡ 0
 part_of_a_page = frames_of_ram 0x800 (omega arith) ∙ whole_by_division 0 0x800 (omega arith)
 

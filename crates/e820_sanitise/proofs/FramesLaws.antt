@@ -19,7 +19,7 @@ whole_by_division from until space =
     count_same _ _ (2 ^ 52) same ∙ count_interval ((from + 4095) / 4096) (until / 4096) (2 ^ 52) in
     counted ∙ omega arith
 
--- the whole frames between two addresses are those whose bytes all lie between them
+-- a frame lies between two addresses exactly if all its bytes do
 whole_bytes : (from until : ℕ) → until < 2 ^ 64
     → count_whole_frames from until ≡ count_below (all_bytes (λ x. nat_le from x && nat_lt x until)) (2 ^ 52)
 whole_bytes from until space = whole_by_division from until space ∙ omega (arith, count_frames_between from until (2 ^ 52), space)
@@ -55,7 +55,7 @@ pub memory_touching : (from until : ℕ) (r : RunOf ℕ) (rs : List (RunOf ℕ))
     → (x : ℕ) → memory_after from until (r ∷ rs) x ≡ memory_after from (run_end r) rs x
 memory_touching from until r rs order runs memory touches x = grind (arith, nat_tests)
 
--- a run that isn't memory changes nothing
+-- a run that isn't memory doesn't change which addresses are memory
 pub memory_other : (from until : ℕ) (r : RunOf ℕ) (rs : List (RunOf ℕ)) → Ascend (r ∷ rs)
     → is_memory (Some r.value) ≡ false
     → (x : ℕ) → memory_after from until (r ∷ rs) x ≡ memory_after from until rs x
@@ -106,7 +106,7 @@ frames_of limit p = count_below (all_bytes (λ x. p x && nat_lt x limit)) (2 ^ 5
 pub frames_same : (limit : ℕ) (p q : ℕ → Bool) → ((x : ℕ) → p x ≡ q x) → frames_of limit p ≡ frames_of limit q
 frames_same limit p q same = ap (frames_of limit) (λ i x. same x i)
 
--- the frames of a stretch
+-- counting the frames of one stretch
 stretch_frames : (limit from until : ℕ) → limit < 2 ^ 64
     → count_whole_frames from (min until limit) ≡ frames_of limit (λ x. nat_le from x && nat_lt x until)
 stretch_frames limit from until space =

@@ -1,30 +1,30 @@
--- The parts into which a range cuts a claim, and a list of claims.
+-- The parts into which a range cuts a claim, or each claim of a list.
 use Rattle.std.specs.Prelude.{ℕ, ◌+◌, ◌-◌, ◌==◌, Bool, true, nat_lt, if◌then◌else◌, min, max, Option, Some, None, List, [], ◌∷◌, ◌++◌}
 use Rattle.std.specs.List.{flat_map}
 use Rattle.bm_base.specs.Range.{RangeView, end_of}
 use Rattle.address_runs.specs.Runs.{RunOf, run_end}
 use Rattle.e820_model.specs.declared.entry.Entry.{Entry}
 
--- the claim of a type on the addresses from `from` to below `until`; none if there is no such
--- address
+-- the claim of a type on the addresses from `from` to below `until`, as a list; the empty list if
+-- there is no such address
 abbrev pub claim_between : ℕ → ℕ → ℕ → List (RunOf ℕ)
 claim_between from until kind = if nat_lt from until then record { base = from; size = until - from; value = kind } ∷ [] else []
 
--- the same claim if a type is given, or no claim for None
+-- the claim of `claim_between`, or the empty list if no type is given
 abbrev pub claim_between_if_typed : ℕ → ℕ → Option ℕ → List (RunOf ℕ)
 claim_between_if_typed from until None = []
 claim_between_if_typed from until (Some kind) = claim_between from until kind
 
--- the parts of a claim: below the range, inside it with the type `inner` (nothing for None), and
--- above it
+-- the parts of a claim: the part below the range, the part inside it with the type `inner`, and
+-- the part above it. If `inner` is None, the part inside is left out.
 abbrev pub parts_of_claim : RangeView → Option ℕ → RunOf ℕ → List (RunOf ℕ)
 parts_of_claim range inner r =
     claim_between r.base (min range.base (run_end r)) r.value
     ++ claim_between_if_typed (max range.base r.base) (min (end_of range) (run_end r)) inner
     ++ claim_between (max (end_of range) r.base) (run_end r) r.value
 
--- the cut applies to claims of this type. The first argument is the only type that it applies to,
--- or None if it applies to all types.
+-- whether a cut applies to claims of this type. The first argument is the only type that it
+-- applies to, or None if it applies to all types.
 abbrev pub is_type_to_cut : Option ℕ → ℕ → Bool
 is_type_to_cut None kind = true
 is_type_to_cut (Some meant) kind = kind == meant
@@ -37,6 +37,6 @@ type_inside meant instead kind = if is_type_to_cut meant kind then instead else 
 abbrev pub cut_out : RangeView → Option ℕ → Option ℕ → List (RunOf ℕ) → List (RunOf ℕ)
 cut_out range meant instead rs = flat_map (λ r. parts_of_claim range (type_inside meant instead r.value) r) rs
 
--- the claim of an entry; none if it is empty or has type 0
+-- the claim of an entry, as a list; the empty list if the entry is empty or has type 0
 abbrev pub claim_of_entry : Entry → List (RunOf ℕ)
 claim_of_entry e = if nat_lt 0 e.kind then claim_between e.addr (e.addr + e.size) e.kind else []

@@ -5,7 +5,8 @@ use Rattle.e820_model.specs.Usable.{usable_frames}
 use Rattle.e820_sanitise.specs.declared.stop.MapStop.{MapStop}
 use Rattle.e820_sanitise.specs.declared.stop.MapStop.TheVariants as stops
 
--- the boot stops if there is no usable frame, or if there are more than 2^32
+-- why a boot stops at a map with these types: there is no usable frame, or there are more than
+-- 2^32. None if the boot continues.
 abbrev pub judge_frames : TypeAt → Option MapStop
 judge_frames f =
     if usable_frames f == 0 then Some stops.NoRam

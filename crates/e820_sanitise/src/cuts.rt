@@ -1,11 +1,11 @@
 //! Appends entries to lists of claims, and cuts ranges out of them (`e820__range_add`,
 //! `e820__range_remove`, `e820__range_update`, `trim_bios_range`).
 //!
-//! The kernel walks its table and splits each entry that the range overlaps into up to three.
-//! Here, too, a claim has a part below the range, one inside it and one above it. A claim that
-//! doesn't overlap the range is copied unchanged. Cutting makes a new list, and adding is a single
-//! push, so running out of memory leaves the table unchanged. The lists aren't sorted, since the
-//! claims on an address don't depend on the order.
+//! The kernel walks its table and splits each entry that the range overlaps into up to three. Here
+//! a claim is split in the same way, into a part below the range, one inside it and one above it.
+//! A claim that doesn't overlap the range is copied unchanged. Cutting makes a new list, and
+//! adding is a single push, so running out of memory leaves the table unchanged. The lists aren't
+//! sorted, since the claims on an address don't depend on the order.
 
 ghost use Rattle.std.specs.Prelude.{◌≡◌, ℕ, ◌+◌, ◌^◌, ◌<◌, Option, [], ◌∷◌, ◌++◌, OnOk, OnErr, IfOk, IsOk, IsTrue};
 ghost use Rattle.e820_model.specs.Claims.{EntriesFit, HasTypes, union_of_claims, claims_of_entries, after_edit, after_bios_trim};
@@ -81,8 +81,8 @@ fn push_parts(
     push_between(claims, range.end().max(start), end, claim.kind)
 }
 
-/// Tests whether the claim has addresses, and all of them lie below the range or all above it.
-/// Such a claim is its own only part.
+/// Tests whether the claim isn't empty and lies wholly below or wholly above the range. A cut
+/// leaves such a claim as it is.
 fn is_apart(range: &Range, claim: &Run) -> bool
     ensures { IsTrue result → (inner : Option ℕ)
         → parts_of_claim range.now inner claim.now ≡ claim.now ∷ [] }
@@ -92,9 +92,9 @@ fn is_apart(range: &Range, claim: &Run) -> bool
     start < end && (end <= range.base || range.end() <= start)
 }
 
-/// Returns the claims after an edit of the range. `meant` is the type of the claims that the edit
-/// concerns (`None`: claims of all types). `instead` is the type that they get inside the range
-/// (`None`: they are removed there). Outside the range no claim changes.
+/// Returns the claims after an edit of the range. The edit concerns claims of type `meant`, or
+/// claims of all types if `meant` is `None`. Inside the range they get the type `instead`, or are
+/// removed if `instead` is `None`. Outside the range no claim changes.
 ///
 /// # Errors
 ///
@@ -117,7 +117,7 @@ fn cut_each_claim(
 }
 
 /// Returns the type that a claim of type `kind` has inside the range after the edit, or `None` if
-/// it is removed there. `meant` and `instead` are those of [`cut_each_claim`].
+/// it is removed there. [`cut_each_claim`] explains `meant` and `instead`.
 fn type_inside(meant: Option<u32>, instead: Option<u32>, kind: u32) -> Option<u32>
     ensures { result ≡ type_inside meant instead kind }
 {
@@ -146,8 +146,8 @@ fn push_entry(claims: &mut Vec<Run>, entry: &Entry) -> Result<(), Memory>
     push_between(claims, entry.addr, entry.addr + entry.size, entry.kind)
 }
 
-/// Returns the claims, followed by one for each entry that isn't empty and whose type isn't 0.
-/// Each entry's address plus size must be below 2^64.
+/// Returns the claims, followed by one claim for each entry that isn't empty and whose type isn't
+/// 0. Each entry's address plus size must be below 2^64.
 ///
 /// # Errors
 ///
@@ -192,8 +192,8 @@ pub fn edit_claims(claims: &mut Vec<Run>, edit: &Edit) -> Result<(), Memory>
     }
 }
 
-/// Edits the list in place: claims of the type `meant` (`None`: of all types) get the type
-/// `instead` inside the range, or are removed there if that is `None`.
+/// Edits the list in place. Claims of type `meant`, or of all types if `meant` is `None`, get the
+/// type `instead` inside the range, or are removed there if `instead` is `None`.
 ///
 /// # Errors
 ///

@@ -1,6 +1,6 @@
 //! Counts usable frames along the runs of a map. Runs of memory that touch form one stretch, and
-//! the whole frames of a stretch count. One pass over the runs is enough, however many frames they
-//! have.
+//! the whole frames of each stretch are counted. One pass over the runs is enough, however many
+//! frames they have.
 
 ghost use Rattle.std.specs.Prelude.{◌≡◌, ℕ, ◌+◌, ◌-◌, ◌*◌, ◌^◌, ◌<◌, ◌≤◌};
 ghost use Rattle.address_runs.specs.Ascend.{Ascend};
@@ -30,7 +30,7 @@ fn count_whole_frames(from: u64, until: u64) -> u64
 /// Returns the number of usable frames of a map: frames of 4,096 bytes below `limit` that consist
 /// of memory (`e820__memblock_setup`, `memblock_trim_memory`).
 ///
-/// `limit` is the first address that the kernel can't use, in bytes. A frame that has it inside
+/// `limit` is the first address that the kernel can't use, in bytes. A frame that contains it
 /// isn't counted. `runs` must ascend; runs that touch may have the same type.
 pub fn usable_frames(runs: &[Run], limit: u64) -> u64
     requires { Ascend runs.now }

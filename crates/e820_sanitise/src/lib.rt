@@ -1,4 +1,4 @@
-//! Turns the firmware's memory map, entries that may overlap, into runs of addresses that don't,
+//! Turns the firmware's memory map, whose entries may overlap, into runs of addresses that don't,
 //! and decides whether the boot continues with the map's usable frames.
 //!
 //! The firmware's entries (`struct boot_e820_entry`) may overlap, touch or be empty, and come in
@@ -12,13 +12,14 @@
 //! - [`Table::trim_bios`]: `trim_bios_range`
 //!
 //! The layer above can rely on three facts. Each method's postcondition is one equation between
-//! the claims before and after (`specs/Claims.antt` of `e820_model`), so a chain of calls is the
-//! definition of the finished map. [`Table::runs`] returns exactly the runs of that map, or their
+//! the claims before and after (`specs/Claims.antt` of `e820_model`), so a chain of calls gives
+//! the claims of the finished map. [`Table::runs`] returns exactly the runs of that map, or their
 //! number if there are too many. If a method runs out of memory, the table is unchanged.
 //!
-//! The claims are kept as an unordered list. An edit adds a claim, or cuts each of them. Settling
-//! sorts the claims and overlays them (`overlay_all` of `address_runs`): it looks at each claim
-//! once if they don't overlap, and takes n log n steps for n claims that overlap little.
+//! The claims are kept as an unordered list. An edit adds a claim, or cuts the claims that overlap
+//! its range. Settling sorts the claims and overlays them (`overlay_all` of `address_runs`): it
+//! looks at each claim once if they don't overlap, and takes n log n steps for n claims that
+//! overlap little.
 //!
 //! A frame is 4,096 bytes. It is usable if each of its bytes is RAM or the kernel's own memory
 //! (`E820_TYPE_RAM`, `E820_TYPE_RESERVED_KERN`), and lies below a limit that the caller passes.
@@ -26,9 +27,9 @@
 //! the frames that `e820__memblock_setup` and `memblock_trim_memory` keep.
 //!
 //! - [`usable_frames`] counts them in one pass over the runs of the map. Runs of memory that touch
-//!   count as one stretch. So a frame that lies partly in a run of RAM and partly in one of the
-//!   kernel's own also counts. The definition (`usable_frames` of `e820_model`) looks at each
-//!   frame by itself, byte by byte.
+//!   count as one stretch, so a frame that lies partly in a run of RAM and partly in one of the
+//!   kernel's own memory also counts. The definition (`usable_frames` of `e820_model`) looks at
+//!   each frame by itself, byte by byte.
 //! - [`judge_frames`] returns why the boot stops at its map, if it does: there is no usable frame
 //!   ([`MapStop::NoRam`]), or there are more than 2^32 of them ([`MapStop::TooMuchRam`]).
 //!

@@ -1,4 +1,5 @@
-//! Decides whether the boot stops at its map. Only the number of usable frames matters.
+//! Decides whether the boot stops at its map. The decision depends only on the number of usable
+//! frames.
 
 ghost use Rattle.std.specs.Prelude.{◌≡◌};
 ghost use Rattle.address_runs.specs.Runs.{AreRuns, value_at};

@@ -1,6 +1,6 @@
-//! The table of claims and the calls that change it, each a step of the kernel's `e820_table`. A
-//! call first makes the new list of claims, and then replaces the old one. So running out of
-//! memory changes nothing.
+//! The table of claims and the calls that change it. Each call is a step of the kernel's work on
+//! `e820_table`. It first makes the new list of claims and then replaces the old one, so running
+//! out of memory changes nothing.
 
 ghost use Rattle.std.specs.Prelude.{◌≡◌, ◌≢◌, IfErr, IfOk, IsOk, OnErr, OnOk};
 ghost use Rattle.address_runs.specs.Runs.{IsRunsOf};
@@ -37,8 +37,8 @@ impl From<Memory> for MapFault {
 }
 
 /// The firmware's table (`struct e820_table`): the types that claim each address. Contracts see it
-/// as a list of ranges with types. They use only `claims_of` of it: the test whether a type claims
-/// an address.
+/// as a list of ranges with types, and use only `claims_of` of that list: whether a type claims an
+/// address.
 #[derive(Drop)]
 pub struct Table {
     claims: Vec<Run>,

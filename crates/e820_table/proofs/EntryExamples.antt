@@ -41,26 +41,27 @@ entry_at_examples : (entry_at 0 ram_bytes ≡ ram) × (entry_at 2 (7 ∷ 7 ∷ l
 unfolding entry_at
 entry_at_examples = (refl, refl)
 
--- entries come in the order of their bytes; no more of them than requested, here two and none
+-- entries are in the order of their bytes, and there are no more than requested: here two, and
+-- none
 first_entries_examples : (first_entries 0 2 (ram_bytes ++ last_bytes ++ far_bytes) ≡ ram ∷ last ∷ [])
     × (first_entries 0 0 (ram_bytes ++ last_bytes ++ far_bytes) ≡ [])
 unfolding entry_at
 first_entries_examples = (refl, refl)
 
--- the sum 2^64 - 1 isn't too far, and 2^64 is
+-- an entry that ends at 2^64 - 1 isn't too far, and one that ends at 2^64 is
 too_far_examples : (is_entry_too_far last ≡ false)
     × (is_entry_too_far (record { addr = 0x1000; size = 0xFFFFFFFFFFFFF000; kind = 2 }) ≡ true)
 too_far_examples = (refl, refl)
 
--- the least index of two that are too far; none if the one that is too far is third of the two
--- requested
+-- if two entries are too far, the lesser index is found; if only the third is, none is found among
+-- the first two
 first_far_examples : (first_far_entry 0 3 (last_bytes ++ far_bytes ++ far_bytes) ≡ Some 1)
     × (first_far_entry 0 2 (ram_bytes ++ last_bytes ++ far_bytes) ≡ None)
 unfolding entry_at
 first_far_examples = (refl, refl)
 
--- the bytes of an extension's header: the next node's address, the type, and the length of the
--- data; then its entries
+-- the header of an extension: the next node's address, the type, and the length of the data. The
+-- entries come after it.
 abbrev header : ℕ → ℕ → List ℕ
 header kind bytes = replicate 8 0xAA ++ (kind ∷ 0 ∷ 0 ∷ 0 ∷ bytes ∷ 0 ∷ 0 ∷ 0 ∷ [])
 
@@ -75,12 +76,12 @@ its_entry = refl
 no_entries : (ext_fault (header 1 0) ≡ None) × (ext_entries_of (header 1 0) ≡ [])
 no_entries = (refl, refl)
 
--- a fault of the header wins over one of the length: 15 bytes, and another type
+-- a fault of the header is reported before one of the length: 15 bytes, and another type
 other_header : (has_ext_header (replicate 15 1) ≡ false) × (ext_fault (replicate 15 1) ≡ Some ext_faults.ExtHeader)
     × (has_ext_header (header 2 7) ≡ false) × (ext_fault (header 2 7) ≡ Some ext_faults.ExtHeader)
 other_header = (refl, refl, refl, refl)
 
--- wrong lengths: not the length of the data, and not a multiple of 20
+-- faults of the length: it isn't that of the data, or isn't a multiple of 20
 other_length : (has_ext_length (header 1 20) ≡ false) × (ext_fault (header 1 20) ≡ Some ext_faults.ExtLength)
     × (ext_fault (header 1 19 ++ replicate 19 0) ≡ Some ext_faults.ExtLength)
 other_length = (refl, refl, refl)
@@ -90,14 +91,14 @@ far_entry : ext_fault (header 1 60 ++ last_bytes ++ far_bytes ++ far_bytes) ≡ 
 unfolding entry_at
 far_entry = refl
 
--- a zero page that states `count` entries, with these as the first
+-- a zero page that states `count` entries and has these bytes as its first two entries
 abbrev page : ℕ → List ℕ → List ℕ
 page count entries =
     replicate 0x1E8 0 ++ (count ∷ replicate (0x2D0 - 0x1E9) 0) ++ entries ++ replicate (4096 - 0x2D0 - 40) 0
 
--- the faults of a zero page, in their order: none with two entries; 4,095, 4,097 and 0 bytes; one
--- entry and 129 entries, both reported before an entry that is too far; and the index of such an
--- entry
+-- the faults of a zero page, in their order: no fault with two entries; a length of 4,095, of
+-- 4,097 and of 0 bytes; one entry and 129 entries, both reported before an entry that is too far;
+-- and then the index of that entry
 zero_fault_examples : (zero_fault (page 2 (ram_bytes ++ last_bytes)) ≡ None)
     × (zero_fault (replicate 4095 0) ≡ Some zero_faults.WrongLength) × (zero_fault (replicate 4097 0) ≡ Some zero_faults.WrongLength)
     × (zero_fault [] ≡ Some zero_faults.WrongLength) × (zero_fault (page 1 (far_bytes ++ far_bytes)) ≡ Some zero_faults.TooFew)
@@ -106,7 +107,7 @@ zero_fault_examples : (zero_fault (page 2 (ram_bytes ++ last_bytes)) ≡ None)
 unfolding entry_at is_initrd_far
 zero_fault_examples = (refl, refl, refl, refl, refl, refl, refl)
 
--- entries come in their order, and no more of them than the page states
+-- entries are in the order of the table, and there are no more than the page states
 entries_of_examples : (zero_page_entries (page 2 (ram_bytes ++ last_bytes)) ≡ ram ∷ last ∷ [])
     × (zero_page_entries (page 1 (ram_bytes ++ last_bytes)) ≡ nth_entry table_offset 0 (page 1 (ram_bytes ++ last_bytes)) ∷ [])
 unfolding entry_at

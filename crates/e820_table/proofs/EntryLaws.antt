@@ -1,4 +1,4 @@
--- Lemmas on lists of entries: if none is too far, all end in the address space.
+-- Lists of entries: if no entry is too far, all end in the address space.
 use Rattle.std.proofs.Common.{◌≡◌, ℕ, zero, suc, ◌+◌, ◌^◌, ◌<◌, ◌≤◌, Bool, true, false, Some, None, List, [], ◌∷◌, ◌++◌, length, length-append, refl, sym, ◌∙◌, arith, ⊎_elim}
 use Rattle.std.proofs.lemmas.Bool.{cases_lt}
 use Rattle.std.proofs.lemmas.Bool.Decides.{nat_tests}
@@ -47,7 +47,7 @@ EntriesFit-first_entries start (suc n) bytes near =
 pub space_of_none : (start n : ℕ) (bytes : List ℕ) → first_far_entry start n bytes ≡ None → EntriesFit (first_entries start n bytes)
 space_of_none start n bytes none = EntriesFit-first_entries start n bytes (λ k below. none_far start 0 n k bytes none (omega arith) (omega arith))
 
--- the first n entries are n entries
+-- `first_entries` of n has n entries
 pub count_first : (start n : ℕ) (bytes : List ℕ) → length (first_entries start n bytes) ≡ n
 count_first start zero bytes = refl
 count_first start (suc n) bytes =

@@ -10,8 +10,8 @@ use Rattle.e820_table.specs.ZeroPage.{zero_page_entries, initrd_fault, zero_page
 abbrev range : ℕ → ℕ → RangeView
 range base size = record { base = base; size = size }
 
--- a page with this loader type and these 8 bytes at 0x0C0 and at 0x218; it states two entries,
--- which are empty
+-- a page with this loader's type, with these 8 bytes at 0x0C0 and these at 0x218; its two entries
+-- are empty
 abbrev page : ℕ → List ℕ → List ℕ → List ℕ
 page loader upper lower =
     replicate 0xC0 0 ++ upper ++ replicate (0x1E8 - 0xC8) 0 ++ (2 ∷ replicate (0x210 - 0x1E9) 0)
@@ -24,7 +24,7 @@ low_image = 0 ∷ 0 ∷ 0xD0 ∷ 7 ∷ 0x57 ∷ 0x34 ∷ 0x12 ∷ 0 ∷ []
 abbrev high_halves : List ℕ
 high_halves = 1 ∷ 0 ∷ 0 ∷ 0 ∷ 2 ∷ 0 ∷ 0 ∷ 0 ∷ []
 
--- the bytes of two images at address 2^64 - 8,192: one of 4,096 bytes, and one of a byte more
+-- the bytes of two images at address 2^64 - 8,192, one of 4,096 bytes and one of 4,097
 abbrev top_halves : List ℕ
 top_halves = 0xFF ∷ 0xFF ∷ 0xFF ∷ 0xFF ∷ 0 ∷ 0 ∷ 0 ∷ 0 ∷ []
 
@@ -35,7 +35,7 @@ its_image : (image_of (page 0xB0 (replicate 8 0) low_image) ≡ range 0x7D00000 
     × (image_of (page 0xB0 high_halves low_image) ≡ range 0x107D00000 0x200123457)
 its_image = (refl, refl)
 
--- without a loader, an address or a size there is no initrd
+-- there is no initrd without a loader, without an address, or without a size
 some_or_none : (has_initrd 0xB0 (range 1 1) ≡ true) × (has_initrd 0 (range 1 1) ≡ false) × (has_initrd 0xB0 (range 0 1) ≡ false)
     × (has_initrd 0xB0 (range 1 0) ≡ false)
 some_or_none = (refl, refl, refl, refl)
@@ -46,7 +46,7 @@ to_the_end : (to_frame_end (range 0x7D00000 0x123457) ≡ range 0x7D00000 0x1240
     × (to_frame_end (range 0x1000 0x1000) ≡ range 0x1000 0x1000)
 to_the_end = (refl, refl, refl, refl)
 
--- the sum 2^64 - 4,096 isn't too far, and a byte more is
+-- an image that ends at 2^64 - 4,096 isn't too far, and one that is a byte longer is
 last_byte : (is_initrd_too_far 0xB0 (range (2 ^ 64 - 8192) 4096) ≡ false) × (is_initrd_too_far 0xB0 (range (2 ^ 64 - 8192) 4097) ≡ true)
     × (is_initrd_too_far 0 (range (2 ^ 64 - 8192) 4097) ≡ false)
 last_byte = (refl, refl, refl)
@@ -57,7 +57,7 @@ is_an_initrd = record { some = omega arith; whole = refl }
 part_of_a_frame_isn't : IsInitrd (range 0x7D00000 0x123457) → ⊥
 part_of_a_frame_isn't is = let whole = is.whole in cc whole
 
--- an initrd below 4 GiB; none, since no loader is named; one with both upper halves
+-- an initrd below 4 GiB; no initrd, since the loader's type is 0; an initrd with both upper halves
 initrd_of_examples : (initrd_of (page 0xB0 (replicate 8 0) low_image) ≡ Some (range 0x7D00000 0x124000))
     × (initrd_of (page 0 (replicate 8 0) low_image) ≡ None)
     × (initrd_of (page 1 high_halves low_image) ≡ Some (range 0x107D00000 0x200124000))

@@ -6,11 +6,11 @@ use Rattle.e820_table.specs.Made.{generated_entries_from, frames_of_entry, gener
 abbrev entry : ℕ → ℕ → ℕ → Entry
 entry addr size kind = record { addr = addr; size = size; kind = kind }
 
--- the successors of 2 and of the largest number
+-- the numbers after 2 and after the largest number in the generator's sequence
 next_numbers : (next_generator_state 2 ≡ 59559187) × (next_generator_state 2147483647 ≡ 1043980748)
 next_numbers = (refl, refl)
 
--- from 1 to 16 frames
+-- an entry has from 1 to 16 frames
 frames : (frames_of_entry 0 ≡ 1) × (frames_of_entry 65535 ≡ 1) × (frames_of_entry 65536 ≡ 2) × (frames_of_entry 983040 ≡ 16)
     × (frames_of_entry 1048576 ≡ 1)
 frames = (refl, refl, refl, refl, refl)

@@ -9,7 +9,7 @@ use Rattle.e820_model.specs.Claims.{EntriesFit}
 use Rattle.e820_table.proofs.EntryLaws.{EntriesFit-push}
 use Rattle.e820_table.specs.Made.{generated_entries_from, generated_entry, next_generator_state}
 
--- if at least one entry is left, the first is the one made now, and the others come after it
+-- the list of at least one made entry begins with the entry made now, and the others come after it
 pub one_more : (n left index base x y : ℕ) (e : Entry) → n ≡ suc left → y ≡ next_generator_state x → e ≡ generated_entry index base y
     → generated_entries_from n index base x ≡ e ∷ generated_entries_from left (index + 1) (base + e.size) y
 unfolding generated_entries_from
@@ -19,8 +19,8 @@ pub none_more : (n index base x : ℕ) → n ≡ 0 → generated_entries_from n 
 unfolding generated_entries_from
 none_more n index base x none = rw none refl
 
--- a list of at most n members, followed by others only if it has n: the first n members of both
--- are the list, and the rest are the others
+-- if a list has at most n members, and others follow it only if it has n, its members are the
+-- first n of both together
 pub page_of_all : (page others : List Entry) (n : ℕ) → length page ≤ n → (length page < n → others ≡ [])
     → (take n (page ++ others) ≡ page) × (drop n (page ++ others) ≡ others)
 page_of_all page others n fits alone =

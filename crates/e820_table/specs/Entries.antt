@@ -25,7 +25,7 @@ abbrev pub first_entries : ℕ → ℕ → List ℕ → List Entry
 first_entries start zero bytes = []
 first_entries start (suc n) bytes = first_entries start n bytes ++ nth_entry start n bytes ∷ []
 
--- the address plus the size of the entry exceeds 2^64 - 1
+-- whether the address plus the size of the entry exceeds 2^64 - 1
 abbrev pub is_entry_too_far : Entry → Bool
 is_entry_too_far e = nat_le (2 ^ 64) (e.addr + e.size)
 

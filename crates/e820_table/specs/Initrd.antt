@@ -16,11 +16,11 @@ loader_of bytes = slice_index bytes 0x210
 abbrev pub halves_at : ℕ → ℕ → List ℕ → ℕ
 halves_at lower upper bytes = little_endian_at 4 lower bytes + 2 ^ 32 * little_endian_at 4 upper bytes
 
--- the bytes of the image, from its address (`get_ramdisk_image`) and its size (`get_ramdisk_size`)
+-- the range of the image: its address (`get_ramdisk_image`) and its size (`get_ramdisk_size`)
 abbrev pub image_of : List ℕ → RangeView
 image_of bytes = record { base = halves_at 0x218 0x0C0 bytes; size = halves_at 0x21C 0x0C4 bytes }
 
--- there is an initrd: the loader's type, the address and the size are all other than 0
+-- whether there is an initrd: none of the loader's type, the address and the size is 0
 abbrev pub has_initrd : ℕ → RangeView → Bool
 has_initrd loader image = not (loader == 0) && not (image.base == 0) && not (image.size == 0)
 
@@ -36,12 +36,12 @@ reserved_initrd_range loader image = if has_initrd loader image then Some (to_fr
 unfoldable pub initrd_of : List ℕ → Option RangeView
 initrd_of bytes = reserved_initrd_range (loader_of bytes) (image_of bytes)
 
--- there is an initrd, and its address plus size exceeds 2^64 minus one frame, so rounding its end
--- up to a frame could exceed 64 bits
+-- whether there is an initrd whose address plus size exceeds 2^64 minus one frame, so that
+-- rounding its end up to a frame could exceed 64 bits
 abbrev pub is_initrd_too_far : ℕ → RangeView → Bool
 is_initrd_too_far loader image = has_initrd loader image && nat_lt (2 ^ 64 - FRAME_SIZE) (end_of image)
 
--- this zero page has an initrd that is too far
+-- whether this zero page has an initrd that is too far
 unfoldable pub is_initrd_far : List ℕ → Bool
 is_initrd_far bytes = is_initrd_too_far (loader_of bytes) (image_of bytes)
 

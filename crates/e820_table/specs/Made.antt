@@ -1,7 +1,8 @@
--- Made tables, of any number of entries, to try and to measure what no real machine has. The first
--- two entries are RAM: 640 KiB from address 0, and 128 MiB from 1 MiB. Each later entry has 1 to
--- 16 frames and begins where the one before it ends. These entries are reserved and RAM in turn.
--- Their sizes come from a linear congruential generator, the example of `rand` in ISO C.
+-- Made tables: tables of any number of entries, for tests and measurements with more entries than
+-- a real machine has. The first two entries are RAM: 640 KiB from address 0, and 128 MiB from 1
+-- MiB. Each later entry has 1 to 16 frames and begins where the one before it ends. These entries
+-- are reserved and RAM in turn. Their sizes come from a linear congruential generator, the example
+-- of `rand` in ISO C.
 use Rattle.std.specs.Prelude.{ℕ, zero, suc, ◌+◌, ◌-◌, ◌*◌, ◌/◌, ◌%◌, ◌^◌, ◌==◌, if◌then◌else◌, List, [], ◌∷◌}
 use Rattle.bm_base.specs.declared.range.TheConstants.{FRAME_SIZE}
 use Rattle.e820_model.specs.declared.entry.Entry.{Entry}

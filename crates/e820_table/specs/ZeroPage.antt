@@ -27,7 +27,7 @@ pub record ZeroPageView : Type 0 where
   pub entries : List Entry
   pub initrd : Option RangeView
 
--- the information about memory in these bytes, which are a whole zero page
+-- the information about memory in the bytes of a whole zero page
 abbrev pub zero_page_of : List ℕ → ZeroPageView
 zero_page_of bytes = record { entries = zero_page_entries bytes; initrd = initrd_of bytes }
 
@@ -39,8 +39,8 @@ zero_page_view page = record { entries = page.entries.items; initrd = page.initr
 abbrev pub initrd_fault : List ℕ → Option ZeroFault
 initrd_fault bytes = if is_initrd_far bytes then Some faults.InitrdTooFar else None
 
--- the fault for the index of an entry that is too far; if there is no such index, the fault of
--- what is tested after the entries
+-- the fault that the entry with this index is too far. If there is no such index, the second
+-- argument: the fault of what is tested after the entries.
 abbrev pub zero_page_entry_fault : Option ℕ → Option ZeroFault → Option ZeroFault
 zero_page_entry_fault None behind = behind
 zero_page_entry_fault (Some index) behind = Some (faults.EntryTooFar index)

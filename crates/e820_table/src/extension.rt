@@ -18,19 +18,19 @@ const HEADER_BYTES: usize = 16;
 /// The type of an extension (`SETUP_E820_EXT`).
 const EXTENSION_TYPE: u32 = 1;
 
-/// The reason why bytes are not an E820 extension. If several apply, the reader reports the header
-/// before the length, and the length before an entry.
+/// The reason why bytes are not an E820 extension. If several reasons apply, the reader reports
+/// the header before the length, and the length before an entry.
 #[derive(Clone, Copy, Debug, PartialEq, Eq)]
 pub enum ExtFault {
-    /// The address plus size of the entry with this index exceeds 2^64 - 1. Indices count from 0;
-    /// this is the least such index.
+    /// The address plus size of the entry with this index exceeds 2^64 - 1. Of several such
+    /// entries it is the one with the least index, counted from 0.
     EntryTooFar { index: u32 },
     /// There are fewer than 16 bytes, or the type isn't 1 (`SETUP_E820_EXT`).
     ExtHeader,
     /// The stated length isn't the number of bytes after the header, or isn't a multiple of 20.
     ExtLength,
-    /// The program ran out of memory. This is returned only for bytes without any other fault that
-    /// have at least one entry.
+    /// The program ran out of memory. This is returned only if the bytes have no other fault and
+    /// at least one entry.
     Memory,
 }
 

@@ -1,5 +1,6 @@
-//! Makes tables of any size, the same ones each time. A real machine has a few dozen entries;
-//! these tables show how the memory set-up copes with thousands.
+//! Makes tables of any number of entries. Their sizes come from a fixed sequence of pseudo-random
+//! numbers, so the same number of entries always gives the same table. A real machine has a few
+//! dozen entries; these tables show how the memory set-up copes with thousands.
 
 ghost use Rattle.std.specs.Prelude.{◌≡◌, ℕ, ◌+◌, ◌*◌, ◌^◌, ◌<◌, ◌≤◌, [], ◌∷◌, ◌++◌, length, take, drop, None, IfOk, IsErr, OnOk};
 ghost use Rattle.e820_model.specs.Claims.{EntriesFit};
@@ -88,8 +89,8 @@ fn put_entry(
     Ok(())
 }
 
-/// Returns the entry with this index, from 2 on, at address `base`. The generator's `number`
-/// determines its size, and the index its type.
+/// Returns the entry with this index, from 2 on, at address `base`. `number`, a number of the
+/// generator, determines its size. The index determines its type.
 fn generated_entry(index: u32, base: u64, number: u32) -> Entry
     ensures { result ≡ generated_entry index base number }
 {

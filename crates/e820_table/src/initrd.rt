@@ -1,8 +1,8 @@
 //! Reads where the boot loader put the initrd, the image that the kernel unpacks.
 //!
 //! The zero page has the address and the size in two halves each, since the boot protocol at first
-//! had only 32 bits for them. The kernel reserves the last frame of the image whole
-//! (`early_reserve_initrd`), so the range here ends at the end of that frame.
+//! had only 32 bits for them. The kernel reserves all of the image's last frame
+//! (`early_reserve_initrd`), so the range that is returned ends at the end of that frame.
 
 ghost use Rattle.std.specs.Prelude.{◌≡◌, ℕ, ◌+◌, ◌-◌, ◌*◌, ◌^◌, ◌<◌, ◌≤◌, length, IfErr, IfOk, OnErr, OnOk, IfSome, None, Some, SomeIff, true, false};
 ghost use Rattle.e820_table.specs.Initrd.{halves_at, initrd_of, is_initrd_too_far, reserved_initrd_range, to_frame_end, IsInitrd};
@@ -46,8 +46,8 @@ pub fn read_initrd(bytes: &[u8]) -> Result<Option<Range>, ZeroFault>
     place_initrd(bytes[LOADER_OFFSET], base, size)
 }
 
-/// Returns the range of the initrd that this loader put at `base`, or `None` if the loader, the
-/// address or the size is 0. `size` is in bytes.
+/// Returns the range of the initrd that a loader of type `loader` put at `base`, or `None` if the
+/// loader's type, the address or the size is 0. `size` is in bytes.
 ///
 /// # Errors
 ///

@@ -8,8 +8,7 @@
 //! - [`read_zero_page`] reads the page into a [`ZeroPage`]: its entries, and the range of the
 //!   initrd, if the boot loader loaded one.
 //! - [`read_ext`] reads the extension into a list of [`Entry`].
-//! - [`made`] makes a table of any size up to 3,000 entries, to try and to measure the layers
-//!   above.
+//! - [`made`] makes a table of any size up to 3,000 entries, to test and measure the layers above.
 //!
 //! A reader that refuses its bytes returns the first fault that they have: [`ZeroFault`] or
 //! [`ExtFault`]. The layer above can rely on two facts. Every entry that a reader returns has an

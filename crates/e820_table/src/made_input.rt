@@ -1,4 +1,4 @@
-//! The result of [`made`](crate::made): a table in place of that of a zero page and its extension.
+//! The result of [`made`](crate::made): a table in the form of a zero page and its extension.
 
 use crate::zero_page::ZeroPage;
 use e820_model::Entry;

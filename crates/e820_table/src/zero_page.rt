@@ -1,5 +1,5 @@
-//! Reads the zero page, the boot loader's page of parameters: its table of entries, and where the
-//! initrd is. The page has room for 128 entries, which an array holds, so reading it allocates
+//! Reads the zero page, the boot loader's page of parameters: its table of entries, and the range
+//! of the initrd. The page has room for 128 entries, which an array holds, so reading it allocates
 //! nothing.
 
 ghost use Rattle.std.specs.Prelude.{◌≡◌, ℕ, ◌+◌, ◌*◌, ◌≤◌, length, IfOk, IfErr, IfSome, OnOk};
@@ -36,8 +36,8 @@ pub struct ZeroPage {
     pub initrd: Option<Range>,
 }
 
-/// The reason why bytes are not a zero page. If several apply, the reader reports the first of
-/// this list.
+/// The reason why bytes are not a zero page. If several of these variants apply, the reader
+/// reports the first one.
 #[derive(Clone, Copy, Debug, PartialEq, Eq)]
 pub enum ZeroFault {
     /// There are fewer or more than 4,096 bytes.
@@ -46,8 +46,8 @@ pub enum ZeroFault {
     TooFew,
     /// The table has more than 128 entries.
     TooMany,
-    /// The address plus size of the entry with this index exceeds 2^64 - 1. Indices count from 0;
-    /// this is the least such index.
+    /// The address plus size of the entry with this index exceeds 2^64 - 1. Of several such
+    /// entries it is the one with the least index, counted from 0.
     EntryTooFar { index: u32 },
     /// There is an initrd, and its address plus size exceeds 2^64 - 4,096.
     InitrdTooFar,

@@ -1,4 +1,4 @@
--- Lemmas on lists of descriptors that follow one another in the file.
+-- Lists of descriptors that follow one another in the file.
 use Rattle.std.proofs.Common.{◌≡◌, ℕ, zero, suc, ◌+◌, ◌-◌, ◌*◌, ◌^◌, ◌<◌, ◌≤◌, true, false, Option, Some, None, List, [], ◌∷◌, ◌++◌, map, length, append_assoc, refl, sym, ◌∙◌, ap, inl, inr, arith}
 use Rattle.std.proofs.lemmas.Bool.Decides.{nat_tests}
 use Rattle.std.proofs.lemmas.Bool.{cases_Bool}
@@ -18,8 +18,8 @@ pub none_more : (stride i n : ℕ) (bytes : List ℕ) → n ≤ i → descriptor
 unfolding descriptors_from
 none_more stride i n bytes le = let left : n - i ≡ 0 = omega arith in rw left refl
 
--- if the first descriptor of a list is too far, the search returns its index; else it goes on with
--- the next
+-- if the first descriptor of a list is too far, the search returns its index; otherwise the search
+-- goes on with the next one
 pub far_here : (i : ℕ) (d : Descriptor) (ds : List Descriptor) → is_descriptor_too_far d ≡ true → far_descriptor_from i (d ∷ ds) ≡ Some i
 unfolding far_descriptor_from
 far_here i d ds far = rw far refl
@@ -29,21 +29,21 @@ pub far_later : (i : ℕ) (d : Descriptor) (ds : List Descriptor) → is_descrip
 unfolding far_descriptor_from
 far_later i d ds near = rw near refl
 
--- if no descriptor of a list is too far, the first isn't, and none of the others is
+-- if no descriptor of a list is too far, neither the first one nor any of the others is
 pub first_near : (i : ℕ) (d : Descriptor) (ds : List Descriptor) → far_descriptor_from i (d ∷ ds) ≡ None → is_descriptor_too_far d ≡ false
 first_near i d ds none = elim (cases_Bool (is_descriptor_too_far d)) as (λ _. is_descriptor_too_far d ≡ false) [
   | inl far ↦ let found : far_descriptor_from i (d ∷ ds) ≡ Some i = far_here i d ds far in cc
   | inr near ↦ near
 ]
 
--- if no descriptor is too far, all entries end in the address space
+-- if no descriptor is too far, all entries end below 2^64
 pub space_of_near : (i : ℕ) (ds : List Descriptor) → far_descriptor_from i ds ≡ None → EntriesFit (map entry_of_descriptor ds)
 space_of_near i [] none = tt
 space_of_near i (d ∷ ds) none =
     let near = first_near i d ds none in
     (grind (arith, nat_tests, near), space_of_near (i + 1) ds (sym (far_later i d ds near) ∙ none))
 
--- one step of the search over the descriptors from index `i` on
+-- one step of the search for a descriptor that is too far, from index `i` on
 pub far_hit : (stride i n : ℕ) (bytes : List ℕ) → i < n → is_descriptor_too_far (nth_descriptor stride i bytes) ≡ true
     → far_descriptor_from i (descriptors_from stride i (n - i) bytes) ≡ Some i
 far_hit stride i n bytes below far = rw (one_more stride i n bytes below) (far_here i _ _ far)
@@ -66,8 +66,7 @@ near_now stride i n bytes below none = first_near i _ (descriptors_from stride (
 pub fits : (d : Descriptor) → is_descriptor_too_far d ≡ false → d.base + 4096 * d.pages < 2 ^ 64
 fits d near = grind (arith, nat_tests, near)
 
--- appending the value of the descriptor at `i`, and then those after it, is appending those from
--- `i` on
+-- the values from index `i` on are that of the descriptor at `i` and those after it
 pub entries_on : (es : List Entry) (stride i n : ℕ) (bytes : List ℕ) → i < n
     → (es ++ entry_of_descriptor (nth_descriptor stride i bytes) ∷ [])
     ++ map entry_of_descriptor (descriptors_from stride (i + 1) (n - (i + 1)) bytes)
@@ -90,7 +89,7 @@ pub mirrors_on : (ms : List RangeView) (o : Option RangeView) (stride i n : ℕ)
 unfolding mirrors_of_descriptors
 mirrors_on ms o stride i n bytes below same = rw (one_more stride i n bytes below, ← same) (mirror_on ms o _)
 
--- the n descriptors from an index on are n descriptors
+-- `descriptors_from` of n has n descriptors
 pub counted : (stride i n : ℕ) (bytes : List ℕ) → length (descriptors_from stride i n bytes) ≡ n
 unfolding descriptors_from
 counted stride i zero bytes = refl

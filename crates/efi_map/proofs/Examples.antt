@@ -12,8 +12,8 @@ free_types : (free_memory_type (page 7 0) ≡ 2) × (free_memory_type (page 7 0x
     × (free_memory_type (page 7 0x40008) ≡ 0xEFFFFFFF)
 free_types = (refl, refl, refl, refl)
 
--- all types in UEFI's order, with write-back caching: EfiReservedMemoryType to
--- EfiUnacceptedMemoryType, and one of a firmware's own
+-- the E820 types of all UEFI types in their order, with write-back caching: EfiReservedMemoryType
+-- to EfiUnacceptedMemoryType, and one that a firmware defined
 types : (e820_type (page 0 8) ≡ 2) × (e820_type (page 1 8) ≡ 1) × (e820_type (page 2 8) ≡ 1) × (e820_type (page 3 8) ≡ 1)
     × (e820_type (page 4 8) ≡ 1)
     × (e820_type (page 5 8) ≡ 2) × (e820_type (page 6 8) ≡ 2) × (e820_type (page 7 8) ≡ 1) × (e820_type (page 8 8) ≡ 5)
@@ -24,12 +24,12 @@ later_types : (e820_type (page 10 8) ≡ 4) × (e820_type (page 11 8) ≡ 2) × 
     × (e820_type (page 14 8) ≡ 7) × (e820_type (page 15 8) ≡ 2) × (e820_type (page 0xFFFFFFFF 8) ≡ 2) × (other_memory_type 16 ≡ 2)
 later_types = (refl, refl, refl, refl, refl, refl, refl, refl)
 
--- attributes don't matter for memory of other types
+-- attributes change nothing for types of memory that isn't free
 purpose_of_acpi : (e820_type (page 9 0x40008) ≡ 3) × (e820_type (page 14 0) ≡ 7)
 purpose_of_acpi = (refl, refl)
 
--- mirrored memory: its whole frames; none if it has no whole frame; memory without the attribute
--- isn't mirrored
+-- the mirrored range of a descriptor is its whole frames; there is none without a whole frame or
+-- without the attribute
 a_mirror : mirror_of_descriptor (page 7 0x10008) ≡ Some (record { base = 0x300000; size = 0x1000 })
 a_mirror = refl
 
@@ -48,7 +48,7 @@ mirrors : mirrors_of_descriptors (page 7 0x8 ∷ (page 7 0x10008 ∷ (page 4 0x1
 unfolding mirrors_of_descriptors
 mirrors = refl
 
--- memory that ends at 2^64 - 4,096 isn't too far; with one page more it ends at 2^64 and is
+-- memory that ends at 2^64 - 4,096 isn't too far; memory that is one page longer is
 ends : (is_descriptor_too_far (record { kind = 7; base = 0xFFFFFFFFFFFFE000; pages = 1; attributes = 0 }) ≡ false)
     × (is_descriptor_too_far (record { kind = 7; base = 0xFFFFFFFFFFFFE000; pages = 2; attributes = 0 }) ≡ true)
 ends = (refl, refl)
@@ -56,7 +56,7 @@ ends = (refl, refl)
 far : Descriptor
 far = record { kind = 7; base = 0; pages = 2 ^ 52; attributes = 0 }
 
--- the least index of two that are too far
+-- if two descriptors are too far, the lesser index is found; without such a descriptor none is
 least_far : (far_descriptor_from 0 (page 7 0 ∷ (far ∷ (far ∷ []))) ≡ Some 1) × (far_descriptor_from 0 (page 7 0 ∷ []) ≡ None)
 unfolding far_descriptor_from far
 least_far = (refl, refl)

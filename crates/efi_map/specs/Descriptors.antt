@@ -26,25 +26,25 @@ descriptor_at offset bytes = record {
   attributes = little_number 8 (drop (offset + 32) bytes);
 }
 
--- the addresses of the memory
+-- the addresses of the descriptor's memory
 abbrev pub bytes_of_descriptor : Descriptor → RangeView
 bytes_of_descriptor d = record { base = d.base; size = 4096 * d.pages }
 
--- the first address plus the size in bytes exceeds 2^64 - 1
+-- whether the first address plus the size in bytes exceeds 2^64 - 1
 abbrev pub is_descriptor_too_far : Descriptor → Bool
 is_descriptor_too_far d = nat_le (2 ^ 64) (d.base + 4096 * d.pages)
 
--- the descriptor has the attribute with this bit
+-- whether the descriptor has the attribute with this bit
 abbrev pub has_attribute : ℕ → Descriptor → Bool
 has_attribute bit d = not (bit_and d.attributes bit == 0)
 
--- the types of memory that is free once the firmware's boot services have ended: EfiLoaderCode,
+-- whether memory of this type is free once the firmware's boot services have ended: EfiLoaderCode,
 -- EfiLoaderData, EfiBootServicesCode, EfiBootServicesData, EfiConventionalMemory
 abbrev pub is_free_kind : ℕ → Bool
 is_free_kind kind = (kind == 1) || (kind == 2) || (kind == 3) || (kind == 4) || (kind == 7)
 
--- the E820 type of such memory: soft reserved with the attribute EFI_MEMORY_SP, else RAM with
--- EFI_MEMORY_WB, and reserved without both
+-- the E820 type of memory that is free once boot services have ended: soft reserved with the
+-- attribute EFI_MEMORY_SP, else RAM with EFI_MEMORY_WB, and reserved with neither
 abbrev pub free_memory_type : Descriptor → ℕ
 free_memory_type d = if has_attribute 0x40000 d then 0xEFFFFFFF else (if has_attribute 0x8 d then 1 else 2)
 

@@ -13,14 +13,14 @@ use Rattle.efi_map.specs.declared.efi.EfiFault.TheVariants as faults
 abbrev pub descriptor_size : List ℕ → ℕ
 descriptor_size bytes = little_number 4 bytes
 
--- the header is whole, the size of a descriptor is at least 40 and a multiple of 8, and the
--- version is 1
+-- whether the header is whole, the size of a descriptor is at least 40 and a multiple of 8, and
+-- the version is 1
 abbrev pub has_efi_header : List ℕ → Bool
 has_efi_header bytes =
     nat_le 8 (length bytes)
     && (nat_le 40 (descriptor_size bytes) && (descriptor_size bytes % 8 == 0 && little_number 4 (drop 4 bytes) == 1))
 
--- the bytes after the header are a whole number of descriptors
+-- whether the bytes after the header are a whole number of descriptors
 abbrev pub has_efi_length : List ℕ → Bool
 has_efi_length bytes = (length bytes - 8) % descriptor_size bytes == 0
 
@@ -28,7 +28,7 @@ has_efi_length bytes = (length bytes - 8) % descriptor_size bytes == 0
 abbrev pub descriptor_count : List ℕ → ℕ
 descriptor_count bytes = (length bytes - 8) / descriptor_size bytes
 
--- the descriptor with index `i`, counted from 0, of descriptors of `stride` bytes
+-- the descriptor with index `i`, counted from 0; `stride` is the size of a descriptor in bytes
 abbrev pub nth_descriptor : ℕ → ℕ → List ℕ → Descriptor
 nth_descriptor stride i bytes = descriptor_at (8 + stride * i) bytes
 
@@ -41,12 +41,13 @@ descriptors_from stride i (suc n) bytes = nth_descriptor stride i bytes ∷ desc
 abbrev pub descriptors_of : List ℕ → List Descriptor
 descriptors_of bytes = descriptors_from (descriptor_size bytes) 0 (descriptor_count bytes) bytes
 
--- the least index of a descriptor that is too far; the first of the list has the index `i`
+-- the least index of a descriptor of the list that is too far, or None if none is. The first
+-- descriptor of the list has the index `i`.
 unfoldable pub far_descriptor_from : ℕ → List Descriptor → Option ℕ
 far_descriptor_from i [] = None
 far_descriptor_from i (d ∷ ds) = if is_descriptor_too_far d then Some i else far_descriptor_from (i + 1) ds
 
--- the ranges, with this one before them if there is one
+-- the list of ranges, with the optional range before it if there is one
 abbrev pub prepend_mirror : Option RangeView → List RangeView → List RangeView
 prepend_mirror None others = others
 prepend_mirror (Some range) others = range ∷ others
@@ -62,7 +63,8 @@ pub record EfiContent : Type 0 where
   pub entries : List Entry
   pub mirrors : List RangeView
 
--- the content of these descriptors, or the fault for the index of one that is too far
+-- the content of these descriptors; or a fault, if the second argument is the index of a
+-- descriptor that is too far
 abbrev pub efi_unless_far : List Descriptor → Option ℕ → Result EfiContent EfiFault
 efi_unless_far ds (Some index) = Err (faults.TooFar index)
 efi_unless_far ds None = Ok (record { entries = map entry_of_descriptor ds; mirrors = mirrors_of_descriptors ds })

@@ -1,4 +1,5 @@
-//! Reads a descriptor, and converts it to what the kernel makes of it.
+//! Reads a descriptor, and converts it to the E820 entry and the mirrored range that the kernel
+//! makes of it.
 
 ghost use Rattle.std.specs.Prelude.{◌≡◌, ◌+◌, ◌*◌, ◌^◌, ◌<◌, ◌≤◌, length};
 ghost use Rattle.efi_map.specs.Descriptors.{bytes_of_descriptor, descriptor_at, e820_type, entry_of_descriptor, has_attribute, is_free_kind, mirror_of_descriptor, free_memory_type};

@@ -1,4 +1,4 @@
-//! Reads the file: its header, its length, and the descriptors.
+//! Reads the file of a saved map: its header, its length, and the descriptors.
 
 ghost use Rattle.std.specs.Prelude.{◌≡◌, ◌≢◌, ℕ, ◌+◌, ◌*◌, ◌<◌, ◌≤◌, ◌^◌, length, map, IfOk, IfSome, IsErr, IsErrOf, IsOk, IsTrue, SomeIff, None};
 ghost use Rattle.bm_base.specs.Answers.{Answers};
@@ -15,14 +15,14 @@ use std::alloc::Global;
 /// The number of bytes before the first descriptor.
 const HEADER_BYTES: usize = 8;
 
-/// The number of bytes that are read of a descriptor, which may have more.
+/// The number of bytes that are read of a descriptor. A descriptor may be longer.
 const LEAST_STRIDE: usize = 40;
 
 /// The only version of descriptors that can be read.
 const VERSION: u32 = 1;
 
-/// The reason why bytes are not an EFI memory map. If several apply, the reader reports the first
-/// of this list.
+/// The reason why bytes are not an EFI memory map. If several of these variants apply, the reader
+/// reports the first one.
 #[derive(Clone, Copy, Debug, PartialEq, Eq)]
 pub enum EfiFault {
     /// There are fewer than 8 bytes; or the stated size of a descriptor is below 40 or isn't a
@@ -30,11 +30,11 @@ pub enum EfiFault {
     Header,
     /// The bytes after the header aren't a whole number of descriptors.
     Length,
-    /// The address plus the size of the descriptor with this index exceeds 2^64 - 1. Indices count
-    /// from 0; this is the least such index.
+    /// The address plus the size of the descriptor with this index exceeds 2^64 - 1. Of several
+    /// such descriptors it is the one with the least index, counted from 0.
     TooFar { index: u32 },
-    /// The program ran out of memory. This is returned only for bytes without any other fault that
-    /// have at least one descriptor.
+    /// The program ran out of memory. This is returned only if the bytes have no other fault and
+    /// at least one descriptor.
     Memory,
 }
 
@@ -87,7 +87,8 @@ pub fn read_efi(alloc: Global, bytes: &[u8]) -> Result<EfiMap, EfiFault>
     Ok(read_descriptors(alloc, bytes, stride, count)?)
 }
 
-/// Tests whether the bytes have a whole header whose size and version of descriptors can be read.
+/// Tests whether the bytes have a whole header, and this reader supports its size of descriptors
+/// and its version.
 fn has_efi_header(bytes: &[u8]) -> bool
     ensures { result ≡ has_efi_header bytes.now }
 {
@@ -118,7 +119,8 @@ fn count_descriptors(bytes: &[u8], stride: u32) -> Option<u32>
     Some(data / stride)
 }
 
-/// Returns the descriptor with this index, counted from 0, of descriptors of `stride` bytes.
+/// Returns the descriptor with this index, counted from 0. `stride` is the size of a descriptor in
+/// bytes.
 fn nth_descriptor(bytes: &[u8], stride: u32, index: u32) -> Descriptor
     requires stride { 40 ≤ stride }
     requires whole { 8 + stride * index + stride ≤ length bytes.now }

@@ -14,7 +14,7 @@
 //! A descriptor has at least 40 bytes (48 on real machines). Only the first 40 are read.
 //!
 //! The layer above can rely on two facts. Each entry has an address plus size below 2^64. Each
-//! mirrored range is a number of whole frames, at least one.
+//! mirrored range consists of whole frames, at least one.
 //!
 //! In contracts, a name means the definition in `specs/`: `Descriptors.antt` has one descriptor,
 //! `Map.antt` the file.

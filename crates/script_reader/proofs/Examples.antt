@@ -65,7 +65,7 @@ asked_examples : (act_by_forms (act_by_name false) [] ≡ Ok None) × (act_by_fo
     × (read_line script_lines false (codes " free\t1\r") ≡ Ok (Some (acts.Free 1)))
 asked_examples = (refl, refl, refl, refl, refl)
 
--- the limits of an act
+-- acts with and without the limits that they must have
 has_bounds : HasBounds (acts.Peek 0 64) × HasBounds (acts.Trim 1 1)
 has_bounds = ((omega arith, omega arith, omega arith), omega arith)
 
@@ -80,7 +80,7 @@ whole_scripts : (script_of (codes "free 1\n\nfree 2")
     × (script_of (codes "sections\n#\nsections\n") ≡ Err (faults.SecondSections 3))
 whole_scripts = (refl, refl, refl, refl, refl)
 
--- a line with blanks around its words, and one that begins with a word
+-- the words of a line with blanks around them, and of a line that begins with a word
 spelled_words : HasWords separators.Script (codes " free\t7 ") (codes "free" ∷ codes "7" ∷ [])
     × HasWords separators.Script (codes "free 7") (codes "free" ∷ codes "7" ∷ [])
 spelled_words =
@@ -95,7 +95,8 @@ spelled_words =
 passed_over : HasNoCommand [] × HasNoCommand (codes "#free" ∷ codes "1" ∷ [])
 passed_over = (no_words, comment (codes "free") (codes "1" ∷ []))
 
--- any word may stand for a number: here `max` is a lower limit, and then the key after it
+-- a form takes any word in the place of a number: here `max` is read as the lowest address, and
+-- not as a key
 any_word_for_a_number :
     HasLineForm script_grammar
     (codes "alloc" ∷ codes "1" ∷ codes "1" ∷ codes "1" ∷ codes "min" ∷ codes "max" ∷ codes "max" ∷ codes "1" ∷ [])
@@ -124,7 +125,7 @@ acts_of_forms : (act_of_form (peek (codes "0x10") (codes "64")) ≡ acts.Peek 16
     ≡ acts.Alloc 1 (record { size = 8192; align = 4; min = 0; max = None; node = Some 3; exact = true }))
 acts_of_forms = (refl, refl)
 
--- the further conditions of an act
+-- the conditions of an act beyond its numbers, met and not met
 conditions : HasSize (acts.Trim 1 1) × (HasSize (acts.Trim 1 0) → ⊥) × IsInSpace (acts.Peek 16 64)
     × (IsInSpace (acts.Peek (2 ^ 64 - 64) 64) → ⊥) × IsAligned (acts.Free 1)
 conditions = (lit< tt, λ is. omega (arith, is), lit< tt, λ is. omega (arith, is), tt)
@@ -135,7 +136,7 @@ peek_numbers = record { form = peek (codes "0x10") (codes "64"); spelled = refl;
 spelled_peek : SpellsAct (codes "peek" ∷ codes "0x10" ∷ codes "64" ∷ []) (acts.Peek 16 64)
 spelled_peek = record { numbers = peek_numbers; aligned = tt; size = lit< tt; in_space = lit< tt }
 
--- the first condition that isn't met: a size of 0, and a second `sections`
+-- the first condition that a line doesn't meet: a size of 0, and a second `sections`
 spells_sections : SpellsAct (codes "sections" ∷ []) acts.Sections
 spells_sections = record {
   numbers = record { form = sections; spelled = refl; numbers = tt; asks = refl };
@@ -155,7 +156,7 @@ faults_of_words = (
   (acts.Sections, spells_sections.numbers, (refl, refl)),
 )
 
--- whole scripts: a comment has no command; the fault of the first line
+-- the meaning of whole scripts: one with a comment, and one whose first line has a fault
 none_earlier : HasSectionsLine [] → ⊥
 none_earlier has = omega (arith, has.1.1)
 

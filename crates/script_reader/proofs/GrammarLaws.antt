@@ -1,4 +1,4 @@
--- Lemmas for any kind of script: a line is read as what it spells, and has the fault of the first
+-- Lines of any kind of script: a line is read as what it spells, and has the fault of the first
 -- condition that it doesn't meet.
 use Rattle.std.proofs.Common.{◌≡◌, ℕ, ◌==◌, Bool, true, false, List, [], ◌∷◌, ◌++◌, codes, Some, None, Result, Ok, Err, refl, ap, arith, ◌⊎◌, ◌↔◌, inl, inr}
 use Rattle.std.proofs.lemmas.Bool.Decides.{nat_tests}
@@ -9,9 +9,9 @@ use Rattle.script_reader.specs.Lines.{is_comment, act_by_forms}
 use Rattle.script_reader.specs.Grammar.{HasNoCommand, no_words, comment, Grammar, HasLineForm, SpellsNumbers, HasWordsFault}
 use Rattle.script_reader.specs.Numbers.{Words}
 
--- a kind of script, with what the lemmas need of it. Words have a form, or have the fault `Form`.
--- If the numbers of a form are right, its act is checked. Else it has the fault `Number`. An act
--- passes the checks, or has the fault of the first that it fails.
+-- a kind of script, and what the lemmas need to know of it. Words have a form, or the fault
+-- `Form`. If the numbers of a form are right, its act is checked; otherwise the words have the
+-- fault `Number`. An act passes the checks, or has the fault of the first check that it fails.
 pub record Reads (A : Type 0) : Type 1 where
   pub forms : List ℕ → Words → Result A ScriptLineFault
   pub grammar : Grammar A
@@ -28,7 +28,7 @@ pub record Reads (A : Type 0) : Type 1 where
   pub not_form : (act : A) → ¬ (Fails act wrong.Form)
   pub not_number : (act : A) → ¬ (Fails act wrong.Number)
 
--- a first word begins a comment, or doesn't
+-- a first word either begins a comment or doesn't
 comment_or : (name : List ℕ) → ((word : List ℕ) × (name ≡ codes "#" ++ word)) ⊎ (is_comment name ≡ false)
 comment_or [] = inr refl
 comment_or (b ∷ bs) = by_test (b == 35) refl
@@ -116,7 +116,7 @@ act_read reads words act = (
   λ spells. rw (spelled_asked reads words act spells.0, reads.passed act spells.1) refl,
 )
 
--- a line without words, and a comment, have no command
+-- lines without words and comments are read as lines without a command
 passed_read : {A : Type 0} (forms : List ℕ → Words → Result A ScriptLineFault) (words : Words) → HasNoCommand words
     → act_by_forms forms words ≡ Ok None
 passed_read forms words no_words = refl

@@ -1,4 +1,4 @@
--- Lemmas: reading the lines one after another gives what the definition gives for all of them.
+-- Reading the lines one after another gives what the definition gives for all lines.
 use Rattle.std.proofs.Common.{◌≡◌, ℕ, ◌+◌, ◌<◌, ◌≤◌, Bool, List, [], ◌∷◌, ◌++◌, length, length-append, Option, Some, None, option_to_list, Result, Ok, Err, Vec, Global, Bor, refl, sym, ◌∙◌, ap, subst, arith, append_assoc, ◌⊎◌, inl, inr}
 use Rattle.std.specs.Prelude.{IfOk, IfErr, IfSome, IsOkAnd, IsErr, IsSome}
 use Rattle.std.specs.List.{All, cons_option}
@@ -8,7 +8,7 @@ use Rattle.bm_base.specs.declared.memory.Memory.{Memory}
 use Rattle.bm_base.specs.ResultSteps.{◌>>=◌}
 use Rattle.script_reader.specs.Lines.{ScriptKind, script_line_at, has_once_command, read_line, script_lines_from}
 
--- these lines, followed by the others or replaced by their fault
+-- the first argument's lines followed by the others; or the fault of the others, if they have one
 abbrev pub behind : {L E : Type 0} → List L → Result (List L) E → Result (List L) E
 behind front (Ok lines) = Ok (front ++ lines)
 behind front (Err fault) = Err fault
@@ -24,7 +24,7 @@ with_others {L = L} front line (Ok lines) =
     (ap (λ (ls : List L). front ++ ls) (in_front line lines) ∙ sym (append_assoc front (option_to_list line) lines))
 with_others front line (Err fault) = refl
 
--- the first line that is left becomes the last one that was read
+-- the first line that remains becomes the last one that was read
 pub line_read : {A L : Type 0} (kind : ScriptKind A L) (seen : Bool) (number : ℕ) (front : List L) (text : List ℕ) (texts : List (List ℕ))
     (act : Option A) → read_line kind seen text ≡ Ok act
     → behind front (script_lines_from kind seen number (text ∷ texts))
@@ -33,12 +33,12 @@ pub line_read : {A L : Type 0} (kind : ScriptKind A L) (seen : Bool) (number : �
 line_read kind seen number front text texts act is =
     rw is (with_others front (script_line_at kind number act) (script_lines_from kind (has_once_command kind seen act) (number + 1) texts))
 
--- after a line, less of the text is left
+-- after a line, the text that remains is shorter
 pub left_behind : (rest : Option (Bor (List ℕ))) (n : ℕ) → IfSome rest (λ text. length text.now < n) → left rest ≤ n
 left_behind None n shorter = omega arith
 left_behind (Some text) n shorter = omega (arith, shorter)
 
--- the lines in the list are those that were read
+-- the list has exactly the lines that were read
 pub kept_lines_are_read : {L : Type 0} (result lines : Result (Vec L Global) Memory) (front added : List L)
     → IfOk result (λ kept. IsOkAnd lines (λ before. kept.items ≡ before.items ++ added))
     → IfOk lines (λ before. before.items ≡ front) → IfOk result (λ kept. kept.items ≡ front ++ added)
@@ -46,7 +46,7 @@ kept_lines_are_read {L = L} (Ok kept) (Ok before) front added line are = line �
 kept_lines_are_read (Ok kept) (Err memory) front added line are = absurd line
 kept_lines_are_read (Err memory) lines front added line are = tt
 
--- what is true of the lines so far, and stays true with the next, is true of all lines
+-- what holds for the lines read before, and stays true with the next line, holds for all lines
 pub kept_lines_hold : {L : Type 0} (P : List L → Type 0) (result lines : Result (Vec L Global) Memory) (added : List L)
     → IfOk result (λ kept. IsOkAnd lines (λ before. kept.items ≡ before.items ++ added))
     → IfOk lines (λ before. P before.items) → ((ls : List L) → P ls → P (ls ++ added)) → IfOk result (λ kept. P kept.items)

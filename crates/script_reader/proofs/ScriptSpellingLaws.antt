@@ -1,5 +1,4 @@
--- Lemmas: a script is read as what its lines spell, or has the fault of the lowest line that has
--- one.
+-- A script is read as what its lines spell, or has the fault of the lowest line that has one.
 use Rattle.std.proofs.Common.{◌≡◌, ℕ, ◌+◌, ◌<◌, Bool, true, false, List, [], ◌∷◌, ◌++◌, codes, length, length-append, Option, Some, None, Result, Ok, Err, refl, ◌∙◌, ap, sym, get_or, suc, zero, arith, append_assoc, ◌⊎◌, ◌↔◌, inl, inr}
 use Rattle.std.specs.Prelude.{Contains}
 use Rattle.std.specs.List.{cons_option}
@@ -38,7 +37,7 @@ not_seen : (earlier : List (List ℕ)) (seen : Bool) → SeenIn earlier seen →
 not_seen earlier true of = (λ is. cc, λ none. absurd (none (of.0 refl)))
 not_seen earlier false of = (λ is has. let other : false ≡ true = of.1 has in cc, λ none. refl)
 
--- one line after the earlier ones
+-- reading one line after the earlier ones gives what it spells
 line_is_read : (earlier : List (List ℕ)) (seen : Bool) (text : List ℕ) (act : Option Act) → SeenIn earlier seen
     → (read_line script_lines seen text ≡ Ok act) ↔ LineHasAct earlier text act
 line_is_read earlier seen text None of = (
@@ -66,7 +65,7 @@ line_at_fault earlier seen text fault of = (
       ((fault_read (script_reads at.seen) at.words fault).1 at.fault),
 )
 
--- a line is `sections` if its words are
+-- a line has the act `sections` only if its words are `sections` alone
 sections_words : (form : LineForm) → act_of_form form ≡ acts.Sections → words_of_form form ≡ codes "sections" ∷ []
 sections_words sections is = refl
 sections_words form is = cc
@@ -91,7 +90,7 @@ is_sections_or None = inr refl
 is_sections_or (Some acts.Sections) = inl refl
 is_sections_or (Some act) = inr refl
 
--- whether `sections` has occurred, after one more line
+-- after one more line, the flag still says whether `sections` has occurred
 only_one : (x y : List ℕ) → Contains (x ∷ []) y → y ≡ x
 only_one x y has = at has.0 has.1 has.2
   where
@@ -124,7 +123,7 @@ seen_on earlier false text act of is =
       )
     ]
 
--- the lines after the earlier ones: the first of them, and the others
+-- the lines after the earlier ones are the first of them and then the others
 length_on : (earlier : List (List ℕ)) (text : List ℕ) → length (earlier ++ (text ∷ [])) + 1 ≡ length earlier + 1 + 1
 length_on earlier text = rw (length-append earlier (text ∷ [])) refl
 
@@ -177,7 +176,7 @@ lines_ask earlier seen (text ∷ texts) lines of = (
       rw (was, read) (ap (λ (ls : List Line). Ok ls) (sym asks.3)),
 )
 
--- if reading them fails, one of them has the first fault
+-- if reading the lines fails, the fault is that of the first line that has one
 fault_is_first : (earlier : List (List ℕ)) (seen : Bool) (texts : List (List ℕ)) (told : ℕ × ScriptLineFault) → SeenIn earlier seen
     → script_lines_from script_lines seen (length earlier + 1) texts ≡ Err told
     → IsFirstLineFault earlier texts (script_fault_at told.0 told.1)
@@ -235,7 +234,7 @@ none_seen = (λ is. cc (is), λ has. absurd (none has.1.0 has.1.1))
     none : (k : ℕ) → k < 0 → ⊥
     none k below = omega (arith, below)
 
--- a whole script
+-- reading a whole script gives what its lines spell
 pub script_read : (bytes : List ℕ) (lines : List Line) → script_of bytes ≡ Ok lines → lines_of script_lines bytes ≡ Ok lines
 script_read bytes lines = unturned (lines_of script_lines bytes)
   where

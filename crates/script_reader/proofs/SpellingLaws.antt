@@ -1,5 +1,5 @@
--- Lemmas: a line is read as what it spells, and has the fault of the first condition that it
--- doesn't meet.
+-- A line of an early script is read as what it spells, and has the fault of the first condition
+-- that it doesn't meet.
 use Rattle.std.proofs.Common.{◌≡◌, ℕ, Bool, true, false, if◌then◌else◌, List, [], ◌∷◌, ◌++◌, codes, Option, Some, None, Result, Ok, Err, refl, ◌∙◌, ap, ◌⊎◌, ◌↔◌, inl, inr}
 use Rattle.std.specs.Str.{bytes_eq}
 use Rattle.std.proofs.lemmas.List.{append-nil}
@@ -137,7 +137,7 @@ alloc_said i s a min None node = refl
 alloc_said i s a min max no_node = refl
 alloc_said i s a min max node = refl
 
--- the numbers of a form are right, or one isn't and the line has that fault
+-- either all numbers of a form are right, or the line has the fault `Number`
 pub numbers_or : (seen : Bool) (form : LineForm)
     → (HasLineNumbers form
     × (act_by_forms (act_by_name seen) (words_of_form form) ≡ (checked seen (act_of_form form) >>= λ act. Ok (Some act))))
@@ -212,7 +212,7 @@ numbers_or seen (peek a l) =
     ]
 numbers_or seen sections = inl (tt, refl)
 
--- an act passes all checks, or has the fault of the first that fails
+-- the act passes all checks
 pub record Passes (seen : Bool) (act : Act) : Type 0 where
   pub aligned : IsAligned act
   pub size : HasSize act
@@ -264,7 +264,7 @@ act_or seen (acts.Peek at len) =
 act_or true acts.Sections = inr (wrong.SecondSections, (refl, refl), refl)
 act_or false acts.Sections = inl (record { aligned = tt; size = tt; in_space = tt; once = λ is. refl }, refl)
 
--- an act that passes has no fault
+-- an act that passes all checks has no fault
 passes_not : (seen : Bool) (act : Act) (fault : ScriptLineFault) → Passes seen act → Fails seen act fault → ⊥
 passes_not seen act wrong.Form passes fails = fails
 passes_not seen act wrong.Number passes fails = fails
@@ -277,7 +277,7 @@ pub checked_passes : (seen : Bool) (act : Act) → Passes seen act → checked s
 checked_passes seen act passes =
     elim (act_or seen act) [ inl is ↦ is.1 | inr bad ↦ absurd (passes_not seen act bad.0 passes bad.1) ]
 
--- an act that fails a check has its fault
+-- an act that fails a check has the fault of that check
 pub checked_fails : (seen : Bool) (act : Act) (fault : ScriptLineFault) → Fails seen act fault → checked seen act ≡ Err fault
 checked_fails seen act wrong.Form fails = absurd fails
 checked_fails seen act wrong.Number fails = absurd fails
@@ -296,7 +296,7 @@ checked_fails seen (acts.Peek at len) wrong.TooFar fails =
     rw (passed (some_or len) fails.1, failed (range_or at len) fails.2) refl
 checked_fails seen act wrong.TooFar fails = absurd (fails.2 tt)
 
--- what the laws of lines need of the forms of an early script
+-- an early script as a kind of script for the lemmas of `GrammarLaws`
 abbrev pub script_reads : Bool → Reads Act
 script_reads seen = record {
   forms = act_by_name seen;

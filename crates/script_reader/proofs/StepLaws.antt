@@ -1,5 +1,5 @@
--- Lemmas on single steps: words, a number, an alignment, a size, a range. A step accepts exactly
--- what is spelled right.
+-- The single steps of reading a line: words, a number, an alignment, a size, a range. A step
+-- accepts exactly what the grammar allows.
 use Rattle.std.proofs.Common.{◌≡◌, ℕ, ◌+◌, ◌^◌, ◌<◌, ◌≤◌, ◌==◌, Bool, true, false, IsTrue, nat_le, nat_lt, List, [], ◌∷◌, ◌++◌, length, Option, Some, None, Result, Ok, Err, refl, ap, arith, ◌⊎◌, inl, inr}
 use Rattle.std.specs.Prelude.{IfSome}
 use Rattle.std.specs.Option.{option_map}
@@ -21,7 +21,7 @@ use Rattle.script_reader.specs.Numbers.{Words, expect_no_words, one_word, two_wo
 use Rattle.script_reader.specs.Grammar.{IsWithin, front_value, value_of_word}
 use Rattle.script_reader.specs.Spelling.{key_with_word}
 
--- a script has no quotations, so each text is spelled with its words
+-- a script has no quotations, so each text has the words that the grammar finds in it
 no_quotes : (text : List ℕ) → QuotesClose separators.Script false text
 no_quotes [] = refl
 no_quotes (b ∷ text) = no_quotes text
@@ -29,7 +29,7 @@ no_quotes (b ∷ text) = no_quotes text
 pub words_spelled : (text : List ℕ) → HasWords separators.Script text (words_in separators.Script text)
 words_spelled text = (words_exactly separators.Script text (words_in separators.Script text) (no_quotes text)).0 refl
 
--- a step succeeds if its condition holds, and returns its fault if not
+-- a step returns its value if its condition holds, and its fault otherwise
 abbrev pub ChecksExactly : {A : Type 0} → Type 0 → A → ScriptLineFault → Result A ScriptLineFault → Type 0
 ChecksExactly Good value_of_word fault r = (Good × (r ≡ Ok value_of_word)) ⊎ ((¬ Good) × (r ≡ Err fault))
 
@@ -89,7 +89,7 @@ bounded_or most word r =
 pub within_or : (most : ℕ) (word : List ℕ) → ChecksExactly (IsWithin most word) (value_of_word word) wrong.Number (number_within most word)
 within_or most word = bounded_or most word (size_of word)
 
--- a size is below 2^64
+-- a number that is a size within its limit is below 2^64
 size_below : (word : List ℕ) (n : ℕ) → IsSize word n → n ≤ greatest_u64
 size_below word n is = grind (arith, nat_tests)
 
@@ -106,7 +106,7 @@ optional_or most None = inl (tt, refl)
 optional_or most (Some word) =
     elim (within_or most word) [ inl is ↦ inl (is.0, rw (is.1) refl) | inr isnt ↦ inr (isnt.0, rw (isnt.1) refl) ]
 
--- an alignment, a size that isn't 0, and a range
+-- the checks of an alignment, of a size, and of a range accept exactly what the grammar allows
 pub power_or : (n : ℕ) → ChecksExactly (IsTrue (is_power_of_two n)) n wrong.Align (check_power_of_two n)
 power_or n = by_test (is_power_of_two n) refl
   where
@@ -130,7 +130,7 @@ range_or base size = by_test (nat_lt (base + size) (2 ^ 64)) refl
     by_test true fits = inl (grind (arith, nat_tests, fits), rw fits refl)
     by_test false far = inr (λ fits. absurd (grind (arith, nat_tests, far, fits)), rw far refl)
 
--- words have a form, or the fault `Form`
+-- words either have a form or the fault `Form`
 pub is_key : (word key : List ℕ) → (word ≡ key) ⊎ (bytes_eq word key ≡ false)
 is_key word key = by_test (bytes_eq word key) refl
   where

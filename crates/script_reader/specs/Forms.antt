@@ -1,6 +1,7 @@
--- The forms of a line: the words after the first, and the act that they spell. The steps of each
--- definition are in the order of the faults: the form, all numbers, the alignment, sizes of 0, a
--- second `sections`, and a range that goes too far.
+-- The forms of a line: the words after the first one, and the act that they spell. If a line has
+-- several faults, the one that is tested first is reported. Each definition tests in this order:
+-- whether the words have the form, all numbers, the alignment, whether a size is 0, whether
+-- `sections` occurs twice, and whether a range ends past 2^64 - 1.
 use Rattle.std.specs.Prelude.{ℕ, ◌+◌, ◌-◌, ◌^◌, ◌<◌, ◌≤◌, Bool, true, false, IsTrue, if◌then◌else◌, List, [], ◌∷◌, codes, Option, Some, None, unwrap_or, Result, Ok, Err}
 use Rattle.std.specs.Int.{is_power_of_two}
 use Rattle.std.specs.Str.{bytes_eq}
@@ -31,7 +32,7 @@ greatest_len = 64
 abbrev pub greatest_u64 : ℕ
 greatest_u64 = 2 ^ 64 - 1
 
--- the words of `alloc ID SIZE ALIGN [min A] [max A] [node N [exact]]` after the first
+-- the words of the line `alloc ID SIZE ALIGN [min A] [max A] [node N [exact]]`, without `alloc`
 pub record AllocWords : Type 0 where
   pub id : List ℕ
   pub size : List ℕ
@@ -41,13 +42,13 @@ pub record AllocWords : Type 0 where
   pub node : Option (List ℕ)
   pub exact : Bool
 
--- `exact` may only follow a node
+-- whether the next word is `exact`, which may only follow a node, and the words after it
 abbrev pub optional_exact : Option (List ℕ) → Words → Bool × Words
 optional_exact None words = (false, words)
 optional_exact (Some node) [] = (false, [])
 optional_exact (Some node) (w ∷ ws) = if bytes_eq w (codes "exact") then (true, ws) else (false, w ∷ ws)
 
--- the words after `alloc`, split but not read as numbers
+-- the words after `alloc`, split by their place in the line; their numbers aren't read
 abbrev pub alloc_words : Words → Result AllocWords ScriptLineFault
 alloc_words words = do
   id ← first_word words
@@ -137,7 +138,7 @@ act_by_name seen name words =
     (if bytes_eq name (codes "peek") then peek_line words else
     (if bytes_eq name (codes "sections") then sections_line seen words else Err wrong.Form))))))
 
--- the limits that running an act requires
+-- the conditions that an act must meet so that it can be run
 abbrev pub HasBounds : Act → Type 0
 HasBounds (acts.Alloc id request) = (0 < request.size) × IsTrue (is_power_of_two request.align)
 HasBounds (acts.Reserve id range) = 0 < range.size

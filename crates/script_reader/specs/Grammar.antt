@@ -8,26 +8,27 @@ use Rattle.script_reader.specs.declared.fault.ScriptLineFault.{ScriptLineFault}
 use Rattle.script_reader.specs.declared.fault.ScriptLineFault.TheVariants as wrong
 use Rattle.script_reader.specs.Numbers.{Words}
 
--- a line without a command: it has no words, or is a comment
+-- the line has no command: it has no words, or is a comment
 pub data HasNoCommand : Words → Type 0 where
   no_words : HasNoCommand []
   comment : (word : List ℕ) (words : Words) → HasNoCommand ((codes "#" ++ word) ∷ words)
 
--- the whole word is a size, at most the limit
+-- the whole word is a size of at most `most`
 abbrev pub IsWithin : ℕ → List ℕ → Type 0
 IsWithin most word = (n : ℕ) × IsSize word n × (n ≤ most)
 
--- the size that was found at the start of a word, or 0 if there is none
+-- the size that was read at the start of a word, or 0 if none was
 abbrev pub front_value : Result (ℕ × ℕ) NumFault → ℕ
 front_value (Ok found) = found.0
 front_value (Err fault) = 0
 
--- the value of a word that is a size
+-- the size that a word spells
 abbrev pub value_of_word : List ℕ → ℕ
 value_of_word word = front_value (size_of word)
 
--- the forms of a kind of script, with any word in the place of each number: the words of a form,
--- the condition that each number is a size within its limit, and the act of such a form
+-- the forms of a kind of script, in which each number is still an arbitrary word. Each form has
+-- its words, the condition that each number is a size within its limit, and the act that the form
+-- spells.
 pub record Grammar (A : Type 0) : Type 1 where
   pub Form : Type 0
   pub words_of : Form → Words
@@ -45,12 +46,12 @@ pub record SpellsNumbers {A : Type 0} (grammar : Grammar A) (words : Words) (act
   pub numbers : grammar.HasNumbers form
   pub asks : act ≡ grammar.act_of form
 
--- no act breaks a further condition once its numbers are right
+-- for acts without further conditions: an act whose numbers are right has no fault
 abbrev pub NeverFails : {A : Type 0} → A → ScriptLineFault → Type 0
 NeverFails act wrong = ⊥
 
--- the first condition that these words break: the form, then the numbers, then those that `Fails`
--- states for an act whose numbers are right
+-- the fault is the first condition that the words break: the form, then the numbers, then those
+-- that `Fails` states for an act whose numbers are right
 abbrev pub HasWordsFault : {A : Type 0} → Grammar A → (A → ScriptLineFault → Type 0) → Words → ScriptLineFault → Type 0
 HasWordsFault grammar Fails words wrong.Form = (¬ (HasNoCommand words)) × (¬ (HasLineForm grammar words))
 HasWordsFault grammar Fails words wrong.Number =

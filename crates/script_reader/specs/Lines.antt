@@ -11,28 +11,29 @@ use Rattle.script_reader.specs.declared.lines.LinesError.{LinesError}
 use Rattle.script_reader.specs.declared.lines.LinesError.TheVariants as unread
 use Rattle.script_reader.specs.Numbers.{Words}
 
--- a line is a comment if its first word begins with `#`
+-- whether a line with this first word is a comment: the word begins with `#`
 abbrev pub is_comment : List ℕ → Bool
 is_comment [] = false
 is_comment (b ∷ bs) = b == 35
 
--- the act that the words of a line spell, by the forms of its first word; None without words, and
--- for a comment
+-- the act that the words of a line spell, by the form that the first word selects; None for a line
+-- without words, and for a comment
 abbrev pub act_by_forms : {A : Type 0} → (List ℕ → Words → Result A ScriptLineFault) → Words → Result (Option A) ScriptLineFault
 act_by_forms forms [] = Ok None
 act_by_forms forms (name ∷ words) = if is_comment name then Ok None else (do
   act ← forms name words
   Ok (Some act))
 
--- a kind of script: the act that the name of a command and the words after it spell, which acts may
--- occur only once, and the line with this number and act. The flag of `forms` is true if an earlier
--- line has the act that may occur only once.
+-- a kind of script. `forms` gives the act that a command's name and the words after it spell; its
+-- flag is true if an earlier line has the act that may occur only once. The other fields say which
+-- act that is, and make a line of a number and an act.
 pub record ScriptKind (A L : Type 0) : Type 0 where
   pub forms : Bool → List ℕ → Words → Result A ScriptLineFault
   pub is_once : A → Bool
   pub line : ℕ → A → L
 
--- this line or an earlier one has the act that may occur only once
+-- whether this line has the act that may occur only once; also true if the flag is true, which
+-- means that an earlier line has it
 abbrev pub has_once_command : {A L : Type 0} → ScriptKind A L → Bool → Option A → Bool
 has_once_command kind true act = true
 has_once_command kind false None = false
@@ -46,8 +47,8 @@ read_line kind seen text = act_by_forms (kind.forms seen) (words_in separators.S
 abbrev pub script_line_at : {A L : Type 0} → ScriptKind A L → ℕ → Option A → Option L
 script_line_at kind number act = option_map (kind.line number) act
 
--- the lines with these texts; the first of them has this number. The fault is the number of the
--- lowest line that has one, and what is wrong with it.
+-- the lines with these texts, numbered from `number` on; or the number of the lowest line that has
+-- a fault, and what is wrong with it
 abbrev pub script_lines_from : {A L : Type 0} → ScriptKind A L → Bool → ℕ → List (List ℕ) → Result (List L) (ℕ × ScriptLineFault)
 script_lines_from kind seen number [] = Ok []
 script_lines_from kind seen number (text ∷ texts) = do
@@ -55,12 +56,12 @@ script_lines_from kind seen number (text ∷ texts) = do
   lines ← script_lines_from kind (has_once_command kind seen act) (number + 1) texts
   Ok (cons_option (script_line_at kind number act) lines)
 
--- the lines of a script end with newlines; if the script ends with one, the empty text after it is
--- a line without words
+-- the lines of a script, which end with newlines. If the script ends with a newline, the empty
+-- text after it is a line without words.
 abbrev pub lines_of : {A L : Type 0} → ScriptKind A L → List ℕ → Result (List L) (ℕ × ScriptLineFault)
 lines_of kind bytes = script_lines_from kind false 1 (parts_in (separators.Byte 10) bytes)
 
--- if the error is a fault of a line, that fault is one of those that the first argument allows
+-- the error is out of memory, or a fault that the first argument allows
 abbrev pub IsAllowedError : (ScriptLineFault → Type 0) → LinesError → Type 0
 IsAllowedError MayBeWrong (unread.Faulty line wrong) = MayBeWrong wrong
 IsAllowedError MayBeWrong unread.Memory = Unit {0}

@@ -13,11 +13,12 @@ use Rattle.script_reader.specs.declared.fault.ScriptLineFault.TheVariants as wro
 abbrev pub Words : Type 0
 Words = List (List ℕ)
 
--- the faults that words and numbers by themselves can have
+-- the fault is `Form` or `Number`: the words form no command, or a word isn't a number within its
+-- limit
 abbrev pub IsWordFault : ScriptLineFault → Type 0
 IsWordFault w = (w ≡ wrong.Form) ⊎ (w ≡ wrong.Number)
 
--- checks that no word is left
+-- checks that there are no words
 abbrev pub expect_no_words : Words → Result (Unit {0}) ScriptLineFault
 expect_no_words [] = Ok tt
 expect_no_words (w ∷ ws) = Err wrong.Form
@@ -27,7 +28,7 @@ abbrev pub first_word : Words → Result (List ℕ × Words) ScriptLineFault
 first_word [] = Err wrong.Form
 first_word (w ∷ ws) = Ok (w, ws)
 
--- the only word
+-- the only word of a list
 abbrev pub one_word : Words → Result (List ℕ) ScriptLineFault
 one_word words = do
   first ← first_word words
@@ -48,14 +49,14 @@ three_words words = do
   others ← two_words first.1
   Ok (first.0, others.0, others.1)
 
--- if the words start with `key WORD`: WORD, and the words after it; else None, and the words
+-- if the words start with `key WORD`, WORD and the words after it; otherwise None, and the words
 -- unchanged
 abbrev pub word_after_key : List ℕ → Words → Option (List ℕ) × Words
 word_after_key key [] = (None, [])
 word_after_key key (w ∷ []) = (None, w ∷ [])
 word_after_key key (w ∷ v ∷ ws) = if bytes_eq w key then (Some v, ws) else (None, w ∷ v ∷ ws)
 
--- the number that was found at the start of a word, if it takes the whole word
+-- the number that was read at the start of a word, if it takes the whole word
 abbrev pub number_if_whole : List ℕ → Result (ℕ × ℕ) NumFault → Result ℕ ScriptLineFault
 number_if_whole word (Ok found) = if found.1 == length word then Ok found.0 else Err wrong.Number
 number_if_whole word (Err fault) = Err wrong.Number
@@ -74,7 +75,7 @@ number_within most word = do
   n ← number_in_word word
   number_if_within most n
 
--- a number that may be missing
+-- the number that an optional word spells, if it is at most `most`; None without a word
 abbrev pub optional_number : ℕ → Option (List ℕ) → Result (Option ℕ) ScriptLineFault
 optional_number most None = Ok None
 optional_number most (Some word) = do
@@ -89,6 +90,6 @@ check_power_of_two n = if is_power_of_two n then Ok n else Err wrong.Align
 abbrev pub check_not_zero : ℕ → Result ℕ ScriptLineFault
 check_not_zero n = if n == 0 then Err wrong.ZeroSize else Ok n
 
--- the range of `size` bytes from `base` on, if both together are at most 2^64 - 1
+-- the range of `size` bytes from `base` on, if `base` plus `size` is at most 2^64 - 1
 abbrev pub range_or_fault : ℕ → ℕ → Result RangeView ScriptLineFault
 range_or_fault base size = if nat_lt (base + size) (2 ^ 64) then Ok (record { base = base; size = size }) else Err wrong.TooFar

@@ -11,7 +11,7 @@ use Rattle.script_reader.specs.declared.fault.ScriptFault.TheVariants as faults
 use Rattle.script_reader.specs.Forms.{act_by_name}
 use Rattle.script_reader.specs.Lines.{ScriptKind, lines_of}
 
--- the fault of a script for what is wrong with the line of this number
+-- the fault of a script, given the number of a line and what is wrong with it
 abbrev pub script_fault_at : ℕ → ScriptLineFault → ScriptFault
 script_fault_at line wrong.Form = faults.BadLine line
 script_fault_at line wrong.Number = faults.BadNumber line
@@ -20,7 +20,7 @@ script_fault_at line wrong.ZeroSize = faults.ZeroSize line
 script_fault_at line wrong.SecondSections = faults.SecondSections line
 script_fault_at line wrong.TooFar = faults.TooFar line
 
--- the act is `sections`
+-- whether the act is `sections`
 abbrev pub is_sections : Act → Bool
 is_sections (acts.Alloc id request) = false
 is_sections (acts.Reserve id range) = false
@@ -30,7 +30,7 @@ is_sections (acts.Fill id byte) = false
 is_sections (acts.Peek at len) = false
 is_sections acts.Sections = true
 
--- the lines of an early script: `sections` may occur only once
+-- the kind of script that an early script is: `sections` may occur only once
 abbrev pub script_lines : ScriptKind Act Line
 script_lines = record { forms = act_by_name; is_once = is_sections; line = λ number act. record { number = number; act = act } }
 

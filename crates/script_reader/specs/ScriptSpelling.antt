@@ -1,5 +1,5 @@
--- The meaning of a whole script, by what its lines spell: their acts, or the fault of the lowest
--- line that has one.
+-- The meaning of a whole script, by what its lines spell: the acts of the lines, or the fault of
+-- the lowest line that has one.
 use Rattle.std.specs.Prelude.{◌≡◌, ℕ, ◌+◌, Bool, true, List, [], ◌∷◌, ◌++◌, codes, length, Contains, Option, Some, None, ◌↔◌}
 use Rattle.std.specs.List.{cons_option}
 use Rattle.text_words.specs.Spelling.{HasWords}
@@ -19,13 +19,13 @@ use Rattle.script_reader.specs.Spelling.{script_grammar, SpellsAct, Fails}
 abbrev pub HasSectionsLine : List (List ℕ) → Type 0
 HasSectionsLine texts = (text : List ℕ) × Contains texts text × HasWords Script text (codes "sections" ∷ [])
 
--- after the earlier lines, this line has this act, or no command
+-- the line, which comes after the earlier lines, has this act, or no command (None)
 abbrev pub LineHasAct : List (List ℕ) → List ℕ → Option Act → Type 0
 LineHasAct earlier text None = (words : Words) × HasWords Script text words × HasNoCommand words
 LineHasAct earlier text (Some act) =
     (words : Words) × HasWords Script text words × SpellsAct words act × (act ≡ acts.Sections → ¬ (HasSectionsLine earlier))
 
--- after the earlier lines, this line has this fault
+-- the line, which comes after the earlier lines, has this fault
 pub record LineHasFault (earlier : List (List ℕ)) (text : List ℕ) (wrong : ScriptLineFault) : Type 0 where
   pub words : Words
   pub spelled : HasWords Script text words
@@ -33,16 +33,16 @@ pub record LineHasFault (earlier : List (List ℕ)) (text : List ℕ) (wrong : S
   pub sections : (seen ≡ true) ↔ HasSectionsLine earlier
   pub fault : HasWordsFault script_grammar (Fails seen) words wrong
 
--- after the earlier lines, none of these has a fault, and the list has their acts with the numbers
--- of their lines, from 1 on
+-- the lines, which come after the earlier ones, have no fault, and `lines` has their acts, each
+-- with the number of its line, from 1 on
 abbrev pub LinesHaveActs : List (List ℕ) → List (List ℕ) → List Line → Type 0
 LinesHaveActs earlier [] lines = lines ≡ []
 LinesHaveActs earlier (text ∷ texts) lines = (act : Option Act) × (others : List Line) × LineHasAct earlier text act
     × (lines ≡ cons_option (script_line_at script_lines (length earlier + 1) act) others)
     × LinesHaveActs (earlier ++ (text ∷ [])) texts others
 
--- after the earlier lines, this is the fault of the first line that has one: no line before it has
--- a fault
+-- among the lines, which come after the earlier ones, this is the fault of the first line that has
+-- one
 pub record IsFirstLineFault (earlier texts : List (List ℕ)) (fault : ScriptFault) : Type 0 where
   pub before : List (List ℕ)
   pub text : List ℕ

@@ -11,13 +11,13 @@ use Rattle.script_reader.specs.Numbers.{Words}
 use Rattle.script_reader.specs.Forms.{greatest_u64, greatest_id, greatest_node, greatest_byte, greatest_len}
 use Rattle.script_reader.specs.Grammar.{IsWithin, value_of_word, Grammar, SpellsNumbers}
 
--- the words for a node, if any: `node N` or `node N exact`
+-- the words that name a node, if any: `node N` or `node N exact`
 pub data NodeWords : Type 0 where
   no_node : NodeWords
   near_node : (node : List ℕ) → NodeWords
   exact_node : (node : List ℕ) → NodeWords
 
--- a form, with any word in the place of each number
+-- the form of a line, in which each number is still an arbitrary word
 pub data LineForm : Type 0 where
   alloc : (id size align : List ℕ) (min max : Option (List ℕ)) (node : NodeWords) → LineForm
   reserve : (id base size : List ℕ) → LineForm
@@ -27,12 +27,12 @@ pub data LineForm : Type 0 where
   peek : (address len : List ℕ) → LineForm
   sections : LineForm
 
--- a key and its number, which may be missing
+-- a key and the word for its number, or no words if there is no number
 abbrev pub key_with_word : List ℕ → Option (List ℕ) → Words
 key_with_word key None = []
 key_with_word key (Some word) = key ∷ word ∷ []
 
--- the words for a node, or none
+-- the words that name a node, or no words if no node is named
 abbrev pub node_words : NodeWords → Words
 node_words no_node = []
 node_words (near_node node) = codes "node" ∷ node ∷ []
@@ -55,7 +55,7 @@ node_number_word no_node = None
 node_number_word (near_node node) = Some node
 node_number_word (exact_node node) = Some node
 
--- `exact` follows the number of the node
+-- whether `exact` follows the number of the node
 abbrev pub is_exact : NodeWords → Bool
 is_exact no_node = false
 is_exact (near_node node) = false
@@ -72,8 +72,8 @@ HasLineNumbers (fill id byte) = IsWithin greatest_id id × IsWithin greatest_byt
 HasLineNumbers (peek address len) = IsWithin greatest_u64 address × IsWithin greatest_len len
 HasLineNumbers sections = Unit {0}
 
--- the act of a form whose numbers are sizes. Without `min` the lower limit is 0; without `max`
--- there is no upper limit, and without `node` no node is preferred.
+-- the act of a form whose numbers are sizes. Without `min` the lowest address is 0. Without `max`
+-- there is no highest end, and without `node` no node is preferred.
 abbrev pub act_of_form : LineForm → Act
 act_of_form (alloc id size align min max node) = acts.Alloc (value_of_word id) (record {
   size = value_of_word size;
@@ -90,12 +90,12 @@ act_of_form (fill id byte) = acts.Fill (value_of_word id) (value_of_word byte)
 act_of_form (peek address len) = acts.Peek (value_of_word address) (value_of_word len)
 act_of_form sections = acts.Sections
 
--- the alignment is a power of two
+-- the alignment of the act, if it has one, is a power of two
 abbrev pub IsAligned : Act → Type 0
 IsAligned (acts.Alloc id request) = IsTrue (is_power_of_two request.align)
 IsAligned act = Unit {0}
 
--- SIZE, KEEP or LEN isn't 0
+-- the SIZE, KEEP or LEN of the act, if it has one, isn't 0
 abbrev pub HasSize : Act → Type 0
 HasSize (acts.Alloc id request) = 0 < request.size
 HasSize (acts.Reserve id range) = 0 < range.size
@@ -103,24 +103,25 @@ HasSize (acts.Trim id keep) = 0 < keep
 HasSize (acts.Peek at len) = 0 < len
 HasSize act = Unit {0}
 
--- BASE + SIZE or ADDR + LEN is at most 2^64 - 1
+-- the sum BASE + SIZE or ADDR + LEN of the act, if it has one, is at most 2^64 - 1
 abbrev pub IsInSpace : Act → Type 0
 IsInSpace (acts.Reserve id range) = range.base + range.size < 2 ^ 64
 IsInSpace (acts.Peek at len) = at + len < 2 ^ 64
 IsInSpace act = Unit {0}
 
--- the lines of an early script, as a user writes them
+-- the grammar of the lines of an early script
 abbrev pub script_grammar : Grammar Act
 script_grammar = record { Form = LineForm; words_of = words_of_form; HasNumbers = HasLineNumbers; act_of = act_of_form }
 
--- the words spell the act: they also meet the conditions on its alignment, size and range
+-- the words spell the act, and the act meets the conditions on its alignment, size and range
 pub record SpellsAct (words : Words) (act : Act) : Type 0 where
   pub numbers : SpellsNumbers script_grammar words act
   pub aligned : IsAligned act
   pub size : HasSize act
   pub in_space : IsInSpace act
 
--- the first condition that this act doesn't meet; `seen` is true if an earlier line is `sections`
+-- the fault is the first condition that this act doesn't meet; `seen` is true if an earlier line
+-- is `sections`
 abbrev pub Fails : Bool → Act → ScriptLineFault → Type 0
 Fails seen act wrong.Form = ⊥
 Fails seen act wrong.Number = ⊥

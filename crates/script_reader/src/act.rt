@@ -1,14 +1,16 @@
-//! The commands of a script: plain data, which the reader makes and the layer above runs.
+//! The commands of a script: plain data, which the reader returns and the layer above runs.
 
 use bm_base::Range;
 use memblock_model::Request;
 
-/// A command of the script. An ID is the script's own name for a range that it has claimed.
+/// A command of the script. An ID is a number by which the script names a range that it has
+/// claimed.
 #[derive(Clone, Copy, Debug, PartialEq, Eq)]
 pub enum Act {
     /// `alloc`: finds the best range for the request and claims it for the ID.
     Alloc { id: u32, request: Request },
-    /// `reserve`: claims exactly this range for the ID, wherever it is. It has at least 1 byte.
+    /// `reserve`: claims exactly this range, wherever it is, for the ID. The range has at least 1
+    /// byte.
     Reserve { id: u32, range: Range },
     /// `free`: frees the ID's whole range.
     Free { id: u32 },

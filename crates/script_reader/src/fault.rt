@@ -1,8 +1,8 @@
-//! The reason why a script is refused: what is wrong with a line, and the same with the number of
-//! the line. There are two types because the functions that read a line don't know its number;
-//! only the loop over the lines does.
+//! Two types of faults. [`ScriptLineFault`] says what is wrong with a line. [`ScriptFault`] has the
+//! number of the line too. The functions that read a line return a [`ScriptLineFault`], since only
+//! the loop over the lines knows the number.
 
-/// What is wrong with a line. If several apply, the first of this list is reported.
+/// What is wrong with a line. If several of these variants apply, the first one is reported.
 #[derive(Clone, Copy, Debug, PartialEq, Eq)]
 pub enum ScriptLineFault {
     /// The words have the form of no command, whatever their numbers are.
@@ -21,7 +21,7 @@ pub enum ScriptLineFault {
 }
 
 /// The reason why a script is refused. `line` is the number of the lowest line that has a fault,
-/// from 1 on. If the line has several faults, the first of this list is reported.
+/// from 1 on. If the line has several faults, the first of these variants is reported.
 #[derive(Clone, Copy, Debug, PartialEq, Eq)]
 pub enum ScriptFault {
     /// The words of the line have the form of no command, whatever their numbers are.

@@ -17,8 +17,8 @@ use memblock_model::Request;
 use std::marker::Model;
 use text_words::{Separators, next_word};
 
-/// Returns the command of a line. `name` is its first word, and `rest` the text after that. `seen`
-/// is true if an earlier line is `sections`.
+/// Returns the command of a line. `name` is its first word, and `rest` the text after that word.
+/// `seen` is true if an earlier line is `sections`.
 ///
 /// # Errors
 ///
@@ -102,8 +102,8 @@ fn alloc_words(text: &[u8]) -> Result<AllocWords<'_>, ScriptLineFault>
     })
 }
 
-/// Tests whether the next word is `exact`, and returns the text after it. Returns false and the
-/// unchanged text if there is another word, or if the line names no node.
+/// Tests whether the next word is `exact`, and returns the text after it. If the next word isn't
+/// `exact`, or the line names no node, returns false and the unchanged text.
 fn optional_exact<'a>(node: Option<&'a [u8]>, text: &'a [u8]) -> (bool, &'a [u8])
     ensures { optional_exact (option_map (λ word. word.now) node.entry)
         (words_in separators.Script text.now)
@@ -151,13 +151,13 @@ fn alloc_line(text: &[u8]) -> Result<Act, ScriptLineFault>
 /// The greatest ID that a line of a script may name.
 pub const GREATEST_ID: u64 = 0xFFFF_FFFF;
 
-/// The largest number of a node.
+/// The greatest number of a node that a line may name.
 pub const GREATEST_NODE: u64 = 1023;
 
-/// The largest value of a byte.
+/// The greatest value of a byte.
 const GREATEST_BYTE: u64 = 255;
 
-/// The largest length of a `peek`, in bytes.
+/// The greatest length of a `peek`, in bytes.
 const GREATEST_LEN: u64 = 64;
 
 /// Reads the words after `reserve`: an ID, and the base and the size of the range in bytes.

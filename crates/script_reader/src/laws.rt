@@ -17,7 +17,7 @@ ghost use Rattle.script_reader.specs.Grammar.{HasNoCommand, HasWordsFault};
 ghost use Rattle.script_reader.specs.Spelling.{script_grammar, SpellsAct, Fails};
 ghost use Rattle.script_reader.specs.ScriptSpelling.{LinesHaveActs, IsFirstLineFault};
 
-/// Law: a text of a line can be split into words in exactly one way.
+/// Law: the text of a line can be split into words in exactly one way.
 pub fn each_line_has_its_words()
     ensures some { (text : List ℕ) → (words : Words) × HasWords Script text words }
     ensures one { (text : List ℕ) (words others : Words) →
@@ -25,8 +25,8 @@ pub fn each_line_has_its_words()
 {}
 
 /// Law: a line is read as an act exactly if its words follow the grammar of that act, and it isn't
-/// a second `sections`. It has no command exactly if it has no words or is a comment. Otherwise its
-/// fault is the first condition of the grammar that its words break.
+/// a second `sections`. A line has no command exactly if it has no words or is a comment. Any
+/// other line has the fault of the first condition of the grammar that its words break.
 pub fn lines_of_spelling()
     ensures act { (seen : Bool) (text : List ℕ) (words : Words) (act : AnyAct) →
         HasWords Script text words →
@@ -41,9 +41,9 @@ pub fn lines_of_spelling()
         ↔ HasWordsFault script_grammar (Fails seen) words wrong) }
 {}
 
-/// Law: reading a script gives exactly the commands of its lines, each with the number of its line.
-/// Lines without a command are left out. A script is refused exactly if some line has a fault, with
-/// the fault of the lowest such line.
+/// Law: reading a script gives exactly the commands of its lines, each with the number of its
+/// line. Lines without a command are left out. A script is refused exactly if some line has a
+/// fault, with the fault of the lowest such line.
 pub fn scripts_of_spelling()
     ensures lines { (bytes : List ℕ) (lines : List AnyLine) →
         ((script_of bytes ≡ Ok lines) ↔ LinesHaveActs [] (parts_in (Byte 10) bytes) lines) }

@@ -23,16 +23,16 @@ pub trait ScriptLine: Copy {
 
     type Act: Copy;
 
-    // `kind` has the forms of the lines. `IsWithinLimits` holds for each line that is read, and
-    // `MayBeWrong` for each fault that a line can have.
+    // `kind` defines the forms of the lines. `IsWithinLimits` holds for each line that is read,
+    // and `MayBeWrong` for each fault that a line can have.
     ghost kind: { ScriptKind Self.Act Self };
 
     ghost IsWithinLimits: { Self → Type 0 };
 
     ghost MayBeWrong: { ScriptLineFault → Type 0 };
 
-    /// Returns the command of a line. `name` is its first word, and `rest` the text after that.
-    /// `seen` is true if an earlier line has a command that may occur only once.
+    /// Returns the command of a line. `name` is its first word, and `rest` the text after that
+    /// word. `seen` is true if an earlier line has a command that may occur only once.
     ///
     /// # Errors
     ///
@@ -131,7 +131,8 @@ fn read_line<L: ScriptLine>(seen: bool, text: &[u8]) -> Result<Option<L::Act>, S
     Ok(Some(L::by_name(seen, name, rest)?))
 }
 
-/// Tests whether this line or an earlier one has the command that may occur only once.
+/// Tests whether this line has the command that may occur only once, or `seen` is true, which
+/// means that an earlier line has it.
 fn has_once_command<L: ScriptLine>(seen: bool, act: &Option<L::Act>) -> bool
     ensures { result ≡ has_once_command L.kind seen act.now }
 {
@@ -141,7 +142,7 @@ fn has_once_command<L: ScriptLine>(seen: bool, act: &Option<L::Act>) -> bool
     }
 }
 
-/// Returns the line with this number, if it has a command.
+/// Returns the line with this number and command, or `None` if it has no command.
 fn script_line_at<L: ScriptLine>(number: u64, act: Option<L::Act>) -> Option<L>
     requires { IfSome act (λ _. number < 2 ^ 32) }
     ensures { result ≡ line_of L.kind number act }

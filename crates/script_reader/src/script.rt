@@ -62,7 +62,7 @@ pub fn read_script(alloc: Global, bytes: &[u8]) -> Result<Vec<Line>, ScriptFault
     }
 }
 
-/// Returns the fault of a script for what is wrong with the line of this number.
+/// Returns the fault of a script, given the number of a line and what is wrong with it.
 fn script_fault_at(line: u32, wrong: ScriptLineFault) -> ScriptFault
     ensures { result ≡ script_fault_at line wrong }
 {

@@ -1,8 +1,8 @@
 //! Reads the words of a line and the numbers among them, one small step each.
 //!
 //! Nothing here allocates: a word is a slice of the line, and each step returns the rest of the
-//! line. A step that fails returns what is wrong with the line. The order of the steps in
-//! `crate::forms` decides which fault is reported.
+//! line. A step that fails returns what is wrong with the line. The steps are called in
+//! `crate::forms`, and their order there decides which fault is reported.
 
 ghost use Rattle.std.specs.Prelude.{◌≡◌, ℕ, ◌<◌, ◌≤◌, ◌^◌, [], ◌∷◌, Option, Ok, Err, MatchResult, IfOk, IfErr, IsTrue};
 ghost use Rattle.std.specs.Int.{is_power_of_two};
@@ -23,7 +23,7 @@ pub fn is_comment(word: &[u8]) -> bool
     word.first() == Some(&b'#')
 }
 
-/// Checks that no word is left.
+/// Checks that the text has no words.
 ///
 /// # Errors
 ///
@@ -38,7 +38,7 @@ pub fn expect_no_words(text: &[u8]) -> Result<(), ScriptLineFault>
     }
 }
 
-/// Returns the first word, and the rest of the text after it.
+/// Returns the first word of the text, and the text after it.
 ///
 /// # Errors
 ///
@@ -53,7 +53,7 @@ pub fn first_word(text: &[u8]) -> Result<(&[u8], &[u8]), ScriptLineFault>
     next_word(text, Separators::Script).ok_or(ScriptLineFault::Form)
 }
 
-/// Returns the only word.
+/// Returns the only word of the text.
 ///
 /// # Errors
 ///
@@ -69,7 +69,7 @@ pub fn one_word(text: &[u8]) -> Result<&[u8], ScriptLineFault>
     Ok(word)
 }
 
-/// Returns the two words.
+/// Returns the two words of the text.
 ///
 /// # Errors
 ///
@@ -84,7 +84,7 @@ pub fn two_words(text: &[u8]) -> Result<(&[u8], &[u8]), ScriptLineFault>
     Ok((first, second))
 }
 
-/// Returns the three words.
+/// Returns the three words of the text.
 ///
 /// # Errors
 ///
@@ -100,8 +100,8 @@ pub fn three_words(text: &[u8]) -> Result<(&[u8], &[u8], &[u8]), ScriptLineFault
     Ok((first, second, third))
 }
 
-/// If the text starts with `key WORD`, returns WORD and the rest of the text. Else returns `None`
-/// and the text unchanged.
+/// If the text starts with `key WORD`, returns WORD and the rest of the text. Otherwise returns
+/// `None` and the text unchanged.
 pub fn word_after_key<'a>(key: &[u8], text: &'a [u8]) -> (Option<&'a [u8]>, &'a [u8])
     ensures { word_after_key key.now (words_in separators.Script text.now)
         ≡ (option_map (λ word. word.now) result.0, words_in separators.Script result.1.now) }
@@ -150,7 +150,7 @@ pub fn number_within(most: u64, word: &[u8]) -> Result<u64, ScriptLineFault>
     Ok(value)
 }
 
-/// Returns the number that an optional word spells, or `None` if there is no word.
+/// Returns the number that an optional word spells, at most `most`, or `None` if there is no word.
 ///
 /// # Errors
 ///
@@ -165,7 +165,7 @@ pub fn optional_number(most: u64, word: Option<&[u8]>) -> Result<Option<u64>, Sc
     }
 }
 
-/// Returns the alignment, which is a power of two.
+/// Returns the alignment unchanged if it is a power of two.
 ///
 /// # Errors
 ///
@@ -180,7 +180,7 @@ pub fn check_power_of_two(value: u64) -> Result<u64, ScriptLineFault>
     Ok(value)
 }
 
-/// Returns the size, which is at least 1.
+/// Returns the size unchanged if it is at least 1.
 ///
 /// # Errors
 ///
@@ -195,7 +195,7 @@ pub fn check_not_zero(value: u64) -> Result<u64, ScriptLineFault>
     Ok(value)
 }
 
-/// Returns the range of `size` bytes from address `base` on.
+/// Returns the range of `size` bytes from address `base` on, if it ends at 2^64 - 1 or below.
 ///
 /// # Errors
 ///

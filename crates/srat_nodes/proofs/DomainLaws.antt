@@ -1,5 +1,5 @@
--- Lemmas: a list that stops at one more domain than there may be nodes is the start of the list of
--- all domains.
+-- A list that stops at one more domain than there may be nodes is the start of the list of all
+-- domains.
 use Rattle.std.proofs.Common.{◌≡◌, ℕ, ◌<◌, ◌≤◌, ◌==◌, List, [], ◌∷◌, ◌++◌, map, fold, length, take, refl, sym, ◌∙◌, inl, inr, arith}
 use Rattle.std.proofs.lemmas.Bool.{cases_lt, cases_Bool, le-leb}
 use Rattle.std.proofs.lemmas.List.{take_all, take-append-le, length-append, length-take-le}
@@ -10,7 +10,7 @@ use Rattle.srat_reader.specs.declared.table.SratBlock.{SratBlock}
 use Rattle.srat_nodes.specs.Domains.{with_domain, domains_once, named_domains}
 use Rattle.srat_nodes.specs.Steps.{with_domain_if_room, with_domain_of_block}
 
--- one more domain
+-- after one more domain, the shortened list is still the start of the full list
 step_in_room : (full : List ℕ) (d : ℕ) → length full ≤ 1024 → with_domain_if_room (take 1025 full) d ≡ take 1025 (with_domain full d)
 step_in_room full d few =
     let whole : take 1025 full ≡ full = take_all 1025 full (omega arith) in
@@ -34,7 +34,7 @@ step_name full d = elim (cases_lt 1024 (length full)) as (λ _. with_domain_if_r
   | inr few ↦ step_in_room full d few
 ]
 
--- all domains
+-- after all domains, the shortened list is the start of the full list
 names_in_room : (full names : List ℕ) → fold with_domain_if_room (take 1025 full) names ≡ take 1025 (fold with_domain full names)
 names_in_room full [] = refl
 names_in_room full (d ∷ ds) = rw (step_name full d) (names_in_room (with_domain full d) ds)

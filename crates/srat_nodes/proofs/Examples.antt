@@ -18,11 +18,12 @@ use Rattle.srat_nodes.specs.Kept.{is_in_any_range, round_ends_down, meets_memory
 abbrev block : ℕ → ℕ → ℕ → NumaBlock
 block n base size = record { base = base; size = size; value = n }
 
--- node 0 at 1 and 2 and at 8 and 9, node 1 at 5, not in the order of addresses
+-- blocks in another order than that of their addresses: node 0 at 1 and 2 and at 8 and 9, node 1
+-- at 5
 abbrev one_between : List NumaBlock
 one_between = block 0 8 2 ∷ block 1 5 1 ∷ block 0 1 2 ∷ []
 
--- node 0 on both sides of a hole, and node 1 above them
+-- blocks of node 0 on both sides of a hole, and of node 1 above them
 abbrev hole : List NumaBlock
 hole = block 0 1 2 ∷ block 1 9 2 ∷ block 0 5 2 ∷ []
 
@@ -30,8 +31,8 @@ node_examples : (node_at hole 10 ≡ Some 1) × (node_at one_between 5 ≡ Some 
 unfolding node_at
 node_examples = (refl, refl, refl)
 
--- the runs of nodes over twelve addresses: the hole is filled; a gap with another node in it
--- isn't; and a block inside another of its node, with one that touches
+-- the runs of nodes over twelve addresses: a hole of one node is filled, and a gap with another
+-- node in it isn't; and a block inside another of its node, with one that touches it
 filled_examples : (runs_from same_node (node_at hole) 0 12 ≡ block 0 1 6 ∷ block 1 9 2 ∷ [])
     × (runs_from same_node (node_at one_between) 0 12 ≡ block 0 1 2 ∷ block 1 5 1 ∷ block 0 8 2 ∷ [])
     × (runs_from same_node (node_at (block 2 3 1 ∷ block 2 1 5 ∷ block 2 6 1 ∷ [])) 0 12 ≡ block 2 1 6 ∷ [])
@@ -41,13 +42,13 @@ filled_examples = (refl, refl, refl)
 abbrev told : ℕ → ℕ → ℕ → SratBlock
 told domain base size = record { domain = domain; range = record { base = base; size = size } }
 
--- the domains of processors come first, even if memory names others
+-- the domains of processors come before those that only memory names
 processors_first : (named_domains (12 ∷ 11 ∷ []) (told 3 0 1 ∷ told 12 1 1 ∷ []) ≡ 12 ∷ 11 ∷ 3 ∷ [])
     × (named_domains [] (told 3 0 1 ∷ told 12 1 1 ∷ []) ≡ 3 ∷ 12 ∷ [])
 unfolding domains_once
 processors_first = (refl, refl)
 
--- memory as ranges: 0x1000 to 0x2FFF, and one byte at 0x5000
+-- memory from 0x1000 to 0x2FFF, and one byte of memory at 0x5000
 abbrev memory : ℕ → Bool
 memory = is_in_any_range (record { base = 0x1000; size = 0x2000 } ∷ record { base = 0x5000; size = 1 } ∷ [])
 
@@ -58,7 +59,7 @@ range base size = record { base = base; size = size }
 framed_examples : (round_ends_down (range 0x1800 0x1000) ≡ range 0x1000 0x1000) × (round_ends_down (range 0x1800 0x7FF) ≡ range 0x1000 0)
 framed_examples = (refl, refl)
 
--- one byte of memory is enough, and no byte isn't
+-- a range has memory if one byte of it is memory, and has none if no byte is
 has_memory_examples : (meets_memory memory (range 0x4FFE 4) ≡ true) × (meets_memory memory (range 0x4FFE 2) ≡ false)
     × (meets_memory memory (range 0x1000 0) ≡ false)
 unfolding each_in each_from
@@ -89,14 +90,14 @@ clash_examples : (is_clash (kept 0 (block 0 1 2)) (kept 1 (block 1 2 2)) ≡ tru
     × (is_clash (kept 0 (block 0 1 2)) (kept 1 (block 0 2 2)) ≡ false)
 clash_examples = (refl, refl, refl)
 
--- the least pair, by its first number and then by its second; and no pair
+-- the pair that is reported is the least, by its first number and then by its second; None if no
+-- blocks overlap
 pair_examples : (first_clash (kept 1 (block 0 9 1) ∷ kept 2 (block 0 1 4) ∷ kept 5 (block 1 7 1) ∷ kept 6 (block 1 3 1)
     ∷ kept 8 (block 2 2 1) ∷ []) ≡ Some (2, 6))
     × (first_clash (kept 0 (block 0 1 2) ∷ kept 1 (block 1 3 2) ∷ []) ≡ None)
 pair_examples = (refl, refl)
 
--- memory without a node gets the given node; an address that has a node, or isn't memory, gets
--- none
+-- an address of memory without a node gets node n; one that has a node, or isn't memory, gets none
 abbrev below_4 : ℕ → Bool
 below_4 x = nat_lt x 4
 
@@ -137,7 +138,7 @@ one_mebibyte = frames_step (block 0 0 0x100000) [] (lit< tt, tt, tt) (lit< tt) �
 one_frame_less : count_frames_with_node (value_at (block 0 0 0xFF000 ∷ [])) ≡ 255
 one_frame_less = frames_step (block 0 0 0xFF000) [] (lit< tt, tt, tt) (lit< tt) ∙ rw frames_none refl
 
--- 256 frames without a node are too many; 255 and none aren't
+-- the table isn't used with 256 frames without a node; it is with 255 frames, and with none
 covering_examples : (nodes_if_covering (5 ∷ []) (value_at []) (value_at (block 0 0 0x100000 ∷ [])) ≡ unused_srat (why.NotCovered 256))
     × (nodes_if_covering (5 ∷ []) (value_at []) (value_at (block 0 0 0xFF000 ∷ []))
     ≡ used_srat (5 ∷ []) (value_at []) (value_at (block 0 0 0xFF000 ∷ [])))
@@ -150,7 +151,7 @@ used_gives : ((used_srat (5 ∷ []) (value_at []) (value_at (block 0 0 0x100000 
     × ((used_srat (5 ∷ []) (value_at []) (value_at [])).domains ≡ 5 ∷ [])
 used_gives = (one_mebibyte, refl)
 
--- a table with one empty block and this many others; and one with this many domains
+-- a table with one empty block and `n` others, and a table with `n` domains
 abbrev told_often : ℕ → SratView
 told_often n = record { processors = []; blocks = told 5 0 0 ∷ replicate n (told 5 0x1000 0x1000) }
 

@@ -1,6 +1,5 @@
--- Lemmas on joining runs with their neighbours. The joined runs have the values of the runs. They
--- also have a value between two addresses with the same node if no address between these has
--- another node.
+-- Joining runs with their neighbours: the joined runs have the values of the runs, and the node of
+-- both ends in each gap between two addresses of one node with no other node between them.
 use Rattle.std.proofs.Common.{◌≡◌, ◌≢◌, ℕ, ◌-◌, ◌<◌, ◌≤◌, ◌==◌, ◌⊎◌, Option, Some, None, List, [], ◌∷◌, refl, sym, ◌∙◌, ap, subst, inl, inr, le_of_suc-le-suc, lt_of_not-le, arith}
 use Rattle.std.proofs.lemmas.Bool.{cases_lt, cases_Bool}
 use Rattle.std.proofs.lemmas.Bool.Decides.{nat_tests}
@@ -11,7 +10,7 @@ use Rattle.address_runs.proofs.RunsLaws.{none_below, rest_from, inside, behind}
 use Rattle.srat_nodes.specs.NodeAt.{NumaBlock}
 use Rattle.srat_nodes.specs.Steps.{fill_gaps, prepend_joined}
 
--- a lower and a higher address have node n, and no address between them has another
+-- a lower and a higher address have node n, and no address between them has another node
 pub record IsAround (f : ℕ → Option ℕ) (x n : ℕ) : Type 0 where
   pub low : ℕ
   pub high : ℕ
@@ -54,12 +53,12 @@ at_inside r rs x above under = rw (inside r x above under) refl
 at_behind : (r : NumaBlock) (rs : List NumaBlock) (x : ℕ) → run_end r ≤ x → value_at (r ∷ rs) x ≡ value_at rs x
 at_behind r rs x from = rw (behind r x from) refl
 
--- an address with a value in the rest is above the first run
+-- an address that the rest of the runs contains is above the first run
 rest_behind : (r : NumaBlock) (rs : List NumaBlock) (x n : ℕ) → AreRuns (r ∷ rs) → value_at rs x ≡ Some n → run_end r ≤ x
 rest_behind r rs x n runs some =
     le_of_suc-le-suc (lt_of_not-le (λ lt. none-some n (sym (none_below (run_end r) x rs runs.2 (rest_from r rs runs) lt) ∙ some)))
 
--- two functions that agree from the lower address on fill the same gaps
+-- two functions that agree from the lower address of a gap on fill the gap in the same way
 moved : (f g : ℕ → Option ℕ) (x n : ℕ) → (around : IsAround f x n) → ((y : ℕ) → around.low ≤ y → g y ≡ f y) → IsAround g x n
 moved f g x n around same = record {
   low = around.low;
@@ -71,20 +70,20 @@ moved f g x n around same = record {
   only = λ y m above below_high some. around.only y m above below_high (sym (same y above) ∙ some);
 }
 
--- a gap that the rest fills is filled in the whole list
+-- a gap that is filled in the rest of the runs is filled in the whole list
 lifted : (r : NumaBlock) (rs : List NumaBlock) (x n : ℕ) → AreRuns (r ∷ rs) → IsFilled (value_at rs) x n → IsFilled (value_at (r ∷ rs)) x n
 lifted r rs x n runs (inl here) = inl (at_behind r rs x (rest_behind r rs x n runs here) ∙ here)
 lifted r rs x n runs (inr around) =
     let from : run_end r ≤ around.low = rest_behind r rs around.low n runs around.at_low in
     inr (moved (value_at rs) (value_at (r ∷ rs)) x n around (λ y above. at_behind r rs y (omega arith)))
 
--- a gap of the whole list between two addresses above the first run is filled by the rest
+-- a gap of the whole list that begins above the first run is filled in the rest of the runs
 lowered : (r : NumaBlock) (rs : List NumaBlock) (x n : ℕ) → (around : IsAround (value_at (r ∷ rs)) x n) → run_end r ≤ around.low
     → IsAround (value_at rs) x n
 lowered r rs x n around from =
     moved (value_at (r ∷ rs)) (value_at rs) x n around (λ y above. sym (at_behind r rs y (omega arith)))
 
--- the higher address of such a gap is in the rest
+-- the higher address of a gap that begins above the first run is in the rest of the runs
 high_given : (r : NumaBlock) (rs : List NumaBlock) (x n : ℕ) → (around : IsAround (value_at (r ∷ rs)) x n) → run_end r ≤ x
     → value_at rs around.high ≡ Some n
 high_given r rs x n around from = sym (at_behind r rs around.high (omega (arith, around.over))) ∙ around.at_high
@@ -107,8 +106,8 @@ low_value r rs x n runs some under = elim (cases_lt x r.base) as (λ _. r.value 
   | inr above ↦ same_Some r.value n (sym (at_inside r rs x above under) ∙ some)
 ]
 
--- if a gap reaches from the first run to an address above it, the first joined run above has the
--- same node
+-- if a gap reaches from the first run to an address above it, the next joined run has the same
+-- node
 next_value : (r : NumaBlock) (rs : List NumaBlock) (t : NumaBlock) (us : List NumaBlock) (x n : ℕ) → AreRuns (r ∷ rs)
     → IsFilledBy rs (t ∷ us)
     → (around : IsAround (value_at (r ∷ rs)) x n) → around.low < run_end r → run_end r ≤ x → t.value ≡ n
@@ -121,8 +120,8 @@ next_value r rs t us x n runs known around low_in from =
       | inr long ↦ around.only t.base t.value (omega arith) long (at_behind r rs t.base above ∙ first)
     ]
 
--- the three ways in which the whole list gives a value: in the first run, in the rest, or in a gap
--- that reaches from the first run to an address above
+-- the three ways in which the whole list gives an address a node: by its first run, by the rest,
+-- or by a gap that reaches from the first run to an address above
 data Reached (r : NumaBlock) (rs : List NumaBlock) (x n : ℕ) : Type 0 where
   InFirst : r.base ≤ x → x < run_end r → r.value ≡ n → Reached r rs x n
   InRest : run_end r ≤ x → IsFilled (value_at rs) x n → Reached r rs x n
@@ -142,7 +141,7 @@ reached_by r rs x n runs (Behind from) (inr around) = elim (cases_lt around.low 
   | inr behind_run ↦ InRest from (inr (lowered r rs x n around behind_run))
 ]
 
--- the first run stays alone if no gap reaches from it to an address above
+-- the first run isn't joined with another if no gap reaches from it to an address above
 alone_step : (r : NumaBlock) (rs ts : List NumaBlock) → AreRuns (r ∷ rs) → IsFilledBy rs ts → AreRuns (r ∷ ts)
     → ((x n : ℕ) (around : IsAround (value_at (r ∷ rs)) x n) → around.low < run_end r → run_end r ≤ x → r.value ≡ n → ⊥)
     → IsFilledBy (r ∷ rs) (r ∷ ts)
@@ -160,7 +159,7 @@ alone_step r rs ts runs known canonical none_across = record {
   ];
 }
 
--- the first run stays alone if the next joined run has another node
+-- the first run isn't joined with another if the next joined run has another node
 apart_step : (r : NumaBlock) (rs : List NumaBlock) (t : NumaBlock) (us : List NumaBlock) → AreRuns (r ∷ rs) → IsFilledBy rs (t ∷ us)
     → r.value ≢ t.value
     → IsFilledBy (r ∷ rs) (r ∷ (t ∷ us))
@@ -169,7 +168,7 @@ apart_step r rs t us runs known other =
     alone_step r rs (t ∷ us) runs known (runs.0, (above, λ touch. other), known.runs)
     (λ x n around low_in from same. other (same ∙ sym (next_value r rs t us x n runs known around low_in from)))
 
--- if the next joined run has the same node, both become one that ends where that one ends
+-- the run from the start of one run to the end of the next joined run of the same node
 abbrev spanning : NumaBlock → NumaBlock → NumaBlock
 spanning r t = record { base = r.base; size = run_end t - r.base; value = r.value }
 
@@ -185,7 +184,8 @@ span_same r t us x order same from = elim (cases_lt x (run_end t)) as (λ _. val
   | inr past ↦ at_behind (spanning r t) us x (omega arith) ∙ sym (at_behind t us x past)
 ]
 
--- between the first run and that start, each address gets the node of both
+-- each address between the first run and the next joined run of the same node is in a gap of that
+-- node
 gap_around : (r : NumaBlock) (rs : List NumaBlock) (t : NumaBlock) (us : List NumaBlock) (x : ℕ) → AreRuns (r ∷ rs) → IsFilledBy rs (t ∷ us)
     → r.value ≡ t.value → run_end r ≤ x → x < t.base → IsAround (value_at (r ∷ rs)) x r.value
 gap_around r rs t us x runs known same from under =
@@ -212,7 +212,8 @@ gap_around r rs t us x runs known same from under =
       ];
     }
 
--- a gap that reaches above the start of the next joined run
+-- if a gap reaches from the first run past the start of the next joined run, the joined runs fill
+-- it from that start on
 across_rest : (r : NumaBlock) (rs : List NumaBlock) (t : NumaBlock) (us : List NumaBlock) (x n : ℕ) → AreRuns (r ∷ rs)
     → IsFilledBy rs (t ∷ us)
     → (around : IsAround (value_at (r ∷ rs)) x n) → around.low < run_end r → run_end r ≤ x → t.base ≤ x → value_at (t ∷ us) x ≡ Some n
@@ -273,7 +274,7 @@ same_step r rs t us runs known same =
       ];
     }
 
--- one more run before the joined ones, also if there are none
+-- putting one more run before the joined runs, if there are any
 prepend_joined_step : (r : NumaBlock) (rs ts : List NumaBlock) → AreRuns (r ∷ rs) → IsFilledBy rs ts → IsFilledBy (r ∷ rs) (prepend_joined r ts)
 prepend_joined_step r rs [] runs known =
     alone_step r rs [] runs known (runs.0, tt, tt)

@@ -1,4 +1,4 @@
--- Lemmas on the runs of a judgement: each has an address and a node below 1,024, they cover
+-- The runs that `judge_srat` returns: each has an address and a node below 1,024, they cover
 -- memory, and all addresses of a frame are in runs of the same nodes.
 use Rattle.std.proofs.Common.{◌≡◌, ◌≢◌, ℕ, zero, suc, ◌+◌, ◌^◌, ◌<◌, ◌≤◌, ◌==◌, Bool, true, false, ◌&&◌, ◌||◌, not, nat_le, nat_lt, if◌then◌else◌, Option, Some, None, List, [], ◌∷◌, ◌++◌, length, refl, sym, ◌∙◌, ap, subst, inl, inr, arith}
 use Rattle.std.proofs.lemmas.Bool.{cases_Bool, cond_both, eqb-true, ltb-false, not-false, true≢false}
@@ -21,8 +21,8 @@ use Rattle.srat_nodes.proofs.InListLaws.{any_member}
 use Rattle.srat_nodes.proofs.JudgedLaws.{tells_nodes}
 use Rattle.srat_nodes.proofs.MeaningLaws.{is_kept, left_frame, node_of_kept, nodes_frame}
 
--- what is true of the result in both cases, of a table that isn't used and of one that is, is true
--- of each judgement
+-- what holds for a table that isn't used, and for one that is used, holds for every result of
+-- `judge_srat`
 module _ (P : SratNodesView → Type 0) where
   covering : (domains : List ℕ) (nodes left : ℕ → Option ℕ) → ((r : Why) → r ≢ why.Used → P (unused_srat r))
       → P (used_srat domains nodes left)
@@ -66,7 +66,7 @@ module _ (P : SratNodesView → Type 0) where
   by_judgement memory true (Some lists) none some = none why.Off (λ same. cc)
   by_judgement memory false (Some lists) none some = by_table memory lists none (some lists)
 
--- what is true of each value of a function is true of the values of its runs
+-- what holds for each value of a function holds for the values of its runs
 module _ {X : Type 0} (Q : X → Type 0) where
   led-values : (same : X → X → Bool) (x : ℕ) (v : Option X) (rs : List (RunOf X)) → ((u : X) → v ≡ Some u → Q u)
       → All (λ (r : RunOf X). Q r.value) rs → All (λ (r : RunOf X). Q r.value) (prepend_address same x v rs)
@@ -119,7 +119,7 @@ node-few memory domains bs n few of_block =
     let node = ap (λ (b : NumaBlock). b.value) (sym kept.block) ∙ eqb-true _ n found.passes in
     subst (λ (m : ℕ). m < 1024) node (node-small domains kept.told.domain few)
 
--- some block is kept
+-- if some block of the table is kept, the list of kept blocks isn't empty
 some-kept : (memory : ℕ → Bool) (domains : List ℕ) (i : ℕ) (bs : List SratBlock) → is_any_kept memory bs ≡ true
     → keep_blocks_from memory domains i bs ≢ []
 some-kept memory domains i [] any = absurd (true≢false (sym any))

@@ -1,4 +1,4 @@
--- Lemmas on members of a list, as tests over the list see them.
+-- Members of a list, and the tests `list_any` and `list_all` over the list.
 use Rattle.std.proofs.Common.{◌≡◌, Bool, true, ◌⊎◌, List, [], ◌∷◌, refl, sym, ◌∙◌, ap, inl, inr}
 use Rattle.std.proofs.lemmas.Bool.{cases_Bool, and_parts, and_from, or_left, or_right, true≢false}
 use Rattle.std.specs.List.{list_any, list_all}
@@ -9,7 +9,7 @@ module _ {X : Type 0} where
   IsIn x [] = ⊥
   IsIn x (y ∷ ys) = (x ≡ y) ⊎ IsIn x ys
 
-  -- a value that passes the test, and is in the list
+  -- a member of the list that passes the test
   pub record Passes (p : X → Bool) (xs : List X) : Type 0 where
     pub one : X
     pub member : IsIn one xs

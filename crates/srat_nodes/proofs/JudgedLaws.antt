@@ -1,4 +1,4 @@
--- Lemmas on the order of the reasons, and on what the steps of the code find.
+-- The order of the reasons, and the results of the code's steps.
 use Rattle.std.proofs.Common.{◌≡◌, ℕ, ◌<◌, ◌≤◌, Bool, true, false, Option, Some, None, List, length, take, refl, sym, ◌∙◌, ap, subst, arith}
 use Rattle.std.proofs.lemmas.Bool.{le-leb, lt-leb, lt-ltb, le-ltb}
 use Rattle.std.proofs.lemmas.Bool.Decides.{nat_tests}
@@ -15,7 +15,7 @@ use Rattle.srat_nodes.specs.Steps.{EndInSpace}
 use Rattle.srat_nodes.proofs.NodesLaws.{node_none}
 use Rattle.srat_nodes.proofs.RestLaws.{space_none}
 
--- the shortened list of domains shows whether there are too many
+-- the list of domains that stops at 1,025 shows whether there are too many
 pub many_domains : (domains full : List ℕ) → domains ≡ take 1025 full → 1024 < length domains → 1024 < length full
 many_domains domains full is many = omega (arith, ap (λ (xs : List ℕ). length xs) is, length-take 1025 full)
 
@@ -25,7 +25,7 @@ few_domains domains full is few = omega (arith, ap (λ (xs : List ℕ). length x
 pub whole_domains : (domains full : List ℕ) → domains ≡ take 1025 full → length domains ≤ 1024 → domains ≡ full
 whole_domains domains full is few = is ∙ take_all 1025 full (omega (arith, few_domains domains full is few))
 
--- what the last steps found
+-- the results of the last steps, as their contracts state them
 pub record Found (memory : ℕ → Bool) (kept : List KeptBlock) (joined rest : List NumaBlock) (frames : ℕ) : Type 0 where
   pub apart : first_clash kept ≡ None
   pub kept_space : EndInSpace (numa_blocks_of kept)
@@ -37,7 +37,7 @@ pub record Found (memory : ℕ → Bool) (kept : List KeptBlock) (joined rest : 
 pub tells_nodes : DecidesEquality same_node
 tells_nodes = record { true_is_equal = λ a b same. grind (arith, nat_tests); equal_is_true = λ a b same. grind (arith, nat_tests) }
 
--- the same facts in terms of the definitions
+-- the results of the last steps, in terms of the definitions
 record IsFoundByDefinition (memory : ℕ → Bool) (kept : List KeptBlock) (joined rest : List NumaBlock) (frames : ℕ) : Type 0 where
   hulls : joined ≡ runs_of same_node (nodes_by_blocks kept)
   left : rest ≡ runs_of same_node (node_outside_blocks memory kept)
@@ -80,7 +80,7 @@ pub found_overlap : (memory : ℕ → Bool) (domains : List ℕ) (kept : List Ke
 unfolding judge_kept_blocks
 found_overlap memory domains kept i j clash = rw clash refl
 
--- the reasons that are tested before
+-- the reasons that are tested before an overlap and the cover of memory
 module _ (memory : ℕ → Bool) (lists : SratView) where
   pub no_blocks : is_any_kept memory lists.blocks ≡ false → judge_srat_table memory lists ≡ unused_srat why.NoBlocks
   unfolding judge_srat_table

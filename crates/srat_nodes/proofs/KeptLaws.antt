@@ -1,4 +1,4 @@
--- Lemmas on which blocks are kept and which overlap, one block at a time.
+-- Which blocks are kept and which overlap, one block at a time.
 use Rattle.std.proofs.Common.{◌≡◌, ℕ, ◌+◌, ◌^◌, ◌<◌, Bool, true, not, List, [], ◌∷◌, length, get_or, drop, add-one, ◌++◌, refl, subst, sym, ◌∙◌, ap, inl, inr, lt_of_not-le, arith}
 use Rattle.std.proofs.lemmas.Bool.{cases_Bool, cond_both, not-true, true≢false}
 use Rattle.std.proofs.lemmas.List.{append-nil, map-append}
@@ -20,7 +20,7 @@ pub kept_step : (memory : ℕ → Bool) (domains : List ℕ) (blocks : List Srat
     ≡ keep_block memory i (block_in_frames domains b) ++ keep_blocks_from memory domains (i + 1) (drop (i + 1) blocks)
 kept_step memory domains blocks i b lt is = rw (drop-cons blocks i b lt, ← is, add-one) refl
 
--- appending a block that is kept, the ends of all blocks stay below 2^64
+-- the ends of the kept blocks stay below 2^64 when one more is kept
 pub kept_space : (memory : ℕ → Bool) (kept : List KeptBlock) (i : ℕ) (b : NumaBlock) → EndInSpace (numa_blocks_of kept) → run_end b < 2 ^ 64
     → EndInSpace (numa_blocks_of (kept ++ keep_block memory i b))
 kept_space memory kept i b space ends =
@@ -50,7 +50,7 @@ pub addresses_kept : (memory : ℕ → Bool) (domains : List ℕ) (bs : List Sra
     → HaveAddresses (numa_blocks_of (keep_blocks memory domains bs))
 addresses_kept memory domains bs = kept_addresses memory domains 0 bs
 
--- two tests for memory that agree keep the same blocks
+-- if two tests for memory agree on each address, they keep the same blocks
 module _ (memory other : ℕ → Bool) (alike : (x : ℕ) → other x ≡ memory x) where
   same_memory : other ≡ memory
   same_memory = λ i x. alike x i

@@ -1,5 +1,5 @@
--- Lemmas behind the laws: one node for an address, for a domain and for a frame, and memory for
--- each node.
+-- The lemmas of the crate's laws: one node for an address, for a domain and for a frame, and
+-- memory for each node.
 use Rattle.std.proofs.Common.{◌≡◌, ◌≢◌, ◌↔◌, ℕ, zero, suc, ◌+◌, ◌%◌, ◌<◌, ◌≤◌, ◌==◌, ◌⊎◌, Bool, true, false, ◌&&◌, not, Option, Some, None, List, [], ◌∷◌, fold, length, get_or, refl, sym, ◌∙◌, ap, subst, inl, inr, arith}
 use Rattle.std.proofs.lemmas.Bool.{cases_lt, cases_Bool, eqb-true, eq-eqb, lt-ltb, not-true, true≢false}
 use Rattle.std.proofs.lemmas.Bool.Decides.{nat_tests}
@@ -23,7 +23,7 @@ use Rattle.srat_nodes.proofs.InListLaws.{IsIn, any_member, member_any}
 use Rattle.srat_nodes.proofs.KeptLaws.{addresses_kept}
 use Rattle.srat_nodes.proofs.NodesLaws.{HaveOneNodePerAddress, apart_blocks, has_filled, first_has, first_some, node_block, held_by, kept_member}
 
--- an address isn't in gaps of two different nodes
+-- no address is in gaps of two different nodes
 one_around : (f : ℕ → Option ℕ) (x m n : ℕ) → IsAround f x m → IsAround f x n → m ≡ n
 one_around f x m n first second = elim (cases_lt first.low second.low) as (λ _. m ≡ n) [
   | inl lower_first ↦ sym (first.only second.low n (omega arith) (omega (arith, second.under, first.over)) second.at_low)
@@ -36,7 +36,7 @@ one_filled f x m n (inl first) (inr around) = around.only x m (omega (arith, aro
 one_filled f x m n (inr around) (inl second) = sym (around.only x n (omega (arith, around.under)) (omega (arith, around.over)) second)
 one_filled f x m n (inr first) (inr second) = one_around f x m n first second
 
--- the node of an address is the one that it has
+-- the node of an address is the one that it belongs to
 node_at-belongs : (blocks : List NumaBlock) (x n : ℕ) → HaveOneNodePerAddress blocks → HaveAddresses blocks → belongs_to_node blocks n x ≡ true
     → node_at blocks x ≡ Some n
 unfolding node_at
@@ -90,7 +90,7 @@ one_domain domains d e named_d named_e same =
 pub node_below : (domains : List ℕ) (d : ℕ) → is_named_domain domains d ≡ true → node_of_domain domains d < length domains
 node_below domains d named = (place_of domains d named).below
 
--- the blocks begin and end at frames
+-- the blocks begin and end at the start of a frame
 abbrev pub BeginAndEndAtFrames : List NumaBlock → Type 0
 BeginAndEndAtFrames blocks = (b : NumaBlock) → IsIn b blocks → (b.base % 4096 ≡ 0) × (run_end b % 4096 ≡ 0)
 
@@ -123,7 +123,7 @@ node_frame : (blocks : List NumaBlock) (x : ℕ) → BeginAndEndAtFrames blocks 
 unfolding node_at
 node_frame blocks x framed = first_frame blocks x blocks framed
 
--- a kept block is one of the table, and has a byte of memory
+-- a kept block is a block of the table, and has a byte of memory
 pub record IsKept (memory : ℕ → Bool) (domains : List ℕ) (k : KeptBlock) : Type 0 where
   pub told : SratBlock
   pub block : k.block ≡ block_in_frames domains told
@@ -161,7 +161,7 @@ pub left_frame : (memory : ℕ → Bool) → ((x : ℕ) → memory x ≡ memory 
     ≡ node_outside_blocks memory (keep_blocks memory domains blocks) (frame_base x)
 left_frame memory whole domains blocks x = rw (whole x, nodes_frame memory domains blocks x) refl
 
--- a byte of memory in a range that has memory
+-- a byte of memory among n addresses
 pub record MemoryIn (memory : ℕ → Bool) (from n : ℕ) : Type 0 where
   pub at : ℕ
   pub above : from ≤ at
@@ -205,7 +205,7 @@ node_memory memory domains blocks apart n of_block =
       node_at-belongs (numa_blocks_of kept) place.at n (apart_blocks kept apart) (addresses_kept memory domains blocks) (rw held refl),
     )
 
--- each node that memory gets is that of a kept block
+-- each node that an address of memory gets is that of a kept block
 node_kept : (ks : List KeptBlock) (b : NumaBlock) (n : ℕ) → IsIn b (numa_blocks_of ks) → b.value ≡ n → is_node_of ks n ≡ true
 node_kept ks b n member node =
     let found = kept_member ks b member in

@@ -1,5 +1,5 @@
--- Lemmas on memory as runs: the first run that ends above the start of a range decides whether a
--- byte of the range is memory.
+-- Memory as runs: the first run that ends above the start of a range decides whether a byte of the
+-- range is memory.
 use Rattle.std.proofs.Common.{◌≡◌, ◌↔◌, ℕ, suc, ◌+◌, ◌<◌, ◌≤◌, Bool, true, false, not, max, if◌then◌else◌, Option, Some, None, List, ◌∷◌, map, length, get_or, drop, drop-cons, refl, sym, ◌∙◌, ap, lt_of_not-le, arith}
 use Rattle.std.proofs.lemmas.Bool.{true≢false}
 use Rattle.std.proofs.lemmas.Bool.Decides.{nat_tests}
@@ -26,7 +26,8 @@ memory_runs_are_memory memory rs known x =
       by true = refl
       by false = refl
 
--- a range with a byte of memory, and one without
+-- a range with an address that has a value has memory, and a range without such an address has
+-- none
 some_in : (rs : List (RunOf Bool)) (range : RangeView) (x : ℕ) (v : Bool) → range.base ≤ x → x < range.base + range.size
     → value_at rs x ≡ Some v → meets_memory (is_in_runs rs) range ≡ true
 some_in rs range x v low high found =
@@ -37,13 +38,13 @@ none_in : (rs : List (RunOf Bool)) (range : RangeView) → ((y : ℕ) → range.
 none_in rs range none =
     ap not (each_in-all range (λ y. not (is_in_runs rs y)) (λ y low high. rw (none y low high) refl))
 
--- no run is left
+-- if no run ends above the start of the range, the range has no memory
 pub nothing_left : (rs : List (RunOf Bool)) (i : ℕ) (range : RangeView) → IsRestFrom (value_at rs) range.base (drop i rs) → length rs ≤ i
     → meets_memory (is_in_runs rs) range ≡ false
 nothing_left rs i range rest all =
     none_in rs range (λ y low high. sym (rest.each y low) ∙ at_drop_all (λ (ss : List (RunOf Bool)). value_at ss y) rs i all)
 
--- the first run that is left shares an address with the range, or doesn't
+-- the first run that ends above the start of the range shares an address with it, or doesn't
 abbrev Left : List (RunOf Bool) → RangeView → RunOf Bool → List (RunOf Bool) → Type 0
 Left rs range r ss = IsRestFrom (value_at rs) range.base (r ∷ ss)
 

@@ -1,5 +1,5 @@
--- Lemmas: if blocks of different nodes share no address, the joined runs are the runs of the nodes
--- that addresses have.
+-- If blocks of different nodes share no address, the joined runs are the runs of the addresses'
+-- nodes.
 use Rattle.std.proofs.Common.{◌≡◌, ◌≢◌, ℕ, zero, suc, ◌^◌, ◌<◌, ◌≤◌, ◌==◌, Bool, true, false, ◌&&◌, ◌||◌, not, max, min, Option, Some, None, List, [], ◌∷◌, map, length, get_or, refl, sym, ◌∙◌, ap, subst, inl, inr, arith}
 use Rattle.std.proofs.lemmas.Bool.{cases_lt, cases_Bool, and_parts, and_from, eqb-true, eq-eqb, not-true, false_from_ne_true, true≢false}
 use Rattle.std.proofs.lemmas.Bool.Decides.{nat_tests}
@@ -21,13 +21,13 @@ use Rattle.srat_nodes.proofs.InListLaws.{IsIn, any_member, member_any, all_membe
 abbrev pub HaveOneNodePerAddress : List NumaBlock → Type 0
 HaveOneNodePerAddress blocks = (a b : NumaBlock) (x : ℕ) → IsIn a blocks → IsIn b blocks → lies_in a x ≡ true → lies_in b x ≡ true → a.value ≡ b.value
 
--- no block is empty
+-- a member of a list without empty blocks isn't empty
 some_address : (blocks : List NumaBlock) (b : NumaBlock) → HaveAddresses blocks → IsIn b blocks → 0 < b.size
 some_address [] b some member = absurd member
 some_address (c ∷ cs) b some (inl here) = subst (λ (d : NumaBlock). 0 < d.size) (sym here) some.0
 some_address (c ∷ cs) b some (inr later) = some_address cs b some.1 later
 
--- overlaying the blocks gives each address the first one's node
+-- overlaying the blocks gives an address the node of the first block that contains it
 pub first_given : (blocks : List NumaBlock) (x : ℕ) → overlay_runs option_or blocks x ≡ value_at blocks x
 first_given [] x = refl
 first_given (b ∷ bs) x = elim (cases_Bool (lies_in b x)) as (λ _. overlay_runs option_or (b ∷ bs) x ≡ value_at (b ∷ bs) x) [
@@ -38,7 +38,8 @@ first_given (b ∷ bs) x = elim (cases_Bool (lies_in b x)) as (λ _. overlay_run
 pub laid_given : (blocks rs : List NumaBlock) → IsRunsOf (overlay_runs option_or blocks) rs → IsRunsOf (value_at blocks) rs
 laid_given blocks rs known = record { runs = known.runs; each = λ x. known.each x ∙ first_given blocks x }
 
--- that is the node of each block with the address
+-- if no two blocks of different nodes share an address, overlaying them gives an address the node
+-- of each block that contains it
 pub given : (blocks : List NumaBlock) (b : NumaBlock) (x : ℕ) → HaveOneNodePerAddress blocks → IsIn b blocks → lies_in b x ≡ true
     → value_at blocks x ≡ Some b.value
 given [] b x apart member lies = absurd member
@@ -50,7 +51,7 @@ given (c ∷ cs) b x apart member lies = elim (cases_Bool (lies_in c x)) as (λ 
   ]
 ]
 
--- an address with a node is in a block of that node
+-- a block of node n that contains the address
 pub record Covers (blocks : List NumaBlock) (x n : ℕ) : Type 0 where
   pub block : NumaBlock
   pub member : IsIn block blocks
@@ -66,11 +67,11 @@ given_by_block (c ∷ cs) x n some = elim (cases_Bool (lies_in c x)) as (λ _. C
       record { block = found.block; member = inr found.member; lies = found.lies; node = found.node }
 ]
 
--- an address in a block, by the block's ends
+-- an address in a block is at or above its base and below its end
 bounds : (b : NumaBlock) (x : ℕ) → lies_in b x ≡ true → (b.base ≤ x) × (x < run_end b)
 bounds b x lies = (grind (arith, nat_tests), grind (arith, nat_tests))
 
--- a range with an address of a block meets the block
+-- a range meets a block if it has an address of the block
 met_at : (from until : ℕ) (c : NumaBlock) (x : ℕ) → lies_in c x ≡ true → from ≤ x → x < until → block_meets from until c ≡ true
 met_at from until c x lies above under = grind (arith, nat_tests, (bounds c x lies).0, (bounds c x lies).1)
 
@@ -89,7 +90,7 @@ own_node blocks n a b c own member meeting =
     let passes : ((c.value == n) || not (block_meets a.base (run_end b) c)) ≡ true = all_member _ blocks c own member in
     grind (arith, nat_tests, rw meeting at passes)
 
--- a node that an address has is that of a block there, or of a gap around it
+-- a node that an address belongs to is that of a block there, or of a gap around it
 joined_around : (blocks : List NumaBlock) (n x : ℕ) → HaveOneNodePerAddress blocks → HaveAddresses blocks → is_in_gap_of_node blocks n x ≡ true
     → IsAround (value_at blocks) x n
 joined_around blocks n x apart some joined =
@@ -129,7 +130,7 @@ has_filled blocks n x apart some had = elim (cases_Bool (is_in_block_of_node blo
   | inr not_held ↦ inr (joined_around blocks n x apart some (rw not_held at had))
 ]
 
--- an address in a block has the block's node
+-- an address in a block belongs to the block's node
 pub held_by : (blocks : List NumaBlock) (b : NumaBlock) (n x : ℕ) → IsIn b blocks → b.value ≡ n → lies_in b x ≡ true
     → is_in_block_of_node blocks n x ≡ true
 held_by blocks b n x member node lies = member_any _ blocks b member (and_from (b.value == n) (lies_in b x) (grind (arith, nat_tests)) lies)
@@ -187,7 +188,8 @@ filled_has blocks n x apart (inr around) = elim (cases_Bool (is_in_block_of_node
   | inr not_held ↦ rw not_held (around_joins blocks n x apart around not_held)
 ]
 
--- the node of an address is one that it has; an address that has the node of a block has a node
+-- `first_node_among` returns a node that the address belongs to; an address that belongs to the
+-- node of a block has a node
 pub first_has : (blocks : List NumaBlock) (x m : ℕ) (bs : List NumaBlock) → first_node_among blocks x bs ≡ Some m
     → belongs_to_node blocks m x ≡ true
 first_has blocks x m [] some = absurd (none-some m some)
@@ -208,7 +210,7 @@ first_some blocks x (c ∷ cs) b member had none = elim (cases_Bool (belongs_to_
   ]
 ]
 
--- a node that an address has is that of a block, which ends above the address
+-- if an address belongs to a node, some block of that node ends above the address
 pub node_block : (blocks : List NumaBlock) (n x : ℕ) → belongs_to_node blocks n x ≡ true
     → (b : NumaBlock) × IsIn b blocks × (b.value ≡ n) × (x < run_end b)
 node_block blocks n x had =
@@ -226,7 +228,7 @@ node_block blocks n x had =
           (b.one, b.member, grind (arith, nat_tests, parts.0), grind (arith, nat_tests, between))
     ]
 
--- the joined runs give the node of each address
+-- the joined runs give each address its node
 node_given : (blocks rs ts : List NumaBlock) (x : ℕ) → HaveOneNodePerAddress blocks → HaveAddresses blocks → IsRunsOf (value_at blocks) rs
     → IsFilledBy rs ts
     → value_at ts x ≡ node_at blocks x
@@ -249,7 +251,7 @@ joined_blocks blocks rs apart some known =
     let joined : IsFilledBy rs (fill_gaps rs) = filled_by rs known.runs in
     record { runs = joined.runs; each = λ x. node_given blocks rs (fill_gaps rs) x apart some known joined }
 
--- if no two kept blocks overlap, blocks of different nodes share no address
+-- if no two kept blocks clash, blocks of different nodes share no address
 no_clash : (a b : KeptBlock) (x : ℕ) → is_clash a b ≡ false → lies_in a.block x ≡ true → lies_in b.block x ≡ true → a.block.value
     ≡ b.block.value
 no_clash a b x none lies_a lies_b =
@@ -267,7 +269,7 @@ find_none p (y ∷ ys) x none member = elim (cases_Bool (p y)) as (λ _. p x ≡
   ]
 ]
 
--- the kept block of a block
+-- each block without its number comes from a kept block
 pub kept_member : (ks : List KeptBlock) (b : NumaBlock) → IsIn b (numa_blocks_of ks) → (k : KeptBlock) × IsIn k ks × (b ≡ k.block)
 kept_member [] b member = absurd member
 kept_member (k ∷ ks) b (inl here) = (k, inl refl, here)
@@ -297,13 +299,13 @@ apart_blocks ks none a b x in_a in_b lies_a lies_b =
     let two = kept_member ks b in_b in
     rw (one.2, two.2) (kept_apart ks none one.0 two.0 x one.1 two.1 (rw one.2 at lies_a) (rw two.2 at lies_b))
 
--- if no two kept blocks overlap, the joined runs are the runs of the nodes that addresses have
+-- if no two kept blocks clash, the joined runs are the runs of the addresses' nodes
 pub joined_kept : (ks : List KeptBlock) (laid rs joined : List NumaBlock) → first_clash ks ≡ None → HaveAddresses (numa_blocks_of ks)
     → IsRunsOf (value_at (numa_blocks_of ks)) laid → rs ≡ laid → joined ≡ fill_gaps rs → IsRunsOf (node_at (numa_blocks_of ks)) joined
 joined_kept ks laid rs joined none some known same is =
     rw (is, same) (joined_blocks (numa_blocks_of ks) laid (apart_blocks ks none) some known)
 
--- no two kept blocks overlap exactly if each address of each block has the block's own node in the
+-- no two kept blocks clash exactly if each address of each block has the block's own node in the
 -- overlaid blocks
 abbrev pub HasOwn : (ℕ → Option ℕ) → NumaBlock → Type 0
 HasOwn f b = (x : ℕ) → b.base ≤ x → x < run_end b → f x ≡ Some b.value
@@ -350,7 +352,7 @@ space_of [] b space member = absurd member
 space_of (c ∷ cs) b space (inl here) = subst (λ (d : NumaBlock). run_end d < 2 ^ 64) (sym here) space.0
 space_of (c ∷ cs) b space (inr later) = space_of cs b space.1 later
 
--- above the address space no address has a node
+-- no address at or above 2^64 has a node
 pub node_none : (blocks : List NumaBlock) (x : ℕ) → EndInSpace blocks → 2 ^ 64 ≤ x → node_at blocks x ≡ None
 unfolding node_at
 node_none blocks x space far = by (first_node_among blocks x blocks) refl where

@@ -1,4 +1,4 @@
--- Lemmas: the reported pair of kept blocks is the least that overlaps.
+-- The reported pair of kept blocks is the least that clashes.
 use Rattle.std.proofs.Common.{◌≡◌, ℕ, ◌+◌, ◌<◌, ◌≤◌, ◌==◌, ◌⊎◌, Bool, true, false, ◌&&◌, nat_lt, Option, Some, None, List, [], ◌∷◌, refl, sym, ◌∙◌, ap, inl, inr, arith}
 use Rattle.std.proofs.lemmas.Bool.{cases_Bool, and_parts, and_from, eqb-true, eq-eqb, ltb-true, lt-ltb, false_from_ne_true, true≢false}
 use Rattle.std.proofs.lemmas.Option.{none-some, same_Some, some_pair_parts}
@@ -10,7 +10,7 @@ use Rattle.srat_nodes.specs.Kept.{meets_memory, block_in_frames, keep_blocks_fro
 use Rattle.srat_nodes.proofs.InListLaws.{IsIn, any_member, member_any}
 use Rattle.srat_nodes.proofs.NodesLaws.{find_none, first_none_parts}
 
--- kept blocks are in the order of their numbers, which are at least n
+-- the kept blocks are in ascending order of their numbers, which are at least n
 abbrev Numbered : ℕ → List KeptBlock → Type 0
 Numbered n [] = Unit {0}
 Numbered n (k ∷ ks) = (n ≤ k.number) × Numbered (k.number + 1) ks
@@ -32,7 +32,7 @@ number_from n [] k numbered member = absurd member
 number_from n (j ∷ js) k numbered (inl here) = omega (arith, ap (λ (i : KeptBlock). i.number) here, numbered.0)
 number_from n (j ∷ js) k numbered (inr later) = omega (arith, number_from (j.number + 1) js k numbered.1 later, numbered.0)
 
--- the first kept block that passes: those with lower numbers don't
+-- the first kept block that passes the test; those with lower numbers don't pass
 record IsFirst (p : KeptBlock → Bool) (ks : List KeptBlock) (k : KeptBlock) : Type 0 where
   member : IsIn k ks
   passes : p k ≡ true
@@ -64,7 +64,7 @@ find_first p n (c ∷ cs) k numbered found = elim (cases_Bool (p c)) as (λ _. I
       }
 ]
 
--- two kept blocks with these numbers overlap and have different nodes
+-- the kept blocks with these numbers have different nodes and share an address
 record Overlap (ks : List KeptBlock) (i j : ℕ) : Type 0 where
   one : KeptBlock
   other : KeptBlock
@@ -99,7 +99,7 @@ overlap_test ks i j o =
     (and_from _ _ (eq-eqb _ _ o.second) o.clashes) in
     and_from _ _ (lt-ltb _ _ o.order) (member_any _ ks o.one o.in_one (and_from _ _ (eq-eqb _ _ o.first) in_other))
 
--- the first block is the lower one of a pair, or is in none
+-- a pair of kept blocks either has the first block as its lower one, or doesn't have it
 record WithFirst (c : KeptBlock) (cs : List KeptBlock) (i j : ℕ) : Type 0 where
   other : KeptBlock
   in_other : IsIn other cs
@@ -138,7 +138,7 @@ with_first n c cs i j numbered o =
       ]
     ]
 
--- the reported pair overlaps, and is the least
+-- this pair clashes, and is the least that does
 record IsLeastClash (ks : List KeptBlock) (i j : ℕ) : Type 0 where
   pair : Overlap ks i j
   least : (k l : ℕ) → Overlap ks k l → (i < k) ⊎ ((i ≡ k) × (j ≤ l))
@@ -190,7 +190,7 @@ told n (c ∷ cs) i j numbered is = by (find (is_clash c) cs) refl (told (c.numb
         ];
       }
 
--- if no pair is reported, none overlaps
+-- if no pair is reported, no pair clashes
 no_overlap : (n : ℕ) (ks : List KeptBlock) (i j : ℕ) → Numbered n ks → first_clash ks ≡ None → Overlap ks i j → ⊥
 no_overlap n [] i j numbered none o = absurd o.in_one
 no_overlap n (c ∷ cs) i j numbered none o =
@@ -200,7 +200,7 @@ no_overlap n (c ∷ cs) i j numbered none o =
       | inr later ↦ no_overlap (c.number + 1) cs i j numbered.1 parts.1 later
     ]
 
--- the same facts of the kept blocks of a table
+-- the lemmas above, for the kept blocks of a table
 module _ (memory : ℕ → Bool) (domains : List ℕ) (blocks : List SratBlock) where
   abbrev ks : List KeptBlock
   ks = keep_blocks memory domains blocks

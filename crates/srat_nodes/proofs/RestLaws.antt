@@ -1,5 +1,5 @@
--- Lemmas on memory without a node, found by overlaying memory and the runs with a node; and on the
--- frames that begin in runs.
+-- Memory without a node, found by overlaying memory and the runs with a node; and the frames that
+-- begin in runs.
 use Rattle.std.proofs.Common.{◌≡◌, ℕ, ◌+◌, ◌-◌, ◌*◌, ◌^◌, ◌<◌, ◌≤◌, Bool, true, false, ◌&&◌, ◌||◌, nat_le, nat_lt, if◌then◌else◌, Option, Some, None, List, [], ◌∷◌, ◌++◌, map, suc, add-one, drop, take, length, get_or, append_assoc, refl, sym, ◌∙◌, ap, subst, inl, inr, le_of_suc-le-suc, lt_of_not-le, arith}
 use Rattle.std.proofs.lemmas.Bool.{cases_Bool, cond_both}
 use Rattle.std.proofs.lemmas.Bool.Decides.{nat_tests}
@@ -22,7 +22,7 @@ use Rattle.srat_nodes.specs.SratNodesView.{node_if_uncovered, count_frames_with_
 use Rattle.srat_nodes.specs.Kept.{is_in_any_range, NoMemoryIsEmpty}
 use Rattle.srat_nodes.specs.Steps.{run_without_node, run_with_node, uncovered_runs_with_node, run_of_node, count_frames_below, EndInSpace}
 
--- what memory alone gives, and what the runs with a node alone give
+-- the value that ranges of memory give an address, and the value that runs with a node give it
 pub run_without_node_gives_false : (memory : List RangeView) (x : ℕ) → overlay_runs option_or (map run_without_node memory) x
     ≡ (if is_in_any_range memory x then Some false else None)
 run_without_node_gives_false [] x = refl
@@ -42,7 +42,7 @@ run_with_node_gives_true (r ∷ rs) x =
       | inr elsewhere ↦ rw elsewhere (run_with_node_gives_true rs x)
     ]
 
--- none of these runs is empty
+-- neither the ranges of memory nor the runs with a node are empty
 pub run_without_node-HaveAddresses : (memory : List RangeView) → NoMemoryIsEmpty memory → HaveAddresses (map run_without_node memory)
 run_without_node-HaveAddresses [] some = tt
 run_without_node-HaveAddresses (r ∷ rs) some = (some.0, run_without_node-HaveAddresses rs some.1)
@@ -56,13 +56,13 @@ pub marked_runs-HaveAddresses : (memory : List RangeView) (joined : List NumaBlo
     → HaveAddresses (map run_with_node joined ++ map run_without_node memory)
 marked_runs-HaveAddresses memory joined some runs = run_with_node-HaveAddresses joined (map run_without_node memory) runs (run_without_node-HaveAddresses memory some)
 
--- the given node for a run without a node; None for one with a node
+-- node n for the value `false` (no node yet), and None for `true` or no value
 abbrev pub node_if_false : ℕ → Option Bool → Option ℕ
 node_if_false n None = None
 node_if_false n (Some true) = None
 node_if_false n (Some false) = Some n
 
--- overlaying both gives memory without a node
+-- overlaying the runs with a node and memory gives memory without a node
 overlay_gives_uncovered : (memory : List RangeView) (joined : List NumaBlock) (n x : ℕ)
     → node_if_false n (overlay_runs option_or (map run_with_node joined ++ map run_without_node memory) x)
     ≡ node_if_uncovered (is_in_any_range memory) (value_at joined) n x
@@ -81,7 +81,7 @@ overlay_gives_uncovered memory joined n x =
       by false (Some k) = refl
       by false None = refl
 
--- the runs without a node, each with the node that it gets
+-- the runs without a node give their addresses node n
 uncovered_runs_with_node-value : (n : ℕ) (cs : List (RunOf Bool)) (x : ℕ) → AreRuns cs → value_at (uncovered_runs_with_node n cs) x ≡ node_if_false n (value_at cs x)
 uncovered_runs_with_node-value n [] x runs = refl
 uncovered_runs_with_node-value n (c ∷ cs) x runs = by c.value (lies_in c x) refl refl (uncovered_runs_with_node-value n cs x runs.2) where
@@ -94,14 +94,14 @@ uncovered_runs_with_node-value n (c ∷ cs) x runs = by c.value (lies_in c x) re
   by false true value lies rest = rw (value, lies) refl
   by false false value lies rest = rw (value, lies, rest) refl
 
--- the value inside the first of these runs
+-- an address in the first run without a node has that run's value
 uncovered_runs_with_node-first : (n : ℕ) (cs : List (RunOf Bool)) (d : NumaBlock) (ds : List NumaBlock) (x : ℕ) → AreRuns cs
     → uncovered_runs_with_node n cs ≡ d ∷ ds
     → d.base ≤ x → x < run_end d → node_if_false n (value_at cs x) ≡ Some d.value
 uncovered_runs_with_node-first n cs d ds x runs is above under =
     sym (uncovered_runs_with_node-value n cs x runs) ∙ ap (λ (es : List NumaBlock). value_at es x) is ∙ rw (inside d x above under) refl
 
--- these runs are canonical: two that touched would be one run already
+-- the runs without a node are canonical: two that touched would be one run already
 uncovered_runs_with_node-start : (n at : ℕ) (cs : List (RunOf Bool)) (d : NumaBlock) (ds : List NumaBlock) → AreRuns cs → StartAtOrPast at cs
     → AreRuns (uncovered_runs_with_node n cs)
     → uncovered_runs_with_node n cs ≡ d ∷ ds → at ≤ d.base
@@ -144,7 +144,7 @@ left_runs memory joined n cs known = record {
   each = λ x. uncovered_runs_with_node-value n cs x known.runs ∙ ap (node_if_false n) (known.each x) ∙ overlay_gives_uncovered memory joined n x;
 }
 
--- one more run
+-- one more run of the overlay, which is appended with node n if it has no node
 pub uncovered_runs_with_node-step : (n : ℕ) (before : List NumaBlock) (covered : List (RunOf Bool)) (i : ℕ) (c : RunOf Bool) → i < length covered → c
     ≡ get_or covered i c
     → (if c.value then before else before ++ run_of_node n c ∷ []) ++ uncovered_runs_with_node n (drop (i + 1) covered) ≡ before
@@ -166,13 +166,13 @@ space_given n before c space ends =
     cond_both c.value before (before ++ run_of_node n c ∷ []) EndInSpace (λ run_with_node. space)
     (λ bare. space_push before (run_of_node n c) space ends)
 
--- runs that end below 2^64 give nothing above
+-- runs that end below 2^64 give no value to addresses at or above it
 pub space_none : (rs : List NumaBlock) (x : ℕ) → EndInSpace rs → 2 ^ 64 ≤ x → value_at rs x ≡ None
 space_none [] x space far = refl
 space_none (r ∷ rs) x space far =
     rw (behind r x (omega (arith, space.0))) (space_none rs x space.1 far)
 
--- the frames that begin in a run, and in the runs after it
+-- the number of frames that begin in a run, and in the runs after it
 begun_in : (r : NumaBlock) (frame : ℕ) → lies_in r (4096 * frame) ≡ (nat_le (count_frames_below r.base) frame
     && nat_lt frame (count_frames_below (run_end r)))
 begun_in r frame = grind (arith, nat_tests)
@@ -204,7 +204,7 @@ pub frames_few : (f : ℕ → Option ℕ) → count_frames_with_node f ≤ 2 ^ 5
 unfolding count_frames_with_node
 frames_few f = count_at_most (λ frame. is_some (f (4096 * frame))) (2 ^ 52)
 
--- the first of the runs that are left, and those after it
+-- the frames of the first remaining run and those of the runs after it add up
 pub frames_first : (r : NumaBlock) (rs : List NumaBlock) (n : ℕ) → 1 ≤ length rs → n ≡ length rs → r ≡ get_or rs 0 r → AreRuns rs
     → run_end r < 2 ^ 64
     → AreRuns (take (n - 1) (drop 1 rs))
@@ -215,7 +215,7 @@ frames_first r (s ∷ ss) n some count is runs space =
     let all : take (n - 1) ss ≡ ss = take_all (n - 1) ss (omega arith) in
     (rw all runs.2, rw (all, is) (frames_step s ss runs (rw is at space)))
 
--- if no run is left, no frame is
+-- if no run remains, no frame begins in one
 pub frames_last : (rs : List NumaBlock) → length rs < 1 → count_frames_with_node (value_at rs) ≡ 0
 frames_last [] none = frames_none
 frames_last (r ∷ rs) none = absurd (omega arith)

@@ -4,7 +4,7 @@ use Rattle.std.specs.Prelude.{ℕ, ◌==◌, Bool, if◌then◌else◌, List, []
 use Rattle.std.specs.List.{list_any, position}
 use Rattle.srat_reader.specs.declared.table.SratBlock.{SratBlock}
 
--- the domain is in the list
+-- whether the domain is in the list
 abbrev pub is_named_domain : List ℕ → ℕ → Bool
 is_named_domain domains d = list_any (λ e. e == d) domains
 

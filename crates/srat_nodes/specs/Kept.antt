@@ -12,7 +12,7 @@ use Rattle.srat_nodes.specs.declared.kept.KeptBlock.{KeptBlock}
 use Rattle.srat_nodes.specs.Domains.{node_of_domain}
 use Rattle.srat_nodes.specs.NodeAt.{NumaBlock, block_meets}
 
--- the address lies in one of the ranges of memory
+-- whether the address lies in one of the ranges of memory
 abbrev pub is_in_any_range : List RangeView → ℕ → Bool
 is_in_any_range ranges x = list_any (λ r. covers r x) ranges
 
@@ -21,7 +21,7 @@ abbrev pub NoMemoryIsEmpty : List RangeView → Type 0
 NoMemoryIsEmpty [] = Unit {0}
 NoMemoryIsEmpty (r ∷ rs) = (0 < r.size) × NoMemoryIsEmpty rs
 
--- the first address of the frame that has the address
+-- the first address of the frame that contains the address
 abbrev pub frame_base : ℕ → ℕ
 frame_base x = (frame_around x).base
 
@@ -29,7 +29,7 @@ frame_base x = (frame_around x).base
 abbrev pub round_ends_down : RangeView → RangeView
 round_ends_down r = record { base = frame_base r.base; size = frame_base (end_of r) - frame_base r.base }
 
--- some byte of the range is memory
+-- whether some byte of the range is memory
 abbrev pub meets_memory : (ℕ → Bool) → RangeView → Bool
 meets_memory memory r = not (each_in r (λ y. not (memory y)))
 
@@ -38,11 +38,12 @@ abbrev pub block_in_frames : List ℕ → SratBlock → NumaBlock
 block_in_frames domains b =
     record { base = (round_ends_down b.range).base; size = (round_ends_down b.range).size; value = node_of_domain domains b.domain }
 
--- the block with the number `i`, if it is kept: if it has a byte of memory
+-- a list that has only the block and its number `i` if the block has a byte of memory, and is
+-- empty otherwise
 abbrev pub keep_block : (ℕ → Bool) → ℕ → NumaBlock → List KeptBlock
 keep_block memory i b = if meets_memory memory (range_of_run b) then record { number = i; block = b } ∷ [] else []
 
--- the kept ones of these blocks, whose numbers begin with `i`
+-- the kept blocks among these; the first block has the number `i`, the next one `i + 1`, and so on
 abbrev pub keep_blocks_from : (ℕ → Bool) → List ℕ → ℕ → List SratBlock → List KeptBlock
 keep_blocks_from memory domains i [] = []
 keep_blocks_from memory domains i (b ∷ bs) = keep_block memory i (block_in_frames domains b) ++ keep_blocks_from memory domains (i + 1) bs
@@ -51,33 +52,33 @@ keep_blocks_from memory domains i (b ∷ bs) = keep_block memory i (block_in_fra
 abbrev pub keep_blocks : (ℕ → Bool) → List ℕ → List SratBlock → List KeptBlock
 keep_blocks memory domains blocks = keep_blocks_from memory domains 0 blocks
 
--- the blocks without their numbers
+-- the kept blocks without their numbers
 abbrev pub numa_blocks_of : List KeptBlock → List NumaBlock
 numa_blocks_of kept = map (λ (k : KeptBlock). k.block) kept
 
--- some kept block has the node
+-- whether some kept block has the node
 abbrev pub is_node_of : List KeptBlock → ℕ → Bool
 is_node_of kept n = list_any (λ (k : KeptBlock). k.block.value == n) kept
 
--- some block is kept
+-- whether some block is kept
 abbrev pub is_any_kept : (ℕ → Bool) → List SratBlock → Bool
 is_any_kept memory blocks = list_any (λ (b : SratBlock). meets_memory memory (round_ends_down b.range)) blocks
 
--- the number of blocks that aren't empty in the table, before rounding
+-- the number of blocks that have at least one address in the table, before rounding
 abbrev pub count_with_addresses : List SratBlock → ℕ
 count_with_addresses blocks = count_by (λ (b : SratBlock). nat_lt 0 b.range.size) blocks
 
--- two kept blocks have different nodes and share an address
+-- whether two kept blocks have different nodes and share an address
 abbrev pub is_clash : KeptBlock → KeptBlock → Bool
 is_clash a b = not (a.block.value == b.block.value) && block_meets a.block.base (run_end a.block) b.block
 
--- the kept blocks with the numbers i and j, where i is below j, have different nodes and share an
--- address
+-- whether the kept blocks with the numbers i and j, where i is below j, have different nodes and
+-- share an address
 abbrev pub is_clash_of_numbers : List KeptBlock → ℕ → ℕ → Bool
 is_clash_of_numbers kept i j = nat_lt i j && list_any (λ a. (a.number == i) && list_any (λ b. (b.number == j) && is_clash a b) kept) kept
 
--- the number of the first kept block that overlaps a later one of another node, and the number of
--- the first such later one
+-- the number of the first kept block that shares an address with a later one of another node, and
+-- the number of the first such later block
 abbrev pub first_clash : List KeptBlock → Option (ℕ × ℕ)
 first_clash [] = None
 first_clash (a ∷ rest) = option_or (option_map (λ (b : KeptBlock). (a.number, b.number)) (find (is_clash a) rest)) (first_clash rest)

@@ -1,5 +1,5 @@
--- Whether the firmware's table of domains is used, the reason if it isn't, and the nodes of memory
--- if it is (`numa_init`, `numa_cleanup_meminfo`, `numa_meminfo_cover_memory`).
+-- The decision whether the firmware's table of domains is used, the reason if it isn't, and the
+-- nodes of memory if it is (`numa_init`, `numa_cleanup_meminfo`, `numa_meminfo_cover_memory`).
 use Rattle.std.specs.Prelude.{ℕ, ◌*◌, ◌^◌, Bool, ◌&&◌, not, nat_le, nat_lt, min, if◌then◌else◌, Option, Some, None, List, [], ◌∷◌, fold, length, is_some, is_none}
 use Rattle.address_runs.specs.Runs.{runs_of}
 use Rattle.bm_base.specs.declared.range.TheConstants.{FRAME_SIZE}
@@ -9,12 +9,13 @@ use Rattle.srat_nodes.specs.declared.kept.KeptBlock.{KeptBlock}
 use Rattle.srat_nodes.specs.declared.reasons.SratNodes.{SratNodes}
 use Rattle.srat_nodes.specs.declared.reasons.Why.{Why}
 use Rattle.srat_nodes.specs.declared.reasons.Why.TheVariants as why
-use Rattle.srat_nodes.specs.declared.reasons.TheConstants.{MAX_NODES, MAX_BLOCKS, UNCOVERED_FRAMES}
+use Rattle.bm_base.specs.declared.zone.TheConstants.{MAX_NODES}
+use Rattle.srat_nodes.specs.declared.reasons.TheConstants.{MAX_BLOCKS, UNCOVERED_FRAMES}
 use Rattle.srat_nodes.specs.Domains.{named_domains}
 use Rattle.srat_nodes.specs.NodeAt.{NumaBlock, node_at, same_node}
 use Rattle.srat_nodes.specs.Kept.{is_any_kept, numa_blocks_of, count_with_addresses, first_clash, keep_blocks}
 
--- node n for an address of memory that has no node yet; None for any other address
+-- node n for an address of memory that has no node yet, and None for any other address
 abbrev pub node_if_uncovered : (ℕ → Bool) → (ℕ → Option ℕ) → ℕ → ℕ → Option ℕ
 node_if_uncovered memory nodes n x = if memory x && is_none (nodes x) then Some n else None
 
@@ -23,7 +24,7 @@ node_if_uncovered memory nodes n x = if memory x && is_none (nodes x) then Some 
 unfoldable pub count_frames_with_node : (ℕ → Option ℕ) → ℕ
 count_frames_with_node nodes = count_below (λ frame. is_some (nodes (FRAME_SIZE * frame))) (2 ^ 52)
 
--- the lower of the two nodes: this one, and that of the block
+-- the lower of node n and the block's node
 abbrev pub lower_node : ℕ → NumaBlock → ℕ
 lower_node n b = min n b.value
 
@@ -40,7 +41,7 @@ pub record SratNodesView : Type 0 where
   pub rest : List NumaBlock
   pub uncovered : ℕ
 
--- what contracts see of these results of the code
+-- what contracts see of a `SratNodes`
 abbrev pub srat_nodes_view : SratNodes → SratNodesView
 srat_nodes_view j = record { why = j.why; domains = j.domains.items; joined = j.joined.items; rest = j.rest.items; uncovered = j.uncovered }
 
@@ -48,8 +49,8 @@ srat_nodes_view j = record { why = j.why; domains = j.domains.items; joined = j.
 abbrev pub unused_srat : Why → SratNodesView
 unused_srat reason = record { why = reason; domains = []; joined = []; rest = []; uncovered = 0 }
 
--- the result if the table is used: the domain of each node, the runs of addresses with a node, the
--- runs of memory without one, and the number of their frames
+-- the result if the table is used: the domain of each node, the runs of addresses to which the
+-- blocks give a node, the runs of memory that no block covers, and the number of their frames
 abbrev pub used_srat : List ℕ → (ℕ → Option ℕ) → (ℕ → Option ℕ) → SratNodesView
 used_srat domains nodes left = record {
   why = why.Used;
@@ -59,14 +60,15 @@ used_srat domains nodes left = record {
   uncovered = count_frames_with_node left;
 }
 
--- the last reason not to use the table: too many frames of memory have no node
+-- the result if no kept blocks overlap: the table isn't used if too many frames of memory have no
+-- node
 abbrev pub nodes_if_covering : List ℕ → (ℕ → Option ℕ) → (ℕ → Option ℕ) → SratNodesView
 nodes_if_covering domains nodes left =
     if nat_le UNCOVERED_FRAMES (count_frames_with_node left) then unused_srat (why.NotCovered (count_frames_with_node left))
     else used_srat domains nodes left
 
--- the table isn't used if kept blocks of different nodes overlap: the first argument has the
--- numbers of the first such pair. Else the result is the second argument.
+-- the result if the first argument has the numbers of two blocks of different nodes that overlap:
+-- the table isn't used. If it is None, the result is the second argument.
 abbrev pub nodes_if_apart : Option (ℕ × ℕ) → SratNodesView → SratNodesView
 nodes_if_apart (Some numbers) given = unused_srat (why.Overlap numbers.0 numbers.1)
 nodes_if_apart None given = given
@@ -75,12 +77,12 @@ nodes_if_apart None given = given
 abbrev pub nodes_by_blocks : List KeptBlock → ℕ → Option ℕ
 nodes_by_blocks kept = node_at (numa_blocks_of kept)
 
--- the node of each address of memory that has none from the kept blocks: the lowest of their nodes
+-- the node of each address of memory outside the kept blocks, which is the lowest node of these
+-- blocks; None for any other address
 abbrev pub node_outside_blocks : (ℕ → Bool) → List KeptBlock → ℕ → Option ℕ
 node_outside_blocks memory kept = node_if_uncovered memory (nodes_by_blocks kept) (lowest_node (numa_blocks_of kept))
 
--- the result that depends on the kept blocks: whether they overlap, and whether they cover enough
--- memory
+-- the result by the kept blocks: whether any overlap, and whether they cover enough memory
 unfoldable pub judge_kept_blocks : (ℕ → Bool) → List ℕ → List KeptBlock → SratNodesView
 judge_kept_blocks memory domains kept =
     nodes_if_apart (first_clash kept) (nodes_if_covering domains (nodes_by_blocks kept) (node_outside_blocks memory kept))
@@ -90,8 +92,8 @@ abbrev pub srat_domains : SratView → List ℕ
 srat_domains lists = named_domains lists.processors lists.blocks
 
 -- the result for a table that is present. The first reasons not to use it are, in this order: no
--- block is kept, there are too many domains, there are too many blocks. Then follow those that
--- depend on the kept blocks.
+-- block is kept, there are too many domains, there are too many blocks. The reasons that depend on
+-- the kept blocks come after them.
 unfoldable pub judge_srat_table : (ℕ → Bool) → SratView → SratNodesView
 judge_srat_table memory lists =
     if not (is_any_kept memory lists.blocks) then unused_srat why.NoBlocks
@@ -99,8 +101,8 @@ judge_srat_table memory lists =
     else (if nat_lt MAX_BLOCKS (count_with_addresses lists.blocks) then unused_srat why.TooManyBlocks
     else judge_kept_blocks memory (srat_domains lists) (keep_blocks memory (srat_domains lists) lists.blocks)))
 
--- the result for a table that may be missing (None). `off` is true if `numa=off` was given, which
--- is tested first.
+-- the result for a table, or for None if there is no table. `off` is true if `numa=off` was given,
+-- which is tested first.
 abbrev pub judge_srat : (ℕ → Bool) → Bool → Option SratView → SratNodesView
 judge_srat memory off None = if off then unused_srat why.Off else unused_srat why.Absent
 judge_srat memory off (Some lists) = if off then unused_srat why.Off else judge_srat_table memory lists

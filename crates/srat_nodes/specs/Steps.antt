@@ -1,4 +1,5 @@
--- Definitions of the steps of the code, which only private clauses and proofs cite.
+-- Definitions of single steps of the code, used only by contracts of private functions and by
+-- proofs.
 use Rattle.std.specs.Prelude.{ℕ, ◌+◌, ◌/◌, ◌-◌, ◌^◌, ◌<◌, ◌==◌, Bool, true, false, nat_le, is_some, if◌then◌else◌, List, [], ◌∷◌, length}
 use Rattle.address_runs.specs.Runs.{RunOf, run_end, value_at}
 use Rattle.bm_base.specs.Range.{RangeView}
@@ -7,34 +8,34 @@ use Rattle.srat_reader.specs.declared.table.SratBlock.{SratBlock}
 use Rattle.srat_nodes.specs.Domains.{with_domain}
 use Rattle.srat_nodes.specs.NodeAt.{NumaBlock}
 
--- the list with one more domain, if it has at most 1,024 so far
+-- the list with one more domain, or the same list if it has more than 1,024 already
 abbrev pub with_domain_if_room : List ℕ → ℕ → List ℕ
 with_domain_if_room domains d = if nat_le (length domains) 1024 then with_domain domains d else domains
 
--- the list with the domain of the block, under the same condition
+-- the list with the domain of the block, or the same list if it has more than 1,024 already
 abbrev pub with_domain_of_block : List ℕ → SratBlock → List ℕ
 with_domain_of_block domains b = with_domain_if_room domains b.domain
 
--- a run and the joined runs above it; the first of these is joined to it if it has the same node
+-- the run before the joined runs above it; if the first of them has the same node, both become one
 abbrev pub prepend_joined : NumaBlock → List NumaBlock → List NumaBlock
 prepend_joined r [] = r ∷ []
 prepend_joined r (s ∷ ss) =
     if r.value == s.value then record { base = r.base; size = run_end s - r.base; value = r.value } ∷ ss else r ∷ (s ∷ ss)
 
--- the runs, each joined with the next one if both have the same node
+-- the runs, with neighbours of the same node joined across the gap between them
 abbrev pub fill_gaps : List NumaBlock → List NumaBlock
 fill_gaps [] = []
 fill_gaps (r ∷ rs) = prepend_joined r (fill_gaps rs)
 
--- a range of memory as a run with the value `false`: it has no node
+-- a range of memory as a run with the value `false`, which means that it has no node
 abbrev pub run_without_node : RangeView → RunOf Bool
 run_without_node r = record { base = r.base; size = r.size; value = false }
 
--- a run with a node, as a run with the value `true`
+-- a run with a node, as a run with the value `true`, which means that it has a node
 abbrev pub run_with_node : NumaBlock → RunOf Bool
 run_with_node r = record { base = r.base; size = r.size; value = true }
 
--- the address is in a run of memory
+-- whether the address is in one of the runs
 abbrev pub is_in_runs : List (RunOf Bool) → ℕ → Bool
 is_in_runs runs x = is_some (value_at runs x)
 

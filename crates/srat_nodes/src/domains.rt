@@ -1,18 +1,18 @@
-//! Numbers the nodes: from 0, in the order in which their domains are first named
-//! (`acpi_map_pxm_to_node`). A node is the index of its domain in the list of domains.
+//! Numbers the nodes from 0, in the order in which their domains are first named
+//! (`acpi_map_pxm_to_node`). A node's number is the index of its domain in the list of domains.
 
 ghost use Rattle.std.specs.Prelude.{◌≡◌, ℕ, ◌<◌, ◌≤◌, ◌==◌, OnOk, IfOk, IfSome, fold, length, take};
 ghost use Rattle.std.specs.List.{position};
 ghost use Rattle.srat_nodes.specs.Domains.{named_domains, node_of_domain};
 ghost use Rattle.srat_nodes.specs.Steps.{with_domain_if_room, with_domain_of_block};
 
-use crate::reasons::MAX_NODES;
-use bm_base::Memory;
+use bm_base::{MAX_NODES, Memory};
 use srat_reader::SratBlock;
 use std::alloc::Global;
 
-/// Returns the domains in the order of their nodes: those of processors first, then those of
-/// memory. The list stops at one more than [`MAX_NODES`], since the table isn't used then.
+/// Returns the domains by node number: a domain's index in the list is its node. The domains of
+/// processors come first, then those of memory. The list has at most one more than [`MAX_NODES`],
+/// since a table with more isn't used.
 ///
 /// # Errors
 ///
@@ -31,7 +31,8 @@ pub fn named_domains(
     Ok(domains)
 }
 
-/// Appends the domains of processors that aren't in the list yet, in their order.
+/// Appends the domains of processors that aren't in the list yet, in the order of `processors`.
+/// Adds none once the list has more than `MAX_NODES`.
 ///
 /// # Errors
 ///
@@ -71,13 +72,13 @@ fn add_memory_domains(domains: &mut Vec<u32>, blocks: &[SratBlock]) -> Result<()
 fn add_domain(domains: &mut Vec<u32>, domain: u32) -> Result<(), Memory>
     ensures { OnOk result (domains.new.items ≡ with_domain_if_room domains.old.items domain) }
 {
-    if domains.len() <= MAX_NODES && !domains.contains(&domain) {
+    if domains.len() <= MAX_NODES as usize && !domains.contains(&domain) {
         domains.push(domain)?;
     }
     Ok(())
 }
 
-/// Returns the node of a domain in the list. A domain that isn't in the list gives 0.
+/// Returns the node of a domain, its index in the list, or 0 if it isn't in the list.
 pub fn node_of_domain(domains: &[u32], domain: u32) -> u32
     requires { length domains.now ≤ 1024 }
     ensures { result ≡ node_of_domain domains.now domain }

@@ -1,6 +1,6 @@
-//! Joins the blocks of each node, also across gaps with nothing of another node in them
-//! (`numa_cleanup_meminfo`). If no two blocks of different nodes overlap, overlaying the blocks
-//! gives runs, and it is enough to compare neighbouring runs.
+//! Joins the blocks of each node, also across a gap between two of them that has no address of
+//! another node (`numa_cleanup_meminfo`). If no two blocks of different nodes overlap, overlaying
+//! the blocks gives runs, and comparing neighbouring runs is enough.
 
 ghost use Rattle.std.specs.Prelude.{◌≡◌, ℕ, ◌+◌, ◌-◌, ◌<◌, ◌≤◌, OnOk, IfOk, reverse};
 ghost use Rattle.address_runs.specs.Overlay.{HaveAddresses};
@@ -13,8 +13,8 @@ use address_runs::{RunOf, overlay_all};
 use bm_base::{Memory, Range};
 use std::alloc::Global;
 
-/// Overlays the blocks as runs, in ascending order. If several blocks have an address, the first
-/// one's node counts. No block may be empty.
+/// Returns the runs of the blocks, in ascending order. An address in several blocks gets the node
+/// of the first one. No block may be empty.
 ///
 /// # Errors
 ///
@@ -27,7 +27,7 @@ pub fn overlay_blocks(alloc: Global, kept: &[KeptBlock]) -> Result<Vec<NodeRange
     overlay_all(alloc, &blocks)
 }
 
-/// Returns the blocks without their numbers.
+/// Returns the range and the node of each kept block, without its number.
 ///
 /// # Errors
 ///
@@ -42,9 +42,9 @@ fn numa_blocks_of(alloc: Global, kept: &[KeptBlock]) -> Result<Vec<NodeRange>, M
     Ok(blocks)
 }
 
-/// Joins neighbouring runs of one node to a single run, which then covers the gap between them too.
-/// If `runs` is the result of `overlay_blocks`, and no two blocks of different nodes overlap, this
-/// gives each address its node (`node_at`).
+/// Joins neighbouring runs of one node to a single run, which then covers the gap between them
+/// too. If `runs` is the result of `overlay_blocks`, and no two blocks of different nodes overlap,
+/// the joined runs give each address its node (`node_at`).
 ///
 /// # Errors
 ///
@@ -63,8 +63,8 @@ pub fn fill_gaps(alloc: Global, runs: &[NodeRange]) -> Result<Vec<NodeRange>, Me
     Ok(joined)
 }
 
-/// Puts a run before those that are already joined. `joined` is in descending order, so its last
-/// run is the next one above `run`.
+/// Adds a run below the runs that are already joined. If the next run above has the same node, the
+/// two become one. `joined` is in descending order, so the next run above is its last member.
 ///
 /// # Errors
 ///

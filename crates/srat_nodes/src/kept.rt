@@ -1,6 +1,6 @@
-//! Selects the blocks that are kept: those that contain a byte of memory, in whole frames
-//! (`numa_cleanup_meminfo` cuts blocks to memory and removes empty ones). Also finds blocks that
-//! overlap.
+//! Selects the blocks that are kept: those that contain a byte of memory after their ends have
+//! been rounded to frames (`numa_cleanup_meminfo` cuts blocks to memory and removes empty ones).
+//! Also finds blocks of different nodes that overlap.
 
 ghost use Rattle.std.specs.Prelude.{◌≡◌, ◌↔◌, ℕ, ◌+◌, ◌++◌, ◌^◌, ◌<◌, ◌≤◌, None, IsTrue, OnOk, IfOk, length, option_map, find};
 ghost use Rattle.address_runs.specs.Runs.{AreRuns, IsRunsOf, run_end, value_at};
@@ -16,7 +16,7 @@ use run_edits::has_value_throughout;
 use srat_reader::SratBlock;
 use std::alloc::Global;
 
-/// A range of addresses and its node, as the boot numbers nodes.
+/// A range of addresses and its node, by the boot's number of the node.
 pub type NodeRange = RunOf<u32>;
 
 /// Tests whether the two ranges share an address.
@@ -28,7 +28,7 @@ pub fn runs_overlap(first: &NodeRange, second: &NodeRange) -> bool
     from < behind
 }
 
-/// A block that is kept.
+/// A block of the table that is kept, since it contains a byte of memory.
 #[derive(Clone, Copy, Debug, PartialEq, Eq)]
 pub struct KeptBlock {
     /// The number of the block among all enabled blocks of the table, kept or not, from 0.
@@ -49,7 +49,7 @@ fn round_ends_down(range: &Range) -> Range
     }
 }
 
-/// Tests whether any block is kept.
+/// Tests whether any block of the table is kept.
 pub fn is_any_kept(memory: &Vec<RunOf<bool>>, blocks: &[SratBlock]) -> bool
     requires { AreRuns memory.now.items }
     ensures { result ≡ is_any_kept (is_in_runs memory.now.items) blocks.now }
@@ -96,7 +96,7 @@ pub fn keep_blocks(
     Ok(kept)
 }
 
-/// Appends the block with this number, if it contains a byte of memory.
+/// Appends the block with this number to the kept ones, if it contains a byte of memory.
 ///
 /// # Errors
 ///
@@ -130,9 +130,9 @@ fn block_in_frames(domains: &[u32], block: &SratBlock) -> NodeRange
 }
 
 /// Returns the numbers of two kept blocks of different nodes that share an address, or `None` if
-/// there are no such blocks. It is the least such pair, by its first number and then by its second.
-/// `laid` has the runs of the overlaid blocks. They show whether any blocks overlap; only then are
-/// pairs compared.
+/// there are no such blocks. Of several pairs it returns the least, by its first number and then
+/// by its second. `laid` has the runs of the overlaid blocks, which show whether any blocks
+/// overlap. Pairs are compared only if some blocks do.
 pub fn first_clash(kept: &[KeptBlock], laid: &Vec<NodeRange>) -> Option<(u32, u32)>
     requires { IsRunsOf (value_at (numa_blocks_of kept.now)) laid.now.items }
     ensures { result ≡ first_clash kept.now }
@@ -143,9 +143,9 @@ pub fn first_clash(kept: &[KeptBlock], laid: &Vec<NodeRange>) -> Option<(u32, u3
     first_pair(kept)
 }
 
-/// Tests whether no two blocks of different nodes share an address. That holds if each address of
-/// each block has the block's own node in `laid`, the runs of the overlaid blocks. So one look-up
-/// for each block is enough.
+/// Tests whether no two blocks of different nodes share an address. This is so exactly if each
+/// address of each block has the block's own node in `laid`, the runs of the overlaid blocks. One
+/// look-up for each block is therefore enough.
 fn are_apart(kept: &[KeptBlock], laid: &Vec<NodeRange>) -> bool
     requires { IsRunsOf (value_at (numa_blocks_of kept.now)) laid.now.items }
     ensures { IsTrue result ↔ (first_clash kept.now ≡ None) }
@@ -158,7 +158,7 @@ fn are_apart(kept: &[KeptBlock], laid: &Vec<NodeRange>) -> bool
     true
 }
 
-/// Finds the pair of [`first_clash`] by comparing each pair of blocks.
+/// Returns the pair of [`first_clash`]. Compares each pair of blocks.
 fn first_pair(kept: &[KeptBlock]) -> Option<(u32, u32)>
     ensures { result ≡ first_clash kept.now }
 {
@@ -172,8 +172,8 @@ fn first_pair(kept: &[KeptBlock]) -> Option<(u32, u32)>
     None
 }
 
-/// Returns the number of the first of the `others` that has another node than the block and shares
-/// an address with it.
+/// Returns the number of the first of the `others` that has another node than `block` and shares
+/// an address with it, or `None` if there is no such block.
 fn overlapping(block: &KeptBlock, others: &[KeptBlock]) -> Option<u32>
     ensures { result ≡ option_map (λ other. other.number) (find (is_clash block.now) others.now) }
 {

@@ -9,14 +9,14 @@ ghost use Rattle.srat_reader.specs.declared.table.SratBlock.{SratBlock as AnyBlo
 ghost use Rattle.srat_reader.specs.Table.{SratView};
 ghost use Rattle.srat_nodes.specs.declared.kept.KeptBlock.{KeptBlock as AnyKept};
 ghost use Rattle.srat_nodes.specs.declared.reasons.Why.TheVariants as why;
-ghost use Rattle.srat_nodes.specs.declared.reasons.TheConstants.{MAX_NODES};
+ghost use Rattle.bm_base.specs.declared.zone.TheConstants.{MAX_NODES};
 ghost use Rattle.srat_nodes.specs.Domains.{is_named_domain, domains_once, node_of_domain};
 ghost use Rattle.srat_nodes.specs.NodeAt.{NumaBlock, belongs_to_node};
 ghost use Rattle.srat_nodes.specs.SratNodesView.{judge_srat, node_outside_blocks, nodes_by_blocks};
 ghost use Rattle.srat_nodes.specs.Kept.{numa_blocks_of, is_clash_of_numbers, first_clash, frame_base, is_node_of, keep_blocks};
 
-/// Law: an address belongs to at most one node, if no kept block is empty and no two kept blocks of
-/// different nodes share an address.
+/// Law: an address belongs to at most one node, if no kept block is empty and no two kept blocks
+/// of different nodes share an address.
 pub fn address_has_one_node()
     ensures { (kept : List AnyKept) → first_clash kept ≡ None → HaveAddresses (numa_blocks_of kept)
         →
@@ -24,8 +24,8 @@ pub fn address_has_one_node()
         ↔ (nodes_by_blocks kept x ≡ Some n) }
 {}
 
-/// Law: two named domains with the same node are the same domain. So blocks of different nodes have
-/// different domains. A node is below the number of named domains.
+/// Law: two named domains with the same node are the same domain. A node is below the number of
+/// named domains.
 pub fn one_node_a_domain()
     ensures one { (domains : List ℕ) (d e : ℕ) → is_named_domain domains d ≡ true
         → is_named_domain domains e ≡ true →
@@ -36,7 +36,7 @@ pub fn one_node_a_domain()
 
 /// Law: nodes number the domains in the order in which they are first named. The list has exactly
 /// the domains that are named. The domain at index n has node n, so each domain is in the list
-/// once. If a domain is named when another hasn't been named yet, it has the lower node.
+/// once. Of two domains, the one that is first named earlier has the lower node.
 pub fn nodes_by_first_naming()
     ensures named { (names : List ℕ) (d : ℕ) →
         is_named_domain (domains_once names) d ≡ is_named_domain names d }
@@ -63,9 +63,9 @@ pub fn least_overlap()
         → is_clash_of_numbers (keep_blocks memory domains blocks) k l ≡ false }
 {}
 
-/// Law: an address has the same node as the first address of its frame. If memory consists of whole
-/// frames, an address is memory outside all blocks exactly if the first address of its frame is. So
-/// it is enough to look at the first address of each frame to count the frames without a node.
+/// Law: an address has the same node as the first address of its frame. If memory consists of
+/// whole frames, an address is memory outside all blocks exactly if the first address of its frame
+/// is. The first addresses of frames are therefore enough to count the frames without a node.
 pub fn frame_has_one_node()
     ensures node { (memory : ℕ → Bool) (domains : List ℕ) (blocks : List AnyBlock) (x : ℕ) →
         nodes_by_blocks (keep_blocks memory domains blocks) x
@@ -76,9 +76,9 @@ pub fn frame_has_one_node()
         ≡ node_outside_blocks memory (keep_blocks memory domains blocks) (frame_base x) }
 {}
 
-/// Law: if no two kept SRAT blocks of different nodes overlap, each of their nodes has at least one
-/// byte of memory. If any block is kept, an address only ever gets the node of a kept block. That
-/// also holds for memory outside all blocks, which gets the lowest of their nodes.
+/// Law: if no two kept blocks of different nodes overlap, each of their nodes has at least one
+/// byte of memory. If any block is kept, every node that an address gets is the node of a kept
+/// block, also the node of memory outside all blocks.
 pub fn kept_nodes_have_memory()
     ensures memory { (memory : ℕ → Bool) (domains : List ℕ) (blocks : List AnyBlock) →
         first_clash (keep_blocks memory domains blocks) ≡ None →
@@ -90,10 +90,10 @@ pub fn kept_nodes_have_memory()
         → is_node_of kept n ≡ true }
 {}
 
-/// Law: both lists of runs that [`crate::judge_srat`] returns, `joined` and `rest`, are canonical
-/// runs. Each run has a node below [`crate::MAX_NODES`]. If the table is used, each byte of memory
-/// lies in a run of one of the lists. If memory consists of whole frames, all addresses of a frame
-/// have the same node in each list.
+/// Law: both lists that [`crate::judge_srat`] returns, `joined` and `rest`, are canonical lists of
+/// runs. Each run has a node below [`bm_base::MAX_NODES`]. If the table is used, each byte of
+/// memory lies in a run of one of the lists. If memory consists of whole frames, all addresses of a
+/// frame have the same node in each list.
 pub fn runs_cover_memory()
     ensures runs { (memory : ℕ → Bool) (off : Bool) (table : Option SratView) →
         AreRuns (judge_srat memory off table).joined × AreRuns (judge_srat memory off table).rest }

@@ -1,20 +1,21 @@
 //! Decides which memory belongs to which NUMA node, from the ranges of the SRAT.
 //!
 //! The kernel reads the SRAT into blocks of memory with nodes (`numa_add_memblk`). It drops blocks
-//! that aren't memory, and joins blocks of one node if nothing of another node is between them
-//! (`numa_cleanup_meminfo`). It uses the table only if the blocks cover enough of memory
-//! (`numa_meminfo_cover_memory`). This crate does the same on lists.
+//! without memory, and joins two blocks of a node if no address between them is in a block of
+//! another node (`numa_cleanup_meminfo`). It uses the table only if the blocks cover enough of
+//! memory (`numa_meminfo_cover_memory`). This crate takes these steps on lists of blocks.
 //!
 //! [`judge_srat`] takes the ranges of memory and the content of the table, and returns a
-//! [`SratNodes`]. It has the reason why the table is or isn't used ([`Why`]). If the table is used,
-//! it also has the domain of each node, the runs of addresses with a node, and the runs of memory
-//! that no block covers. The latter get the lowest node that has a block.
+//! [`SratNodes`]. Its [`Why`] says whether the table is used, and if not, for what reason. For a
+//! table that is used, there are also the domain of each node, the runs of addresses with a node,
+//! and the runs of memory that no block covers. Memory outside all blocks gets the lowest node
+//! that has a block.
 //!
 //! The definitions look at each address by itself (`specs/NodeAt.antt`). An address has a node if
-//! it lies in a kept block of that node. It also has the node if it lies between two of them, and
-//! the range from the start of the lower to the end of the upper meets no block of another node.
-//! The code never iterates over addresses. It overlays the blocks as runs (`address_runs`), and
-//! looks up each block in them (`run_edits`) to find out whether blocks of different nodes
+//! it lies in a kept block of that node. It also has the node if it lies between two such blocks,
+//! and the range from the start of the lower to the end of the upper meets no block of another
+//! node. The code never iterates over addresses. It overlays the blocks as runs (`address_runs`),
+//! and looks up each block in them (`run_edits`) to find out whether blocks of different nodes
 //! overlap. If none do, one pass joins each run with the next if both have the same node. Memory
 //! is kept as runs too, so that each block can be looked up in it.
 //!
@@ -44,7 +45,7 @@ mod rest;
 
 pub use kept::{KeptBlock, NodeRange};
 pub use laws::{
-    kept_nodes_have_memory, least_overlap, nodes_by_first_naming, one_node_a_domain,
-    frame_has_one_node, address_has_one_node, runs_cover_memory,
+    address_has_one_node, frame_has_one_node, kept_nodes_have_memory, least_overlap,
+    nodes_by_first_naming, one_node_a_domain, runs_cover_memory,
 };
-pub use reasons::{MAX_BLOCKS, MAX_NODES, SratNodes, UNCOVERED_FRAMES, Why, judge_srat};
+pub use reasons::{MAX_BLOCKS, SratNodes, UNCOVERED_FRAMES, Why, judge_srat};

@@ -1,4 +1,4 @@
-//! Memory as runs. Its ranges come in any order. They are overlaid once. After that, one look-up
+//! Memory as runs. Its ranges, which come in any order, are overlaid once. After that, one look-up
 //! finds out whether a range contains a byte of memory.
 
 ghost use Rattle.std.specs.Prelude.{◌≡◌, ℕ, ◌++◌, OnOk, IfOk, map};
@@ -11,8 +11,8 @@ use bm_base::{Memory, Range};
 use run_edits::seek;
 use std::alloc::Global;
 
-/// Returns the runs of memory, in ascending order. Their value is `false`: no node so far. No
-/// range may be empty.
+/// Returns the runs of memory, in ascending order, with the value `false`: no node yet. No range
+/// may be empty.
 ///
 /// # Errors
 ///
@@ -28,8 +28,8 @@ pub fn memory_runs(alloc: Global, memory: &[Range]) -> Result<Vec<RunOf<bool>>, 
     overlay_all(alloc, &told)
 }
 
-/// Appends each range of `memory` to the list `told`, as a run with the value `false`: no node so
-/// far.
+/// Appends each range of `memory` to the list `told`, as a run with the value `false`: no node
+/// yet.
 ///
 /// # Errors
 ///

@@ -1,4 +1,4 @@
-//! Decides whether the table is used. The reasons not to use it are tested in the order of [`Why`].
+//! Decides whether the table is used. Tests the reasons not to use it in the order of [`Why`].
 
 ghost use Rattle.std.specs.Prelude.{◌≡◌, ℕ, ◌^◌, ◌<◌, ◌≤◌, IfOk, IsFalse, IsSome, OnErr, length};
 ghost use Rattle.std.specs.Option.{ForSome, option_map, option_copied};
@@ -15,22 +15,19 @@ use crate::kept::{
 };
 use crate::memory::memory_runs;
 use crate::rest::{count_frames, uncovered_runs};
-use bm_base::{Memory, Range};
+use bm_base::{MAX_NODES, Memory, Range};
 use srat_reader::{Srat, SratBlock};
 use std::alloc::Global;
-
-/// The largest number of nodes (`MAX_NUMNODES`).
-pub const MAX_NODES: usize = 1024;
 
 /// The largest number of blocks that aren't empty (`NR_NODE_MEMBLKS`).
 pub const MAX_BLOCKS: usize = 2048;
 
-/// If this number of frames of memory, 1 MiB, or more have no node, the table isn't used
+/// The table isn't used if at least this number of frames of memory, 1 MiB, have no node
 /// (`numa_meminfo_cover_memory`).
 pub const UNCOVERED_FRAMES: u64 = 256;
 
-/// The reason why the table is or isn't used. From `Off` on, the first in this order that holds is
-/// the reason.
+/// The reason why the table is or isn't used. If several of the reasons from `Off` on hold, the
+/// first of them is given.
 #[derive(Clone, Copy, Debug, PartialEq, Eq)]
 pub enum Why {
     /// The table is used: none of the reasons below holds.
@@ -45,21 +42,23 @@ pub enum Why {
     TooManyDomains,
     /// More than [`MAX_BLOCKS`] enabled blocks aren't empty in the table, before rounding.
     TooManyBlocks,
-    /// Kept blocks of different domains share an address. `i` and `j` are their numbers among the
-    /// enabled blocks, from 0. `i` is the least possible, and then `j`.
+    /// Kept blocks of different nodes share an address. `i` and `j` are their numbers among the
+    /// enabled blocks, from 0. Of several pairs it is the one with the least `i`, and of these the
+    /// one with the least `j`.
     Overlap { i: u32, j: u32 },
-    /// This number of frames of memory has no node; it is [`UNCOVERED_FRAMES`] or more.
+    /// At least [`UNCOVERED_FRAMES`] frames of memory have no node; `frames` is their number.
     NotCovered { frames: u64 },
 }
 
-/// The result for the table. If the table isn't used, the lists are empty and `uncovered` is 0.
+/// The decision whether the table is used, and the nodes that it gives. If the table isn't used,
+/// the lists are empty and `uncovered` is 0.
 #[derive(Debug, Drop)]
 pub struct SratNodes {
     /// The reason why the table is or isn't used.
     pub why: Why,
     /// The domain of each node; the index is the node.
     pub domains: Vec<u32>,
-    /// The runs of addresses with a node from the blocks, in ascending order.
+    /// The runs of addresses to which the blocks give a node, in ascending order.
     pub joined: Vec<NodeRange>,
     /// The runs of memory that no block covers, in ascending order, with the lowest node that has
     /// a block.
@@ -69,8 +68,8 @@ pub struct SratNodes {
 }
 
 /// Decides whether the SRAT is used, and if so, returns which memory belongs to which node.
-/// `memory` has the ranges of memory, in any order, none of them empty. `off` is true if `numa=off`
-/// was given. `None` means that there is no table. The table must have fewer than 2^32 blocks.
+/// `memory` has the ranges of memory, in any order, none of them empty. `srat` is `None` if there
+/// is no table; a table must have fewer than 2^32 blocks. `off` is true if `numa=off` was given.
 ///
 /// # Errors
 ///
@@ -98,8 +97,8 @@ pub fn judge_srat(
     }
 }
 
-/// Decides whether a table that is present is used. The reasons that don't depend on the kept
-/// blocks are tested first.
+/// Decides whether a table that is present is used. Reasons that don't depend on the kept blocks
+/// are tested first.
 ///
 /// # Errors
 ///
@@ -121,7 +120,7 @@ fn judge_srat_table(
         return Ok(unused_srat(alloc, Why::NoBlocks));
     }
     let domains = named_domains(alloc, processors, blocks)?;
-    if domains.len() > MAX_NODES {
+    if domains.len() > MAX_NODES as usize {
         return Ok(unused_srat(alloc, Why::TooManyDomains));
     }
     if count_with_addresses(blocks) > MAX_BLOCKS {

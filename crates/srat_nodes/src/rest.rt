@@ -1,5 +1,5 @@
-//! Finds the memory that no block covers, and counts its frames. The kernel subtracts the frames
-//! with a node from those of its map (`numa_meminfo_cover_memory`).
+//! Finds the memory that no block covers, and counts its frames. The kernel instead subtracts the
+//! frames with a node from those of its map (`numa_meminfo_cover_memory`).
 
 ghost use Rattle.std.specs.Prelude.{◌≡◌, ℕ, ◌+◌, ◌-◌, ◌^◌, ◌<◌, ◌≤◌, ◌++◌, [], ◌∷◌, if◌then◌else◌, OnOk, IfOk, map};
 ghost use Rattle.address_runs.specs.Runs.{AreRuns, IsRunsOf, run_end, value_at};
@@ -36,8 +36,9 @@ pub fn uncovered_runs(
     uncovered_runs_with_node(alloc, &covered, node)
 }
 
-/// Returns the runs with a node, followed by the ranges of memory. The value of each says whether
-/// it has a node. If they are overlaid, the first one that has an address decides.
+/// Returns the runs with a node, followed by the ranges of memory. The value is `true` for a run
+/// with a node, and `false` for a range of memory. In an overlay of the list the first run that
+/// contains an address decides.
 ///
 /// # Errors
 ///
@@ -56,7 +57,7 @@ fn mark_covered(
     Ok(told)
 }
 
-/// Appends the ranges of `joined` to the list `told`, each with the value `true`, which says that
+/// Appends the ranges of `joined` to the list `told`, each with the value `true`, which means that
 /// it has a node.
 ///
 /// # Errors
@@ -74,8 +75,8 @@ fn mark_with_nodes(told: &mut Vec<RunOf<bool>>, joined: &[NodeRange]) -> Result<
     Ok(())
 }
 
-/// Returns the runs without a node, each with `node`. In `covered`, the value of a run says whether
-/// it has a node: those with the value `true` are left out.
+/// Returns the runs of `covered` that have no node, each with the node `node`. The value of a run
+/// in `covered` is `true` if it has a node.
 ///
 /// # Errors
 ///
@@ -95,12 +96,17 @@ fn uncovered_runs_with_node(
     Ok(rest)
 }
 
-/// Appends the run with `node`, if it has no node so far (its value is `false`).
+/// Appends the run with the node `node`, unless the run has a node already, that is, its value is
+/// `true`.
 ///
 /// # Errors
 ///
 /// - `Memory`: the program ran out of memory.
-fn push_run_if_uncovered(rest: &mut Vec<NodeRange>, run: &RunOf<bool>, node: u32) -> Result<(), Memory>
+fn push_run_if_uncovered(
+    rest: &mut Vec<NodeRange>,
+    run: &RunOf<bool>,
+    node: u32,
+) -> Result<(), Memory>
     ensures value { OnOk result (rest.new.items ≡
         (if run.now.value then rest.old.items else rest.old.items
         ++ run_of_node node run.now ∷ [])) }

@@ -1,5 +1,5 @@
--- Lemmas on the sequence of entries: what is left of it from an offset on, and that the bound on
--- its length never cuts it short.
+-- The sequence of entries: the offsets from one entry on, and the bound on their number, which is
+-- always enough.
 use Rattle.std.proofs.Common.{◌≡◌, ◌≢◌, ℕ, zero, suc, ◌+◌, ◌<◌, ◌≤◌, Bool, true, false, List, [], ◌∷◌, ◌++◌, length, length-append, Option, Some, None, IsSome, option_to_list, append_assoc, refl, sym, ap, ◌∙◌, arith}
 use Rattle.std.proofs.lemmas.Bool.{false_from_ne_true, false≢true, true_from_ne_false}
 use Rattle.std.proofs.lemmas.Bool.Decides.{nat_tests}
@@ -16,8 +16,8 @@ pub whole_bounds : (at : ℕ) (bytes : List ℕ) → is_whole_entry at bytes ≡
 unfolding is_whole_entry
 whole_bounds at bytes whole = (grind (arith, nat_tests), grind (arith, nat_tests), grind (arith, nat_tests))
 
--- the offsets from here on: none at the end; at an entry that isn't whole, that entry alone; else
--- the entry and those after it
+-- the offsets from `at` on: none at the end of the table; one if the entry there isn't whole; else
+-- that of the entry there and those after it
 from_end : (n at : ℕ) (bytes : List ℕ) → length bytes ≤ at → entry_offsets_from n at bytes ≡ []
 unfolding entry_offsets_from
 from_end zero at bytes ended = refl
@@ -33,8 +33,8 @@ from_broken : (n at : ℕ) (bytes : List ℕ) → at < length bytes → is_whole
 unfolding entry_offsets_from
 from_broken n at bytes before broken = grind (arith, nat_tests)
 
--- if two bounds give the same entries after this one, a bound of one more gives the same entries
--- from this one on
+-- if two bounds give the same entries after the one at `at`, both bounds plus one give the same
+-- entries from `at` on
 one_step : (n m at : ℕ) (bytes : List ℕ)
     → (2 ≤ entry_length_at at bytes
     → entry_offsets_from n (at + entry_length_at at bytes) bytes ≡ entry_offsets_from m (at + entry_length_at at bytes) bytes)
@@ -80,8 +80,7 @@ rest_broken at bytes before broken =
     enough (length bytes) (suc (length bytes)) at bytes (omega arith) (omega arith)
     ∙ from_broken (length bytes) at bytes before broken
 
--- the first fault from an offset on: the fault of the entry there, or else the first of the
--- entries after it
+-- the first fault from an offset on is that of the entry there, or else the first fault after it
 pub broken_fault : (at : ℕ) (bytes : List ℕ) → at < length bytes → is_whole_entry at bytes ≡ false
     → first_srat_fault bytes (rest_from at bytes) ≡ Some (faults.EntryLength at)
 broken_fault at bytes before broken = rw (rest_broken at bytes before broken) (rw broken refl)
@@ -117,8 +116,8 @@ pub no_fault_after_entry : (at : ℕ) (bytes : List ℕ) → at < length bytes �
 no_fault_after_entry at bytes before none =
     sym (later_fault at bytes before (whole_here at bytes before none) (near_here at bytes before none)) ∙ none
 
--- the values from an offset on: that of the entry there, if it has one, and then those of the
--- entries after it
+-- the values of the entries from an offset on are that of the entry there, if it has one, and
+-- those after it
 pub values_from_entry : {X : Type 0} (f : ℕ → Option X) (at : ℕ) (bytes : List ℕ) (before : List X) → at < length bytes
     → is_whole_entry at bytes ≡ true
     → before ++ filter_map f (rest_from at bytes)
@@ -134,7 +133,7 @@ pub values_at_end : {X : Type 0} (f : ℕ → Option X) (at : ℕ) (bytes : List
     → before ++ filter_map f (rest_from at bytes) ≡ before
 values_at_end f at bytes before ended = rw (rest_end at bytes ended) (rw append-nil refl)
 
--- if the entry at an offset has a value, the whole list isn't empty
+-- if the entry at an offset has a value, the list of all values isn't empty
 pub values_not_empty : {X : Type 0} (f : ℕ → Option X) (at : ℕ) (bytes : List ℕ) (before : List X) → at < length bytes
     → is_whole_entry at bytes ≡ true → IsSome (f at) → 0 < length (before ++ filter_map f (rest_from at bytes))
 values_not_empty {X} f at bytes before here whole some = rw (rest_whole at bytes here whole) (by (f at) refl some) where
@@ -142,7 +141,7 @@ values_not_empty {X} f at bytes before here whole some = rw (rest_whole at bytes
   by None is some = absurd (false≢true some)
   by (Some x) is some = rw is (simp length-append (omega arith))
 
--- "out of memory" is never a fault of the bytes
+-- no entry has the fault `Memory`, which the bytes can't have
 pub not_memory : (bytes offsets : List ℕ) → first_srat_fault bytes offsets ≢ Some faults.Memory
 not_memory bytes [] is = cc
 not_memory bytes (at ∷ rest) is =

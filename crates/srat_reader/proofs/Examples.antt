@@ -11,8 +11,8 @@ abbrev header : ℕ → ℕ → ℕ → List ℕ
 header size revision check =
     codes "SRAT" ++ (size ∷ 0 ∷ 0 ∷ 0 ∷ revision ∷ check ∷ []) ++ replicate 38 0
 
--- entries with these flags: a local APIC in domain 0x04030201; a local x2APIC in domain 0x0c0d;
--- and 0x1000 bytes of memory at 0x2000 in domain 0x0105
+-- the bytes of entries with these flags: a local APIC in domain 0x04030201, a local x2APIC in
+-- domain 0x0c0d, and 0x1000 bytes of memory at 0x2000 in domain 0x0105
 abbrev apic : ℕ → List ℕ
 apic flags = 0 ∷ 16 ∷ 1 ∷ 9 ∷ flags ∷ 0 ∷ 0 ∷ 0 ∷ 7 ∷ 2 ∷ 3 ∷ 4 ∷ 0 ∷ 0 ∷ 0 ∷ 0 ∷ []
 
@@ -33,12 +33,12 @@ last_memory low high =
     0 ∷ 0xF0 ∷ 0xFF ∷ 0xFF ∷ 0xFF ∷ 0xFF ∷ 0xFF ∷ 0xFF ∷ low ∷ high ∷ 0 ∷ 0 ∷ 0 ∷ 0 ∷ 0 ∷ 0 ∷
     0 ∷ 0 ∷ 0 ∷ 0 ∷ 1 ∷ 0 ∷ 0 ∷ 0 ∷ replicate 8 0
 
--- the lengths of the three types, and any length of another type
+-- an entry of type 0, 1 or 2 has the length of its type; one of another type may have any length
 own_lengths : (fits_entry_type 0 16 ≡ true) × (fits_entry_type 1 16 ≡ false) × (fits_entry_type 2 24 ≡ true) × (fits_entry_type 3 5 ≡ true)
 own_lengths = (refl, refl, refl, refl)
 
--- which entries are whole. These are not: only one byte is left; the length is below 2; it passes
--- the end; it doesn't fit the type. The last example is a whole entry at offset 1.
+-- an entry isn't whole if only one byte of it is left, if its length is below 2 or passes the end,
+-- or if its length doesn't fit its type. The last example is a whole entry at offset 1.
 whole_entries : (is_whole_entry 0 (memory 1) ≡ true) × (is_whole_entry 0 (9 ∷ 2 ∷ []) ≡ true) × (is_whole_entry 0 (9 ∷ []) ≡ false)
     × (is_whole_entry 0 (9 ∷ 1 ∷ 0 ∷ []) ≡ false) × (is_whole_entry 0 (9 ∷ 4 ∷ 0 ∷ []) ≡ false) × (is_whole_entry 0 (1 ∷ 2 ∷ []) ≡ false)
     × (is_whole_entry 1 (7 ∷ apic 1) ≡ true)
@@ -50,7 +50,8 @@ lowest_bit : (has_enabled_flag 0 (1 ∷ 0 ∷ 0 ∷ 0 ∷ []) ≡ true) × (has_
     × (has_enabled_flag 0 (0xFE ∷ 0xFF ∷ 0xFF ∷ 0xFF ∷ []) ≡ false) × (has_enabled_flag 0 (0 ∷ 1 ∷ 0 ∷ 0 ∷ []) ≡ false)
 lowest_bit = (refl, refl, refl, refl)
 
--- the upper bytes of a domain count from revision 2 on; those of an x2APIC always do
+-- before revision 2 only the lowest byte of a domain counts; the domain of an x2APIC always has 32
+-- bits
 domains_of_revision_1 : (local_apic_domain 48 (header 64 1 0 ++ apic 1) ≡ 1) × (memory_domain 48 (header 88 1 0 ++ memory 1) ≡ 5)
 unfolding local_apic_domain memory_domain
 domains_of_revision_1 = (refl, refl)
@@ -73,36 +74,35 @@ says_nothing : (srat_entry_at 48 (header 88 3 0 ++ memory 2) ≡ said.Nothing)
 unfolding srat_entry_at
 says_nothing = (refl, refl)
 
--- the sum 2^64 - 1 isn't too far, and 2^64 is
+-- memory that ends at 2^64 - 1 isn't too far, and memory that ends at 2^64 is
 far_memory : (is_block_too_far (said.Block 0 0xFFFFFFFFFFFFF000 0xFFF) ≡ false)
     × (is_block_too_far (said.Block 0 0xFFFFFFFFFFFFF000 0x1000) ≡ true)
     × (is_block_too_far (said.Processor 7) ≡ false)
     × (is_block_too_far said.Nothing ≡ false)
 far_memory = (refl, refl, refl, refl)
 
--- the faults of the header, in their order: too short, another signature, another length, another
--- checksum, and no fault
+-- the faults of the header, in their order: too few bytes, a wrong signature, a wrong length, a
+-- wrong checksum; and a header without a fault
 header_faults : (srat_header_fault [] ≡ Some faults.Short) × (srat_header_fault (replicate 47 0) ≡ Some faults.Short)
     × (srat_header_fault (replicate 48 0) ≡ Some faults.Signature) × (srat_header_fault (header 49 1 0) ≡ Some faults.Length)
     × (srat_header_fault (header 48 1 0x96) ≡ Some faults.Checksum) × (srat_header_fault (header 48 1 0x95) ≡ None)
 header_faults = (refl, refl, refl, refl, refl, refl)
 
--- the offsets of the entries: each begins where the one before it ends, and one that isn't whole
--- is the last
+-- each entry begins where the one before it ends, and an entry that isn't whole is the last one
 two_offsets : (entry_offsets (header 128 1 0 ++ x2apic 1 ++ (9 ∷ 16 ∷ replicate 14 0) ++ memory 1) ≡ 48 ∷ 72 ∷ 88 ∷ [])
     × (entry_offsets (header 92 1 0 ++ x2apic 1 ++ (9 ∷ 1 ∷ []) ++ apic 1) ≡ 48 ∷ 72 ∷ [])
 unfolding entry_offsets_from is_whole_entry
 two_offsets = (refl, refl)
 
--- the fault of one entry: whether it is whole is tested first; a range of memory may end at 2^64 -
--- 1, and not at 2^64
+-- the fault of one entry: one that isn't whole, one without a fault, and ranges of memory that end
+-- at 2^64 and at 2^64 - 1
 fault_of_one : (srat_fault_at (9 ∷ []) 0 ≡ Some (faults.EntryLength 0)) × (srat_fault_at (header 50 1 0 ++ 9 ∷ 2 ∷ []) 48 ≡ None)
     × (srat_fault_at (header 88 1 0 ++ last_memory 0 0x10) 48 ≡ Some (faults.BlockTooFar 48))
     × (srat_fault_at (header 88 1 0 ++ last_memory 0xFF 0x0F) 48 ≡ None)
 unfolding is_whole_entry srat_entry_at memory_domain
 fault_of_one = (refl, refl, refl, refl)
 
--- the first entry with a fault decides, whichever of the two faults it is; no entries, no fault
+-- the first entry with a fault decides, whichever fault it has; without entries there is no fault
 first_faults : (first_srat_fault (header 90 1 0 ++ last_memory 0 0x10 ++ 9 ∷ 1 ∷ []) (48 ∷ 88 ∷ []) ≡ Some (faults.BlockTooFar 48))
     × (first_srat_fault (header 90 1 0 ++ last_memory 0xFF 0x0F ++ 9 ∷ 1 ∷ []) (48 ∷ 88 ∷ []) ≡ Some (faults.EntryLength 88))
     × (first_srat_fault (header 48 1 0) [] ≡ None)
@@ -110,7 +110,7 @@ unfolding is_whole_entry srat_entry_at memory_domain
 first_faults = (refl, refl, refl)
 
 -- a table of 50 bytes whose entry states the length 0: a wrong checksum is reported before the
--- entry
+-- entry's fault
 srat_faults : (srat_fault (header 50 1 0 ++ 1 ∷ 0 ∷ []) ≡ Some faults.Checksum)
     × (srat_fault (header 50 1 0x92 ++ 1 ∷ 0 ∷ []) ≡ Some (faults.EntryLength 48))
 unfolding entry_offsets_from is_whole_entry
@@ -122,7 +122,7 @@ both_lists : (processors_of (header 144 2 0 ++ x2apic 1 ++ memory 1 ++ apic 1 ++
 unfolding entry_offsets_from is_whole_entry srat_entry_at local_apic_domain memory_domain
 both_lists = (refl, refl)
 
--- the smallest table, one with a processor, and one whose entry isn't whole
+-- the smallest table, a table with a processor, and a table whose entry isn't whole
 srat_examples : (srat_of (header 48 1 0x95) ≡ Ok (record { processors = []; blocks = [] }))
     × (srat_of (header 72 1 0x25 ++ x2apic 1) ≡ Ok (record { processors = 0x0C0D ∷ []; blocks = [] }))
     × (srat_of (header 50 1 0x92 ++ 1 ∷ 0 ∷ []) ≡ Err (faults.EntryLength 48))

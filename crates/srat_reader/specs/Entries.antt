@@ -21,21 +21,22 @@ entry_type_at at bytes = slice_index bytes at
 abbrev pub entry_length_at : ℕ → List ℕ → ℕ
 entry_length_at at bytes = slice_index bytes (at + 1)
 
--- the length fits the type: entries of types 0, 1 and 2 have 16, 40 and 24 bytes, those of other
--- types any number (`struct acpi_srat_cpu_affinity`, `acpi_srat_mem_affinity`,
+-- whether the length fits the type: entries of types 0, 1 and 2 have 16, 40 and 24 bytes, those of
+-- other types any number (`struct acpi_srat_cpu_affinity`, `acpi_srat_mem_affinity`,
 -- `acpi_srat_x2apic_cpu_affinity`)
 abbrev pub fits_entry_type : ℕ → ℕ → Bool
 fits_entry_type kind size =
     if kind == 0 then size == 16 else (if kind == 1 then size == 40 else (if kind == 2 then size == 24 else true))
 
--- there is a whole entry at offset `at`: its first two bytes are there; its length is at least 2,
--- doesn't pass the end of the table, and fits its type
+-- whether there is a whole entry at offset `at`: its first two bytes are in the table; its length
+-- is at least 2, doesn't pass the end of the table, and fits its type
 unfoldable pub is_whole_entry : ℕ → List ℕ → Bool
 is_whole_entry at bytes =
     nat_le (at + 2) (length bytes) && (nat_le 2 (entry_length_at at bytes)
     && (nat_le (at + entry_length_at at bytes) (length bytes) && fits_entry_type (entry_type_at at bytes) (entry_length_at at bytes)))
 
--- bit 0 is set in the flags (u32) at the offset (`ACPI_SRAT_CPU_ENABLED`, `ACPI_SRAT_MEM_ENABLED`)
+-- whether bit 0 is set in the flags (u32) at the offset (`ACPI_SRAT_CPU_ENABLED`,
+-- `ACPI_SRAT_MEM_ENABLED`)
 abbrev pub has_enabled_flag : ℕ → List ℕ → Bool
 has_enabled_flag offset bytes = not (bit_and (number_at 4 offset bytes) 1 == 0)
 
@@ -56,7 +57,7 @@ memory_domain at bytes = if nat_lt (revision_of bytes) 2 then slice_index bytes 
 abbrev pub x2apic_domain : ℕ → List ℕ → ℕ
 x2apic_domain at bytes = number_at 4 (at + 4) bytes
 
--- the content, or nothing if the entry isn't enabled
+-- the content of an entry if it is enabled, else Nothing
 abbrev pub entry_if_enabled : Bool → SratEntry → SratEntry
 entry_if_enabled enabled what = if enabled then what else said.Nothing
 
@@ -65,7 +66,7 @@ entry_if_enabled enabled what = if enabled then what else said.Nothing
 abbrev pub memory_entry_at : ℕ → List ℕ → SratEntry
 memory_entry_at at bytes = said.Block (memory_domain at bytes) (number_at 8 (at + 8) bytes) (number_at 8 (at + 16) bytes)
 
--- the content of the entry at offset `at`: nothing if it is of another type or isn't enabled
+-- the content of the entry at offset `at`: Nothing if it has another type or isn't enabled
 unfoldable pub srat_entry_at : ℕ → List ℕ → SratEntry
 srat_entry_at at bytes =
     if entry_type_at at bytes == 0 then entry_if_enabled (has_enabled_flag (at + 4) bytes) (said.Processor (local_apic_domain at bytes))
@@ -74,7 +75,7 @@ srat_entry_at at bytes =
     (if entry_type_at at bytes == 2 then entry_if_enabled (has_enabled_flag (at + 12) bytes) (said.Processor (x2apic_domain at bytes)) else
     said.Nothing))
 
--- the content is a range of memory whose base plus size exceeds 2^64 - 1
+-- whether the content is a range of memory whose base plus size exceeds 2^64 - 1
 abbrev pub is_block_too_far : SratEntry → Bool
 is_block_too_far said.Nothing = false
 is_block_too_far (said.Processor domain) = false

@@ -11,9 +11,9 @@ use Rattle.srat_reader.specs.declared.table.SratFault.{SratFault}
 use Rattle.srat_reader.specs.declared.table.SratFault.TheVariants as faults
 use Rattle.srat_reader.specs.Entries.{number_at, entry_length_at, is_whole_entry, is_block_too_far, srat_entry_at}
 
--- the first of four faults, in this order: fewer bytes than the header has; another signature; the
--- stated length (the u32 at offset 4) isn't the number of bytes; the bytes don't sum to 0 modulo
--- 256 (`acpi_tb_verify_checksum`)
+-- the first fault of the header. The tests are, in this order: at least 48 bytes; the signature
+-- `SRAT`; the stated length (the u32 at offset 4) is the number of bytes; the bytes sum to 0
+-- modulo 256 (`acpi_tb_verify_checksum`).
 abbrev pub srat_header_fault : List ℕ → Option SratFault
 srat_header_fault bytes =
     if nat_lt (length bytes) 48 then Some faults.Short
@@ -22,9 +22,9 @@ srat_header_fault bytes =
     else (if not (sum bytes % 256 == 0) then Some faults.Checksum else None)))
 
 -- the offsets of the entries from offset `at` on. Each entry begins where the one before it ends
--- (`acpi_table_parse_entries_array`). The list ends with the first entry that isn't whole. The
--- first parameter bounds the number of entries, so that the definition ends; the number of bytes
--- is always enough.
+-- (`acpi_table_parse_entries_array`). The last offset is that of the first entry that isn't whole,
+-- if there is one. The first parameter bounds the number of entries, so that the definition ends;
+-- the number of bytes is always enough.
 unfoldable pub entry_offsets_from : ℕ → ℕ → List ℕ → List ℕ
 entry_offsets_from zero at bytes = []
 entry_offsets_from (suc n) at bytes =
@@ -51,13 +51,13 @@ first_srat_fault bytes (at ∷ rest) = option_or (srat_fault_at bytes at) (first
 abbrev pub srat_fault : List ℕ → Option SratFault
 srat_fault bytes = option_or (srat_header_fault bytes) (first_srat_fault bytes (entry_offsets bytes))
 
--- the domain of the content of an entry, if it is a processor
+-- the domain in the content of an entry, if it is a processor
 abbrev pub processor_of : SratEntry → Option ℕ
 processor_of said.Nothing = None
 processor_of (said.Processor domain) = Some domain
 processor_of (said.Block domain base size) = None
 
--- the range and the domain of the content of an entry, if it is memory
+-- the range and the domain in the content of an entry, if it is memory
 abbrev pub srat_block_of : SratEntry → Option SratBlock
 srat_block_of said.Nothing = None
 srat_block_of (said.Processor domain) = None
@@ -88,7 +88,7 @@ pub record SratView : Type 0 where
 abbrev pub srat_view : Srat → SratView
 srat_view srat = record { processors = srat.cpus.items; blocks = srat.blocks.items }
 
--- the lists, or the fault instead if there is one
+-- the fault if there is one, else the two lists
 abbrev pub srat_unless_fault : Option SratFault → SratView → Result SratView SratFault
 srat_unless_fault None lists = Ok lists
 srat_unless_fault (Some fault) lists = Err fault

@@ -1,5 +1,5 @@
-//! Reads one entry: whether it is whole, its length, and its content. The search for faults and the
-//! reading of the values share this code.
+//! Reads one entry: whether it is whole, its length, and its content. The search for faults and
+//! the reading of the lists share this code.
 ghost use Rattle.std.specs.Prelude.{◌≡◌, ℕ, ◌+◌, ◌<◌, ◌≤◌, length, IsTrue};
 ghost use Rattle.srat_reader.specs.Entries.{entry_length_at, fits_entry_type, is_whole_entry, is_block_too_far, has_enabled_flag, local_apic_domain, memory_domain, srat_entry_at};
 
@@ -23,17 +23,17 @@ const ENABLED: u32 = 1;
 /// The content of an entry.
 #[derive(Clone, Copy, Debug, PartialEq, Eq)]
 pub enum SratEntry {
-    /// The entry has another type, or isn't enabled.
+    /// An entry of another type, or one that isn't enabled.
     Nothing,
-    /// A processor belongs to this domain.
+    /// A processor, and the domain that it belongs to.
     Processor { domain: u32 },
-    /// The `size` bytes of memory from address `base` on belong to this domain. The sum of `base`
-    /// and `size` may exceed 2^64 - 1.
+    /// The `size` bytes of memory from address `base` on, and the domain that they belong to. The
+    /// sum of `base` and `size` may exceed 2^64 - 1.
     Block { domain: u32, base: u64, size: u64 },
 }
 
-/// Tests whether `said`, the content of an entry, is a range of memory whose base plus size exceeds
-/// 2^64 - 1. This isn't about running out of memory.
+/// Tests whether `said`, the content of an entry, is a range of memory whose base plus size
+/// exceeds 2^64 - 1.
 pub fn is_block_too_far(said: SratEntry) -> bool
     ensures { result ≡ is_block_too_far said }
 {
@@ -43,8 +43,8 @@ pub fn is_block_too_far(said: SratEntry) -> bool
     }
 }
 
-/// Tests whether a whole entry begins at offset `at`. Its type and length must be there. The
-/// length must be at least 2, must not exceed the bytes that are left, and must fit the type.
+/// Tests whether a whole entry begins at offset `at`. Its type and length must be in the table.
+/// Its length must be at least 2, must not pass the end of the table, and must fit its type.
 #[tactic(auto, unfolding(crate::specs::Entries::is_whole_entry))]
 pub fn is_whole_entry(bytes: &[u8], at: usize) -> bool
     requires { at < length bytes.now }
@@ -110,8 +110,8 @@ fn has_enabled_flag(bytes: &[u8], offset: usize) -> bool
     LittleEndian::read_u32(&bytes[offset..]) & ENABLED != 0
 }
 
-/// Returns the domain of the local APIC entry at `at`. Before revision 2 of the table, only the
-/// lowest byte counts.
+/// Returns the domain of the local APIC entry at offset `at`. Before revision 2 of the table, a
+/// domain has only 8 bits.
 #[tactic(auto, unfolding(crate::specs::Entries::local_apic_domain))]
 fn local_apic_domain(bytes: &[u8], at: usize) -> u32
     requires header { 48 ≤ length bytes.now }
@@ -124,8 +124,8 @@ fn local_apic_domain(bytes: &[u8], at: usize) -> u32
     LittleEndian::read_u32(&[bytes[at + 2], bytes[at + 9], bytes[at + 10], bytes[at + 11]])
 }
 
-/// Returns the domain of the memory entry at `at`. Before revision 2 of the table, only the lowest
-/// byte counts.
+/// Returns the domain of the memory entry at offset `at`. Before revision 2 of the table, a domain
+/// has only 8 bits.
 #[tactic(auto, unfolding(crate::specs::Entries::memory_domain))]
 fn memory_domain(bytes: &[u8], at: usize) -> u32
     requires header { 48 ≤ length bytes.now }

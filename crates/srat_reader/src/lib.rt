@@ -12,10 +12,10 @@
 //! Entries of other types and entries that aren't enabled are skipped.
 //!
 //! [`read_srat`] returns an [`Srat`], or the first fault of the bytes as a [`SratFault`]. It reads
-//! the bytes twice: first for faults, without allocating, and then for the values. So it runs out
-//! of memory only on bytes without a fault. The layer above can rely on each of the two lists
-//! having fewer than 2^32 members. That layer decides what the domains mean: the numbers of the
-//! nodes, and which ranges count.
+//! the bytes twice: first for faults, without allocating, and then for the lists. It therefore
+//! runs out of memory only on bytes without a fault. Each of the two lists has fewer than 2^32
+//! members. The layer above decides what the domains mean: it numbers the nodes, and selects the
+//! ranges that count.
 //!
 //! In contracts, a name means the definition in `specs/`: `Table.antt` has the whole table
 //! (`srat_of`), `Entries.antt` one entry.

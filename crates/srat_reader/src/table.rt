@@ -6,9 +6,7 @@ ghost use Rattle.srat_reader.specs.Entries.{is_block_too_far};
 ghost use Rattle.bm_base.specs.Answers.{Answers};
 ghost use Rattle.srat_reader.specs.Table.{srat_view, srat_of, srat_header_fault, entry_offsets, first_srat_fault, srat_fault, processor_of, srat_block_of, processors_of, srat_blocks_of};
 
-use crate::entries::{
-    SratEntry, entry_length_at, is_block_too_far, is_whole_entry, srat_entry_at,
-};
+use crate::entries::{SratEntry, entry_length_at, is_block_too_far, is_whole_entry, srat_entry_at};
 use bm_base::{Memory, Range};
 use byteorder::{ByteOrder, LittleEndian};
 use std::alloc::Global;
@@ -37,8 +35,8 @@ pub struct Srat {
     pub blocks: Vec<SratBlock>,
 }
 
-/// The reason why bytes are not an SRAT. The first four are tested in this order, then the entries
-/// by ascending offset. The reader reports the first fault that it finds.
+/// The reason why bytes are not an SRAT. The first four faults are tested in this order, then the
+/// entries by ascending offset. The reader reports the first fault that it finds.
 #[derive(Clone, Copy, Debug, PartialEq, Eq)]
 pub enum SratFault {
     /// There are fewer than 48 bytes.
@@ -49,15 +47,15 @@ pub enum SratFault {
     Length,
     /// The sum of the bytes isn't 0 modulo 256.
     Checksum,
-    /// There is no whole entry at this offset. Only one byte is left; or the entry's length is
-    /// below 2 or passes the end of the table; or the type is 0, 1 or 2, and its entries have
-    /// another length.
+    /// There is no whole entry at this offset: only one byte is left there; or the entry's length
+    /// is below 2 or passes the end of the table; or the entry has type 0, 1 or 2 and not the
+    /// length of that type.
     EntryLength { offset: u32 },
     /// The entry at this offset is an enabled range of memory whose base plus size exceeds 2^64 -
     /// 1.
     BlockTooFar { offset: u32 },
-    /// The program ran out of memory. This is returned only for bytes without any other fault that
-    /// have an enabled entry of a processor or of memory.
+    /// The program ran out of memory. This is returned only if the bytes have no other fault and
+    /// an enabled entry of a processor or of memory.
     Memory,
 }
 
@@ -96,8 +94,8 @@ pub fn read_srat(alloc: Global, bytes: &[u8]) -> Result<Srat, SratFault>
     Ok(read_srat_entries(alloc, bytes)?)
 }
 
-/// Returns the first fault of the header: too short, the signature, the stated length, the
-/// checksum. Returns `None` if there is no such fault.
+/// Returns the first fault of the header, or `None` if there is none. It tests, in this order,
+/// that there are at least 48 bytes, the signature, the stated length and the checksum.
 fn srat_header_fault(bytes: &[u8]) -> Option<SratFault>
     ensures value { result ≡ srat_header_fault bytes.now }
     ensures few { IfNone result (length bytes.now < 2 ^ 32) }

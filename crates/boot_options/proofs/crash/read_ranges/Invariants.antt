@@ -8,8 +8,7 @@ use Rattle.boot_options.specs.Kept.{KeepsItems}
 use Rattle.boot_options.proofs.CrashLaws.{ranges_before}
 use Rattle.boot_options.proofs.crash.read_ranges.Given as goal
 
--- the ranges read so far, followed by those of the texts that are left, are the ranges of all
--- texts
+-- the ranges read before, followed by those of the texts that remain, are the ranges of all texts
 abbrev pub invariant-loop-rest : goal.invariant-loop-rest
 invariant-loop-rest l =
     (kept : List CrashRange) × KeepsItems l.ranges kept

@@ -9,7 +9,7 @@ use Rattle.boot_options.proofs.ReadingLaws.{state_at}
 use Rattle.boot_options.proofs.LineBounds.{types-given, ranges-given, crash-given, numbered_map_options-given, options_of-not_memory}
 use Rattle.boot_options.proofs.options.read_options.Goals as goal
 
--- the fault of a word
+-- the line has a malformed word
 pub returns-in_err-reading-clause-memory : goal.returns-in_err-reading-clause-memory
 returns-in_err-reading-clause-memory c =
     let told : c.from_residual-in_err-reading.result ≡ Err c.in_err-reading.field-0.0 = grind (arith, common_steps) in
@@ -23,7 +23,7 @@ returns-in_err-reading-clause-words c =
     grind (arith, common_steps) in
     numbered_map_options-given c.args.bytes.now c.from_residual-in_err-reading.result answers
 
--- the end of the line
+-- all words were read
 pub returns-clause-answers : goal.returns-clause-answers
 returns-clause-answers c =
     let end = state_at c.in_ok-reading.reading _ c.in_ok-reading.ensures in

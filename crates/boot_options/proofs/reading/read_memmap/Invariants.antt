@@ -6,8 +6,8 @@ use Rattle.boot_options.specs.Options.{map_options_of}
 use Rattle.boot_options.specs.Reading.{ReadingState, IsReadTo, read_map_options}
 use Rattle.boot_options.proofs.reading.read_memmap.Given as goal
 
--- reading the texts that are left from the current state gives what reading all texts from the
--- first state gives
+-- reading the texts that remain from the current state gives what reading all texts from the first
+-- state gives
 abbrev pub invariant-loop-rest : goal.invariant-loop-rest
 invariant-loop-rest l =
     (st : ReadingState) → IsReadTo l.fn.reading st → (mid : ReadingState) × IsReadTo l.reading mid

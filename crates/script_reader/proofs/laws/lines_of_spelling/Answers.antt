@@ -1,4 +1,4 @@
--- A text is read as its words are.
+-- Reading a line depends only on its words.
 use Rattle.text_words.specs.declared.separators.Separators.TheVariants.{Script}
 use Rattle.text_words.proofs.SpellingLaws.{has_words}
 use Rattle.script_reader.proofs.GrammarLaws.{nothing_read, fault_read}

@@ -1,4 +1,4 @@
--- one more line
+-- One more line was read.
 use Rattle.std.proofs.Common.{◌++◌, option_to_list, sym, ◌∙◌, arith}
 use Rattle.std.specs.List.{All}
 use Rattle.std.specs.Option.{option_map}

@@ -1,4 +1,5 @@
--- The lines so far come before those of the rest, and there are fewer lines than bytes.
+-- The lines read before, followed by those of the text that remains, are all lines. There are
+-- fewer lines than bytes.
 use Rattle.std.proofs.Common.{◌≡◌, ◌+◌, ◌<◌, ◌≤◌, List, length, IfOk, IfErr, All}
 use Rattle.std.specs.Option.{option_map}
 use Rattle.text_words.specs.Parts.{parts_of_rest}

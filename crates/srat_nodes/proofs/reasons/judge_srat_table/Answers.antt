@@ -12,10 +12,10 @@ returns-then-not-is_any_kept c =
     c.unused_srat.ensures ∙ sym (no_blocks _ _ (any_alike (is_in_any_range c.args.memory.now) (is_in_runs c.in_ok-runs.runs.items)
     c.in_ok-runs.ensures.bytes c.args.blocks.now (sym c.is_any_kept.ensures ∙ c.if-not-is_any_kept.true)))
 
-pub returns-then-len-gt-MAX_NODES : goal.returns-then-len-gt-MAX_NODES
-returns-then-len-gt-MAX_NODES c =
+pub returns-then-len : goal.returns-then-len
+returns-then-len c =
     let many : 1024 < length c.in_ok-domains.domains.items = omega (arith, c.in_ok-domains.domains.ok.0) in
-    c.unused_srat-then-len-gt-MAX_NODES.ensures
+    c.unused_srat-then-len.ensures
     ∙ sym (too_many_domains _ _ (any_alike (is_in_any_range c.args.memory.now) (is_in_runs c.in_ok-runs.runs.items)
     c.in_ok-runs.ensures.bytes c.args.blocks.now (sym c.is_any_kept.ensures ∙ c.if-not-is_any_kept.false))
     (many_domains c.in_ok-domains.domains.items _ c.in_ok-domains.ensures many))

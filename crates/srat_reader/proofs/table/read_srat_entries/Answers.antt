@@ -42,7 +42,7 @@ loop-at-preserved c =
           (sym (values_from_entry (srat_block_at bytes) l.at bytes l.srat.blocks.items c.loop-at-test.true whole) ∙ l.invariant.blocks);
     }
 
--- a value of any entry makes one of the two lists of the table non-empty
+-- if any entry is a processor or a range of memory, one of the two lists of the table isn't empty
 one_more : (at : ℕ) (bytes cpus : List ℕ) (blocks : List SratBlock) (said : SratEntry) → at < length bytes → is_whole_entry at bytes ≡ true
     → said ≡ srat_entry_at at bytes
     → cpus ++ filter_map (processor_domain_at bytes) (rest_from at bytes) ≡ processors_of bytes
