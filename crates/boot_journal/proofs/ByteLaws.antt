@@ -1,4 +1,4 @@
--- Lemmas: following a byte from trim to trim, and comparing the ends inside its frame, gives the
+-- Following a byte from trim to trim, and comparing the ends of ranges inside its frame, gives the
 -- definition's tag.
 use Rattle.std.proofs.Common.{◌≡◌, ℕ, zero, suc, ◌+◌, ◌-◌, ◌%◌, ◌<◌, ◌==◌, Bool, true, false, ◌||◌, nat_lt, Option, Some, None, List, [], ◌∷◌, ◌++◌, length, take, drop, get_or, add-one, refl, sym, ◌∙◌, ap, inl, inr, arith}
 use Rattle.std.proofs.lemmas.Bool.Decides.{nat_tests}
@@ -17,7 +17,7 @@ use Rattle.memblock_model.proofs.LabelLaws.{IsInFrame, in_own_frame, trim_frames
 use Rattle.memblock_model.proofs.ItemLaws.{memory_fold-local}
 use Rattle.boot_journal.specs.Bytes.{is_trim, label_after, label_after_items, label_after_trim, EdgeAgrees, EdgeDiffers, ItemAgrees, ItemsAgree}
 
--- an end of the item's range is at address `e`
+-- whether an end of the item's range is at address `e`
 abbrev edge_at : Item → ℕ → Bool
 edge_at (item.Mem range) e = (range.base == e) || (end_of range == e)
 edge_at (item.Node range node) e = (range.base == e) || (end_of range == e)
@@ -31,8 +31,7 @@ edge_in (i ∷ is) e = edge_at i e || edge_in is e
 covers-step : (r : RangeView) (y : ℕ) → ((r.base == y + 1) || (end_of r == y + 1)) ≡ false → covers r (y + 1) ≡ covers r y
 covers-step r y h = grind (arith, nat_tests)
 
--- if no end of its range is at the next address, an item has the same effect on that byte as on
--- this one
+-- an item has the same effect on two neighbouring bytes if no end of its range is between them
 label_after-step : (i : Item) (t : Option LabelView) (y : ℕ) → edge_at i (y + 1) ≡ false → label_after (y + 1) t i ≡ label_after y t i
 label_after-step (item.Mem range) t y h = rw (covers-step range y h) refl
 label_after-step (item.Node range node) t y h = rw (covers-step range y h) refl
@@ -48,7 +47,7 @@ label_after_items-step (i ∷ is) t y h =
     ap (λ (u : Option LabelView). label_after_items u is (y + 1)) (label_after-step i t y both.0)
     ∙ label_after_items-step is (label_after y t i) y both.1
 
--- if both ends of a range agree with the frame's first byte, so does each of them
+-- if both ends of a range agree with the frame's first byte, an address that is one of them does
 range_agrees-at : (whole : Option LabelView) (items : List Item) (first : ℕ) (r : RangeView) (e : ℕ) → EdgeAgrees whole items first r.base
     → EdgeAgrees whole items first (end_of r)
     → ((r.base == e) || (end_of r == e)) ≡ true → EdgeAgrees whole items first e
@@ -75,7 +74,8 @@ all_agree-at whole items first (i ∷ is) e agree h =
       | inr later ↦ all_agree-at whole items first is e agree.1 later
     ]
 
--- if all ends agree, all bytes of the frame have the same marks
+-- if all ends of ranges agree with the frame's first byte, all bytes of the frame have the same
+-- marks
 frame-agrees : (whole : Option LabelView) (items : List Item) (first : ℕ) → ItemsAgree whole items first items → (k y : ℕ) → y ≡ first + k
     → k < 4096
     → label_after_items whole items y ≡ label_after_items whole items first
@@ -89,7 +89,7 @@ frame-agrees whole items first agree (suc k) y is lt =
       | inr quiet ↦ label_after_items-step items whole z quiet ∙ frame-agrees whole items first agree k z refl (omega arith)
     ])
 
--- a trim keeps a frame whose ends agree
+-- a trim keeps a frame if all ends of ranges agree with its first byte
 pub label_after_trim-agrees : (whole : Option LabelView) (items : List Item) (x : ℕ) → ItemsAgree whole items (x - x % 4096) items
     → label_after_trim whole items x
     ≡ label_after_items whole items (x - x % 4096)
@@ -101,7 +101,7 @@ label_after_trim-agrees whole items x agree =
     let here = one x (in_own_frame x) in
     trim_frames-whole (label_after_items whole items) x (λ y in_frame. one y in_frame ∙ sym here) ∙ here
 
--- a trim removes a frame with an end that differs
+-- a trim removes a frame if some end of a range differs from its first byte
 pub label_after_trim-differs : (whole : Option LabelView) (items : List Item) (x e : ℕ) → EdgeDiffers whole items (x - x % 4096) e
     → label_after_trim whole items x
     ≡ None
@@ -126,16 +126,16 @@ labels_after f (i ∷ is) y plain =
     labels_after (memory_after f i) is y (λ k lt. plain (suc k) (omega arith))
     ∙ ap (λ (l : Option LabelView). label_after_items l is y) (label_after-is f i y (plain 0 (omega arith)))
 
--- memory in which all bytes have the same marks
+-- labels under which all bytes have the same marks
 abbrev same_marks_everywhere : Option LabelView → Labels
 same_marks_everywhere carried x = carried
 
--- the marks of the byte after these items, starting from memory in which all bytes have the marks
--- `whole`
+-- the marks of the byte after these items, if all bytes had the marks `whole` before
 abbrev pub label_after_all : Option LabelView → List Item → ℕ → Option LabelView
 label_after_all whole items x = fold memory_after (same_marks_everywhere whole) items x
 
--- after a trim all bytes of the frame have the same marks, so one of them is enough
+-- after a trim all bytes of the frame have the same marks, so the byte alone decides what comes
+-- after it
 trim_step : (whole : Option LabelView) (items rest : List Item) (x : ℕ) → Plain items
     → label_after_all whole (items ++ item.Trim ∷ rest) x ≡ label_after_all (label_after_trim whole items x) rest x
 unfolding label_after_trim
@@ -158,7 +158,7 @@ is_trim-is : (i : Item) → is_trim i ≡ true → i ≡ item.Trim
 is_trim-is item.Trim h = refl
 is_trim-is i h = absurd (true≢false (sym h))
 
--- one iteration of the loop
+-- one iteration of the loop: the items up to the next trim
 pub turn : (whole : Option LabelView) (items : List Item) (i x : ℕ) → position is_trim items ≡ Some i
     → label_after_all whole items x ≡ label_after_all (label_after_trim whole (take i items) x) (drop (i + 1) items) x
 turn whole items i x found =
@@ -169,7 +169,7 @@ turn whole items i x found =
     rw (get_or-take i items k item.Trim (omega (arith, length-take i items))) (at.2 k (omega (arith, length-take i items))) in
     ap (λ (is : List Item). label_after_all whole is x) apart ∙ rw add-one (trim_step whole (take i items) (drop (suc i) items) x plain)
 
--- the items after the last trim
+-- the end of the loop: the items after the last trim
 pub items_after_last_trim : (whole : Option LabelView) (items : List Item) (x : ℕ) → position is_trim items ≡ None → label_after_all whole items x
     ≡ label_after_items whole items x
 items_after_last_trim whole items x none = labels_after (same_marks_everywhere whole) items x (position_none items none)

@@ -25,7 +25,8 @@ from_examples : (label_after_items None half 4096 ≡ Some (of_node 3)) × (labe
     × (label_after_items None half 0 ≡ None)
 from_examples = (refl, refl, refl)
 
--- a trim removes such a frame, and keeps one that is entirely memory without a node
+-- a trim removes a frame of which only half has a node, and keeps one that is all memory without a
+-- node
 kept_examples : (label_after_trim None half 4096 ≡ None) × (label_after_trim None (item.Mem (bytes 4096 4096) ∷ []) 5000 ≡ Some plain_label)
 unfolding label_after_trim trim_frames each_in each_from
 kept_examples = (refl, refl)
@@ -40,7 +41,7 @@ middle_differs = record { behind = omega arith; inside = omega arith; other = pl
 middle_is_an_edge : ItemAgrees None half 4096 (item.Node (bytes 4096 2048) 3) → ⊥
 middle_is_an_edge agree = plain_is_another (agree.1 (omega arith) (omega arith))
 
--- if half of a frame becomes mirrored, it differs from the other half
+-- the label of mirrored memory differs from that of other memory
 mirror_is_another : Some plain_label ≡ Some (with_mirror plain_label) → ⊥
 mirror_is_another same = true≢false (sym (ap (λ (l : Option LabelView). option_map_or (λ (m : LabelView). m.mirror) l false) same))
 
@@ -48,7 +49,8 @@ mirror_is_an_edge : ItemAgrees None (item.Mem (bytes 4096 4096) ∷ (item.Mirror
     (item.Mirror (bytes 6144 2048)) → ⊥
 mirror_is_an_edge agree = mirror_is_another (sym (agree.0 (omega arith) (omega arith)))
 
--- a range that becomes mirrored, even if it holds no memory; and items without any
+-- a Mirror item counts even if its range contains no memory; without such an item nothing is
+-- mirrored
 mirrors_examples : (has_mirrors half ≡ false) × (has_mirrors (item.Mirror (bytes 4096 4096) ∷ (item.Trim ∷ [])) ≡ true)
     × (has_mirrors_after false (item.Mirror (bytes 4096 4096)) ≡ true) × (has_mirrors_after true item.Trim ≡ true)
 mirrors_examples = (refl, refl, refl, refl)

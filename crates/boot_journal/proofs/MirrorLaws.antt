@@ -1,4 +1,4 @@
--- Lemmas: without an item that marks memory as mirrored, no byte is mirrored.
+-- Without an item that marks memory as mirrored, no byte is mirrored.
 use Rattle.std.proofs.Common.{◌≡◌, ℕ, true, false, List, [], ◌∷◌, ◌++◌, refl, sym, ◌∙◌, inl, inr, arith}
 use Rattle.std.proofs.lemmas.Bool.{true≢false}
 use Rattle.std.proofs.lemmas.List.Sums.{fold-append}
@@ -11,7 +11,7 @@ use Rattle.memblock_model.specs.Search.{is_allowed_mirror}
 use Rattle.memblock_model.proofs.LabelLaws.{trim_frames-cases, trim_frames-whole}
 use Rattle.boot_journal.specs.Mirrors.{has_mirrors_after, has_mirrors}
 
--- one more item
+-- whether some item marks memory as mirrored, after one more item
 pub has_mirrors-push : (items : List Item) (i : Item) → has_mirrors (items ++ i ∷ []) ≡ has_mirrors_after (has_mirrors items) i
 has_mirrors-push items i = fold-append has_mirrors_after false items (i ∷ [])
 
@@ -22,7 +22,7 @@ trimmed_suits f x plain =
       | inr none ↦ rw none refl
     ]
 
--- after one such item the answer stays true
+-- `has_mirrors` stays true after an item that marks memory as mirrored
 marked : (items : List Item) → fold has_mirrors_after true items ≡ true
 marked [] = refl
 marked (item.Mirror range ∷ is) = marked is

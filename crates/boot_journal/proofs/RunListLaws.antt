@@ -1,4 +1,5 @@
--- Lemmas: an edit of the elements from an index on is an edit of the list that begins there.
+-- An edit of a list at or after an index is an edit of the part of the list that begins at the
+-- index.
 use Rattle.std.proofs.Common.{◌≡◌, ℕ, ◌+◌, ◌-◌, ◌≤◌, List, ◌∷◌, ◌++◌, length, take, drop, set, sym, ◌∙◌, ap, arith}
 use Rattle.std.specs.Prelude.{insert}
 use Rattle.std.specs.List.{copy_within}
@@ -10,13 +11,13 @@ module _ {X : Type 0} where
   drop-followed a i ys rest within =
       drop-append-le a (take (a + i) ys) rest (omega (arith, length-take-le (a + i) ys within)) ∙ ap (λ l. l ++ rest) (drop-take a i ys)
 
-  -- an element is inserted there
+  -- inserting an element into the whole list inserts it into the part
   pub drop-insert : (a i : ℕ) (x : X) (ys : List X) → a + i ≤ length ys → drop a (insert ys (a + i) x)
       ≡ take i (drop a ys) ++ x ∷ drop i (drop a ys)
   drop-insert a i x ys within =
       drop-followed a i ys (x ∷ drop (a + i) ys) within ∙ ap (λ l. take i (drop a ys) ++ x ∷ l) (sym (drop-drop i a ys))
 
-  -- n elements are removed there
+  -- removing n elements from the whole list removes them from the part
   pub drop-closed : (a i n : ℕ) (ys : List X) → a + i ≤ length ys → drop a (take (a + i) ys ++ drop (a + i + n) ys)
       ≡ take i (drop a ys) ++ drop (i + n) (drop a ys)
   drop-closed a i n ys within =

@@ -11,7 +11,8 @@ abbrev pub is_trim : Item → Bool
 is_trim item.Trim = true
 is_trim i = false
 
--- the marks of the byte at address `x` after the item; a trim changes nothing here
+-- the marks of the byte at address `x` after the item; after a trim they are unchanged, since this
+-- definition leaves trims to `label_after_trim`
 abbrev pub label_after : ℕ → Option LabelView → Item → Option LabelView
 label_after x carried item.Trim = carried
 label_after x carried i = memory_after (λ y. carried) i x
@@ -36,14 +37,15 @@ pub record EdgeDiffers (whole : Option LabelView) (items : List Item) (first e :
   pub inside : e < first + FRAME_SIZE
   pub other : label_after_items whole items e ≢ label_after_items whole items first
 
--- both ends of the item's range agree with the frame's first byte
+-- at both ends of the item's range, the byte has the same marks as the frame's first byte, if the
+-- end is inside the frame
 abbrev pub ItemAgrees : Option LabelView → List Item → ℕ → Item → Type 0
 ItemAgrees whole items first (item.Mem range) = EdgeAgrees whole items first range.base × EdgeAgrees whole items first (end_of range)
 ItemAgrees whole items first (item.Node range node) = EdgeAgrees whole items first range.base × EdgeAgrees whole items first (end_of range)
 ItemAgrees whole items first (item.Mirror range) = EdgeAgrees whole items first range.base × EdgeAgrees whole items first (end_of range)
 ItemAgrees whole items first i = Unit {0}
 
--- all ends of ranges agree with the frame's first byte
+-- `ItemAgrees` for each item of the last list
 abbrev pub ItemsAgree : Option LabelView → List Item → ℕ → List Item → Type 0
 ItemsAgree whole items first [] = Unit {0}
 ItemsAgree whole items first (i ∷ is) = ItemAgrees whole items first i × ItemsAgree whole items first is

@@ -3,7 +3,7 @@ use Rattle.std.specs.Prelude.{ℕ, List}
 use Rattle.address_runs.specs.Runs.{RunOf}
 use Rattle.memblock_model.specs.declared.owner.Owner.{Owner}
 
--- its runs, in ascending order, and the number of runs that it has memory for
+-- the list's runs, in ascending order, and the number of runs that it has memory for
 pub record RunListView : Type 0 where
   pub items : List (RunOf Owner)
   pub room : ℕ

@@ -1,8 +1,8 @@
 //! The journal: its items, and the runs of bytes with one owner.
 //!
 //! Both change together, so both are here. An item that claims or frees memory first updates the
-//! runs, and then is appended; so looking up an owner never goes through the items. The memory for
-//! both is allocated in one place (`ready`), before anything changes.
+//! runs, and then is appended. Looking up an owner therefore never goes through the items. The
+//! memory for both is allocated in one place (`ready`), before anything changes.
 
 ghost use Rattle.std.specs.Prelude.{◌≡◌, ◌++◌, ◌∷◌, ◌+◌, ◌-◌, ◌^◌, ◌<◌, ◌≤◌, ℕ, Some, [], ◌↔◌, IsTrue, max, OnOk, OnErr, IfOk, vec_len, vec_capacity};
 ghost use Rattle.bm_base.specs.Range.{end_of};
@@ -18,8 +18,8 @@ use run_edits::{has_value_throughout, value_at};
 use std::alloc::Global;
 use std::marker::Model;
 
-/// The items so far, oldest first. Contracts see them and `spare`, the number of items that can be
-/// appended without allocating.
+/// The items of the boot, oldest first. Contracts see them and `spare`, the number of items that
+/// can be appended without allocating.
 ///
 /// The journal also keeps the runs of bytes with one owner, in ascending order, and whether some
 /// item marks memory as mirrored. Both follow from the items.
@@ -65,7 +65,7 @@ impl Journal {
         }
     }
 
-    /// Allocates memory so that `n` more items can be appended without allocating.
+    /// Allocates memory so that at least `n` more items can be appended without allocating.
     ///
     /// # Errors
     ///
@@ -133,16 +133,16 @@ impl Journal {
         self.items.as_slice()
     }
 
-    /// Returns the owner of the byte at address `x`, or `None` if nobody owns it. The last claim
-    /// or release that covers the byte decides. Looks it up in the runs, without allocating.
+    /// Returns the owner of the byte at address `x`, or `None` if it has none. The last claim or
+    /// release that covers the byte decides. Looks the byte up in the runs, without allocating.
     pub fn owner_at(&self, x: u64) -> Option<Owner>
         ensures { result ≡ owner_of self.now.items x }
     {
         value_at(&self.owners, x)
     }
 
-    /// Tests whether each byte of the range has this owner. Looks it up in the runs, without
-    /// allocating.
+    /// Tests whether each byte of the range has this owner. Looks the range up in the runs,
+    /// without allocating.
     pub fn owns(&self, range: &Range, owner: Owner) -> bool
         ensures { IsTrue result ↔ ((x : ℕ) → range.now.base ≤ x → x < end_of range.now →
             owner_of self.now.items x ≡ Some owner) }
@@ -150,7 +150,7 @@ impl Journal {
         has_value_throughout(&self.owners, range, owner)
     }
 
-    /// Tests whether some item marks memory as mirrored. The journal keeps the answer, so this
+    /// Tests whether some item marks memory as mirrored. The journal keeps the result, so this
     /// takes constant time.
     pub fn has_mirrors(&self) -> bool
         ensures { result ≡ has_mirrors self.now.items }

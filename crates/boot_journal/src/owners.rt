@@ -1,8 +1,9 @@
 //! Updates the runs of bytes with one owner, item by item.
 //!
-//! A claim replaces the previous owner of its bytes, and a release leaves them without one
-//! (`memblock_reserve`, `memblock_phys_free`). Each is one edit of a sorted list of runs
-//! (`run_edits`). The edit has a file of its own so that its contract holds for any such list.
+//! A claim replaces the previous owner of its bytes, and a release leaves its bytes without an
+//! owner (`memblock_reserve`, `memblock_phys_free`). Each is one edit of a sorted list of runs
+//! (`run_edits`). The edit has a file of its own so that its contract holds for any sorted list of
+//! runs.
 
 ghost use Rattle.std.specs.Prelude.{◌+◌, ◌^◌, ◌<◌, ◌≤◌, length};
 ghost use Rattle.address_runs.specs.Runs.{AreRuns, IsRunsOf, value_at};
@@ -15,8 +16,8 @@ use bm_base::Range;
 use memblock_model::{Item, Owner};
 use run_edits::{Change, Replace, Uncover, edit_without_cover};
 
-/// Updates the runs for an item. A claim makes its owner the owner of all bytes in its range;
-/// after a release nobody owns them. There must be room for two more runs.
+/// Updates the runs for an item. After a claim all bytes of its range have its owner; after a
+/// release none has an owner. There must be room for two more runs.
 pub fn update_owners(owners: &mut RunList, item: &Item)
     requires item { ItemHasBytes item.now }
     requires runs { AreRuns owners.old.items }
@@ -34,8 +35,8 @@ pub fn update_owners(owners: &mut RunList, item: &Item)
     }
 }
 
-/// Carries out one change on the runs inside the range, without allocating. There must be room for
-/// two more runs.
+/// Applies one change to the bytes of the range, without allocating. There must be room for two
+/// more runs.
 fn apply_change<C: Change<Owner>>(owners: &mut RunList, range: &Range, change: C)
     requires some { 0 < range.now.size }
     requires runs { AreRuns owners.old.items }

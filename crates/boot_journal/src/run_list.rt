@@ -1,9 +1,9 @@
 //! A list of runs that grows cheaply at both ends.
 //!
-//! Top-down allocations claim one range below the other, so a new run comes before all but a few
-//! others. Ascending claims come after all others. So the list has room before its first run and
-//! after its last one. Inserting or removing a run moves whichever part of the list is shorter. A
-//! reallocation leaves room at each end for half as many runs as the list has.
+//! Top-down allocations claim one range below the other, so a new run comes before almost all
+//! others. Ascending claims come after all others. For both cases the list has room before its
+//! first run and after its last one. Inserting or removing a run moves whichever part of the list
+//! is shorter. A reallocation leaves room at each end for half as many runs as the list has.
 
 ghost use Rattle.std.specs.Prelude.{◌≡◌, ℕ, ◌+◌, ◌-◌, ◌<◌, ◌≤◌, [], ◌∷◌, ◌++◌, IsTrue, false, OnOk, OnErr, drop, length, take, vec_len, vec_capacity};
 
@@ -13,7 +13,7 @@ use run_edits::{Rows, Slots};
 use std::alloc::Global;
 use std::marker::Model;
 
-/// The runs of bytes with one owner.
+/// The runs of bytes with one owner, in ascending order.
 #[derive(Debug, Drop)]
 pub struct RunList {
     /// The runs, from index `front` on.
@@ -52,8 +52,8 @@ impl RunList {
         &self.records[self.front..]
     }
 
-    /// Allocates memory so that `more` further runs can be inserted at either end, unless
-    /// there is room already.
+    /// Makes room for `more` additional runs at each end of the list, so that inserting them
+    /// doesn't allocate. Allocates only if the list lacks this room.
     ///
     /// # Errors
     ///
@@ -71,8 +71,8 @@ impl RunList {
         self.widen(more)
     }
 
-    /// Moves the runs to new memory. At each end it has room for `more` runs and half as many as
-    /// there are.
+    /// Moves the runs to new memory. Before the first run and after the last one there is then
+    /// room for `more` runs, plus half as many as the list has.
     ///
     /// # Errors
     ///
@@ -112,7 +112,8 @@ impl Rows<OwnerRun> for RunList {
     }
 }
 
-/// The room of the list is all the memory that it has, at both ends together.
+/// The room of the list is all the memory that it has, before its first run and after its last
+/// one.
 impl Slots<OwnerRun> for RunList {
     ghost room = { λ r. r.room };
 
@@ -158,8 +159,9 @@ impl Slots<OwnerRun> for RunList {
 }
 
 /// Tests whether inserting a run at index `i`, of `count` runs, should move the runs before it
-/// down, instead of those after it up. It should if fewer runs are before it and there is room
-/// before the first run (`front`), or if there is no room after the last run (`behind`).
+/// down, instead of moving those after it up. It should if there are fewer runs before it and
+/// there is room before the first run (`front`), or if there is no room after the last run
+/// (`behind`).
 fn moves_lower_runs(i: usize, count: usize, front: usize, behind: usize) -> bool
     requires within { i ≤ count }
     requires room { 0 < front + behind }
@@ -169,8 +171,8 @@ fn moves_lower_runs(i: usize, count: usize, front: usize, behind: usize) -> bool
     behind == 0 || (front > 0 && i < count - i)
 }
 
-/// Inserts a run at index `i`, counted from `front`. The runs before it move down by one, into the
-/// room before the first run.
+/// Inserts a run at index `i`, counted from `front`, by moving the runs before it down by one,
+/// into the room before the first run.
 fn insert_low(records: &mut Vec<OwnerRun>, front: usize, i: usize, run: OwnerRun)
     requires some { 0 < front }
     requires within { front + i ≤ vec_len records.old }
@@ -183,7 +185,7 @@ fn insert_low(records: &mut Vec<OwnerRun>, front: usize, i: usize, run: OwnerRun
     records[front - 1 + i] = run;
 }
 
-/// Removes `n` runs from index `i` on. The runs after them move down.
+/// Removes `n` runs from index `i` on, by moving the runs after them down.
 fn close_high(records: &mut Vec<OwnerRun>, i: usize, n: usize)
     requires { i + n ≤ vec_len records.old }
     ensures items { records.new.items ≡ take i records.old.items ++ drop (i + n) records.old.items }

@@ -1,9 +1,9 @@
-//! Computes what kind of memory one byte is, by following it through the items.
+//! Computes the tag of one byte, by following the byte through the items.
 //!
-//! No result is kept, since this is needed only now and then, and the memory table has the records.
-//! Between two trims the items are followed for the byte alone. A trim keeps a frame only if all
-//! its bytes have the same marks (`memblock_trim_memory`). The marks can change only at the ends of
-//! ranges, so only the ends that are inside the frame are compared.
+//! No result is stored, since a tag is needed only now and then, and the memory table has the
+//! records. Between two trims only the byte itself is followed. A trim keeps a frame only if all
+//! its bytes have the same marks (`memblock_trim_memory`). The marks change only at the ends of
+//! items' ranges, so only the ends that are inside the frame are compared.
 
 ghost use Rattle.std.specs.Prelude.{◌≡◌, ◌<◌, ℕ, IsTrue, IfSome, None, false, length, position};
 ghost use Rattle.bm_base.specs.Range.{end_of};
@@ -15,7 +15,7 @@ use bm_base::{FRAME_SIZE, Range};
 use memblock_model::{Item, Marks, Tag};
 
 /// Returns the marks of the byte at `x` after an item other than a trim, or `None` if the byte
-/// isn't memory. `carried` are its marks before the item.
+/// isn't memory. `carried` has its marks before the item.
 fn label_after(carried: Option<Marks>, item: &Item, x: u64) -> Option<Marks>
     ensures { result ≡ label_after x carried item.now }
 {
@@ -29,7 +29,8 @@ fn label_after(carried: Option<Marks>, item: &Item, x: u64) -> Option<Marks>
     }
 }
 
-/// Returns the marks of the byte at `x` after these items, none of which is a trim.
+/// Returns the marks of the byte at `x` after these items, none of which is a trim, or `None` if
+/// it isn't memory. `whole` has its marks before them.
 fn label_after_items(whole: &Option<Marks>, items: &[Item], x: u64) -> Option<Marks>
     ensures { result ≡ label_after_items whole.now items.now x }
 {
@@ -45,8 +46,8 @@ fn first_trim(items: &[Item]) -> Option<usize>
     items.iter().position(|item| matches!(item, Item::Trim))
 }
 
-/// Tests whether the byte at `edge` has the same marks as the first byte of the frame. True for an
-/// edge outside the frame.
+/// Tests whether the byte at `edge` has the same marks as the byte at `first`, the first byte of
+/// the frame. True for an edge outside the frame.
 fn edge_agrees(whole: &Option<Marks>, items: &[Item], first: u64, edge: u64) -> bool
     ensures agrees { IsTrue result → EdgeAgrees whole.now items.now first edge }
     ensures differs { result ≡ false → EdgeDiffers whole.now items.now first edge }
@@ -81,8 +82,8 @@ fn range_agrees(whole: &Option<Marks>, items: &[Item], first: u64, range: &Range
 }
 
 /// Tests whether all bytes of the frame at `first` have the same marks after the items, none of
-/// which is a trim, given that all had the marks `whole` before. The marks can change only at the
-/// ends of ranges, so only the ends inside the frame are looked at.
+/// which is a trim. Before the items all of them must have had the marks `whole`. Looks only at
+/// the ends of ranges inside the frame, since marks change nowhere else.
 fn frame_agrees(whole: &Option<Marks>, items: &[Item], first: u64) -> bool
     ensures agrees { IsTrue result → ItemsAgree whole.now items.now first items.now }
     ensures differs { result ≡ false → (e : ℕ) × EdgeDiffers whole.now items.now first e }
@@ -95,8 +96,9 @@ fn frame_agrees(whole: &Option<Marks>, items: &[Item], first: u64) -> bool
     true
 }
 
-/// Returns the marks of the byte at `x` after these items, none of which is a trim, followed by a
-/// trim. The result is `None` unless all bytes of its frame have the same marks before the trim.
+/// Returns the marks of the byte at `x` after these items, none of which is a trim, and then a
+/// trim. Before the items all bytes of its frame must have had the marks `whole`. Returns `None`
+/// unless all of them have the same marks before the trim.
 fn label_after_trim(whole: &Option<Marks>, items: &[Item], x: u64) -> Option<Marks>
     ensures { result ≡ label_after_trim whole.now items.now x }
 {
@@ -118,9 +120,9 @@ fn tag_for(carried: Option<Marks>) -> Tag
 }
 
 /// Returns the tag of the byte at address `x` after all items: whether it is memory, on which
-/// node, and whether it is mirrored. After a trim all bytes of a frame have the same marks. So
-/// between two trims the items are followed for the byte alone, and at a trim its frame is
-/// compared.
+/// node, and whether it is mirrored. After a trim all bytes of a frame have the same marks.
+/// Between two trims it is therefore enough to follow the byte alone, and at a trim to compare its
+/// frame.
 pub fn tag_at(items: &[Item], x: u64) -> Tag
     ensures { result ≡ tag_of items.now x }
 {

@@ -60,7 +60,7 @@ end_reached limit f (suc at) known =
     let low = low_frame limit f last.0 last.2 in
     (omega (arith, last.1, low), omega (arith, last.1))
 
--- there is only one such end
+-- there is only one end of memory
 pub one_end : (limit : ℕ) (f : TypeAt) (at also : ℕ) → IsEnd limit f at → IsEnd limit f also → at ≤ also
 one_end limit f zero also first second = omega arith
 one_end limit f (suc at) also first second =
@@ -68,7 +68,7 @@ one_end limit f (suc at) also first second =
     let by = second.by last.0 last.2 in
     omega (arith, last.1, by)
 
--- a byte of memory, mirrored or not, is below it
+-- each byte of memory, mirrored or not, is below the end of memory
 pub mirrored_below : (limit : ℕ) (f : TypeAt) (mirrors : List FrameRange) (x : ℕ) (label : LabelView)
     → mirrored_memory mirrors (usable_memory limit f) x ≡ Some label → x < memory_end limit f
 mirrored_below limit f mirrors x label held =
@@ -99,7 +99,7 @@ ends_at {X} from (r ∷ rs) runs start =
       ];
     }
 
--- so the runs of memory end where memory ends
+-- the runs of memory end where memory ends
 runs_are_end : (limit : ℕ) (f : TypeAt) (mirrors : List FrameRange) (rs : List (RunOf LabelView))
     → IsRunsOf (mirrored_memory mirrors (usable_memory limit f)) rs → IsEnd limit f (end_of_last_run rs)
 runs_are_end limit f mirrors rs are =

@@ -1,4 +1,4 @@
--- A few items need no growth, and are written as they are.
+-- A short list of items needs no growth, and is written as it is.
 use Rattle.std.proofs.Common.{◌≡◌, ℕ, ◌+◌, ◌*◌, ◌^◌, ◌≤◌, false, List, [], ◌∷◌, ◌++◌, length, Ok, refl, sym, ap, ◌∙◌, subst, arith}
 use Rattle.std.proofs.lemmas.Bool.Decides.{nat_tests}
 use Rattle.std.proofs.lemmas.List.{append-nil, append_assoc}
@@ -60,7 +60,7 @@ covers_few w r items n small low room within few =
     let more = length-covered r plain_label (table_of w items) small within in
     (grind (arith, nat_tests, room, low, few, some), omega (arith, few, some, more))
 
--- one item, and then the others
+-- carrying out an item that needs no growth, and then the others
 goes : (i : Item) (is items : List Item) → change_writing_item i items ≡ write_item i items
     → carry_out_items is (items ++ i ∷ []) ≡ Ok ((items ++ i ∷ []) ++ is) → carry_out_items (i ∷ is) items ≡ Ok (items ++ (i ∷ is))
 unfolding carry_out_items
@@ -91,7 +91,7 @@ few_carried (item.Limit at ∷ is) items n m few need =
     (behind (item.Limit at) items n m n m few tt few.rooms few.reserved few.memory) need)
 few_carried (i ∷ is) items n m few need = absurd need
 
--- the whole list, from no items
+-- carrying out a short list from the beginning writes exactly the list
 pub few_from_nothing : (is : List Item) → NeedNone 0 0 is → carry_out_items is [] ≡ Ok is
 few_from_nothing is need =
     let none : (w : Which) → length (records_for (table_of w [])) ≤ 0 =

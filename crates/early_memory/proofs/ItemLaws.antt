@@ -37,7 +37,7 @@ initrd-items : (initrd : Option RangeView) → IfSome initrd (λ range. 0 < rang
 initrd-items None some = tt
 initrd-items (Some range) some = (some, tt)
 
--- ranges of mirrored frames that aren't empty
+-- no item of mirrored frames has an empty range, if no range of these frames is empty
 mirrors-items : (mirrors : List FrameRange) → All (λ r. 0 < r.count) mirrors → ItemsHaveBytes (mirror_items mirrors)
 mirrors-items [] some = tt
 mirrors-items (r ∷ rs) some =

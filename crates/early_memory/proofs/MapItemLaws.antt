@@ -62,7 +62,7 @@ all_runs limit (r ∷ rs) f x runs =
           rw (outside, here) refl)
     ])
 
--- starting without memory
+-- the memory that the map's items give, if there was none before
 pub added_memory : (limit : ℕ) (rs : List (RunOf ℕ)) (x : ℕ) → AreRuns rs
     → fold memory_after no_memory (items_of_map limit rs) x
     ≡ (if is_memory (types_below limit (value_at rs) x) then Some plain_label else None)
@@ -70,7 +70,7 @@ added_memory limit rs x runs =
     all_runs limit rs no_memory x runs
     ∙ ap (λ (b : Bool). becomes b None) (sym (memory_reached limit (value_at rs) x))
 
--- after the trim it is the usable frames
+-- after the trim, memory is the usable frames
 pub trimmed_memory : (t : TypeAt) (g : Labels) → ((x : ℕ) → g x ≡ (if is_memory (t x) then Some plain_label else None))
     → (x : ℕ) → trim_frames g x ≡ (if is_usable_frame t (x / 4096) then Some plain_label else None)
 trimmed_memory t g each x =

@@ -13,7 +13,7 @@ use Rattle.early_memory.specs.EarlyInputs.{FrameRange, bytes_of_frames}
 use Rattle.early_memory.specs.Memory.{is_mirrored, mirrored_memory, usable_memory}
 use Rattle.early_memory.specs.FirstItems.{mirror_items}
 
--- one more range: what is mirrored twice is mirrored
+-- mirroring one more range; memory that is already mirrored stays so
 abbrev mirrored_if : Bool → Option LabelView → Option LabelView
 mirrored_if b o = if b then option_map with_mirror o else o
 
@@ -49,7 +49,7 @@ same_frames (r ∷ rs) x y frame =
     let one : covers (bytes_of_frames r) x ≡ covers (bytes_of_frames r) y = grind (arith, nat_tests) in
     rw (one, same_frames rs x y frame) refl
 
--- so if two bytes of a frame have one label, they have one label after mirroring
+-- if two bytes of a frame have one label, they have one label after mirroring too
 pub mirrored-alike : (mirrors : List FrameRange) (f : Labels) (x y : ℕ) → x / 4096 ≡ y / 4096 → f x ≡ f y
     → mirrored_memory mirrors f x ≡ mirrored_memory mirrors f y
 mirrored-alike mirrors f x y frame same = rw (same_frames mirrors x y frame, same) refl

@@ -1,4 +1,4 @@
--- The inputs of the early stages besides the map.
+-- The inputs of the early stages other than the map.
 use Rattle.std.specs.Prelude.{ℕ, ◌*◌, Bool, Option, List}
 use Rattle.bm_base.specs.Range.{RangeView}
 use Rattle.bm_base.specs.declared.range.TheConstants.{FRAME_SIZE}
@@ -12,10 +12,10 @@ pub record FrameRange : Type 0 where
 abbrev pub bytes_of_frames : FrameRange → RangeView
 bytes_of_frames r = record { base = FRAME_SIZE * r.first; size = FRAME_SIZE * r.count }
 
--- the limit of physical addresses: the address past the highest one that memory can have; the
--- ranges of the kernel's image and the initrd; the frames that firmware mirrors
--- (`efi_find_mirror`); and whether searches go from the lowest address up
--- (`movable_node_is_enabled`, `memblock_set_bottom_up`)
+-- `limit` is the limit of physical addresses: the address past the highest one that memory can
+-- have. `kernel` and `initrd` are the ranges of the kernel's image and of the initrd. `mirrors`
+-- are the frames that firmware mirrors (`efi_find_mirror`). `upward` says whether searches go from
+-- the lowest address up (`movable_node_is_enabled`, `memblock_set_bottom_up`).
 pub record EarlyInputs : Type 0 where
   pub limit : ℕ
   pub kernel : RangeView

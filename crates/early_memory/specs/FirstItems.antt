@@ -16,13 +16,13 @@ use Rattle.early_memory.specs.Memory.{memory_end}
 abbrev pub range_up_to : ℕ → RangeView
 range_up_to at = record { base = 0; size = at }
 
--- the initrd is claimed, if there is one (`early_reserve_initrd`)
+-- the claim of the initrd, if there is one (`early_reserve_initrd`)
 abbrev pub initrd_claims : Option RangeView → List Item
 initrd_claims None = []
 initrd_claims (Some range) = item.Claim range owner.Initrd ∷ []
 
--- the kernel's image, the first 64 KiB and the initrd are claimed before memory is known
--- (`early_reserve_memory`)
+-- the claims that are made before memory is known: the kernel's image, the first 64 KiB and the
+-- initrd (`early_reserve_memory`)
 abbrev pub early_claims : RangeView → Option RangeView → List Item
 early_claims kernel initrd = item.Claim kernel owner.Kernel ∷ item.Claim (range_up_to LOW_END) owner.Low64K ∷ initrd_claims initrd
 
@@ -30,8 +30,9 @@ early_claims kernel initrd = item.Claim kernel owner.Kernel ∷ item.Claim (rang
 abbrev pub part_below : ℕ → RunOf ℕ → RangeView
 part_below limit r = record { base = r.base; size = min (run_end r) limit - r.base }
 
--- memory that firmware keeps for a driver is claimed; RAM and the kernel's own memory are added, as
--- far as they lie below the limit of physical addresses (the loop body of `e820__memblock_setup`)
+-- the items for a run of the map (the loop body of `e820__memblock_setup`). Memory that firmware
+-- keeps for a driver is claimed. RAM and the kernel's own memory are added, as far as they lie
+-- below the limit of physical addresses. A run of any other type gives no item.
 abbrev pub items_of_run : ℕ → RunOf ℕ → List Item
 items_of_run limit r =
     if r.value == E820_TYPE_SOFT_RESERVED then item.Claim (range_of_run r) owner.Soft ∷ []
@@ -41,26 +42,26 @@ abbrev pub items_of_map : ℕ → List (RunOf ℕ) → List Item
 items_of_map limit [] = []
 items_of_map limit (r ∷ rs) = items_of_run limit r ++ items_of_map limit rs
 
--- if searches are to go from the lowest address up, that is set before memory is known
--- (`memblock_set_bottom_up` in `setup_arch`)
+-- the item by which searches go from the lowest address up, or no item if they go from the
+-- highest down (`memblock_set_bottom_up` in `setup_arch`)
 abbrev pub direction_items : Bool → List Item
 direction_items true = item.Upward true ∷ []
 direction_items false = []
 
--- the frames that firmware mirrors, range by range (`efi_find_mirror`)
+-- the items that mark the frames that firmware mirrors, range by range (`efi_find_mirror`)
 abbrev pub mirror_items : List FrameRange → List Item
 mirror_items [] = []
 mirror_items (r ∷ rs) = item.Mirror (bytes_of_frames r) ∷ mirror_items rs
 
--- Memory is trimmed to whole frames (`memblock_trim_memory`), and some of it is mirrored. The
--- limit is set to the end of the last usable frame (`memblock_set_current_limit`), and the first
--- MiB is claimed (`reserve_real_mode`).
+-- The items after the map. Memory is trimmed to whole frames (`memblock_trim_memory`), and some of
+-- it is marked as mirrored. The limit is set to the end of the last usable frame
+-- (`memblock_set_current_limit`), and the first MiB is claimed (`reserve_real_mode`).
 abbrev pub items_after_map : List FrameRange → ℕ → List Item
 items_after_map mirrors end =
     item.Trim ∷ (mirror_items mirrors ++ (item.Limit end ∷ item.Claim (range_up_to ISA_END_ADDRESS) owner.Low1M ∷ []))
 
--- the whole list for these inputs and a map; before memory is known, allocations stay in the first
--- MiB (`setup_arch`)
+-- all items for these inputs and a map, in order; until memory is known, allocations stay in the
+-- first MiB (`setup_arch`)
 abbrev pub early_items : EarlyInputs → List (RunOf ℕ) → List Item
 early_items e map =
     early_claims e.kernel e.initrd

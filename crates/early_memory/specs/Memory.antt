@@ -13,7 +13,8 @@ use Rattle.memblock_model.specs.Labels.{Labels, plain_label, with_mirror}
 use Rattle.memblock_model.specs.Search.{last_below}
 use Rattle.early_memory.specs.EarlyInputs.{FrameRange, bytes_of_frames}
 
--- the bytes of usable frames are memory without a node (`e820__memblock_setup`)
+-- memory without mirrors: each byte of a usable frame is memory without a node
+-- (`e820__memblock_setup`)
 abbrev pub usable_memory : ℕ → TypeAt → Labels
 usable_memory limit f x = if is_usable_frame (types_below limit f) (x / FRAME_SIZE) then Some plain_label else None
 
@@ -21,11 +22,12 @@ usable_memory limit f x = if is_usable_frame (types_below limit f) (x / FRAME_SI
 abbrev pub is_mirrored : List FrameRange → ℕ → Bool
 is_mirrored mirrors x = list_any (λ r. covers (bytes_of_frames r) x) mirrors
 
--- memory in those frames is mirrored, and keeps its node (`memblock_mark_mirror`)
+-- the labels after mirroring: memory in the frames `mirrors` is mirrored and keeps its node
+-- (`memblock_mark_mirror`)
 abbrev pub mirrored_memory : List FrameRange → Labels → Labels
 mirrored_memory mirrors f x = if is_mirrored mirrors x then option_map with_mirror (f x) else f x
 
--- the address past the frame, or 0 if there is none
+-- the address past the frame, or 0 for no frame
 abbrev pub end_of_last_frame : Option ℕ → ℕ
 end_of_last_frame None = 0
 end_of_last_frame (Some frame) = end_of (bytes_of_frame frame)
@@ -34,7 +36,8 @@ end_of_last_frame (Some frame) = end_of (bytes_of_frame frame)
 unfoldable pub memory_end : ℕ → TypeAt → ℕ
 memory_end limit f = end_of_last_frame (last_below (is_usable_frame (types_below limit f)) (limit / FRAME_SIZE))
 
--- the end of the last run of a list, or 0 if it is empty (`memblock_end_of_DRAM`)
+-- `end_of_last_run` is the end of the last run of a list, or 0 if the list is empty
+-- (`memblock_end_of_DRAM`). `last_run_end_or` gives `at` instead of 0 for an empty list.
 abbrev pub last_run_end_or : {X : Type 0} → ℕ → List (RunOf X) → ℕ
 last_run_end_or at [] = at
 last_run_end_or at (r ∷ rs) = last_run_end_or (run_end r) rs

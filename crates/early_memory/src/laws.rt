@@ -1,5 +1,5 @@
-//! Laws of the early stages, on which later stages may rest. Whatever growth came between the
-//! items of the list, memory is what the map says, frame by frame.
+//! Laws of the early stages, on which later stages may rest. Memory is what the map says, frame by
+//! frame. Growth of memblock's tables between the items doesn't change that.
 
 ghost use Rattle.std.specs.Prelude.{◌≡◌, ℕ, ◌-◌, ◌/◌, ◌%◌, ◌<◌, ◌≤◌, true, Some, List, [], IfSome, Ok};
 ghost use Rattle.std.specs.List.{All};
@@ -42,8 +42,8 @@ pub fn memory_ends_at_last_usable_frame()
         is_usable_frame (types_below limit f) ((memory_end limit f - 1) / FRAME_SIZE) ≡ true }
 {}
 
-/// Law: the last run of memory ends at the end of the last usable frame. So that end can be read
-/// from the memory table.
+/// Law: the last run of memory ends at the end of the last usable frame. The end of the last
+/// usable frame can therefore be read from the memory table.
 pub fn memory_ends_with_its_last_run()
     ensures { (limit : ℕ) (f : TypeAt) (mirrors : List FrameRange) (runs : List (RunOf LabelView)) →
         IsRunsOf (mirrored_memory mirrors (usable_memory limit f)) runs

@@ -1,6 +1,5 @@
-//! Addresses at the bottom of memory for which a PC has its own uses. They are defined here, since
-//! `specs/FirstItems.antt` cites them; the boot above, which carries the list out, uses the same
-//! constants.
+//! Addresses at the bottom of memory for which a PC has its own uses. They are defined here,
+//! since `specs/FirstItems.antt` uses them. The crates above use these constants too.
 
 /// The end of the first 64 KiB, in bytes. Firmware may overwrite what is below
 /// (`early_reserve_memory`).

@@ -15,7 +15,7 @@ use Rattle.memblock_ranges.specs.Tables.{TableView, bytes_of}
 use Rattle.growth_model.proofs.PlacedLaws.{live_by, table_bytes-is}
 use Rattle.growth_model.specs.Bytes.{table_from_items, table_byte_at, byte_with_tables, byte_with_item_tables, is_vacated_by, is_vacated, byte_after_items, Fill, byte_after_fills, byte_outside_tables, byte_from_history, AreFillsUpTo}
 
--- a table's bytes after one more item
+-- the range of a table's bytes after one more item
 table_bytes-push : (w : Which) (kernel : RangeView) (items : List Item) (i : Item) →
     table_bytes w kernel (items ++ i ∷ []) ≡ live_by w kernel (moved_after w (moved_to w items) i) (room_after w (room_of w items) i)
 table_bytes-push w kernel items i = table_bytes-is w kernel (items ++ i ∷ []) _ _ (moved_to-push w items i) (room_of-push w items i)
@@ -61,7 +61,7 @@ byte_with_tables-over m r n s x c first second =
     over_bools (covers (bytes_of m) x) (covers (bytes_of r) x) (covers (bytes_of n) x) (covers (bytes_of s) x)
     (table_byte_at n x) (table_byte_at s x) (table_byte_at m x) (table_byte_at r x) c first second
 
--- the bytes of two tables, applied twice
+-- putting the bytes of two tables over a byte twice is the same as doing it once
 pub byte_with_tables-again : (m r : TableView) (x c : ℕ) → byte_with_tables m r x (byte_with_tables m r x c) ≡ byte_with_tables m r x c
 byte_with_tables-again m r x c = byte_with_tables-over m r m r x c (λ here. here) (λ here. here)
 
@@ -78,7 +78,8 @@ or_assoc : (a b c : Bool) → (a || (b || c)) ≡ ((a || b) || c)
 or_assoc true b c = refl
 or_assoc false b c = refl
 
--- an address is left by items and further ones if the first leave it, or the second after them
+-- a table moves away from an address in two lists of items if it does in the first, or in the
+-- second after the first
 pub is_vacated-append : (kernel : RangeView) (items more further : List Item) (x : ℕ) →
     is_vacated kernel items (more ++ further) x ≡ (is_vacated kernel items more x || is_vacated kernel (items ++ more) further x)
 is_vacated-append kernel items [] further x = ap (λ (is : List Item). is_vacated kernel is further x) (sym (append-nil items))
@@ -102,7 +103,7 @@ pub after-along : (kernel : RangeView) (items more longer : List Item) (x b : �
     byte_after_items kernel items longer x b ≡ byte_with_item_tables kernel longer x (if is_vacated kernel items more x then 0 else b)
 after-along kernel items more longer x b goes = rw goes (after-is kernel items more x b)
 
--- what two parts of the items leave
+-- computing the byte after two parts of the items, one after the other, gives the byte after both
 left_twice : (g h : ℕ → ℕ) (first second : Bool) (b : ℕ) → (second ≡ false → (c : ℕ) → g (h c) ≡ g c) →
     g (if second then 0 else h (if first then 0 else b)) ≡ g (if first || second then 0 else b)
 left_twice g h true true b hides = refl

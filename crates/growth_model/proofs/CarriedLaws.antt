@@ -62,7 +62,7 @@ plainly_behind i items next ends =
     let same : items ++ (i ∷ [] ++ []) ≡ next = cc in
     ap memory_items (sym same) ∙ one_behind items [] i tt
 
--- one item that was to be written
+-- the items that change memory after one item has been written with its growth
 pub change_writing_item-memory : (i : Item) (items next : List Item) → items_or_refusal items (change_writing_item i items) ≡ Ok next
     → memory_items next ≡ memory_items items ++ memory_items (i ∷ [])
 unfolding add_range set_range_node set_range_mirror claim_range free_range
@@ -80,7 +80,7 @@ change_writing_item-memory (item.Free range) items next ends =
     grown_behind _ (item.Free range) items next (quiet-grown which.Reserved max_records_added_by_split _ (reserved_growth-quiet range)) ends
 change_writing_item-memory i items next ends = plainly_behind i items next ends
 
--- all items that were to be written; growth is in no law about memory
+-- the items that change memory after a list has been carried out: no item of growth is among them
 pub carried-memory : (is items last : List Item) → carry_out_items is items ≡ Ok last
     → memory_items last ≡ memory_items items ++ memory_items is
 unfolding carry_out_items
@@ -93,7 +93,7 @@ carried-memory (i ∷ is) items last ends =
     ∙ append_assoc (memory_items items) (memory_items (i ∷ [])) (memory_items is)
     ∙ ap (λ (t : List Item). memory_items items ++ t) (sym (memory_items-append (i ∷ []) is))
 
--- a part of the list first, and then the rest
+-- carrying out a list is carrying out a part of it, and then the rest
 further : (answer : Result (List Item) RefusedGrowth) (first rest all : List Item → Result (List Item) RefusedGrowth)
     → ((next : List Item) → all next ≡ (first next >>= rest)) → (answer >>= all) ≡ ((answer >>= first) >>= rest)
 further (Ok next) first rest all each = each next

@@ -21,7 +21,7 @@ pub cuts-first : (P : List Item → Type 0) (items : List Item) (ss : List (List
 cuts-first P items [] h = h
 cuts-first P items (s ∷ ss) h = h.0
 
--- after the last step, and after some of the steps
+-- what holds after every number of steps holds after the last step, and after some of them
 pub cuts-last : (P : List Item → Type 0) (items : List Item) (ss : List (List Item)) → EachCut P items ss → P (items ++ items_of_steps ss)
 cuts-last P items [] h = subst P (sym (append-nil items)) h
 cuts-last P items (s ∷ ss) h = subst P (append_assoc items s (items_of_steps ss)) (cuts-last P (items ++ s) ss h.1)
@@ -32,7 +32,7 @@ cuts-take P zero items ss h = subst P (sym (append-nil items)) (cuts-first P ite
 cuts-take P (suc n) items [] h = subst P (sym (append-nil items)) h
 cuts-take P (suc n) items (s ∷ ss) h = subst P (append_assoc items s (items_of_steps (take n ss))) (cuts-take P n (items ++ s) ss h.1)
 
--- however a call ends
+-- what holds after every number of steps holds however the call ends
 pub cuts-ends : {T : Type 0} (P : List Item → Type 0) (r : Result T Refusal) (old new : List Item) (o : ChangeEffect)
     → EachCut P old o.steps → EndsAsEffect r old new o → P new
 cuts-ends P (Ok x) old new o h ends = subst P (sym ends.1) (cuts-last P old o.steps h)

@@ -80,8 +80,7 @@ first_by T U (refusal.NoGapForTable w room) old new o (Some r) p is h = h
 first_by T U refusal.Memory old new o None p is h = cut-first old new o.steps p.steps h
 first_by T U refusal.Memory old new o (Some r) p is h = h
 
--- if the first change was refused, or the program was out of memory in it, the second didn't
--- follow
+-- if the first change was refused, or ran out of memory, the second didn't follow
 pub EndsAsChange-first : (T U : Type 0) (e : Refusal) (old new : List Item) (first second : Change)
     → EndsAsChange {T = T} (Err e) old new first
     → EndsAsChange {T = U} (Err e) old new (first >> second)

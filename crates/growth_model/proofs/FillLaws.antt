@@ -58,14 +58,14 @@ put_through true r true a b v n first second = absurd (first refl refl)
 put_through false true true a b v n first second = absurd (second refl refl)
 put_through false false true a b v n first second = refl
 
--- a fill apart from both tables is shown
+-- a fill that overlaps no table changes the byte by the same rule as without tables
 pub byte_with_tables-put : (m r : TableView) (f : Fill) (x b : ℕ) → AreDisjoint f.range (bytes_of m) → AreDisjoint f.range (bytes_of r) →
     byte_with_tables m r x (byte_after_fill f x b) ≡ byte_after_fill f x (byte_with_tables m r x b)
 byte_with_tables-put m r f x b first second =
     put_through (covers (bytes_of m) x) (covers (bytes_of r) x) (covers f.range x) (table_byte_at m x) (table_byte_at r x) f.byte b
     (first x) (second x)
 
--- the newest fill decides
+-- the byte after the newest fill, which overlaps no table
 pub fill-newest : (kernel : RangeView) (items : List Item) (fills : List Fill) (f : Fill) (x : ℕ) → f.at ≡ length items →
     OverlapsNoTable kernel f.range items
     → byte_from_history kernel items (fills ++ f ∷ []) x ≡ byte_after_fill f x (byte_from_history kernel items fills x)
@@ -75,7 +75,7 @@ fill-newest kernel items fills f x last away =
     ∙ byte_with_tables-put (table_from_items which.Memory kernel items) (table_from_items which.Reserved kernel items) f x
     (byte_outside_tables kernel fills [] items x (byte_after_fills 0 fills x 0)) away.0 away.1
 
--- after a fill both tables are in their bytes as before
+-- after a fill that overlaps no table, both tables are still encoded in their bytes
 pub fill-spelled : (m r : TableView) (fill : Fill) (f g : ℕ → ℕ) → AreDisjoint fill.range (bytes_of m) → AreDisjoint fill.range (bytes_of r)
     →
     TablesAreEncoded m r f → ((x : ℕ) → g x ≡ byte_after_fill fill x (f x)) → TablesAreEncoded m r g
@@ -88,7 +88,7 @@ AreFillsUpTo-append : (n : ℕ) (fills : List Fill) (f : Fill) → AreFillsUpTo 
 AreFillsUpTo-append n [] f made now = (now, tt)
 AreFillsUpTo-append n (g ∷ fills) f made now = (made.0, AreFillsUpTo-append n fills f made.1 now)
 
--- bytes that are those of items and fills are so after a call
+-- if each byte is the one that items and fills define, it still is after a call
 pub holds-call : (kernel : RangeView) (items longer : List Item) (fills : List Fill) (f g : ℕ → ℕ)
     → AreBytesFromHistory kernel items fills f →
     Follows kernel items longer f g → AreBytesFromHistory kernel longer fills g
@@ -102,7 +102,7 @@ holds-call kernel items longer fills f g holds follows =
           ∙ ap (λ (l : List Item). byte_from_history kernel l fills x) (sym follows.goes_on);
     }
 
--- and after a fill
+-- if each byte is the one that items and fills define, it still is after a further fill
 pub holds-fill : (kernel : RangeView) (items : List Item) (fills : List Fill) (fill : Fill) (f g : ℕ → ℕ)
     → AreBytesFromHistory kernel items fills f →
     fill.at ≡ length items → OverlapsNoTable kernel fill.range items → ((x : ℕ) → g x ≡ byte_after_fill fill x (f x)) →

@@ -17,7 +17,7 @@ pub byte_with_item_tables-by : (kernel : RangeView) (items : List Item) (m r : T
     r ≡ table_from_items which.Reserved kernel items → byte_with_tables m r x b ≡ byte_with_item_tables kernel items x b
 byte_with_item_tables-by kernel items m r x b first second = rw (first, second) refl
 
--- tables that are in their bytes are so too as those of the items
+-- the tables of the items are encoded in the bytes if equal tables are
 pub spelled-by : (kernel : RangeView) (items : List Item) (m r : TableView) (f : ℕ → ℕ) → m ≡ table_from_items which.Memory kernel items →
     r ≡ table_from_items which.Reserved kernel items → TablesAreEncoded m r f →
     TablesAreEncoded (table_from_items which.Memory kernel items) (table_from_items which.Reserved kernel items) f
@@ -32,7 +32,7 @@ follows-along kernel items more longer f g goes each = record {
   each = λ x. each x ∙ sym (after-along kernel items more longer x (f x) goes);
 }
 
--- no item, and the same bytes
+-- bytes that don't change follow a list of items that doesn't grow
 pub follows-still : (kernel : RangeView) (items : List Item) (m r : TableView) (f g : ℕ → ℕ) → m ≡ table_from_items which.Memory kernel items →
     r ≡ table_from_items which.Reserved kernel items → TablesAreEncoded m r f → ((x : ℕ) → g x ≡ f x) → Follows kernel items items f g
 follows-still kernel items m r f g first second spelled same =
@@ -43,7 +43,7 @@ pub follows-none : (kernel : RangeView) (items : List Item) (m r : TableView) (f
     r ≡ table_from_items which.Reserved kernel items → TablesAreEncoded m r f → Follows kernel items items f f
 follows-none kernel items m r f first second spelled = follows-still kernel items m r f f first second spelled (λ x. refl)
 
--- one item that moves no table; the premise about that is `λ x. refl`
+-- the bytes after one item that moves no table; the premise about that is proved by `λ x. refl`
 pub follows-item : (kernel : RangeView) (items : List Item) (i : Item) (m r : TableView) (f g : ℕ → ℕ) →
     ((x : ℕ) → is_vacated_by kernel items i x ≡ false) → m ≡ table_from_items which.Memory kernel (items ++ i ∷ []) →
     r ≡ table_from_items which.Reserved kernel (items ++ i ∷ []) → ((x : ℕ) → g x ≡ byte_with_tables m r x (f x)) →
@@ -54,7 +54,7 @@ follows-item kernel items i m r f g stays first second told =
     ∙ ap (λ (t : Bool). byte_with_item_tables kernel (items ++ i ∷ []) x (if t then 0 else f x))
     (sym (or-false (is_vacated_by kernel items i x) ∙ stays x)))
 
--- a table moves
+-- the bytes after the item that moves a table
 pub follows-grown : (kernel : RangeView) (items : List Item) (w : Which) (place room : ℕ) (old m r : TableView) (f g : ℕ → ℕ) →
     old ≡ table_from_items w kernel items → m ≡ table_from_items which.Memory kernel (items ++ item.Grown w place room ∷ []) →
     r ≡ table_from_items which.Reserved kernel (items ++ item.Grown w place room ∷ []) →
@@ -78,13 +78,13 @@ follows-then kernel items mid last f g h first second = record {
       ∙ after-chain kernel items first.more second.more mid last x (f x) first.goes_on second.goes_on;
 }
 
--- one call after another, the second with an equal range for the kernel
+-- the bytes after two calls, of which the second has an equal range for the kernel
 pub follows-next : (kernel other : RangeView) (items mid last : List Item) (f g h : ℕ → ℕ) → other ≡ kernel →
     Follows kernel items mid f g → Follows other mid last g h → Follows kernel items last f h
 follows-next kernel other items mid last f g h same first second =
     follows-then kernel items mid last f g h first (subst (λ (k : RangeView). Follows k mid last g h) same second)
 
--- after the items both tables are in their bytes again
+-- after the items both tables are encoded in their bytes again
 pub follows-spelled : (kernel : RangeView) (items longer : List Item) (f g : ℕ → ℕ) → Follows kernel items longer f g →
     TablesAreEncoded (table_from_items which.Memory kernel longer) (table_from_items which.Reserved kernel longer) g
 unfolding byte_after_items
@@ -93,7 +93,7 @@ follows-spelled kernel items longer f g follows = λ x.
     let r = table_from_items which.Reserved kernel longer in
     follows.each x ∙ sym (ap (λ (n : ℕ). byte_with_tables m r x n) (follows.each x) ∙ byte_with_tables-again m r x _)
 
--- two tables that are those of the longer list are in their bytes
+-- two tables that are those of the longer list are encoded in their bytes
 pub follows-stands : (kernel : RangeView) (items longer : List Item) (m r : TableView) (f g : ℕ → ℕ) →
     m ≡ table_from_items which.Memory kernel longer → r ≡ table_from_items which.Reserved kernel longer → Follows kernel items longer f g →
     TablesAreEncoded m r g

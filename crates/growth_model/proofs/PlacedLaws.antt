@@ -1,4 +1,5 @@
--- The tables stay seated throughout growths of the reserved table, claims and frees.
+-- Both tables lie in claimed memory, apart from each other, throughout growths of the reserved
+-- table, claims and frees.
 use Rattle.std.proofs.Common.{◌≡◌, ◌⊎◌, ℕ, ◌*◌, ◌%◌, Bool, true, Option, Some, None, List, [], ◌∷◌, ◌++◌, refl, sym, ◌∙◌, ap, subst, inl, inr, arith}
 use Rattle.std.specs.Prelude.{unwrap_or}
 use Rattle.std.specs.List.{fold}
@@ -34,7 +35,7 @@ pub AreTablePlaces-same : (own now : Owners) (m n r s : RangeView) → now ≡ o
     → AreTablePlaces now n s
 AreTablePlaces-same own now m n r s owners memory reserved known = rw (owners, memory, reserved) known
 
--- further items, and the seats after them
+-- what must be true of further items so that both tables still lie in claimed memory after them
 pub placed-more : (kernel : RangeView) (items more : List Item) (own : Owners) (m r : RangeView) → TablesAreClaimed kernel items
     → owner_of (items ++ more) ≡ own → table_bytes which.Memory kernel (items ++ more) ≡ m
     → table_bytes which.Reserved kernel (items ++ more) ≡ r
@@ -46,7 +47,7 @@ placed-more kernel items more own m r placed owners memory reserved seats = reco
       (table_bytes which.Reserved kernel (items ++ more)) owners memory reserved seats;
 }
 
--- owners, places and rooms after further items
+-- the owners after further items, and the places and rooms of the tables
 pub owners-of : (items more : List Item) → owner_of (items ++ more) ≡ fold owners_after (owner_of items) more
 owners-of items more = fold-append owners_after no_owners items more
 
@@ -59,13 +60,14 @@ rooms-of w items more = fold-append (room_after w) 128 items more
 pub limits-of : (items more : List Item) → limit_of (items ++ more) ≡ fold limit_after (limit_of items) more
 limits-of items more = fold-append limit_after 0 items more
 
--- an item that moves no table
+-- a table's bytes stay where they are after an item that moves no table
 pub stays : (w : Which) (kernel : RangeView) (items : List Item) (i : Item) → moved_after w (moved_to w items) i ≡ moved_to w items
     → room_after w (room_of w items) i ≡ room_of w items → table_bytes w kernel (items ++ i ∷ []) ≡ table_bytes w kernel items
 stays w kernel items i at wide = table_bytes-same w kernel items (items ++ i ∷ []) (moves-of w items (i ∷ []) ∙ at)
     (rooms-of w items (i ∷ []) ∙ wide)
 
--- an item that moves no table, and after which the seats still have suitable owners
+-- after an item that moves no table, both tables still lie in claimed memory if the owners of
+-- their bytes are still suitable
 still-placed : (kernel : RangeView) (items : List Item) (i : Item)
     → ((w : Which) → moved_after w (moved_to w items) i ≡ moved_to w items)
     → ((w : Which) → room_after w (room_of w items) i ≡ room_of w items) → TablesAreClaimed kernel items

@@ -1,5 +1,5 @@
--- Both tables stay seated throughout a growth of the memory table, and throughout the changes that
--- may need one.
+-- Both tables lie in claimed memory, apart from each other, throughout a growth of the memory
+-- table, and throughout the changes that may need one.
 use Rattle.std.proofs.Common.{◌≡◌, ℕ, ◌*◌, ◌%◌, true, Option, Some, None, List, [], ◌∷◌, ◌++◌, Ok, refl, sym, ◌∙◌, ap, subst, inl, inr, arith}
 use Rattle.bm_base.specs.Range.{RangeView, covers}
 use Rattle.address_runs.specs.Edits.{replace_in_range}
@@ -151,7 +151,8 @@ claim_range-taken x kernel items u place placed is ends =
     (taken-along kernel t room old place going.aside.wide going.aside.place fits.aligned
     (going.aside.free (found-unclaimed items q place is)) going.placed)
 
--- freeing an old place, and the move after the claim, keep both tables seated
+-- both tables still lie in claimed memory when the table has moved after the claim, and when its
+-- old place is freed
 left-cuts : (kernel : RangeView) (u : List Item) (room : ℕ) (old : Option ℕ) → TablesAreClaimed kernel u
     → ((q : ℕ) → old ≡ Some q → OverlapsNoTable kernel (frames_for_bytes q (24 * room)) u)
     → EachCut (TablesAreClaimed kernel) u (free_old_place (old_frames room old) u).steps
@@ -183,21 +184,21 @@ growth-at kernel items (Some place) is placed =
     (λ unrefused. taken-cuts kernel u room old place
     (claim_range-taken {T = Unit {0}} tt kernel items u place placed is (unrefused, refl)))
 
--- throughout one growth
+-- both tables lie in claimed memory throughout one growth of the memory table
 pub memory-cuts : (kernel : RangeView) (items : List Item) → TablesAreClaimed kernel items
     → EachCut (TablesAreClaimed kernel) items (memory_growth items).steps
 unfolding memory_growth
 memory-cuts kernel items placed =
     growth-at kernel items (best_place items (table_query (room_of which.Memory items) 0 (limit_of items))) refl placed
 
--- the items after growths of the memory table
+-- they also do after all growths that make room in the memory table
 make_table_room-placed : (kernel : RangeView) (items : List Item) (more : List Item → ℕ) → TablesAreClaimed kernel items
     → TablesAreClaimed kernel (items_after_change items (make_table_room which.Memory more memory_growth items))
 make_table_room-placed kernel items more placed =
     cuts-last (TablesAreClaimed kernel) items (make_table_room which.Memory more memory_growth items).steps
     (cuts-grown (TablesAreClaimed kernel) which.Memory more memory_growth items (memory-cuts kernel) placed)
 
--- an item that keeps the tables seated does so after growths too
+-- an item that leaves both tables in claimed memory does so after growths too
 marked-cuts : (kernel : RangeView) (items : List Item) (more : List Item → ℕ) (i : Item)
     → ((t : List Item) → TablesAreClaimed kernel t → TablesAreClaimed kernel (t ++ i ∷ [])) → TablesAreClaimed kernel items
     → EachCut (TablesAreClaimed kernel) items ((make_table_room which.Memory more memory_growth >> write_item i) items).steps
@@ -207,7 +208,8 @@ marked-cuts kernel items more i keeps placed =
     (cuts-grown (TablesAreClaimed kernel) which.Memory more memory_growth items (memory-cuts kernel) placed)
     (λ _. (here, keeps (items_after_change items (make_table_room which.Memory more memory_growth items)) here))
 
--- throughout the changes that add memory, give it a node or make it mirrored
+-- both tables lie in claimed memory throughout the changes that add memory, give it a node or mark
+-- it as mirrored
 pub add_range-cuts : (kernel : RangeView) (items : List Item) (r : RangeView) → TablesAreClaimed kernel items
     → EachCut (TablesAreClaimed kernel) items (add_range r items).steps
 unfolding add_range
@@ -226,7 +228,8 @@ unfolding set_range_mirror
 set_range_mirror-cuts kernel items r placed =
     marked-cuts kernel items max_records_added_by_split (item.Mirror r) (λ t here. mirror-placed kernel t r here) placed
 
--- throughout the claim of a place that an allocation found, for any owner
+-- both tables lie in claimed memory throughout the claim of a place that an allocation found, for
+-- any owner
 pub allocated-cuts : (kernel : RangeView) (items : List Item) (r : Request) (place : ℕ) (o : Owner) → place_for r items ≡ Some place
     → TablesAreClaimed kernel items
     → EachCut (TablesAreClaimed kernel) items (claim_range (record { base = place; size = r.size }) o items).steps

@@ -1,4 +1,5 @@
--- Both tables stay seated throughout a growth of the reserved table, a claim and a free.
+-- Both tables lie in claimed memory, apart from each other, throughout a growth of the reserved
+-- table, a claim and a free.
 use Rattle.std.proofs.Common.{◌≡◌, ℕ, ◌*◌, true, Option, Some, None, List, [], ◌∷◌, ◌++◌, refl, sym, subst, inl, inr, arith}
 use Rattle.std.proofs.lemmas.Bool.{cases_Bool, false_from_ne_true}
 use Rattle.std.proofs.lemmas.Bool.Decides.{nat_tests}
@@ -76,7 +77,7 @@ pub grew-owners-again : (t : List Item) (q place : ℕ)
 unfolding reserved_growth_items
 grew-owners-again t q place = owners-of t (reserved_growth_items (room_of which.Reserved t) (Some q) place)
 
--- the place is in its frames
+-- the bytes of a table at a place are in the frames at that place
 pub place-inside : (room place x : ℕ) → covers (record { base = place; size = 24 * (2 * room) }) x ≡ true
     → covers (frames_for_bytes place (48 * room)) x ≡ true
 place-inside room place x at = grind (arith, nat_tests, at)
@@ -142,20 +143,20 @@ growth-at kernel a items t (Some place) found going = (
       (grew-going kernel a t (moved_to which.Reserved t) place refl (beside-new t a (room_of which.Reserved t) place found) going.placed),
 )
 
--- throughout one growth
+-- both tables lie in claimed memory throughout one growth of the reserved table
 pub reserved-cuts : (kernel a : RangeView) (items t : List Item) → Going kernel a items t
     → EachCut (Going kernel a items) t (reserved_growth a t).steps
 unfolding reserved_growth
 reserved-cuts kernel a items t going = growth-at kernel a items t (place_beside_range a (room_of which.Reserved t) t) refl going
 
--- and throughout the growths before a claim or a free
+-- both tables lie in claimed memory throughout the growths before a claim or a free
 pub room-cuts : (kernel a : RangeView) (more : List Item → ℕ) (items : List Item) → TablesAreClaimed kernel items
     → EachCut (Going kernel a items) items (make_table_room which.Reserved more (reserved_growth a) items).steps
 room-cuts kernel a more items placed =
     cuts-grown (Going kernel a items) which.Reserved more (reserved_growth a) items (λ t going. reserved-cuts kernel a items t going)
     (record { placed = placed; aside = aside-same kernel a items })
 
--- the items after the growths
+-- the items after the growths that make room in the reserved table
 abbrev pub roomy : RangeView → (List Item → ℕ) → List Item → List Item
 roomy a more items = items_after_change items (make_table_room which.Reserved more (reserved_growth a) items)
 
@@ -171,7 +172,7 @@ room-placed kernel a more items placed =
     cuts-map (Going kernel a items) (TablesAreClaimed kernel) items (make_table_room which.Reserved more (reserved_growth a) items).steps
     (λ t going. going.placed) (room-cuts kernel a more items placed)
 
--- throughout a claim
+-- both tables lie in claimed memory throughout a claim
 pub claim_range-cuts : (kernel : RangeView) (items : List Item) (r : RangeView) (o : Owner) → MayTake kernel items r o
     → TablesAreClaimed kernel items
     → EachCut (TablesAreClaimed kernel) items (claim_range r o items).steps
@@ -183,7 +184,7 @@ claim_range-cuts kernel items r o may placed =
     (room-placed kernel r more items placed)
     (λ _. (going.placed, claim-placed kernel (roomy r more items) r o (take-still kernel r o items _ going.aside may) going.placed))
 
--- throughout a free
+-- both tables lie in claimed memory throughout a free of a range that overlaps no table
 pub free_range-cuts : (kernel : RangeView) (items : List Item) (r : RangeView) → OverlapsNoTable kernel r items
     → TablesAreClaimed kernel items
     → EachCut (TablesAreClaimed kernel) items (free_range r items).steps

@@ -1,4 +1,4 @@
--- Seats of tables, by ranges and owners alone: how a claim, a free and a move change them.
+-- Places of tables, as ranges and owners of bytes: how a claim, a free and a move change them.
 use Rattle.std.proofs.Common.{◌≡◌, ℕ, ◌+◌, ◌*◌, ◌/◌, ◌%◌, ◌<◌, ◌≤◌, Bool, true, false, if◌then◌else◌, Option, Some, None, sym, ◌∙◌, ap, arith}
 use Rattle.std.proofs.lemmas.Bool.{true≢false, false_from_ne_true}
 use Rattle.std.proofs.lemmas.Bool.Decides.{nat_tests}
@@ -23,11 +23,11 @@ covers-to a x le lt = grind (arith, nat_tests)
 frame-first : (a : RangeView) (x : ℕ) → a.base % 4096 ≡ 0 → covers (frames a) x ≡ true → covers a (4096 * (x / 4096)) ≡ true
 frame-first a x aligned h = grind (arith, nat_tests, aligned, h)
 
--- they have the whole frame of each of their bytes
+-- these frames have the whole frame of each of their bytes
 frame-whole : (a : RangeView) (x y : ℕ) → a.base % 4096 ≡ 0 → covers (frames a) x ≡ true → y / 4096 ≡ x / 4096 → covers (frames a) y ≡ true
 frame-whole a x y aligned h same = grind (arith, nat_tests, aligned, h, same)
 
--- they have the range
+-- these frames have each byte of the range
 pub frames-more : (a : RangeView) (x : ℕ) → covers a x ≡ true → covers (frames a) x ≡ true
 frames-more a x h = grind (arith, nat_tests, h)
 
@@ -41,7 +41,7 @@ Apart-swap a b apart x y at_x at_y same = apart y x at_y at_x (sym same)
 pub apart-clear : (a b : RangeView) → a.base % 4096 ≡ 0 → ShareNoFrame a b → AreDisjoint (frames a) b
 apart-clear a b aligned apart x at_a at_b = apart (4096 * (x / 4096)) x (frame-first a x aligned at_a) at_b (first-frame x)
 
--- an unclaimed byte is in no seat
+-- an unclaimed byte is in no place where a table may lie
 unkept : (own : Owners) (x : ℕ) → own x ≡ None → may_hold_table (own x) ≡ true → ⊥
 unkept own x none kept = true≢false (sym kept ∙ ap may_hold_table none)
 
@@ -73,7 +73,7 @@ IsTablePlace-claim own a r o new seat = record {
   kept = λ x at. kept-claim (covers r x) o (own x) new (seat.kept x at);
 }
 
--- a claim of other bytes for anyone, and a free of other bytes
+-- a claim of other bytes, for any owner, and a free of other bytes keep a place for a table
 pub IsTablePlace-clear : (own : Owners) (a r : RangeView) (o : Owner) → AreDisjoint r a → IsTablePlace own a
     → IsTablePlace (replace_in_range r o own) a
 IsTablePlace-clear own a r o clear seat = record {
@@ -87,7 +87,7 @@ IsTablePlace-free own a r clear seat = record {
   kept = λ x at. rw (false_from_ne_true (covers r x) (λ in_r. clear x in_r at)) (seat.kept x at);
 }
 
--- a claim makes a seat
+-- a claim for an owner in whose memory a table may lie makes its range a place for a table
 pub IsTablePlace-new : (own : Owners) (n r : RangeView) (o : Owner) → n.base % 4096 ≡ 0 → may_hold_table (Some o) ≡ true
     → ((x : ℕ) → covers n x ≡ true → covers r x ≡ true) → IsTablePlace (replace_in_range r o own) n
 IsTablePlace-new own n r o aligned new inside = record {
@@ -122,7 +122,8 @@ AreTablePlaces-free own m r a first second both = record {
   apart = both.apart;
 }
 
--- the second table moves to a new place, whose frames are claimed
+-- both tables lie in suitable places after the second one has moved to a new place, whose frames
+-- are claimed
 pub AreTablePlaces-move : (own : Owners) (m r n : RangeView) (o : Owner) → may_hold_table (Some o) ≡ true → n.base % 4096 ≡ 0
     → IsUnclaimed own (frames n)
     → AreTablePlaces own m r → AreTablePlaces (replace_in_range (frames n) o own) m n
@@ -132,7 +133,7 @@ AreTablePlaces-move own m r n o new aligned free both = record {
   apart = Apart-swap n m (new-apart own n m aligned free both.first);
 }
 
--- and the frames that it left are freed
+-- they still do after the frames that it left are freed
 pub AreTablePlaces-leave : (own : Owners) (m r n : RangeView) (o : Owner) → may_hold_table (Some o) ≡ true → n.base % 4096 ≡ 0
     → IsUnclaimed own (frames n)
     → AreTablePlaces own m r → AreTablePlaces (uncover_range (frames r) (replace_in_range (frames n) o own)) m n

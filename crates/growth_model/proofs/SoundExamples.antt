@@ -29,8 +29,8 @@ a_spot base aligned below = record {
   kept = λ x at. let low : nat_lt x 9000 ≡ true = grind (arith, nat_tests, below, at) in rw low refl;
 }
 
--- no seat: a range that isn't aligned, one that begins inside a frame, and one with the script's
--- byte
+-- no table may lie in a range that isn't aligned, in one that begins inside a frame, or in one
+-- that has the script's byte
 no_spots : (IsTablePlace claims (record { base = 4097; size = 16 }) → ⊥) × (IsTablePlace claims (record { base = 2048; size = 16 }) → ⊥)
     × (IsTablePlace claims (record { base = 8192; size = 3072 }) → ⊥)
 no_spots = (

@@ -1,10 +1,11 @@
--- The value of a change of memblock, as a function of the items so far: the items that it writes,
--- and whether a table that had to grow found no place.
+-- Changes of memblock. A change is a function of the items so far. Its value lists the items that
+-- it writes, and says whether a table that had to grow found no place.
 use Rattle.std.specs.Prelude.{ℕ, Bool, if◌then◌else◌, Option, Some, None, List, [], ◌∷◌, ◌++◌}
 use Rattle.memblock_model.specs.declared.owner.Which.{Which}
 use Rattle.memblock_model.specs.declared.item.Item.{Item}
 
--- a growth that found no place: the table, and its room, which was too small
+-- a refused growth, which found no place: the table, and the number of records that it has room
+-- for, which was too small
 pub record RefusedGrowth : Type 0 where
   pub which : Which
   pub room : ℕ
@@ -38,11 +39,12 @@ write_items written items = record { steps = written ∷ []; refused = None }
 abbrev pub write_item : Item → Change
 write_item i = write_items (i ∷ [])
 
--- the change of a table that finds no place for twice its room: it is refused, and writes no item
+-- the refused growth of a table that finds no place for twice its room: it writes no item
 abbrev pub refuse_growth : Which → ℕ → Change
 refuse_growth w room items = record { steps = []; refused = Some (record { which = w; room = room }) }
 
--- the first change, and then the second unless the first was refused
+-- the effect of two changes in turn: that of the first, and then that of the second unless the
+-- first was refused
 abbrev pub followed_by : ChangeEffect → Option RefusedGrowth → ChangeEffect → ChangeEffect
 followed_by first None second = record { steps = first.steps ++ second.steps; refused = second.refused }
 followed_by first (Some r) second = first
@@ -55,6 +57,7 @@ abbrev pub ◌>>◌ : Change → Change → Change
 abbrev pub if_due : (List Item → Bool) → Change → Change
 if_due due change items = if due items then change items else no_change items
 
--- the change that writes the same items, but is never refused
+-- the given change, but a refused growth is ignored: the items that were written until then stay
+-- written
 abbrev pub ignore_refusal : Change → Change
 ignore_refusal change items = record { steps = (change items).steps; refused = None }

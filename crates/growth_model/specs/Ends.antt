@@ -21,10 +21,9 @@ pub record StopsBeforeStep (old new : List Item) (steps : List (List Item)) : Ty
   pub short : count < length steps
   pub stands : new ≡ old ++ items_of_steps (take count steps)
 
--- How a call ends that has this effect. It returns Ok if no growth was refused, else NoGapForTable
--- with the growth that was refused. All items of the change are written in both cases. If it
--- returns Memory, at least one step is missing. It never returns NoGap, which is only for
--- allocations.
+-- How a call with this effect ends. It returns Ok if no growth was refused, and NoGapForTable with
+-- the refused growth if one was. In both cases all items of the effect are written. If it returns
+-- Memory, at least one step is missing. It never returns NoGap, which is only for allocations.
 abbrev pub EndsAsEffect : {T : Type 0} → Result T Refusal → List Item → List Item → ChangeEffect → Type 0
 EndsAsEffect (Ok x) old new o = (o.refused ≡ None) × (new ≡ items_after_change old o)
 EndsAsEffect (Err refusal.NoGap) old new o = ⊥
@@ -35,8 +34,8 @@ EndsAsEffect (Err refusal.Memory) old new o = StopsBeforeStep old new o.steps
 abbrev pub EndsAsChange : {T : Type 0} → Result T Refusal → List Item → List Item → Change → Type 0
 EndsAsChange result old new change = EndsAsEffect result old new (change old)
 
--- an allocation claims the place that was found and returns it; if there is none, it returns NoGap
--- and writes nothing
+-- how an allocation ends. If a place was found, it claims the place and returns its address. If
+-- none was found, it returns NoGap and writes nothing.
 abbrev pub Allocates : Result ℕ Refusal → List Item → List Item → Option ℕ → ℕ → Owner → Type 0
 Allocates result old new None size who = (result ≡ Err refusal.NoGap) × (new ≡ old)
 Allocates result old new (Some place) size who =

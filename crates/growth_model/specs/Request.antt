@@ -12,19 +12,20 @@ pub record Attempt : Type 0 where
   pub query : Query
   pub mirror : Bool
 
--- the search from `lo` to below the smaller of the request's maximum and the limit, on this node
--- or on any
+-- one search of a request: from address `lo` up to the request's maximum or the limit, whichever
+-- is lower. It searches the node `wanted`, or all nodes if `wanted` is None.
 abbrev pub attempt : Request → ℕ → ℕ → Bool → Option ℕ → Attempt
 attempt r limit lo mirror wanted =
     let asked : Query = record { lo = lo; hi = min (unwrap_or r.max limit) limit; size = r.size; align = r.align; node = wanted } in
     record { query = asked; mirror = mirror }
 
--- if a node is only preferred, the search on any node follows
+-- the search on any node that follows the one on the request's node; none if the request names no
+-- node, or allows only that node
 abbrev pub any_node_attempt : Request → ℕ → ℕ → Bool → Option ℕ → List Attempt
 any_node_attempt r limit lo mirror None = []
 any_node_attempt r limit lo mirror (Some node) = if r.exact then [] else attempt r limit lo mirror None ∷ []
 
--- the search on the node, and then on any
+-- the search on the request's node, and then the one on any node unless only that node is allowed
 abbrev pub node_attempts : Request → ℕ → ℕ → Bool → List Attempt
 node_attempts r limit lo mirror = attempt r limit lo mirror r.node ∷ any_node_attempt r limit lo mirror r.node
 
@@ -33,8 +34,8 @@ node_attempts r limit lo mirror = attempt r limit lo mirror r.node ∷ any_node_
 abbrev pub attempts_from : Request → ℕ → ℕ → List Attempt
 attempts_from r limit lo = node_attempts r limit lo true ++ node_attempts r limit lo false
 
--- all searches in order: those from the minimum on and then, if there is a minimum, those from 0
--- on
+-- all searches of a request in order: those from its minimum on and then, if it has a minimum
+-- above 0, those from 0 on
 abbrev pub attempts : Request → ℕ → List Attempt
 attempts r limit = attempts_from r limit r.min ++ (if r.min == 0 then [] else attempts_from r limit 0)
 

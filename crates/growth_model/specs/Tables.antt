@@ -1,5 +1,6 @@
--- What holds of the items of a boot after each call. Both tables lie in claimed memory that no
--- allocation of the script has, and share no frame. Each has room for its records.
+-- What is true of the items of a boot after each call. Both tables lie in claimed memory, and no
+-- allocation of the early script has a byte of them. They share no frame. Each table has room for
+-- its records.
 use Rattle.std.specs.Prelude.{◌≡◌, ◌≢◌, ◌⊎◌, ℕ, ◌*◌, ◌/◌, ◌%◌, ◌≤◌, Bool, true, false, Option, Some, None, List, [], ◌∷◌}
 use Rattle.bm_base.specs.Range.{RangeView, end_of, covers}
 use Rattle.bm_base.specs.declared.range.TheConstants.{FRAME_SIZE}
@@ -19,7 +20,8 @@ may_hold_table None = false
 may_hold_table (Some (owner.Script id)) = false
 may_hold_table (Some o) = true
 
--- a table may lie there: the range begins at a frame boundary, and all its bytes have such an owner
+-- the range may be the place of a table: it begins at a frame boundary, and each of its bytes has
+-- an owner in whose memory a table may lie
 pub record IsTablePlace (own : Owners) (a : RangeView) : Type 0 where
   pub aligned : a.base % FRAME_SIZE ≡ 0
   pub kept : (x : ℕ) → covers a x ≡ true → may_hold_table (own x) ≡ true
@@ -58,23 +60,24 @@ pub record TablesAreSound (kernel : RangeView) (items : List Item) : Type 0 wher
   pub placed : TablesAreClaimed kernel items
   pub fits : TablesHaveRoom items
 
--- the image has both built-in places: it ends at a frame boundary, and is at least two frames long
+-- the range can be the kernel's image, which has the first places of both tables: it ends at a
+-- frame boundary, and is at least two frames long
 pub record IsKernelImage (kernel : RangeView) : Type 0 where
   pub whole : end_of kernel % FRAME_SIZE ≡ 0
   pub large : 2 * FRAME_SIZE ≤ kernel.size
 
--- there is at least one item; the first is always the claim of the kernel's image
+-- at least one item has been written; the first is always the claim of the kernel's image
 abbrev pub HasFirstItem : List Item → Type 0
 HasFirstItem [] = ⊥
 HasFirstItem (i ∷ is) = Unit {0}
 
--- the range overlaps no table
+-- the range overlaps neither table
 abbrev pub OverlapsNoTable : RangeView → RangeView → List Item → Type 0
 OverlapsNoTable kernel range items =
     AreDisjoint range (table_bytes which.Memory kernel items) × AreDisjoint range (table_bytes which.Reserved kernel items)
 
--- what may be claimed: first the kernel's image, for the kernel; then any range, which for the
--- script must overlap no table
+-- what may be claimed. The first claim must be that of the kernel's image, for the kernel. After
+-- it any range may be claimed, but a range for the script must overlap no table.
 abbrev pub MayClaim : RangeView → List Item → RangeView → Owner → Type 0
 MayClaim kernel [] range who = (range ≡ kernel) × (who ≡ owner.Kernel)
 MayClaim kernel (i ∷ is) range who = (may_hold_table (Some who) ≡ true) ⊎ OverlapsNoTable kernel range (i ∷ is)

@@ -1,9 +1,9 @@
 //! Laws about the byte at each address.
 //!
 //! `byte_from_history` computes it from the items and the fills. `byte_after_items` says how a call
-//! changes a byte, whatever it was before; contracts of calls use it. One law gives the bytes after
-//! two calls in turn, another says that both definitions agree. So a caller can keep
-//! `AreBytesFromHistory` true from call to call and from fill to fill.
+//! changes a byte, whatever it was before; contracts of calls use it. One law gives the bytes
+//! after two calls in turn, and another says that both definitions agree. A caller can therefore
+//! keep `AreBytesFromHistory` true from call to call and from fill to fill.
 //!
 //! At a table's place the byte is that of the table, whatever was written there before. When an
 //! item moves the table away, the byte becomes 0. Only the laws about one table's own bytes require
@@ -22,9 +22,10 @@ ghost use Rattle.memblock_ranges.specs.Tables.{TablesView, table_in, table_range
 ghost use Rattle.growth_model.specs.Tables.{TablesAreClaimed, TablesHaveRoom, OverlapsNoTable};
 ghost use Rattle.growth_model.specs.Bytes.{table_from_items, table_byte_at, byte_with_tables, TablesAreEncoded, byte_without_table, byte_after_items, byte_from_history, Fill, byte_after_fill, AreFillsUpTo, Follows, AreBytesFromHistory};
 
-/// Law: the effect of items on a byte can be computed in two parts. Further items applied to the
-/// byte after the first ones give the byte after all of them. Further items applied to the byte
-/// that the first items and the fills give yield the byte of all items with the same fills.
+/// Law: the effect of items on a byte can be computed in two parts. `byte_after_items` for some
+/// items, and then for the items after them, gives the byte after all of them. If all fills were
+/// made before the later items, `byte_from_history` for the earlier items, and then
+/// `byte_after_items` for the later ones, gives `byte_from_history` for all items.
 pub fn byte_effects_compose()
     ensures after { (kernel : RangeView) (items more further : List Item) (x b : ℕ) →
         byte_after_items kernel (items ++ more) ((items ++ more) ++ further) x
@@ -36,8 +37,8 @@ pub fn byte_effects_compose()
         ≡ byte_from_history kernel (items ++ more) fills x }
 {}
 
-/// Law: a fill that overlaps no table decides the bytes of its range, whatever was written there
-/// before.
+/// Law: after a fill that overlaps no table, each byte of its range is the fill's byte, whatever
+/// was written there before. Every other byte is unchanged.
 pub fn newest_fill_decides()
     ensures { (kernel : RangeView) (items : List Item) (fills : List Fill) (f : Fill) (x : ℕ) →
         f.at ≡ length items → OverlapsNoTable kernel f.range items →
@@ -46,9 +47,9 @@ pub fn newest_fill_decides()
 {}
 
 /// Law: the bytes after two calls in turn are those after one call that writes the items of both.
-/// After each call, the bytes at each table's place are the encoding of its records. If the bytes
-/// are those that the items and the fills give, they still are after a further call. They still
-/// are after a further fill that overlaps no table.
+/// After each call, the bytes at each table's place are the encoding of its records. If each byte
+/// is the one that the items and the fills define, that is still true after another call, and
+/// after a fill that overlaps no table.
 pub fn bytes_compose_over_calls()
     ensures then { (kernel : RangeView) (items mid last : List Item) (f g h : ℕ → ℕ) →
         Follows kernel items mid f g → Follows kernel mid last g h → Follows kernel items last f h }
@@ -85,9 +86,9 @@ pub fn tables_are_encoded()
         ≡ encode_table (records_of w items) (room_of w items) }
 {}
 
-/// Law: if both tables are encoded in the store after an edit of one table's records, each byte
-/// inside a table is that of its encoding, and every other byte is as before. After a move of one
-/// table the same is true, except that the bytes at its old place are 0.
+/// Law: assume that both tables are encoded in the store after an edit of one table's records.
+/// Then each byte inside a table is that of its encoding, and every other byte is unchanged. After
+/// a move of one table this is also true, except that the bytes at its old place are 0.
 pub fn edits_change_only_table_bytes()
     ensures edited { (w : Which) (old new : TablesView) (records : List (RunOf LabelView)) →
         table_in w new ≡ record (table_in w old) { records = records } →

@@ -28,8 +28,9 @@ ghost use Rattle.growth_model.specs.Ends.{EndsAsChange, Allocates};
 ghost use Rattle.growth_model.specs.Tables.{AreDisjoint, IsUnclaimed, TablesAreClaimed, TablesHaveRoom, IsKernelImage, HasFirstItem, OverlapsNoTable, MayClaim};
 ghost use Rattle.growth_model.specs.Room.{IsInAddressSpace, DoublesRoom, HasRoomAfter};
 
-/// Law: two calls in turn end as the two changes in turn: like the second if the first succeeds,
-/// else with the error of the first.
+/// Law: if each of two calls ends as its change defines, both calls together end as the two
+/// changes together define. If the first call succeeds, they end as the second one does;
+/// otherwise they end with the error of the first.
 pub fn successive_calls_compose()
     ensures second { (result : Result (Unit {0}) Refusal) (old mid new : List Item)
         (first second : Change) →
@@ -50,7 +51,7 @@ pub fn first_claim_places_tables()
 {}
 
 /// Law: from the first claim on, both tables lie in claimed memory, apart from each other, after
-/// each allowed claim, however it ends. The same is true after the free of a range that overlaps no
+/// each allowed claim, however it ends. They also do after the free of a range that overlaps no
 /// table.
 pub fn claims_keep_table_places()
     ensures claimed { (kernel : RangeView) (result : Result (Unit {0}) Refusal)
@@ -135,7 +136,7 @@ pub fn found_places_are_free()
 {}
 
 /// Law: a growth that isn't refused doubles its table's room, and adds at most two records: one
-/// for the claim of the new place, and one where the old place is freed.
+/// for the claim of the new place, and one for the record that freeing the old place may split.
 pub fn growth_doubles_room()
     ensures reserved { (avoid : RangeView) (items : List Item) → IsInAddressSpace items
         → (reserved_growth avoid items).refused ≡ None →
@@ -148,8 +149,8 @@ pub fn growth_doubles_room()
 /// Law: after two growths in a row a table has room for any claim, free, added range, node or
 /// mirrored range. The claim of an unclaimed range isn't refused if the reserved table has room for
 /// it, or finds a new place that doesn't overlap the range.
-// A range has at most one uncovered piece more than the table has records. So after one growth the
-// table may still lack room for a few records, and the second growth makes room for those.
+// A range has at most one uncovered piece more than the table has records. After one growth the
+// table may therefore still lack room for a few records. The second growth makes room for them.
 pub fn two_growths_are_enough()
     ensures claimed { (range : RangeView) (items : List Item) → IsInAddressSpace items
         → TablesHaveRoom items → end_of range ≤ 2 ^ 64 →

@@ -2,11 +2,11 @@
 //! growth of a table (`memblock_double_array`) write to the journal.
 //!
 //! Each table of memblock has room for a number of records. If a change may need more, the table
-//! first grows to twice its room. It finds a new place by the same search as any allocation, claims
-//! that place, and frees its old one. So a claim may write several items, and the growth of one
-//! table may need the growth of the other. There may also be no place for the table. Each change is
-//! therefore a function of the items so far. Its value (`ChangeEffect`) lists the items that it
-//! writes, step by step, and the growth that was refused, if one was.
+//! first grows to twice its room. It finds a new place by the same search as any allocation,
+//! claims that place, and frees its old one. A claim may therefore write several items, and the
+//! growth of one table may need the growth of the other. There may also be no place for the table.
+//! Each change is therefore a function of the items so far. Its value (`ChangeEffect`) lists the
+//! items that it writes, step by step, and the growth that was refused, if one was.
 //!
 //! - `specs/Growth.antt`: the growth of both tables, and the five changes that may need it: a
 //!   claim, a free, an added range, a node for a range, and a range that becomes mirrored.
@@ -34,15 +34,15 @@ mod refusal;
 
 pub use byte_laws::{
     byte_effects_compose, bytes_compose_over_calls, edits_change_only_table_bytes,
-    newest_fill_decides,
-    tables_are_encoded,
+    newest_fill_decides, tables_are_encoded,
 };
 pub use laws::{
     allocations_keep_table_places, claims_keep_table_places, first_claim_places_tables,
-    found_places_are_free,
-    growth_doubles_room, memory_edits_keep_table_places, successive_calls_compose,
-    two_growths_are_enough,
+    found_places_are_free, growth_doubles_room, memory_edits_keep_table_places,
+    successive_calls_compose, two_growths_are_enough,
 };
 pub use memblock_model::Request;
-pub use memory_laws::{claims_leave_memory, memory_depends_on_memory_items, requested_items_make_memory};
+pub use memory_laws::{
+    claims_leave_memory, memory_depends_on_memory_items, requested_items_make_memory,
+};
 pub use refusal::Refusal;

@@ -1,7 +1,7 @@
 //! Laws about what growth doesn't change. A boot is described by the items that it is to write.
-//! Between them are items of growth, which depend on everything that happened before. These laws
-//! say that growth affects neither memory, nor its labels, nor the limit. So statements about
-//! memory don't mention growth.
+//! Between them the journal has the items that growth writes, and these depend on everything that
+//! happened before. The laws say that growth changes neither memory, nor its labels, nor the
+//! limit. Statements about memory therefore need not mention growth.
 
 ghost use Rattle.std.specs.Prelude.{◌≡◌, ℕ, List, ◌++◌, Ok};
 ghost use Rattle.bm_base.specs.Range.{RangeView};
@@ -35,7 +35,8 @@ pub fn claims_leave_memory()
         memory_of (items_after_change items (free_range range items)) ≡ memory_of items }
 {}
 
-/// Law: the items that change memory are written exactly as requested, in their order.
+/// Law: carrying out a list of items adds to the journal exactly those items of the list that
+/// change memory, in their order, and no other item that changes memory.
 pub fn requested_items_make_memory()
     ensures { (wanted items last : List AnyItem) → carry_out_items wanted items ≡ Ok last →
         memory_items last ≡ memory_items items ++ memory_items wanted }

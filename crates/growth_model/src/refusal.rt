@@ -5,7 +5,7 @@
 use bm_base::Memory;
 use memblock_model::Which;
 
-/// Why a call that may need memory failed.
+/// Why a call of memblock failed.
 #[derive(Clone, Copy, Debug, PartialEq, Eq)]
 pub enum Refusal {
     /// No place fits the request in any of its searches. The stages report it as

@@ -39,7 +39,7 @@ from_run mirror memory reserved q from until b label some known fits above under
       held = held;
     }
 
--- no place begins in a stretch that isn't unclaimed memory, or whose label doesn't serve
+-- no place begins in a stretch that isn't unclaimed memory, or whose label isn't allowed
 pub none_begins_bare : (mirror : Bool) (memory reserved : Labels) (q : Query) (from until : ℕ) (label : Option LabelView) → 1 ≤ q.size
     → IsRise memory reserved from until label → label ≡ None → NoPlaceBeginsBetween mirror memory reserved q from until
 none_begins_bare mirror memory reserved q from until label some known bare b fits above =
@@ -65,8 +65,8 @@ between_ends mirror memory reserved q from until b label some known fits above u
     let place = fits_in-parts mirror memory reserved q b fits in
     record { aligned = place.aligned; above = above; below = omega (arith, inside.below, place.high) }
 
--- in a stretch of memory that serves, the first aligned address with room is the lowest place;
--- without one there is no place
+-- in a stretch of allowed memory, the first aligned address with room is the lowest place; without
+-- such an address there is no place
 pub first_of_stretch : (mirror : Bool) (memory reserved : Labels) (q : Query) (from until : ℕ) (label : Option LabelView)
     (found : LabelView)
     (answer : Option ℕ) → 1 ≤ q.size → q.lo ≤ from → 4096 ≤ from

@@ -77,7 +77,7 @@ look_in rs slot at some begun at_end =
       below = λ _. base;
     }
 
--- what both tables give an address decides whether it is unclaimed
+-- whether an address is unclaimed memory follows from what both tables give it
 pub unclaimed_is : (memory reserved : Labels) (x : ℕ) (a b : Option LabelView) → memory x ≡ a → reserved x ≡ b
     → unclaimed_memory memory reserved x ≡ (if is_none b then a else None)
 unclaimed_is memory reserved x a b m r =
@@ -91,7 +91,7 @@ stretch_stays ms rs c from label known from_is label_is x above under =
     unclaimed_is (value_at ms) (value_at rs) x c.memory.label c.reserved.label
     (known.memory.down.stays x (omega arith) under) (known.reserved.down.stays x (omega arith) under) ∙ sym label_is
 
--- where memory's label changes, or a claim begins, unclaimed memory changes
+-- unclaimed memory changes if the label of memory changes, or a claim begins
 pub unclaimed_changes : (carried claimed label : Option LabelView) → (carried ≢ label) ⊎ (claimed ≢ None) → label ≢ None
     → (if is_none claimed then carried else None) ≢ label
 unclaimed_changes carried None label (inl other) some = other

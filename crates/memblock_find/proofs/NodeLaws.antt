@@ -1,4 +1,4 @@
--- Laws for passing over records that don't serve a search.
+-- Skipping records whose memory a search may not return.
 use Rattle.std.proofs.Common.{◌≡◌, ℕ, zero, suc, ◌+◌, ◌-◌, ◌<◌, ◌≤◌, Bool, false, Option, Some, None, List, [], ◌∷◌, length, sym, ◌∙◌, ap, inl, inr, arith}
 use Rattle.std.proofs.lemmas.Bool.{cases_lt, true≢false}
 use Rattle.address_runs.specs.Runs.{RunOf, run_end, value_at, AreRuns}
@@ -54,8 +54,8 @@ begun_at_end rs count at runs within none end =
           ];
     }
 
--- an address outside all records that serve isn't memory that serves, if addresses without memory
--- don't serve
+-- an address outside all allowed records isn't allowed memory, if addresses without memory aren't
+-- allowed
 pub not_serving : (mirror : Bool) (node : Option ℕ) (x : ℕ) (rs : List (RunOf LabelView)) → is_allowed_label mirror node None ≡ false
     → ((i : ℕ) → i < length rs → (nth_record rs i).base ≤ x → x < run_end (nth_record rs i)
     → is_allowed_label mirror node (Some (nth_record rs i).value) ≡ false)
@@ -72,7 +72,7 @@ not_serving mirror node x (r ∷ rs) narrow other =
       ]
     ]
 
--- from the end of the last record before those that don't serve up to the bound, no address serves
+-- from the end of the last allowed record up to the bound, no address is allowed
 pub passed_over : (rs : List (RunOf LabelView)) (mirror : Bool) (node : Option ℕ) (from count at : ℕ) (look : Look)
     → IsLookDown rs from look
     → is_allowed_label mirror node None ≡ false → count ≤ look.slot → (0 < count → at ≡ run_end (nth_record rs (count - 1)))
@@ -89,7 +89,7 @@ passed_over rs mirror node from count at look known narrow fewer end others x ab
     let order = known.next.behind i (omega arith) less in omega arith) in
     others i behind (omega arith))
 
--- no place ends where no memory serves
+-- no place ends among addresses that aren't allowed
 pub past_refused : (mirror : Bool) (memory reserved : Labels) (q : Query) (at from : ℕ) → 1 ≤ q.size
     → NoAddressIsAllowed mirror memory q.node at from
     → NoPlaceEndsBetween mirror memory reserved q from q.hi → NoPlaceEndsBetween mirror memory reserved q at q.hi

@@ -43,7 +43,7 @@ pub held_somewhere : (o : Option LabelView) → is_some o ≡ true → o ≢ Non
 held_somewhere None h = λ same. true≢false (sym h)
 held_somewhere (Some v) h = λ same. cc
 
--- the memory of a place serves the search
+-- the memory of a place is allowed in the search
 pub place_serves : (mirror : Bool) (memory reserved : Labels) (q : Query) (b : ℕ) → IsPlace mirror memory reserved q b
     → is_allowed_label mirror q.node (memory b) ≡ true
 place_serves mirror memory reserved q b place =
@@ -78,7 +78,7 @@ in_run mirror memory reserved q from until b label some known fits ends past =
       held = held;
     }
 
--- no place ends in a stretch that isn't unclaimed memory, or whose label doesn't serve
+-- no place ends in a stretch that isn't unclaimed memory, or whose label isn't allowed
 pub none_bare : (mirror : Bool) (memory reserved : Labels) (q : Query) (from until : ℕ) (label : Option LabelView) → 1 ≤ q.size
     → IsStretch memory reserved from until label → label ≡ None → NoPlaceEndsBetween mirror memory reserved q from until
 none_bare mirror memory reserved q from until label some known bare b fits ends =
@@ -110,7 +110,7 @@ pub memory_there : (carried claimed : Option LabelView) (label : LabelView) → 
 memory_there carried None label same = (same, refl)
 memory_there carried (Some v) label same = cc
 
--- bytes in the window that are unclaimed memory of one label that serves are a place
+-- bytes in the window that are unclaimed memory of one allowed label are a place
 pub place_of_bytes : (mirror : Bool) (memory reserved : Labels) (q : Query) (a : ℕ) (found : LabelView) → 1 ≤ q.size
     → FitsBetween (max q.lo 4096) q.hi q.size q.align a
     → ((x : ℕ) → a ≤ x → x < a + q.size → unclaimed_memory memory reserved x ≡ Some found)
@@ -141,8 +141,8 @@ between_ends mirror memory reserved q from until b label some known fits ends pa
     let place = fits_in-parts mirror memory reserved q b fits in
     record { aligned = place.aligned; above = omega (arith, inside.above, place.low, place.first); below = ends }
 
--- in a stretch of memory that serves, the last aligned address with room is the highest place;
--- without one there is no place
+-- in a stretch of allowed memory, the last aligned address with room is the highest place; without
+-- such an address there is no place
 pub best_of_stretch : (mirror : Bool) (memory reserved : Labels) (q : Query) (from until : ℕ) (label : Option LabelView) (found : LabelView)
     (answer : Option ℕ)
     → 1 ≤ q.size → until ≤ q.hi

@@ -36,7 +36,7 @@ look_top rs slot at all small known =
       left = λ is. none_left rs at ended;
     }
 
--- up to the next record there is no label
+-- up to the start of the next record there is no label
 pub look_hole : (rs : List (RunOf LabelView)) (slot at : ℕ) → slot < length rs → ExactlyFirstEndAtOrBelow at rs slot → at < (nth_record rs slot).base
     → (nth_record rs slot).base < 2 ^ 64
     → IsLookUp rs at (record { label = None; bound = (nth_record rs slot).base; slot = slot })
@@ -69,7 +69,7 @@ look_hole rs slot at within ended before_base base_small =
       left = λ is. absurd (omega arith);
     }
 
--- in the next record, the label is the record's
+-- inside the next record, the label is that of the record
 pub look_over : (rs : List (RunOf LabelView)) (slot at : ℕ) → slot < length rs → ExactlyFirstEndAtOrBelow at rs slot → (nth_record rs slot).base ≤ at
     → run_end (nth_record rs slot) < 2 ^ 64
     → IsLookUp rs at (record { label = Some (nth_record rs slot).value; bound = run_end (nth_record rs slot); slot = slot + 1 })
@@ -127,7 +127,7 @@ stretch_stops ms rs at m r memory reserved bare some =
           rw least (unclaimed_changes (value_at ms m.bound) (value_at rs m.bound) m.label (inl (memory.another some)) some)
     ]
 
--- two looks that describe unclaimed memory: memory's label, and no claim
+-- if two looks describe unclaimed memory, its label is that of memory, and it isn't claimed
 bare_claims : (carried claimed : Option LabelView) → (if is_none claimed then carried else None) ≢ None
     → (claimed ≡ None) × ((if is_none claimed then carried else None) ≡ carried)
 bare_claims carried None some = (refl, refl)

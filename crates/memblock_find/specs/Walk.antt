@@ -1,5 +1,5 @@
--- Walks over a table's records: how many lie below an address, and how far the addresses next to
--- one have the same label.
+-- Walks over the records of a table: how many records lie below an address, and how far the
+-- addresses next to it have one label.
 use Rattle.std.specs.Prelude.{◌≡◌, ◌≢◌, ℕ, ◌-◌, ◌^◌, ◌<◌, ◌≤◌, is_none, if◌then◌else◌, Option, None, List, length, get_or}
 use Rattle.address_runs.specs.Runs.{RunOf, run_end, value_at, AreRuns}
 use Rattle.address_runs.specs.Edits.{IsEmptyFrom}
@@ -13,36 +13,39 @@ use Rattle.memblock_find.specs.declared.cursor.Cursor.{Cursor}
 abbrev pub nth_record : List (RunOf LabelView) → ℕ → RunOf LabelView
 nth_record rs i = get_or rs i (record { base = 0; size = 0; value = plain_label })
 
--- at most the first `count` records of the list, which is in order, begin below the address
+-- the records `rs` are in order, and only the first `count` of them can begin below address `at`
 pub record OnlyFirstMayBegin (at : ℕ) (rs : List (RunOf LabelView)) (count : ℕ) : Type 0 where
   pub runs : AreRuns rs
   pub within : count ≤ length rs
   pub behind : (i : ℕ) → count ≤ i → i < length rs → at ≤ (nth_record rs i).base
 
--- exactly the first `count` records of the list, which is in order, begin below the address
+-- the records `rs` are in order, and exactly the first `count` of them begin below address `at`
 pub record ExactlyFirstBeginBelow (at : ℕ) (rs : List (RunOf LabelView)) (count : ℕ) : Type 0 where
   pub runs : AreRuns rs
   pub within : count ≤ length rs
   pub before : (i : ℕ) → i < count → (nth_record rs i).base < at
   pub behind : (i : ℕ) → count ≤ i → i < length rs → at ≤ (nth_record rs i).base
 
--- exactly the first `count` records of the list, which is in order, end at or below the address
+-- the records `rs` are in order, and exactly the first `count` of them end at or below address
+-- `at`
 pub record ExactlyFirstEndAtOrBelow (at : ℕ) (rs : List (RunOf LabelView)) (count : ℕ) : Type 0 where
   pub runs : AreRuns rs
   pub within : count ≤ length rs
   pub before : (i : ℕ) → i < count → run_end (nth_record rs i) ≤ at
   pub behind : (i : ℕ) → count ≤ i → i < length rs → at < run_end (nth_record rs i)
 
--- the look has the label of the addresses from its bound to below `at`, the label changes below
--- the bound, and the next look continues there
+-- `look` is a look downward from address `at`. All addresses from its bound to below `at` have
+-- its label, and the address right below the bound has another. Its slot is the number of records
+-- that begin below the bound.
 pub record IsLookDown (rs : List (RunOf LabelView)) (at : ℕ) (look : Look) : Type 0 where
   pub down : IsStretchWithBottom (value_at rs) look.bound at look.label
   pub next : ExactlyFirstBeginBelow look.bound rs look.slot
   pub order : look.bound ≤ at
   pub below : 0 < at → look.bound < at
 
--- the look has the label of the addresses from `at` to below its bound, and the label changes
--- there; after the last record the bound is 2^64 - 1
+-- `look` is a look upward from address `at`. All addresses from `at` to below its bound have its
+-- label. The address at the bound has another, unless no record follows: then the bound is the
+-- last address of 64 bits. Its slot is the number of records that end at or below the bound.
 pub record IsLookUp (rs : List (RunOf LabelView)) (at : ℕ) (look : Look) : Type 0 where
   pub stays : HasValueBetween (value_at rs) at look.bound look.label
   pub another : look.label ≢ None → value_at rs look.bound ≢ look.label
@@ -53,11 +56,13 @@ pub record IsLookUp (rs : List (RunOf LabelView)) (at : ℕ) (look : Look) : Typ
   pub ahead : at < 2 ^ 64 - 1 → at < look.bound
   pub left : at ≡ look.bound → IsEmptyFrom at (value_at rs)
 
--- the label of the addresses that both looks describe if they are unclaimed memory, else None
+-- the label of the addresses that both looks of the cursor describe, if these addresses are
+-- unclaimed memory, else None
 abbrev pub unclaimed_label : Cursor → Option LabelView
 unclaimed_label c = if is_none c.reserved.label then c.memory.label else None
 
--- a walk down, or up, over the records of both tables has reached the cursor's address
+-- the cursor is a position of a walk down (`IsWalkDownAt`) or up (`IsWalkUpAt`): each of its two
+-- looks is a look in that direction, from the cursor's address, at the records of one table
 pub record IsWalkDownAt (records claims : List (RunOf LabelView)) (c : Cursor) : Type 0 where
   pub memory : IsLookDown records c.at c.memory
   pub reserved : IsLookDown claims c.at c.reserved

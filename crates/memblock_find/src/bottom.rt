@@ -1,6 +1,6 @@
 //! The search from below (`__memblock_find_range_bottom_up`). It walks over unclaimed memory from
-//! the window's start up, one stretch of a single label at a time. The first stretch that has a
-//! place has the least one.
+//! the window's start up, one stretch of a single label at a time. The first stretch with a place
+//! that fits has the lowest such place.
 ghost use Rattle.std.specs.Prelude.{◌≡◌, ◌≢◌, ℕ, ◌^◌, ◌≤◌, true, max, min, MatchOption, Option, Some, None};
 ghost use Rattle.address_runs.specs.Runs.{value_at};
 ghost use Rattle.address_runs.specs.Sweep.{HasValueBetween};
@@ -18,7 +18,8 @@ use memblock_ranges::Tables;
 
 /// Returns the least address of a place that fits the query, or `None`. If `mirror` is set, only
 /// mirrored memory is allowed. The size must be at least 1, and the alignment a power of two.
-// A function of its own for the same reason as `find_restricted_downward`.
+// Never compiled into `find`: with both loops in one function there are too few registers, which
+// costs time at each record.
 #[inline(never)]
 pub fn find_upward(tables: &Tables, query: &Query, mirror: bool) -> Option<u64>
     requires some { 1 ≤ query.now.size }
@@ -45,9 +46,9 @@ pub fn find_upward(tables: &Tables, query: &Query, mirror: bool) -> Option<u64>
     None
 }
 
-/// Returns the least address, from `from` to just below `until`, of a place that fits the query, or
-/// `None`. `label` is the label of these addresses, or `None` if none of them is unclaimed memory.
-/// If they have a label, it must change at `until`.
+/// Returns the least address, from `from` to just below `until`, of a place that fits the query,
+/// or `None`. `label` is the label of the addresses from `from` to below `until`, or `None` if
+/// none of them is unclaimed memory. A label must change at `until`.
 fn lowest_place_in_stretch(
     query: &Query,
     mirror: bool,
@@ -74,8 +75,8 @@ fn lowest_place_in_stretch(
     first_between(from, until.min(query.hi), query.size, query.align)
 }
 
-/// Returns the least multiple of `align` at which `size` bytes lie between the two addresses, or
-/// `None`.
+/// Returns the least multiple of `align` at which `size` bytes lie between the addresses `low`
+/// and `high`, or `None`.
 fn first_between(low: u64, high: u64, size: u64, align: u64) -> Option<u64>
     requires { (k : ℕ) × (align ≡ 2 ^ k) }
     ensures { MatchOption result ((b : ℕ) → FitsBetween low high size align b → ⊥)

@@ -1,15 +1,16 @@
-//! The position of a walk over unclaimed memory: an address, and for each table the label of the
-//! addresses next to it, with the address at which that label may change. A walk down looks at the
-//! addresses below, a walk up at those from there on. Each look reads one record, and is kept
-//! until the walk has passed it.
+//! The position of a walk over unclaimed memory: the address that the walk has reached, and a look
+//! at each table. A look has the label of the addresses next to that address, and the address at
+//! which the label may change. A walk down looks at the addresses below its address, a walk up at
+//! those from its address on. Each look reads one record, and is kept until the walk has passed
+//! it.
 ghost use Rattle.std.specs.Prelude.{◌≡◌};
 ghost use Rattle.memblock_find.specs.Walk.{unclaimed_label};
 
 use memblock_model::{Label, Which};
 use memblock_ranges::{Records, Tables};
 
-/// What one table says of the addresses next to an address, as far as `bound`: their label, or that
-/// the table doesn't cover them.
+/// What one table says about the addresses between the walk's address and `bound`: their label, or
+/// that the table doesn't cover them.
 #[derive(Clone, Copy)]
 pub struct Look {
     /// The label, or `None` if the table doesn't cover the addresses.
@@ -29,8 +30,8 @@ pub struct RecordReaders<'a> {
 }
 
 /// Returns readers for the records of both tables.
-// Inlined, since a returned struct goes through memory, which costs time in a search whose first
-// gap fits.
+// Inlined: a struct that isn't inlined is returned through memory, which costs time in a search
+// whose first gap fits.
 #[inline(always)]
 pub fn record_readers(tables: &Tables) -> RecordReaders<'_>
     ensures memory { result.memory ≡ tables.now.memory.records }

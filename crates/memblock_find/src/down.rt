@@ -4,7 +4,7 @@
 ghost use Rattle.std.specs.Prelude.{◌≡◌, ◌≢◌, ◌<◌, ◌≤◌, max, None};
 ghost use Rattle.memblock_find.specs.Walk.{OnlyFirstMayBegin, ExactlyFirstBeginBelow, IsLookDown, IsWalkDownAt};
 
-use crate::cursor::{Cursor, RecordReaders, Look};
+use crate::cursor::{Cursor, Look, RecordReaders};
 use memblock_ranges::Records;
 
 /// Returns the number of records that begin below the address `at`, by binary search.
@@ -36,8 +36,8 @@ fn count_beginning_among(records: &Records<'_>, count: u64, at: u64) -> u64
     low
 }
 
-/// Returns the label that the records give the addresses right below `at`, and down to where.
-/// Exactly `slot` records must begin below `at`.
+/// Returns the label that the records give the addresses right below `at`, and how far down they
+/// have it. Exactly `slot` records must begin below `at`.
 pub fn look_down(records: &Records<'_>, slot: u64, at: u64) -> Look
     requires { ExactlyFirstBeginBelow at records.now slot }
     ensures { IsLookDown records.now at result }
@@ -66,8 +66,8 @@ pub fn look_down(records: &Records<'_>, slot: u64, at: u64) -> Look
     }
 }
 
-/// Returns the look of a walk that has come down to `at`. Until the bound of `look` is reached,
-/// that is `look` itself.
+/// Returns the look of a walk that has come from `from` down to `at`. As long as the walk is above
+/// the bound of `look`, the result is `look`.
 fn look_after_move(records: &Records<'_>, look: Look, from: u64, at: u64) -> Look
     requires look { IsLookDown records.now from look }
     requires above { look.bound ≤ at }
@@ -81,8 +81,9 @@ fn look_after_move(records: &Records<'_>, look: Look, from: u64, at: u64) -> Loo
     }
 }
 
-/// Returns the look of a walk that continues at `at`, however far below that is. The records in
-/// between aren't read: if the walk has passed several, a binary search finds the next one.
+/// Returns the look of a walk that jumps from `from` down to `at`, which may be far below the
+/// bound of `look`. The records in between aren't read: if the walk jumps over several, a binary
+/// search finds the next one.
 pub fn look_after_jump(records: &Records<'_>, look: Look, from: u64, at: u64) -> Look
     requires look { IsLookDown records.now from look }
     requires below { at ≤ from }
@@ -96,8 +97,8 @@ pub fn look_after_jump(records: &Records<'_>, look: Look, from: u64, at: u64) ->
 }
 
 /// Starts a walk down at the address.
-// A hint, since it has several callers: a returned cursor goes through memory, which costs time in
-// a search whose first gap fits.
+// `#[inline]` is only a hint here, because the function has several callers. A cursor that isn't
+// inlined is returned through memory, which costs time in a search whose first gap fits.
 #[inline]
 pub fn start_walk_down(lists: &RecordReaders<'_>, at: u64) -> Cursor
     ensures at { result.at ≡ at }

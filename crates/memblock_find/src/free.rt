@@ -1,6 +1,6 @@
-//! Returns runs of unclaimed memory one at a time: below an address, or from an address on. To get
-//! several, call again with the run's start or end. Each call takes two binary searches, and a
-//! step for each record that it passes.
+//! Finds runs of unclaimed memory one at a time: the next run below an address, or from an
+//! address on. To get the run after it, call again with its start (downward) or its end (upward).
+//! Each call takes two binary searches, and a step for each record that it passes.
 ghost use Rattle.std.specs.Prelude.{◌≡◌, ◌-◌, ◌≤◌, MatchOption, IfSome, None};
 ghost use Rattle.address_runs.specs.Runs.{run_end, value_at};
 ghost use Rattle.address_runs.specs.Edits.{IsEmptyFrom};
@@ -16,7 +16,8 @@ use memblock_model::Label;
 use memblock_ranges::{Tables, node_field};
 use std::marker::Model;
 
-/// A run of unclaimed memory of one label. Contracts see a run of addresses with its label.
+/// A run of unclaimed memory that has one label. In contracts it is a run of addresses with that
+/// label.
 #[derive(Clone, Copy, Debug, PartialEq, Eq)]
 pub struct FreeRange {
     /// The addresses of the run.
@@ -73,7 +74,7 @@ impl FreeRange {
 
 /// Returns the highest run of unclaimed memory that begins below `below`, or `None` if no address
 /// below it is unclaimed memory (`__next_mem_range_rev`). A run that continues above `below` is
-/// cut to end there.
+/// cut to end at `below`.
 pub fn prev_free(tables: &Tables, below: u64) -> Option<FreeRange>
     ensures { MatchOption result (HasValueBetween (unclaimed_in_tables tables.now) 0 below None)
         (IsRunBelow (unclaimed_in_tables tables.now) below) }
@@ -81,7 +82,7 @@ pub fn prev_free(tables: &Tables, below: u64) -> Option<FreeRange>
     prev_free_in_readers(&record_readers(tables), below)
 }
 
-/// Like [`prev_free`], from the records of both tables.
+/// Like [`prev_free`], with the readers of both tables instead of the tables.
 fn prev_free_in_readers(lists: &RecordReaders<'_>, below: u64) -> Option<FreeRange>
     ensures { MatchOption result (HasValueBetween
         (unclaimed_memory (value_at lists.now.memory) (value_at lists.now.reserved)) 0 below None)
@@ -99,8 +100,8 @@ fn prev_free_in_readers(lists: &RecordReaders<'_>, below: u64) -> Option<FreeRan
 }
 
 /// Returns the lowest run of unclaimed memory that ends past `from`, or `None` if no address from
-/// there on is unclaimed memory (`__next_mem_range`). A run that begins below `from` is cut to
-/// begin there.
+/// `from` on is unclaimed memory (`__next_mem_range`). A run that begins below `from` is cut to
+/// begin at `from`.
 pub fn next_free(tables: &Tables, from: u64) -> Option<FreeRange>
     ensures { MatchOption result (IsEmptyFrom from (unclaimed_in_tables tables.now))
         (IsRunFrom (unclaimed_in_tables tables.now) from) }
@@ -108,7 +109,7 @@ pub fn next_free(tables: &Tables, from: u64) -> Option<FreeRange>
     next_free_in_readers(&record_readers(tables), from)
 }
 
-/// Like [`next_free`], from the records of both tables.
+/// Like [`next_free`], with the readers of both tables instead of the tables.
 fn next_free_in_readers(lists: &RecordReaders<'_>, from: u64) -> Option<FreeRange>
     ensures { MatchOption result (IsEmptyFrom from
         (unclaimed_memory (value_at lists.now.memory) (value_at lists.now.reserved)))
@@ -125,7 +126,8 @@ struct FoundRun {
     cursor: Cursor,
 }
 
-/// Walks up to the end of the first run of unclaimed memory, or to the highest address.
+/// Walks up to the end of the first run of unclaimed memory, or to the highest address if there is
+/// none. Returns the run and the position after it.
 fn find_run_up(lists: &RecordReaders<'_>, from: Cursor) -> FoundRun
     requires { IsWalkUpAt lists.now.memory lists.now.reserved from }
     ensures run { MatchOption result.run (IsEmptyFrom from.at
@@ -148,7 +150,7 @@ fn find_run_up(lists: &RecordReaders<'_>, from: Cursor) -> FoundRun
     FoundRun { run: None, cursor }
 }
 
-/// The runs of unclaimed memory from an address up, one after another. Each run costs only the
+/// The runs of unclaimed memory from an address up, one after another. Each step reads only the
 /// records that the walk passes. Contracts see the records of both tables, and the address that
 /// the walk has reached.
 #[derive(Drop)]
@@ -185,8 +187,9 @@ impl FreeRuns<'_> {
         FreeRuns { lists, cursor }
     }
 
-    /// Returns the next run: the one that [`next_free`] returns for the address that the walk has
-    /// reached. The walk then continues at the run's end.
+    /// Returns the next run, or `None` if no unclaimed memory is left. It is the run that
+    /// [`next_free`] returns for the address that the walk has reached. The walk then continues at
+    /// the run's end.
     pub fn next_run(&mut self) -> Option<FreeRange>
         ensures run { MatchOption result (IsEmptyFrom self.old.at (unclaimed_in_walk self.old))
             (IsRunFrom (unclaimed_in_walk self.old) self.old.at) }

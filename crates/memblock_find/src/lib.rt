@@ -1,7 +1,7 @@
 //! Searches unclaimed memory, and walks over it, in memblock's two tables.
 //!
-//! Unclaimed memory is what `memblock.memory` covers and `memblock.reserved` doesn't. Nothing here
-//! allocates or changes a table.
+//! Unclaimed memory is what `memblock.memory` covers and `memblock.reserved` doesn't. No function
+//! of this crate allocates memory or changes a table.
 //!
 //! - [`find`] is `memblock_find_in_range_node`. It returns the greatest address at which a place
 //!   fits a [`Query`], or the least. A place is aligned, in the window, above the first frame, and
@@ -17,11 +17,12 @@
 //! is an empty function whose contract is a proven fact. In contracts, a name means the definition
 //! in `specs/`.
 //!
-//! A walk reads the records in place, and only those that it passes. So a search costs two binary
-//! searches and the records between the end of the window where it begins and the place that it
-//! finds. A search from the top for a node, or for mirrored memory, reads of other memory only the
-//! label. It continues at the end of the next memory that it may return. If it has passed several
-//! claims by then, a binary search finds the next one.
+//! A walk reads the records in place, and only those that it passes. A search therefore costs two
+//! binary searches, and one step for each record between the end of the window at which it begins
+//! and the place that it finds. A downward search for memory of a node, or for mirrored memory,
+//! reads only the label of a record that it skips. It continues at the end of the next record
+//! whose memory it may return. If it has passed several reserved records until then, a binary
+//! search finds the next one.
 #![tactic(auto)]
 
 mod bottom;

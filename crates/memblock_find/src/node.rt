@@ -1,5 +1,6 @@
-//! The search for memory of a node, or for mirrored memory. It passes over other memory one record
-//! at a time and reads only its label. Where it continues, it looks at the claims again.
+//! The search for memory of a node, or for mirrored memory. It skips other memory one record at a
+//! time, and reads only the label of a record that it skips. It looks at the claims again only
+//! when it has found memory that it may return.
 ghost use Rattle.std.specs.Prelude.{◌≡◌, ℕ, ◌-◌, ◌^◌, ◌<◌, ◌≤◌, false, max, Some, None, length};
 ghost use Rattle.address_runs.specs.Runs.{run_end, value_at};
 ghost use Rattle.memblock_model.specs.Search.{top_place_in};
@@ -7,7 +8,7 @@ ghost use Rattle.memblock_find.specs.Places.{is_allowed_label, NoAddressIsAllowe
 ghost use Rattle.memblock_find.specs.Walk.{nth_record, IsWalkDownAt};
 
 use crate::cursor::{Cursor, RecordReaders, record_readers};
-use crate::down::{start_walk_down, look_down, look_after_jump};
+use crate::down::{look_after_jump, look_down, start_walk_down};
 use crate::search::highest_place_in_stretch;
 use bm_base::FRAME_SIZE;
 use memblock_model::{Label, Query};
@@ -25,8 +26,8 @@ pub fn is_allowed_label(mirror: bool, node: Option<u32>, label: Label) -> bool
     allowed && (!mirror || label.has_mirror_flag())
 }
 
-/// Returns the number of records up to the last one, among the first `count`, whose memory the
-/// search may return; 0 if there is none.
+/// Among the first `count` records, finds the last one whose memory the search may return. Returns
+/// the number of records up to and including that one, or 0 if there is none.
 fn count_to_last_allowed(records: &Records<'_>, count: u64, mirror: bool, node: Option<u32>) -> u64
     requires { count ≤ length records.now }
     ensures within { result ≤ count }
@@ -43,7 +44,7 @@ fn count_to_last_allowed(records: &Records<'_>, count: u64, mirror: bool, node: 
     left
 }
 
-/// Returns where the last of the first `count` records ends, or 0 if `count` is 0.
+/// Returns the address at which the last of the first `count` records ends, or 0 if `count` is 0.
 pub fn end_of_records(records: &Records<'_>, count: u64) -> u64
     requires { count ≤ length records.now }
     ensures none { count ≡ 0 → result ≡ 0 }
@@ -57,8 +58,8 @@ pub fn end_of_records(records: &Records<'_>, count: u64) -> u64
 }
 
 impl Cursor {
-    /// Tests whether the search may return the memory at the cursor: whether it is memory, and its
-    /// label is allowed.
+    /// Tests whether the search may return the memory at the cursor: there is memory at the
+    /// cursor, and its label is allowed.
     fn is_allowed(&self, mirror: bool, node: Option<u32>) -> bool
         requires { is_allowed_label mirror node None ≡ false }
         ensures { result ≡ is_allowed_label mirror node self.now.memory.label }
@@ -69,11 +70,16 @@ impl Cursor {
         }
     }
 
-    /// Returns the position of the walk at the end of the next memory that the search may return,
-    /// below the memory at the cursor. If there is none, that is address 0.
-    // A hint, as for `start_walk_down`.
+    /// Returns the walk, moved down to the end of the next record that the search may use, below
+    /// the one at the cursor. If there is no such record, moves it to address 0.
+    // Only a hint to inline, as at `start_walk_down`: this function has several callers too.
     #[inline]
-    fn walk_down_to_allowed(&self, lists: &RecordReaders<'_>, mirror: bool, node: Option<u32>) -> Cursor
+    fn walk_down_to_allowed(
+        &self,
+        lists: &RecordReaders<'_>,
+        mirror: bool,
+        node: Option<u32>,
+    ) -> Cursor
         requires narrow { is_allowed_label mirror node None ≡ false }
         requires down { IsWalkDownAt lists.now.memory lists.now.reserved self.now }
         ensures order { result.at ≤ self.now.memory.bound }
@@ -90,8 +96,9 @@ impl Cursor {
         }
     }
 
-    /// Returns the position of the walk after it has moved down to [`Cursor::bottom`]. It moves
-    /// further if the search may return none of the memory in between.
+    /// Returns the position of the walk after it has moved down to [`Cursor::bottom`]. If the
+    /// memory at the cursor isn't allowed in this search, the walk moves further down, to memory
+    /// that is.
     fn down_to_allowed(&self, lists: &RecordReaders<'_>, mirror: bool, node: Option<u32>) -> Cursor
         requires narrow { is_allowed_label mirror node None ≡ false }
         requires down { IsWalkDownAt lists.now.memory lists.now.reserved self.now }
@@ -108,8 +115,8 @@ impl Cursor {
     }
 }
 
-/// Returns the greatest address of a place in memory of the query's node, in mirrored memory, or
-/// in memory that is both. The query must ask for at least one of them.
+/// Returns the greatest address of a place that fits the query, or `None`. If `mirror` is set,
+/// only mirrored memory is allowed. The query must name a node, or `mirror` must be set.
 // Never compiled into `find`, and with its own loop: with both loops in one function there are too
 // few registers, which costs time at each record of a search for any memory.
 #[inline(never)]

@@ -1,8 +1,8 @@
 //! The search (`memblock_find_in_range_node`), with the part that goes from the top down
 //! (`__memblock_find_range_top_down`). It walks over unclaimed memory from the window's end down,
-//! one stretch of a single label at a time. The first stretch that has a place has the greatest
-//! one. A search for a node, or for mirrored memory, passes over other memory (`node.rt`). The
-//! search from below is in `bottom.rt`.
+//! one stretch of a single label at a time. The first stretch with a place that fits has the
+//! highest such place. A search for memory of a node, or for mirrored memory, skips other memory
+//! (`node.rt`). The search from below is in `bottom.rt`.
 ghost use Rattle.std.specs.Prelude.{◌≡◌, ◌≢◌, ℕ, ◌^◌, ◌≤◌, false, max, MatchOption, Option, Some, None};
 ghost use Rattle.address_runs.specs.Runs.{value_at};
 ghost use Rattle.address_runs.specs.Sweep.{HasValueBetween};
@@ -71,9 +71,10 @@ fn find_any_downward(lists: &RecordReaders<'_>, query: &Query) -> Option<u64>
 }
 
 /// Returns the greatest address of a place that ends past `from` and at or below `until`, or
-/// `None`. `label` is the label of these addresses, or `None` if none of them is unclaimed memory.
-/// If they have a label, it must change below `from`. `low` is the lowest address that a place may
-/// have: the window's start or the second frame, whichever is higher.
+/// `None`. `label` is the label of the addresses from `from` to below `until`, or `None` if none
+/// of them is unclaimed memory. If there is a label, the address right below `from` must have
+/// another. `low` is the lowest address that a place may have: the window's start or the second
+/// frame, whichever is higher.
 pub fn highest_place_in_stretch(
     query: &Query,
     low: u64,
@@ -102,8 +103,8 @@ pub fn highest_place_in_stretch(
     last_between(from.max(low), until, query.size, query.align)
 }
 
-/// Returns the greatest multiple of `align` at which `size` bytes lie between the two addresses,
-/// or `None`.
+/// Returns the greatest multiple of `align` at which `size` bytes lie between the addresses `low`
+/// and `high`, or `None`.
 fn last_between(low: u64, high: u64, size: u64, align: u64) -> Option<u64>
     requires { (k : ℕ) × (align ≡ 2 ^ k) }
     ensures { MatchOption result ((b : ℕ) → FitsBetween low high size align b → ⊥)

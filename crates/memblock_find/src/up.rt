@@ -4,7 +4,7 @@
 ghost use Rattle.std.specs.Prelude.{◌≡◌, ◌≤◌, min};
 ghost use Rattle.memblock_find.specs.Walk.{ExactlyFirstEndAtOrBelow, IsLookUp, IsWalkUpAt};
 
-use crate::cursor::{Cursor, RecordReaders, Look};
+use crate::cursor::{Cursor, Look, RecordReaders};
 use memblock_ranges::Records;
 
 /// Returns the number of records that end at or below the address `at`, by binary search.
@@ -25,8 +25,8 @@ fn count_ending_by(records: &Records<'_>, at: u64) -> u64
     low
 }
 
-/// Returns the label that the records give the addresses from `at` on, and up to where. Exactly
-/// `slot` records must end at or below `at`.
+/// Returns the label that the records give the addresses from `at` on, and how far up they have
+/// it. Exactly `slot` records must end at or below `at`.
 fn look_up(records: &Records<'_>, slot: u64, at: u64) -> Look
     requires { ExactlyFirstEndAtOrBelow at records.now slot }
     ensures { IsLookUp records.now at result }
@@ -55,8 +55,8 @@ fn look_up(records: &Records<'_>, slot: u64, at: u64) -> Look
     }
 }
 
-/// Returns the look of a walk that has come up to `at`. Until the bound of `look` is reached, that
-/// is `look` itself.
+/// Returns the look of a walk that has come from `from` up to `at`. As long as the walk is below
+/// the bound of `look`, the result is `look`.
 fn look_after_move(records: &Records<'_>, look: Look, from: u64, at: u64) -> Look
     requires look { IsLookUp records.now from look }
     requires above { from ≤ at }

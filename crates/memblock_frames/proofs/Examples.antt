@@ -25,7 +25,7 @@ frames_examples : (frames_of_record forty ≡ record { first = 4; end = 5; node 
     × (node_of_frame (value_at (two ∷ [])) 2 ≡ Some 3) × (node_of_frame (value_at (two ∷ [])) 3 ≡ None)
 frames_examples = (refl, refl, refl, refl)
 
--- one byte of a frame is enough
+-- a frame is claimed if the table has a single byte of it
 claimed_example : is_unclaimed (value_at (forty ∷ [])) 4 ≡ false
 claimed_example = claimed_byte (value_at (forty ∷ [])) 4 0x4FC0 plain_label (omega arith) (omega arith) refl
 

@@ -44,7 +44,8 @@ alike_from f a (r ∷ rs) regions =
           (λ i d few. ap (λ x. decode_region (bytes_at f x 24)) (omega arith) ∙ regions (suc i) d (omega arith)),
     )
 
--- such lists begin, end and have values alike
+-- if two lists are alike, they begin and end at the same addresses, and have values at the same
+-- addresses
 alike_starts : (at : ℕ) (rs ss : List (RunOf LabelView)) → Alike rs ss → StartAtOrPast at ss → StartAtOrPast at rs
 alike_starts at [] [] alike start = tt
 alike_starts at (r ∷ rs) (s ∷ ss) alike start = omega arith

@@ -6,9 +6,9 @@ use Rattle.bm_base.specs.declared.range.TheConstants.{FRAME_SIZE}
 use Rattle.address_runs.specs.Runs.{RunOf, value_at}
 use Rattle.memblock_model.specs.Labels.{LabelView, Labels}
 use Rattle.memblock_frames.specs.declared.frames.RecordFrames.{RecordFrames}
-use Rattle.memblock_frames.specs.declared.frames.TheConstants.{MAX_NODES}
+use Rattle.bm_base.specs.declared.zone.TheConstants.{MAX_NODES}
 
--- the node, if its number is below 1,024; any other number means no node
+-- the node, if its number is below 1,024; any larger number means no node
 abbrev pub valid_node : Option ℕ → Option ℕ
 valid_node None = None
 valid_node (Some n) = if nat_lt n MAX_NODES then Some n else None
@@ -26,16 +26,16 @@ frames_of_record r = record { first = r.base / FRAME_SIZE; end = (r.base + (r.si
 abbrev pub node_of_frame : Labels → ℕ → Option ℕ
 node_of_frame memory frame = node_of_label (memory (FRAME_SIZE * frame))
 
--- the table has no byte of the frame
+-- the frame is unclaimed: no byte of it is in the reserved table
 unfoldable pub is_unclaimed : Labels → ℕ → Bool
 is_unclaimed reserved frame = each_in (bytes_of_frame frame) (λ x. is_none (reserved x))
 
--- the node of a frame that is free by both tables, memory and reserved: all of the frame is memory,
--- and no byte of it is reserved
+-- the node of a frame that is free by the memory table and the reserved table, else None. A frame
+-- is free if all of it is memory and no byte of it is reserved.
 unfoldable pub free_node_in : Labels → Labels → ℕ → Option ℕ
 free_node_in memory reserved frame =
     if each_in (bytes_of_frame frame) (λ x. is_some (memory x) && is_none (reserved x)) then node_of_frame memory frame else None
 
--- the records before the index don't overlap the frame or any above it
+-- the records before index `i` overlap neither the frame nor any above it
 abbrev pub OverlapOnlyBelow : List (RunOf LabelView) → ℕ → ℕ → Type 0
 OverlapOnlyBelow rs i frame = (x : ℕ) → FRAME_SIZE * frame ≤ x → value_at (drop i rs) x ≡ value_at rs x

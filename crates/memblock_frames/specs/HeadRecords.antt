@@ -1,4 +1,4 @@
--- When the bytes at a head are an ascending list of records.
+-- Defines when the bytes at a head are an ascending list of records.
 use Rattle.std.specs.Prelude.{◌≡◌, ℕ, ◌+◌, ◌*◌, ◌%◌, ◌^◌, ◌<◌, ◌≤◌, List, [], ◌∷◌}
 use Rattle.bm_base.specs.declared.range.TheConstants.{FRAME_SIZE}
 use Rattle.address_runs.specs.Runs.{RunOf, run_end}
@@ -14,13 +14,14 @@ abbrev pub AreAscendingBelow : ℕ → List (RunOf LabelView) → Type 0
 AreAscendingBelow bound [] = Unit {0}
 AreAscendingBelow bound (r ∷ rs) = (0 < r.size) × (run_end r ≤ bound) × StartAtOrPast (run_end r) rs × AreAscendingBelow bound rs
 
--- the bytes at the head are such an ascending list of records, and its room ends below 2^64
+-- the records at the head ascend below the bound (`AreAscendingBelow`), their number is at most the
+-- head's room, and the bytes of that room lie below 2^64
 pub record HasRecords (store : List ExtentView) (head : Head) (bound : ℕ) : Type 0 where
   pub few : head.count ≤ head.room
   pub fits : head.place + 24 * head.room < 2 ^ 64
   pub ascend : AreAscendingBelow bound (records_of_head store head)
 
--- the records begin and end at borders of frames
+-- each record begins and ends at a frame boundary
 abbrev pub AreWholeFrames : List (RunOf LabelView) → Type 0
 AreWholeFrames [] = Unit {0}
 AreWholeFrames (r ∷ rs) = (r.base % FRAME_SIZE ≡ 0) × (r.size % FRAME_SIZE ≡ 0) × AreWholeFrames rs

@@ -1,16 +1,13 @@
-//! Checks that the bytes at a head fulfil what the other calls require. This is for callers that
-//! have only the bytes, and no table whose contract ensures it.
+//! Checks that the bytes at a head fulfil what the other calls require. This check is for callers
+//! that have only the bytes, without a table whose contract ensures it.
 
 ghost use Rattle.std.specs.Prelude.{◌≡◌, ◌+◌, ◌*◌, ◌%◌, ◌^◌, ◌<◌, ◌≤◌, ◌↔◌, IsTrue};
 ghost use Rattle.memblock_ranges.specs.Tables.{records_of_head};
 ghost use Rattle.memblock_frames.specs.HeadRecords.{HasRecords, AreWholeFrames};
 
 use bm_base::FRAME_SIZE;
-use memblock_ranges::{Head, Region, region_at};
+use memblock_ranges::{Head, RECORD_SIZE, Region, region_at};
 use phys_store::Store;
-
-/// The size of a record, in bytes.
-const RECORD_SIZE: u64 = 24;
 
 /// Tests whether the head has room for its records, and all of that room is below 2^64.
 fn head_has_room(head: &Head) -> bool
@@ -34,7 +31,7 @@ fn follows_in_order(region: &Region, from: u64, bound: u64) -> bool
     }
 }
 
-/// Tests whether the record begins and ends at the border of a frame.
+/// Tests whether the record begins and ends at a frame boundary.
 fn is_whole_frames(region: &Region) -> bool
     ensures { IsTrue result ↔ (region.now.base % FRAME_SIZE ≡ 0)
         × (region.now.size % FRAME_SIZE ≡ 0) }
@@ -63,8 +60,8 @@ pub fn has_records(store: &Store, head: &Head, bound: u64) -> bool
     true
 }
 
-/// Tests whether every record begins and ends at the border of a frame. The bytes at the head must
-/// be a list of records.
+/// Tests whether every record begins and ends at a frame boundary. The bytes at the head must be a
+/// list of records.
 pub fn has_whole_frames(store: &Store, head: &Head) -> bool
     requires { HasRecords store.now head.now (2 ^ 64) }
     ensures { IsTrue result ↔ AreWholeFrames (records_of_head store.now head.now) }

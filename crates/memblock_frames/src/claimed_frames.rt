@@ -1,5 +1,6 @@
 //! Finds the next frames that overlap a record of a table. A caller that goes upward passes the
-//! index that it got before. So a walk over all frames goes through the records once.
+//! index that the previous call returned. A walk over all frames therefore goes through the
+//! records only once.
 
 ghost use Rattle.std.specs.Prelude.{◌≡◌, ◌^◌, ◌<◌, ◌≤◌, ℕ, true, false};
 ghost use Rattle.address_runs.specs.Runs.{value_at};
@@ -22,9 +23,9 @@ pub struct ClaimedFrames {
     pub end: u64,
 }
 
-/// Finds the next frames, from frame `at` on, that overlap a record. `at` must be below 2^52. The
-/// search begins at the record with index `index` and only goes to higher indices. The records
-/// before it must not overlap frame `at` or any above it.
+/// Finds the lowest frames, from frame `at` on, that overlap a record. `at` must be below 2^52.
+/// The search begins at the record with index `index` and only goes to higher indices. The records
+/// before that index must not overlap frame `at` or any frame above it.
 pub fn next_claimed_frames(store: &Store, head: &Head, index: u64, at: u64) -> ClaimedFrames
     requires table { HasRecords store.now head.now (2 ^ 64) }
     requires index { index ≤ head.now.count }

@@ -1,6 +1,6 @@
-//! Returns the frames of one record. A reserved record may begin and end inside a frame, and then
-//! has the whole frame. A record of memory consists of whole frames. So one function serves both
-//! tables.
+//! Returns the frames of one record. A reserved record may begin and end inside a frame, which
+//! then counts as a whole. A record of memory consists of whole frames. One function can
+//! therefore be used for both tables.
 
 ghost use Rattle.std.specs.Prelude.{◌≡◌, ◌^◌, ◌<◌, get_or};
 ghost use Rattle.address_runs.specs.Runs.{RunOf};
@@ -9,12 +9,9 @@ ghost use Rattle.memblock_ranges.specs.Tables.{records_of_head};
 ghost use Rattle.memblock_frames.specs.Frames.{frames_of_record};
 ghost use Rattle.memblock_frames.specs.HeadRecords.{HasRecords};
 
-use bm_base::FRAME_SIZE;
+use bm_base::{FRAME_SIZE, MAX_NODES};
 use memblock_ranges::{Head, region_at};
 use phys_store::Store;
-
-/// Nodes have numbers below this (the largest `MAX_NUMNODES` of x86-64).
-pub const MAX_NODES: u32 = 1024;
 
 /// The frames that overlap a record, and their node.
 #[derive(Clone, Copy, Debug, PartialEq, Eq)]

@@ -7,7 +7,7 @@
 //! overlap some record.
 //!
 //! `specs/HeadRecords.antt` defines when the bytes at a head are an ascending list of records
-//! (`HasRecords`). That is weaker than what memblock ensures, since records may touch and have the
+//! (`HasRecords`). This is weaker than what memblock ensures: here records that touch may have the
 //! same value. `specs/Frames.antt` defines what two tables say of a frame: its node, and whether
 //! it is free.
 //!

@@ -13,7 +13,7 @@ use Rattle.growth_model.proofs.FollowLaws.{follows-item, follows-then}
 use Rattle.memblock_grow.specs.declared.places.AllocSettings.{AllocSettings}
 use Rattle.memblock_grow.specs.Invariant.{TablesMatchItems, ChangesOnlyTables, KeepsTables, BytesFollowItems}
 
--- an error that is passed on
+-- if a result is known to be the error `e`, it is that error
 pub handed : {T : Type 0} (r : Result T Refusal) (e : Refusal) → IsErrAnd r (λ (n : Refusal). n ≡ e) → r ≡ Err e
 handed (Ok x) e h = absurd h
 handed (Err n) e h = ap (λ (m : Refusal). Err m) h

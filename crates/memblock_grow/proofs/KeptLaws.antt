@@ -1,4 +1,4 @@
--- The tables follow the items, one by one.
+-- The tables match the items after each further item.
 use Rattle.std.proofs.Common.{◌≡◌, ℕ, ◌+◌, ◌*◌, ◌^◌, ◌<◌, ◌≤◌, Bool, Option, Some, List, [], ◌∷◌, ◌++◌, length, refl, sym, ◌∙◌, ap, subst, arith}
 use Rattle.std.proofs.lemmas.Option.{same_Some}
 use Rattle.bm_base.specs.Range.{RangeView, end_of}
@@ -101,7 +101,7 @@ module _ {kernel : RangeView} {items : List Item} {t : TablesView} {at : AllocSe
 
 module _ {kernel : RangeView} {items : List Item} {t : TablesView} {at : AllocSettings} (kept : TablesMatchItems kernel items t at)
     (u : TablesView) where
-  -- the tables are unchanged
+  -- if both tables are unchanged, they still match the items
   pub kept-same : u.memory ≡ t.memory → u.reserved ≡ t.reserved → TablesMatchItems kernel items u at
   kept-same first second = record {
     memory = first ∙ kept.memory;
@@ -149,7 +149,7 @@ module _ {kernel : RangeView} {items : List Item} {t : TablesView} {at : AllocSe
   few-moved w place is =
       let few = few-kept kept w in subst (λ (s : TableView). length s.records ≤ s.room) (sym is) (omega (arith, few))
 
-  -- one more item
+  -- the tables still match the items after one more item
   kept-by : (i : Item) (to : AllocSettings) → RangeEndsInAddressSpace i → limit_after at.limit i ≡ to.limit → upward_after at.upward i ≡ to.upward
       → u.memory ≡ table_from_items which.Memory kernel (items ++ i ∷ []) → u.reserved ≡ table_from_items which.Reserved kernel (items ++ i ∷ [])
       → length u.memory.records ≤ u.memory.room → length u.reserved.records ≤ u.reserved.room
@@ -165,7 +165,7 @@ module _ {kernel : RangeView} {items : List Item} {t : TablesView} {at : AllocSe
     far = λ w place moved. rw (room_of-push w items i) (far w place (sym (moved_to-push w items i) ∙ moved));
   }
 
-  -- an edit of one table
+  -- the tables still match the items after an edit of one table
   kept-reserved : (i : Item) → IsQuiet i → RangeEndsInAddressSpace i → limit_after at.limit i ≡ at.limit → upward_after at.upward i ≡ at.upward
       → ((f : Labels) → table_after which.Memory f i ≡ f)
       → u.reserved ≡ record t.reserved { records = records_for (table_after which.Reserved (value_at t.reserved.records) i) }
@@ -208,7 +208,7 @@ module _ {kernel : RangeView} {items : List Item} {t : TablesView} {at : AllocSe
       let few = few-covered kept which.Memory range ends in
       kept-memory (item.Mem range) (λ w n. refl, λ w o. refl) (omega arith) refl refl (λ f. refl) is same (omega (arith, few, room))
 
-  -- an edit that changes labels
+  -- the tables still match the items after an edit that changes labels of memory
   pub kept-node : (range : RangeView) (node : ℕ) → end_of range < 2 ^ 64 → length t.memory.records + 2 ≤ t.memory.room
       → u.memory ≡ record t.memory { records = records_for (relabel_range range (with_node (Some node)) (value_at t.memory.records)) }
       → u.reserved ≡ t.reserved → TablesMatchItems kernel (items ++ item.Node range node ∷ []) u at
@@ -231,7 +231,7 @@ module _ {kernel : RangeView} {items : List Item} {t : TablesView} {at : AllocSe
       kept-memory item.Trim (λ w n. refl, λ w o. refl) tt refl refl (λ f. refl) is same
       (omega (arith, few, was, ap length (records-again kept which.Memory)))
 
-  -- the table that a growth moves, and the other one
+  -- the tables still match the items after a growth moves one of them
   pub kept-grown : (w : Which) (place room : ℕ) → place + round_up_to_frames (48 * room_of w items) < 2 ^ 64
       → table_in w u ≡ record (table_in w t) { place = place; room = 2 * room_in w t } → other_table_in w u ≡ other_table_in w t
       → TablesMatchItems kernel (items ++ item.Grown w place room ∷ []) u at

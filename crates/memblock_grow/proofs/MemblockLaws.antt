@@ -35,7 +35,7 @@ empty_at t x none = rw none (zeros_at (24 * t.room) (x - t.place))
 shown-empty : (m r : TableView) (x : ℕ) → m.records ≡ [] → r.records ≡ [] → byte_with_tables m r x 0 ≡ 0
 shown-empty m r x first second = let a = empty_at m x first in let b = empty_at r x second in grind (arith, a, b)
 
--- both tables at first
+-- the empty table of a new memblock
 abbrev pub first_table : Which → RangeView → TableView
 first_table w kernel = record { records = []; place = built_in_place w kernel; room = 128 }
 
@@ -70,7 +70,7 @@ unfolding byte_from_history
 bytes-new kernel x = shown-empty (table_from_items which.Memory kernel []) (table_from_items which.Reserved kernel []) x
     (no_records_at_first which.Memory) (no_records_at_first which.Reserved)
 
--- after one item that moves no table
+-- the invariant holds after one item that moves no table
 module _ (i : Item) {kernel : RangeView} {items longer : List Item} {t u : TablesView} {at to : AllocSettings}
     (m : IsMemblock kernel items t at)
     (more : longer ≡ items ++ i ∷ []) (now : TablesMatchItems kernel (items ++ i ∷ []) u to) (stays : (x : ℕ)
@@ -89,7 +89,7 @@ module _ (i : Item) {kernel : RangeView} {items longer : List Item} {t u : Table
         spelled = follows-stands _ _ _ _ _ _ _ after.memory after.reserved follows-one;
       }
 
--- a write of one byte to each address of a range
+-- a write of one byte to each address of a range is a fill
 pub wrote-put : (old new : List ExtentView) (fill : Fill) → WritesBytes old new fill.range.base fill.range.size (λ _. fill.byte)
     → (x : ℕ) → byte_of new x ≡ byte_after_fill fill x (byte_of old x)
 wrote-put old new fill wrote x =

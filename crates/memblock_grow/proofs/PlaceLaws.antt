@@ -137,7 +137,7 @@ module _ {kernel : RangeView} {items : List Item} {t : TablesView} {at : AllocSe
       (kept.far w) in
       rw (place-is kept w, room-is kept w) here
 
--- the results of the search for frames
+-- what the search for a table's frames returns if their size is too large, and if it isn't
 pub between-none : (t : TablesView) (up : Bool) (room lo hi : ℕ) → hi < 2 ^ 64 → ¬ (round_up_to_frames (48 * room) < 2 ^ 64)
     → None ≡ frames_between t up room lo hi
 between-none t up room lo hi small large =

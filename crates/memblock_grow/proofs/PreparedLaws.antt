@@ -22,7 +22,7 @@ grown-append (i ∷ is) b x = rw (grown-append is b x) (sym (or_assoc (moves_tab
 swap : (g h c s : Bool) → (h || (c || (g || s))) ≡ ((g || h) || (c || s))
 swap g h c s = grind arith
 
--- one call after another
+-- what two calls prepare, one after the other
 pub prepares-then : {items mid last : List Item} {s t u : List ExtentView} → Prepares items mid s t → Prepares mid last t u
     → Prepares items last s u
 prepares-then {s} first second = record {
@@ -38,7 +38,7 @@ pub prepares-item : (i : Item) {old mid new : List Item} {s t u : List ExtentVie
 prepares-item i first is none same =
     prepares-then first (record { more = i ∷ []; goes_on = is; each = λ x. rw (none x) (same x) })
 
--- a call after a place was prepared
+-- what a call prepares after a place was prepared
 pub prepares-with : {place : RangeView} {items longer : List Item} {s p t : List ExtentView}
     → ((x : ℕ) → is_prepared_at p x ≡ (covers place x || is_prepared_at s x)) → Prepares items longer p t
     → PreparesPlaceToo place items longer s t
@@ -57,7 +57,7 @@ with-then {place} {s} first second = record {
       (swap (is_moved_over_by_table first.more x) (is_moved_over_by_table second.more x) (covers place x) (is_prepared_at s x));
 }
 
--- a table grew into that place, with twice the room
+-- what is prepared after a table has grown into that place, with twice the room
 join : (g c s : Bool) → (g || (c || s)) ≡ ((g || (c || false)) || s)
 join g c s = grind arith
 
@@ -83,7 +83,7 @@ prepares-growth w n {items} {t} is here twice frames each =
     with-growth w n {mid = items} {t = t} (record { more = []; goes_on = sym (append-nil items); each = each }) is here twice frames
     (λ x. refl)
 
--- the end of a call: whatever its result, what holds exactly holds there
+-- if `Prepares` holds at the end of a call, `PreparesAsResult` does whatever the result is
 abbrev nowhere : RangeView
 nowhere = record { base = 0; size = 0 }
 
@@ -101,7 +101,7 @@ by-exact (Err refusal.Memory) {s} h = (
   },
 )
 
--- no further item was written, and no item at all was written
+-- what is prepared if no further item was written, and if no item at all was written
 pub by-item : {T : Type 0} (r : Result T Refusal) {items mid longer : List Item} {s t : List ExtentView} → longer ≡ mid
     → Prepares items mid s t → PreparesAsResult r items longer s t
 by-item r {items} {s} {t} same h = by-exact r (subst (λ (l : List Item). Prepares items l s t) (sym same) h)
@@ -112,7 +112,7 @@ none-on-err (Ok x) items same = tt
 none-on-err {T} (Err e) items same = by-exact {T = T} (Err e)
     (record { more = []; goes_on = sym (append-nil items); each = λ x. ap (λ (u : List ExtentView). is_prepared_at u x) same })
 
--- a call after others, and an error that is passed on
+-- what is prepared after a call that follows others, and after an error that is passed on
 pub by-then : {T : Type 0} (r : Result T Refusal) {items mid : List Item} (last : List Item) {s t : List ExtentView} (u : List ExtentView)
     → Prepares items mid s t → PreparesAsResult r mid last t u → PreparesAsResult r items last s u
 by-then (Ok x) last u first second = prepares-then first second

@@ -108,7 +108,7 @@ module _ {kernel : RangeView} {items : List Item} {t : TablesView} {at : AllocSe
       let known = mapped-some (place_beside_range avoid n items) (48 * n) place (sym (beside-along avoid said is) ∙ some) in
       record { found = known.found; is = known.is }
 
-  -- no place was found
+  -- how a growth ends if no place was found
   pub growth-none : (avoid : RangeView) {head : Head} {o : Option RangeView} → head ≡ head_of t.reserved
       → o ≡ frames_beside t at head.room avoid → o ≡ None
       → EndsAsChange {T = Unit {0}} (Err (refusal.NoGapForTable which.Reserved head.room)) items items (reserved_growth avoid)
@@ -136,7 +136,7 @@ module _ {items : List Item} {avoid place : RangeView} (known : IsBeside items a
   pub beside-free : IsUnclaimed (owner_of items) place
   beside-free = rw known.is (beside-new items avoid (room_of which.Reserved items) place.base known.found).free
 
-  -- the table may move there
+  -- the table may move to the place that was found: it overlaps neither table
   pub beside-apart : {kernel : RangeView} {t : TablesView} {at : AllocSettings} (p : TablesView) {base : ℕ}
       → TablesMatchItems kernel items t at
       → TablesAreClaimed kernel items → base ≡ place.base → p.memory ≡ t.memory → p.reserved ≡ t.reserved
@@ -154,7 +154,7 @@ module _ {items : List Item} {avoid place : RangeView} (known : IsBeside items a
   growth-some =
       ap (λ (o : Option ℕ). reserved_growth_at (room_of which.Reserved items) (moved_to which.Reserved items) o items) known.found
 
-  -- the end of a growth that ran out of memory before it, and of one that didn't
+  -- how a growth ends that ran out of memory before it wrote an item, and how one ends that didn't
   pub growth-wants : (new : List Item) (r : Result (Unit {0}) Refusal) → IsErrAnd r (λ (n : Refusal). n ≡ refusal.Memory) → new ≡ items
       → EndsAsChange r items new (reserved_growth avoid)
   growth-wants new r is same =
@@ -222,7 +222,7 @@ module _ {kernel : RangeView} {items : List Item} {t p r v : TablesView} {at : A
       (follows-item kernel _ (item.Claim place (owner.Table which.Reserved)) v.memory v.reserved _ _ (λ x. refl) claimed-kept.memory
       claimed-kept.reserved m.after)
 
--- the state after the claim of the new place
+-- what is true after the claim of the new place
 pub record Claimed (items longer : List Item) (t v : TablesView) (at : AllocSettings) : Type 0 where
   pub kept : KeepsTables items t longer v at
   pub bytes : BytesFollowItems items t longer v at
@@ -254,7 +254,7 @@ module _ (range : RangeView) {items longer new : List Item} {t v : TablesView} (
       rw is (follows-then _ _ _ _ _ _ _ (c.bytes kernel kept spelled)
       (follows-item kernel longer (item.Free range) u.memory u.reserved _ _ (λ x. refl) after.memory after.reserved told))
 
--- no item was written
+-- if no item was written and no byte changed, the bytes follow the items
 pub still-bytes : {items longer : List Item} {t : TablesView} (p : TablesView) {at : AllocSettings} → longer ≡ items
     → ((x : ℕ) → byte_of p.store x ≡ byte_of t.store x) → BytesFollowItems items t longer p at
 still-bytes p none same = λ kernel kept spelled. rw none (follows-still _ _ _ _ _ _ kept.memory kept.reserved spelled same)

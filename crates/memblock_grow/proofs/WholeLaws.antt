@@ -1,4 +1,4 @@
--- What holds between calls holds after each call.
+-- The invariant of a memblock holds after each call.
 use Rattle.std.proofs.Common.{List}
 use Rattle.bm_base.specs.Range.{RangeView}
 use Rattle.memblock_model.specs.declared.item.Item.{Item}
@@ -19,7 +19,7 @@ whole-on {kernel} m keeps bytes stands =
       spelled = follows-stands _ _ _ _ _ _ _ kept.memory kept.reserved (bytes kernel m.kept m.spelled);
     }
 
--- one call after another
+-- what two calls keep, one after the other
 pub keeps-then : {items mid last : List Item} {t u v : TablesView} {at : AllocSettings} → KeepsTables items t mid u at
     → KeepsTables mid u last v at
     → KeepsTables items t last v at

@@ -1,5 +1,5 @@
--- What holds between calls and what each call keeps: the tables are those of the items, and lie in
--- claimed memory.
+-- What is true between calls, and what each call keeps: the tables are those that the items
+-- define, and lie in claimed memory.
 use Rattle.std.specs.Prelude.{◌≡◌, ℕ, ◌+◌, ◌*◌, ◌^◌, ◌<◌, Bool, Some, List, IsTrue}
 use Rattle.bm_base.specs.Range.{RangeView}
 use Rattle.address_runs.specs.Edits.{IsEmptyFrom}
@@ -31,16 +31,17 @@ pub record TablesMatchItems (kernel : RangeView) (items : List Item) (t : Tables
   pub fits : TablesHaveRoom items
   pub far : (w : Which) (place : ℕ) → moved_to w items ≡ Some place → place + round_up_to_frames (24 * room_of w items) < 2 ^ 64
 
--- in addition the tables are encoded in their bytes; from the first item on they lie in claimed
--- memory, apart from each other
+-- the invariant of a memblock: the tables match the items and are encoded in their bytes. From the
+-- first item on they also lie in claimed memory, apart from each other.
 pub record IsMemblock (kernel : RangeView) (items : List Item) (t : TablesView) (at : AllocSettings) : Type 0 where
   pub image : IsKernelImage kernel
   pub kept : TablesMatchItems kernel items t at
   pub placed : HasFirstItem items → TablesAreClaimed kernel items
   pub spelled : TablesAreEncoded t.memory t.reserved (byte_of t.store)
 
--- the invariant holds for some range of the kernel's image; or for one that also allows the claim,
--- or the free
+-- `IsMemblockForSomeKernel`: the invariant holds with some range as the kernel's image.
+-- `AllowsClaim`: it holds with one for which the claim is allowed (`MayClaim`). `AllowsFree`: it
+-- holds with one for which the range to free overlaps no table.
 abbrev pub IsMemblockForSomeKernel : List Item → TablesView → AllocSettings → Type 0
 IsMemblockForSomeKernel items t at = (kernel : RangeView) × IsMemblock kernel items t at
 
@@ -50,11 +51,13 @@ AllowsClaim items t at range who = (kernel : RangeView) × IsMemblock kernel ite
 abbrev pub AllowsFree : List Item → TablesView → AllocSettings → RangeView → Type 0
 AllowsFree items t at range = (kernel : RangeView) × IsMemblock kernel items t at × OverlapsNoTable kernel range items
 
--- the tables are again those of the items, for every range of the kernel's image
+-- for every range as the kernel's image: if the tables matched the items before the call, they
+-- match the items after it
 abbrev pub KeepsTables : List Item → TablesView → List Item → TablesView → AllocSettings → Type 0
 KeepsTables items t longer u at = (kernel : RangeView) → TablesMatchItems kernel items t at → TablesMatchItems kernel longer u at
 
--- each byte becomes what the further items make of it
+-- for every range as the kernel's image: if the tables matched the items before the call and were
+-- encoded in the bytes, each byte has changed only as the appended items say (`Follows`)
 abbrev pub BytesFollowItems : List Item → TablesView → List Item → TablesView → AllocSettings → Type 0
 BytesFollowItems items t longer u at =
     (kernel : RangeView) → TablesMatchItems kernel items t at → TablesAreEncoded t.memory t.reserved (byte_of t.store)
@@ -64,6 +67,6 @@ BytesFollowItems items t longer u at =
 abbrev pub ChangesOnlyTables : TablesView → TablesView → Type 0
 ChangesOnlyTables t u = (x : ℕ) → byte_of u.store x ≡ byte_with_tables u.memory u.reserved x (byte_of t.store x)
 
--- prepared addresses stay prepared
+-- each address that the store had prepared for writing is still prepared
 abbrev pub StayPrepared : List ExtentView → List ExtentView → Type 0
 StayPrepared s t = (x : ℕ) → IsTrue (is_prepared_at s x) → IsTrue (is_prepared_at t x)

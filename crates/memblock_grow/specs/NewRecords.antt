@@ -10,7 +10,8 @@ use Rattle.growth_model.specs.Growth.{count_uncovered_pieces, max_records_added_
 use Rattle.memblock_grow.specs.declared.new_records.MaxNewRecords.{MaxNewRecords}
 use Rattle.memblock_grow.specs.declared.new_records.MaxNewRecords.TheVariants as more
 
--- the greatest number of records that an edit may add, from the items and from a table
+-- the greatest number of records that an edit may add to a table. `new_records_by_items` computes
+-- it from the journal's items, `new_records_in_table` from the table.
 abbrev pub new_records_by_items : Which → MaxNewRecords → List Item → ℕ
 new_records_by_items w (more.PiecesOf range) = count_uncovered_pieces w range
 new_records_by_items w more.Two = max_records_added_by_split
@@ -19,11 +20,11 @@ abbrev pub new_records_in_table : MaxNewRecords → TableView → ℕ
 new_records_in_table (more.PiecesOf range) t = uncovered_run_count range (value_at t.records)
 new_records_in_table more.Two t = 2
 
--- the table has room for that many more records
+-- the table has room for all records that the edit may add
 abbrev pub HasRoomFor : MaxNewRecords → TableView → Type 0
 HasRoomFor m t = length t.records + new_records_in_table m t ≤ t.room
 
--- the range, if there is one, ends below 2^64
+-- the range of the edit, if it has one, ends below 2^64
 abbrev pub RangeEndsBelow2To64 : MaxNewRecords → Type 0
 RangeEndsBelow2To64 (more.PiecesOf range) = end_of range < 2 ^ 64
 RangeEndsBelow2To64 more.Two = Unit {0}

@@ -1,4 +1,5 @@
--- The searches of an allocation and of a table that grows, as functions of the tables.
+-- The searches for an allocation and for the new place of a table, as functions of the tables. If
+-- `up` is true, a search goes from the lowest address up.
 use Rattle.std.specs.Prelude.{◌≡◌, ℕ, ◌*◌, ◌==◌, Bool, true, false, min, if◌then◌else◌, Option, Some, None, List, [], ◌∷◌}
 use Rattle.std.specs.Option.{option_map, option_or}
 use Rattle.bm_base.specs.Range.{RangeView, end_of}
@@ -16,15 +17,17 @@ use Rattle.memblock_grow.specs.declared.places.AllocSettings.{AllocSettings}
 abbrev pub MirrorsComeFromItems : List Item → TablesView → Type 0
 MirrorsComeFromItems items t = has_mirrors items ≡ false → (x : ℕ) → is_allowed_mirror true (value_at t.memory.records x) ≡ false
 
--- the top place of a search in both tables, and of a query in mirrored memory
+-- the place that a search finds: in the memory table, and outside the reserved table
 abbrev pub top_place_in_tables : TablesView → Bool → Attempt → Option ℕ
 top_place_in_tables t up a =
     top_place_in (record { mirror = a.mirror; up = up }) (value_at t.memory.records) (value_at t.reserved.records) a.query
 
+-- the same search, in mirrored memory only
 abbrev pub mirrored_place_in_tables : TablesView → Bool → Query → Option ℕ
 mirrored_place_in_tables t up q = top_place_in_tables t up (record { query = q; mirror = true })
 
--- the best place for a query, from the tables
+-- the best place for a query by both tables: in mirrored memory, or in any memory if none fits
+-- there
 abbrev pub best_place_in_tables : TablesView → Bool → Query → Option ℕ
 best_place_in_tables t up q = best_place_in up (value_at t.memory.records) (value_at t.reserved.records) q
 
@@ -40,7 +43,8 @@ frames_beside t aim room avoid = option_map (λ place. frames_for_bytes place (4
     (best_place_in_tables t aim.upward (table_query room (end_of avoid) aim.limit))
     (best_place_in_tables t aim.upward (table_query room 0 (min avoid.base aim.limit))))
 
--- the frames of a table's old place; a table with room for 128 records has never moved
+-- the frames of a table's old place, or None if the table has never moved; its room is then still
+-- 128
 abbrev pub old_place_frames : ℕ → ℕ → Option RangeView
 old_place_frames place room = if room == 128 then None else Some (frames_for_bytes place (24 * room))
 

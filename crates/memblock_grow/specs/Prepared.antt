@@ -1,5 +1,5 @@
--- Which addresses are prepared after a call, so that writing them can't fail: those that were, and
--- the frames that tables grew into.
+-- Which addresses are prepared after a call: those that were prepared before, and those of the
+-- frames that tables grew into. A write to a prepared address can't fail.
 use Rattle.std.specs.Prelude.{◌≡◌, ℕ, ◌*◌, Bool, false, ◌||◌, List, [], ◌∷◌, ◌++◌, Result, Ok, Err}
 use Rattle.bm_base.specs.Range.{RangeView, covers}
 use Rattle.phys_store.specs.Bytes.{ExtentView, is_prepared_at}
@@ -19,21 +19,22 @@ abbrev pub is_moved_over_by_table : List Item → ℕ → Bool
 is_moved_over_by_table [] x = false
 is_moved_over_by_table (i ∷ is) x = moves_table_over i x || is_moved_over_by_table is x
 
--- the items became the longer list, and the prepared addresses are those from before and the
--- frames that tables grew into by the further items
+-- the journal has grown from `items` to `longer`. Prepared are the addresses that were prepared
+-- before, and those of the frames into which the appended items move a table.
 pub record Prepares (items longer : List Item) (s t : List ExtentView) : Type 0 where
   pub more : List Item
   pub goes_on : longer ≡ items ++ more
   pub each : (x : ℕ) → is_prepared_at t x ≡ (is_moved_over_by_table more x || is_prepared_at s x)
 
--- the same addresses and one place more are prepared
+-- like `Prepares`, but the addresses of the range `place` are prepared too
 pub record PreparesPlaceToo (place : RangeView) (items longer : List Item) (s t : List ExtentView) : Type 0 where
   pub more : List Item
   pub goes_on : longer ≡ items ++ more
   pub each : (x : ℕ) → is_prepared_at t x ≡ (is_moved_over_by_table more x || (covers place x || is_prepared_at s x))
 
--- what is prepared after a call that may grow the memory table, whose place is prepared before the
--- growth's first item: after the error Memory, one place may be prepared that is in no item
+-- what is prepared after a call that may grow the memory table. The new place is prepared before
+-- the first item of the growth is written. After the error `Memory` a place may therefore be
+-- prepared that no item names.
 abbrev pub PreparesAsResult : {T : Type 0} → Result T Refusal → List Item → List Item → List ExtentView → List ExtentView → Type 0
 PreparesAsResult (Ok x) items longer s t = Prepares items longer s t
 PreparesAsResult (Err refusal.NoGap) items longer s t = Prepares items longer s t

@@ -5,25 +5,27 @@
 //! (`memblock_double_array`): it claims a new place, which the usual search finds, and frees its
 //! old one. The claim for the memory table may make the reserved table grow, and so may the free
 //! of its old place. `growth_model` defines what each call writes, as a function of the items so
-//! far. Each call here ends as that definition says (`EndsAsChange`). It succeeds, it is refused
-//! because a table found no place, or it stops between two steps because this program is out of
-//! memory.
+//! far. Each call here ends as that definition says (`EndsAsChange`). Either it succeeds, or it is
+//! refused because a table found no place, or it stops before one of its steps because this
+//! program is out of memory.
 //!
-//! [`Memblock`] is the one value that the layers above use. They may rest on this:
+//! [`Memblock`] is the one value that the layers above use. They may rest on these facts:
 //!
-//! - Each call that changes memory keeps `ContinuesMemblock` (`specs/Continues.antt`). The kernel's
-//!   image stays where it is, each byte is what the items say, and prepared addresses stay
-//!   prepared.
+//! - Each call that changes memory keeps `ContinuesMemblock` (`specs/Continues.antt`). The
+//!   kernel's image stays where it is, and each byte is what the items say. Each address that the
+//!   store had prepared for writing is still prepared.
 //! - After each call both tables are those of the items and are encoded in their bytes. They lie
 //!   in claimed memory, apart from each other (`IsMemblock` in `specs/Invariant.antt`).
-//! - A call prepares the frames that tables grew into, and no other address. Only `new` prepares
-//!   both tables, and `fill` its range. If this program is out of memory, one place may be
-//!   prepared that the memory table was to move to (`specs/Prepared.antt`).
+//! - A call prepares the frames that tables grew into, and no other address. Two calls are
+//!   exceptions: `new` prepares both tables, and `fill` prepares its range. If this program runs
+//!   out of memory, the place that the memory table was to move to may stay prepared
+//!   (`specs/Prepared.antt`).
 //!
 //! The functions below `Memblock` (`src/reserved.rt`, `src/memory.rt`, `src/request.rt`) take the
-//! journal, the tables, and the limit and direction of searches (`AllocSettings`) as three values.
-//! In the middle of a growth the tables aren't those of the items. [`What`], [`StageStop`] and
-//! [`Section`] are plain data that the stages above share.
+//! journal, the tables, and the limit and direction of searches (`AllocSettings`) as three
+//! values. They can't take a `Memblock`, since in the middle of a growth the tables aren't those
+//! of the items. [`What`], [`StageStop`] and [`Section`] are plain data that the stages above
+//! share.
 //!
 //! In contracts, a name means the definition in `specs/`. A law is an empty function whose
 //! contract is a proven fact.

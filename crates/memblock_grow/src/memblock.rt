@@ -1,8 +1,8 @@
 //! memblock as one value: the range of the kernel's image, the journal, both tables, and the limit
 //! and direction of searches (`aim`).
 //!
-//! Each call that changes memory calls the function that does it on the parts. What is proved here
-//! is that the parts still fit together wherever that call ends: the tables are those of the
+//! Each call that changes memory calls a function that takes the parts of the memblock. This file
+//! proves that the parts still fit together wherever that call ends: the tables are those of the
 //! items, are encoded in their bytes, and lie in claimed memory, apart from each other. This is
 //! the invariant of a `Memblock`, so callers don't have to ensure it.
 //!
@@ -100,7 +100,7 @@ impl Memblock {
         })
     }
 
-    /// Reserves room in the journal for at least `n` more items. After that, `n` calls that each
+    /// Makes room in the journal for at least `n` more items. After that, `n` calls that each
     /// write one item, without a growth of a table, can't run out of memory.
     ///
     /// # Errors
@@ -120,7 +120,7 @@ impl Memblock {
     }
 
     /// Claims the range for the owner (`memblock_reserve`). The reserved table may have to grow.
-    /// If it has room, and the journal has room for an item, the call can't fail.
+    /// If the table and the journal both have room, the call can't fail.
     ///
     /// The range must not be empty. The first call must claim the kernel's image for
     /// [`Owner::Kernel`]. A claim for the script ([`Owner::Script`]) must not overlap a table.
@@ -376,8 +376,8 @@ impl Memblock {
         Ok(())
     }
 
-    /// Copies the bytes from address `at` on to `into`. They may be a table's own. An address that
-    /// was never written reads as 0.
+    /// Copies the bytes from address `at` on to `into`. They may be bytes of a table. An address
+    /// that was never written reads as 0. `at + into.len()` must be below 2^64.
     pub fn peek(&self, at: u64, into: &mut [u8])
         requires { at + length into.old < 2 ^ 64 }
         ensures { into.new ≡ bytes_at (byte_of self.now.tables.store) at (length into.old) }
@@ -404,7 +404,7 @@ impl Memblock {
         &self.journal
     }
 
-    /// Returns both tables, which are those of the items. All memory ends at or below 2^64.
+    /// Returns both tables, which are those that the items define. No memory lies above 2^64.
     pub fn tables(&self) -> &Tables
         ensures tables { result.now ≡ self.now.tables }
         ensures memory { result.now.memory
@@ -425,8 +425,8 @@ impl Memblock {
         &self.tables
     }
 
-    /// Ends the memblock and returns its parts: the bytes of memory, the heads of the two tables
-    /// that are encoded in them, and the journal.
+    /// Consumes the memblock and returns its parts: the bytes of memory, the heads of the two
+    /// tables that are encoded in these bytes, and the journal.
     pub fn into_parts(self) -> (Store, Heads, Journal)
         ensures store { result.0 ≡ self.tables.store }
         ensures heads { result.1
@@ -455,9 +455,8 @@ impl Memblock {
     }
 }
 
-// A memblock is the range of the kernel's image, the journal, the tables, and the limit and
-// direction of searches.
-// It keeps nothing else about memory.
+// A memblock has exactly four parts: the range of the kernel's image, the journal, the tables, and
+// the limit and direction of searches. It keeps nothing else about memory.
 #[test]
 fn memblock_is_four_parts(rt: HostRuntime) -> Result<(), std::test::Fail> {
     let image = Range {
@@ -474,8 +473,8 @@ fn memblock_is_four_parts(rt: HostRuntime) -> Result<(), std::test::Fail> {
     Ok(())
 }
 
-/// Law: a call that changes nothing keeps `ContinuesMemblock`: each byte is as before, since no
-/// item was written.
+/// Law: a call that changes nothing keeps `ContinuesMemblock`, because no item was written and
+/// each byte is unchanged.
 pub fn no_items_no_change(memblock: &Memblock)
     ensures { ContinuesMemblock memblock.now memblock.now }
 {

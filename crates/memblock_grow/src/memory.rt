@@ -1,8 +1,9 @@
 //! The memory table: its growth, added ranges, nodes and mirrored ranges.
 //!
-//! The new place is claimed like any other range, so the reserved table may have to grow first. It
-//! may also have to grow when the old place is freed. If that growth is refused, the old place
-//! stays claimed and the call continues (`memblock_double_array` ignores it).
+//! The new place of the table is claimed like any other range, so the reserved table may have to
+//! grow first. It may also have to grow when the old place is freed. If the growth for that free
+//! is refused, the old place stays claimed and the call continues (`memblock_double_array` ignores
+//! the failure too).
 ghost use Rattle.std.specs.Prelude.{◌≡◌, ◌⊎◌, ◌+◌, ◌-◌, ◌<◌, ◌≤◌, false, OnOk, OnErr, IsOk, IfSome};
 ghost use Rattle.phys_store.specs.Bytes.{ArePrepared};
 ghost use Rattle.memblock_model.specs.declared.owner.Which.TheVariants as tables_of;
@@ -18,7 +19,7 @@ ghost use Rattle.memblock_grow.specs.NewRecords.{new_records_by_items, HasRoomFo
 
 use crate::new_records::{MaxNewRecords, lacks_room};
 use crate::places::{AllocSettings, old_place_frames, table_frames_between};
-use crate::reserved::{claim, free, check_claim};
+use crate::reserved::{check_claim, claim, free};
 use crate::table_laws::tables_are_in_store;
 use bm_base::Range;
 use boot_journal::{Item, Journal, Owner, Which};
@@ -26,7 +27,12 @@ use growth_model::Refusal;
 use memblock_ranges::{NO_NODE, Tables};
 use run_edits::range_end_fits;
 
-/// Frees the old place, if there is one. A refused growth is ignored; the only error is `Memory`.
+/// Frees the old place of the memory table, if there is one. If the reserved table can't grow for
+/// it, the old place stays claimed and the call still succeeds.
+///
+/// # Errors
+///
+/// `Memory` if this program is out of memory.
 fn free_old_place(
     journal: &mut Journal,
     tables: &mut Tables,
@@ -53,6 +59,12 @@ fn free_old_place(
 /// Prepares the new place and claims it for the memory table. It first tests whether the claim
 /// would be refused, so that nothing is prepared for a claim that is refused. No item is written
 /// before the place is prepared.
+///
+/// # Errors
+///
+/// - `NoGapForTable` if the reserved table has to grow and finds no place. Nothing is then written
+///   or prepared.
+/// - `Memory` if this program is out of memory.
 fn claim_new_place(
     journal: &mut Journal,
     tables: &mut Tables,
@@ -83,6 +95,11 @@ fn claim_new_place(
 }
 
 /// Doubles the memory table's room, at the best place below the limit (`memblock_double_array`).
+///
+/// # Errors
+///
+/// - `NoGapForTable` if a table has to grow and finds no place.
+/// - `Memory` if this program is out of memory.
 fn grow_memory(
     journal: &mut Journal,
     tables: &mut Tables,
@@ -117,6 +134,11 @@ fn grow_memory(
 }
 
 /// Doubles the memory table's room if it has no room for `more` records.
+///
+/// # Errors
+///
+/// - `NoGapForTable` if a table has to grow and finds no place.
+/// - `Memory` if this program is out of memory.
 fn grow_memory_if_full(
     journal: &mut Journal,
     tables: &mut Tables,
@@ -145,6 +167,11 @@ fn grow_memory_if_full(
 
 /// Makes room in the memory table for `more` records: doubles the room as long as the table is
 /// full, at most twice.
+///
+/// # Errors
+///
+/// - `NoGapForTable` if a table has to grow and finds no place.
+/// - `Memory` if this program is out of memory.
 fn make_memory_room(
     journal: &mut Journal,
     tables: &mut Tables,
@@ -171,6 +198,11 @@ fn make_memory_room(
 /// Adds the range to memory, without a node; what is memory already keeps its node
 /// (`memblock_add`). If the table has room, and the journal has room for an item, the call can't
 /// fail.
+///
+/// # Errors
+///
+/// - `NoGapForTable` if a table has to grow and finds no place.
+/// - `Memory` if this program is out of memory.
 pub fn add_memory(
     journal: &mut Journal,
     tables: &mut Tables,
@@ -199,6 +231,11 @@ pub fn add_memory(
 
 /// Gives the node to the memory of the range (`memblock_set_node`). If the table has room for two
 /// more records, and the journal for an item, the call can't fail.
+///
+/// # Errors
+///
+/// - `NoGapForTable` if a table has to grow and finds no place.
+/// - `Memory` if this program is out of memory.
 pub fn set_node(
     journal: &mut Journal,
     tables: &mut Tables,
@@ -230,6 +267,11 @@ pub fn set_node(
 
 /// Marks the memory of the range as mirrored (`memblock_mark_mirror`). If the table has room for
 /// two more records, and the journal for an item, the call can't fail.
+///
+/// # Errors
+///
+/// - `NoGapForTable` if a table has to grow and finds no place.
+/// - `Memory` if this program is out of memory.
 pub fn set_mirror(
     journal: &mut Journal,
     tables: &mut Tables,

@@ -1,6 +1,7 @@
-//! Whether a table has room for an edit. An edit inside a table may split a record at both ends of
-//! its range, so it adds at most two. An edit that covers a range adds at most one record for each
-//! piece that isn't covered yet (the count in `memblock_add_range`).
+//! Tests whether a table has room for an edit. An edit that removes or changes labels may split a
+//! record at each end of its range, so it adds at most two records. An edit that covers a range
+//! adds at most one record for each piece of the range that isn't covered yet (the count in
+//! `memblock_add_range`).
 ghost use Rattle.std.specs.Prelude.{◌≡◌, ◌+◌, nat_lt, length};
 ghost use Rattle.memblock_ranges.specs.Tables.{table_in, records_in, room_in};
 ghost use Rattle.memblock_grow.specs.NewRecords.{new_records_in_table, RangeEndsBelow2To64};
@@ -15,11 +16,11 @@ use run_edits::range_end_fits;
 pub enum MaxNewRecords {
     /// One for each run of the range's bytes that the table doesn't cover.
     PiecesOf(Range),
-    /// Two.
+    /// Two: one for each end of the range, where the edit may split a record.
     Two,
 }
 
-/// Tests whether the table's records and `more` further ones exceed its room.
+/// Tests whether the table lacks room for `more` records in addition to those that it has.
 pub fn lacks_room(tables: &Tables, which: Which, more: &MaxNewRecords) -> bool
     ensures full { result ≡
         nat_lt (room_in which tables.now) (length (records_in which tables.now)

@@ -1,6 +1,6 @@
-//! Searches for the best place: in mirrored memory first, and then in any
-//! (`choose_memblock_flags`). Also the frames of a table that grows (`memblock_double_array`):
-//! those of its new place and of its old one.
+//! Searches for the best place: in mirrored memory first, and then in any memory
+//! (`choose_memblock_flags`). Also computes the frames of the new place and of the old place of a
+//! table that grows (`memblock_double_array`).
 
 ghost use Rattle.std.specs.Prelude.{◌≡◌, ◌≢◌, ℕ, ◌+◌, ◌*◌, ◌^◌, ◌<◌, ◌≤◌, SomeIff};
 ghost use Rattle.growth_model.specs.Growth.{round_up_to_frames};
@@ -29,8 +29,9 @@ fn round_up_to_frames(bytes: u64) -> Option<u64>
     Some(behind / FRAME_SIZE * FRAME_SIZE)
 }
 
-/// Returns the greatest address (the least, if `upward`) of a place in mirrored memory, or `None`.
-/// It doesn't search if the journal has no item that mirrors memory.
+/// Returns the greatest address of a place in mirrored memory that fits the query, or the least if
+/// `upward` is set. Returns `None` if no place fits. It doesn't search if the journal has no item
+/// that mirrors memory.
 fn mirrored_place(journal: &Journal, tables: &Tables, upward: bool, query: &Query) -> Option<u64>
     requires some { 1 ≤ query.now.size }
     requires aligned { (k : ℕ) × (query.now.align ≡ 2 ^ k) }
@@ -47,8 +48,9 @@ fn mirrored_place(journal: &Journal, tables: &Tables, upward: bool, query: &Quer
     find(tables, query, mode)
 }
 
-/// Returns the best place: in mirrored memory, or in any memory if none fits there. Of the places
-/// there it is the one with the greatest address, or the least if `upward`.
+/// Returns the best place for the query, or `None` if no place fits. It is in mirrored memory if a
+/// place fits there. Of the places that fit it is the one with the greatest address, or with the
+/// least if `upward` is set.
 pub fn best_place_in_tables(
     journal: &Journal,
     tables: &Tables,
@@ -71,8 +73,8 @@ pub fn best_place_in_tables(
 }
 
 /// Returns the frames for a table of `2 * room` records of 24 bytes, at the best place between the
-/// addresses `lo` and `hi`, or `None` if there is no place. There is none if the size in bytes
-/// would exceed 2^64 - 1.
+/// addresses `lo` and `hi`, or `None` if there is no place. If the size in bytes would exceed 2^64
+/// - 1, there is no place.
 pub fn table_frames_between(
     journal: &Journal,
     tables: &Tables,
@@ -98,7 +100,8 @@ pub fn table_frames_between(
 }
 
 /// Returns the frames for a table of `2 * room` records of 24 bytes: at the best place above the
-/// range `avoid`, else at the best one below it. In both cases they end at or below the limit.
+/// range `avoid`, else at the best one below it, or `None` if there is neither. The frames end at
+/// or below the limit.
 pub fn table_frames_beside(
     journal: &Journal,
     tables: &Tables,

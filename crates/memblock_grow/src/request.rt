@@ -2,10 +2,10 @@
 //!
 //! A round searches from an address up to the request's maximum or the limit, whichever is
 //! smaller. It first searches memory of the request's node and then, unless only that node is
-//! allowed, memory of any. It does so in mirrored memory, if there is any, and then in all memory
-//! (`choose_memblock_flags`). The first round begins at the request's minimum. If it finds no
-//! place and there is a minimum, a second round begins at 0 (`memblock_alloc_range_nid`,
-//! `memblock_alloc_internal`).
+//! allowed, memory of any node. It makes these searches in mirrored memory, if there is any, and
+//! then again in all memory (`choose_memblock_flags`). The first round begins at the request's
+//! minimum. If it finds no place and there is a minimum, a second round begins at 0
+//! (`memblock_alloc_range_nid`, `memblock_alloc_internal`).
 ghost use Rattle.std.specs.Prelude.{◌≡◌, ℕ, ◌+◌, ◌-◌, ◌^◌, ◌<◌, ◌≤◌, true, false, Some, IsOk, IfOk};
 ghost use Rattle.memblock_model.specs.declared.owner.Which.TheVariants as tables_of;
 ghost use Rattle.growth_model.specs.Growth.{count_uncovered_pieces, is_full};
@@ -24,7 +24,9 @@ use growth_model::{Refusal, Request};
 use memblock_find::{Mode, Query, find};
 use memblock_ranges::Tables;
 
-/// Returns the top place from `lo` on, on the node or on any, in mirrored memory or in any.
+/// Returns the place that one search finds, or `None`: from address `lo` on, on this node (or on
+/// any if it is `None`), and only in mirrored memory if `mirror` is set. It is the highest place
+/// that fits, or the lowest if searches go upward.
 fn place_of_attempt(
     tables: &Tables,
     request: &Request,
@@ -50,8 +52,9 @@ fn place_of_attempt(
     find(tables, &query, mode)
 }
 
-/// Returns the top place from `lo` on, on the request's node and then, unless only that one is
-/// allowed, on any.
+/// Returns the place that is found from address `lo` on, or `None`. The first search is on the
+/// request's node. If it finds nothing, and other nodes are allowed too, a second one is on any
+/// node.
 fn place_in(
     tables: &Tables,
     request: &Request,
@@ -92,7 +95,8 @@ fn mirrored_place(
     place_in(tables, request, aim, lo, true)
 }
 
-/// Returns the place that one round finds: from `lo` on, first in mirrored memory, then in any.
+/// Returns the place that one round finds, or `None`: from address `lo` on, first in mirrored
+/// memory, then in any memory.
 fn place_in_round(
     journal: &Journal,
     tables: &Tables,
@@ -112,8 +116,8 @@ fn place_in_round(
     place_in(tables, request, aim, lo, false)
 }
 
-/// Returns the place that the first round finds, from the request's minimum on, or else the
-/// second, from 0 on.
+/// Returns the place that the first round finds, from the request's minimum on, or else the one
+/// that the second round finds, from 0 on. Returns `None` if neither finds one.
 fn place_for(
     journal: &Journal,
     tables: &Tables,
@@ -136,6 +140,12 @@ fn place_for(
 /// Finds a place for the request, claims it for the owner, and returns its address
 /// (`memblock_alloc_range_nid`). If a place is found, the reserved table has room for it, and the
 /// journal for an item, the call can't fail.
+///
+/// # Errors
+///
+/// - `NoGap` if no search of the request finds a place. Nothing is then written.
+/// - `NoGapForTable` if the reserved table has to grow and finds no place.
+/// - `Memory` if this program is out of memory.
 pub fn allocate(
     journal: &mut Journal,
     tables: &mut Tables,

@@ -26,9 +26,14 @@ use memblock_ranges::{NO_NODE, Tables};
 use run_edits::range_end_fits;
 
 /// Doubles the reserved table's room, at a new place that doesn't overlap the range `avoid`
-/// (`memblock_double_array`). This is one step of three items, or of two if the table was in the
-/// kernel's image. Everything that can fail comes before the first item: if there is no place, or
-/// this program is out of memory, nothing is written or prepared.
+/// (`memblock_double_array`). The growth is one step of three items, or of two if the table was
+/// still in the kernel's image. Everything that can fail comes before the first item: if there is
+/// no place, or this program is out of memory, nothing is written or prepared.
+///
+/// # Errors
+///
+/// - `NoGapForTable` if there is no place for the table.
+/// - `Memory` if this program is out of memory.
 fn grow_reserved(
     journal: &mut Journal,
     tables: &mut Tables,
@@ -80,6 +85,11 @@ fn grow_reserved(
 }
 
 /// Doubles the reserved table's room if it has no room for `more` records.
+///
+/// # Errors
+///
+/// - `NoGapForTable` if the reserved table has to grow and finds no place.
+/// - `Memory` if this program is out of memory.
 fn grow_reserved_if_full(
     journal: &mut Journal,
     tables: &mut Tables,
@@ -109,6 +119,11 @@ fn grow_reserved_if_full(
 
 /// Makes room in the reserved table for `more` records: doubles the room as long as the table is
 /// full, at most twice.
+///
+/// # Errors
+///
+/// - `NoGapForTable` if the reserved table has to grow and finds no place.
+/// - `Memory` if this program is out of memory.
 fn make_reserved_room(
     journal: &mut Journal,
     tables: &mut Tables,
@@ -140,7 +155,8 @@ fn make_reserved_room(
 ///
 /// `NoGapForTable` if the claim would be refused: the reserved table would have to grow and finds
 /// no place.
-// Only one growth is looked at: an unclaimed range is one piece, so one growth makes room for it.
+// One growth is enough for the test: an unclaimed range is one piece, so one growth makes room for
+// it.
 pub fn check_claim(
     journal: &Journal,
     tables: &Tables,
@@ -172,6 +188,11 @@ pub fn check_claim(
 
 /// Claims the range for the owner (`memblock_reserve`). If the table has room, and the journal has
 /// room for an item, the call can't fail.
+///
+/// # Errors
+///
+/// - `NoGapForTable` if the reserved table has to grow and finds no place.
+/// - `Memory` if this program is out of memory.
 pub fn claim(
     journal: &mut Journal,
     tables: &mut Tables,
@@ -202,6 +223,11 @@ pub fn claim(
 
 /// Frees the range (`memblock_phys_free`). If the table has room for two more records, and the
 /// journal for an item, the call can't fail.
+///
+/// # Errors
+///
+/// - `NoGapForTable` if the reserved table has to grow and finds no place.
+/// - `Memory` if this program is out of memory.
 pub fn free(
     journal: &mut Journal,
     tables: &mut Tables,

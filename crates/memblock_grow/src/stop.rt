@@ -4,7 +4,7 @@
 use bm_base::Memory;
 use memblock_model::Which;
 
-/// A range of 128 MiB that has memory, with the node of its lowest frame of memory.
+/// A section: a range of 128 MiB that has memory, with the node of its lowest frame of memory.
 #[derive(Clone, Copy, Debug, PartialEq, Eq)]
 pub struct Section {
     /// The section's number, counted from 0: its address divided by 128 MiB.
@@ -25,12 +25,12 @@ pub enum What {
     /// The usage data of the sections from this one on
     /// (`sparse_early_usemaps_alloc_pgdat_section`).
     Usage(u32),
-    /// The memory map of this section, or of several from it on (`sparse_buffer_init`,
-    /// `__populate_section_memmap`).
+    /// The memory map of this section, or those of several sections that begin with this one
+    /// (`sparse_buffer_init`, `__populate_section_memmap`).
     Map(u32),
 }
 
-/// Why a stage stops the boot.
+/// The reason why a stage stops the boot.
 #[derive(Clone, Copy, Debug, PartialEq, Eq)]
 pub enum StageStop {
     /// No free place fits the allocation `what`.

@@ -1,4 +1,5 @@
-//! A law of the tables, from which a growth knows every byte after an edit.
+//! A law about memblock's two tables: the store holds their records, encoded. Proofs use it to know
+//! the tables' bytes after a change.
 ghost use Rattle.memblock_ranges.specs.Tables.{IsInStore};
 
 use memblock_model::Which;

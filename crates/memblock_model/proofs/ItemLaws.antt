@@ -34,7 +34,7 @@ room_of-push w items i = fold-append (room_after w) 128 items (i ∷ [])
 pub moved_to-push : (w : Which) (items : List Item) (i : Item) → moved_to w (items ++ i ∷ []) ≡ moved_after w (moved_to w items) i
 moved_to-push w items i = fold-append (moved_after w) None items (i ∷ [])
 
--- a claim takes the bytes of its range: those had an owner, or are covered by it now
+-- after a claim the reserved table covers the range, whoever owned its bytes before
 claim_at : (b : Bool) (o : Owner) (old : Option Owner)
     → without_owner (if b then Some o else old) ≡ (if b then Some (unwrap_or (without_owner old) plain_label) else without_owner old)
 claim_at true o None = refl
@@ -57,12 +57,13 @@ reserved_labels-after f (item.Claim range owner) = reserved_labels-replaced rang
 reserved_labels-after f (item.Free range) = reserved_labels-uncovered range f
 reserved_labels-after f i = refl
 
--- what a table says, its room and its place don't depend on the owners
+-- a table's labels, room and place after an item depend on the item and on what they were, not on
+-- the owners
 pub table_of-push : (w : Which) (items : List Item) (i : Item) → table_of w (items ++ i ∷ []) ≡ table_after w (table_of w items) i
 table_of-push which.Memory items i = memory_of-push items i
 table_of-push which.Reserved items i = ap reserved_labels (owner_of-push items i) ∙ reserved_labels-after (owner_of items) i
 
--- what memory is in a frame depends on what it was there
+-- the labels in a frame after an item depend only on the labels in this frame before it
 covers_alike : (r : RangeView) (v : LabelView) (f g : Labels) (y : ℕ) → f y ≡ g y → cover_range r v f y ≡ cover_range r v g y
 covers_alike r v f g y e = ap (λ o. if covers r y then Some (unwrap_or o v) else o) e
 
@@ -84,7 +85,7 @@ memory_fold-local f g [] x alike y at_y = alike y at_y
 memory_fold-local f g (i ∷ is) x alike y at_y = memory_fold-local (memory_after f i) (memory_after g i) is x
     (memory_after-local f g i x alike) y at_y
 
--- one more item whose range isn't empty
+-- appending an item whose range isn't empty
 pub ItemsHaveBytes-push : (items : List Item) (i : Item) → ItemsHaveBytes items → ItemHasBytes i → ItemsHaveBytes (items ++ i ∷ [])
 ItemsHaveBytes-push [] i known some = (some, tt)
 ItemsHaveBytes-push (j ∷ is) i known some = (known.0, ItemsHaveBytes-push is i known.1 some)

@@ -1,4 +1,4 @@
--- What trimming leaves of a frame.
+-- The labels of a frame after a trim.
 use Rattle.std.proofs.Common.{◌≡◌, ◌≢◌, ◌⊎◌, ℕ, ◌+◌, ◌-◌, ◌%◌, ◌<◌, ◌≤◌, true, None, refl, sym, ◌∙◌, ap, inl, inr, arith}
 use Rattle.std.proofs.lemmas.Bool.Decides.{nat_tests}
 use Rattle.std.proofs.lemmas.Bool.{cases_Bool}
@@ -29,7 +29,7 @@ frame_join x y z h k =
     let a = h.above in let b = h.below in let c = k.above in let d = k.below in
     record { above = omega arith; below = omega arith }
 
--- a frame of one label keeps it
+-- a trim keeps the label of a frame whose bytes all have the same one
 pub trim_frames-whole : (f : Labels) (x : ℕ)
     → ((y : ℕ) → IsInFrame x y → f y ≡ f x) → trim_frames f x ≡ f x
 unfolding trim_frames
@@ -39,7 +39,7 @@ trim_frames-whole f x all =
     (λ y above below. agree-same same_label same_label_decides_equality (f y) (f x) (all y (record { above = above; below = below }))) in
     rw whole refl
 
--- what is trimmed is the label of the whole frame, or nothing
+-- after a trim a byte has the label of its whole frame, or none
 pub trim_frames-cases : (f : Labels) (x : ℕ)
     → ((y : ℕ) → IsInFrame x y → f y ≡ f x) ⊎ (trim_frames f x ≡ None)
 unfolding trim_frames
@@ -51,14 +51,14 @@ trim_frames-cases f x =
       | inr fails ↦ inr (rw fails refl)
     ]
 
--- a frame of two labels becomes bare
+-- after a trim a frame with two labels has none
 pub trim_frames-unlike : (f : Labels) (x y z : ℕ)
     → IsInFrame x y → IsInFrame x z → f y ≢ f z → trim_frames f x ≡ None
 trim_frames-unlike f x y z at_y at_z unlike =
     elim (trim_frames-cases f x) as (λ _. trim_frames f x ≡ None)
     [ inl one ↦ absurd (unlike (one y at_y ∙ sym (one z at_z))) | inr bare ↦ bare ]
 
--- a trimmed frame has one label
+-- after a trim all bytes of a frame have the same label, or none
 pub trim_frames-frame : (f : Labels) (x y : ℕ) → IsInFrame x y → trim_frames f y ≡ trim_frames f x
 trim_frames-frame f x y at_y =
     elim (trim_frames-cases f x) as (λ _. trim_frames f y ≡ trim_frames f x) [
@@ -75,7 +75,7 @@ trim_frames-frame f x y at_y =
           ]
     ]
 
--- trimming looks at the frame alone
+-- what a trim does to a frame depends only on the labels in this frame
 pub trim_frames-local : (f g : Labels) (x : ℕ) → ((y : ℕ) → IsInFrame x y → f y ≡ g y) → trim_frames f x ≡ trim_frames g x
 unfolding trim_frames
 trim_frames-local f g x alike =
@@ -87,6 +87,6 @@ trim_frames-local f g x alike =
     ∙ ap (λ o. agree same_label (g y) o) here) in
     rw (tests, here) refl
 
--- the addresses of a frame, by the test
+-- the test that an address is in a frame, as two bounds
 pub in_frame : (x y : ℕ) → covers (frame_around x) y ≡ true → IsInFrame x y
 in_frame x y h = record { above = grind (arith, nat_tests); below = grind (arith, nat_tests) }

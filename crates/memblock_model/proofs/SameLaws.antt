@@ -28,7 +28,7 @@ switch_self : (a : Bool) → same_bool a a ≡ true
 switch_self true = refl
 switch_self false = refl
 
--- labels are the same where their parts are
+-- labels are equal exactly if all their parts are
 label_yes : (a b : LabelView) → same_label a b ≡ true → a ≡ b
 label_yes a b h =
     let parts = and_parts (same_node_or_none a.node b.node) (same_bool a.mirror b.mirror) h in
@@ -41,7 +41,7 @@ label_self a = and_from (same_node_or_none a.node a.node) (same_bool a.mirror a.
 pub same_label_decides_equality : DecidesEquality same_label
 same_label_decides_equality = record { true_is_equal = label_yes; equal_is_true = λ a b e. ap (λ (l : LabelView). same_label a l) (sym e) ∙ label_self a }
 
--- the owner of the variant that carries the number
+-- the owner with this variant and this number
 numbered : ℕ → ℕ → Owner
 numbered v n =
     if v == 0 then owner.Kernel else (if v == 1 then owner.Low64K else (if v == 2 then owner.Initrd else (if v == 3 then owner.Low1M

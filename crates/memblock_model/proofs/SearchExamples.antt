@@ -1,4 +1,4 @@
--- Small searches, computed: which addresses fit, and the best of them.
+-- Worked examples: small searches, the addresses that fit and the best of them.
 use Rattle.std.proofs.Common.{◌≡◌, ℕ, ◌≤◌, ◌==◌, nat_lt, true, false, if◌then◌else◌, Some, None, List, [], ◌∷◌, refl, ◌∙◌, arith}
 use Rattle.std.proofs.lemmas.Bool.{false_from_ne_true}
 use Rattle.std.proofs.lemmas.Bool.Decides.{nat_tests}
@@ -19,23 +19,23 @@ use Rattle.memblock_model.proofs.ItemExamples.{bytes}
 abbrev of_node : ℕ → LabelView
 of_node node = with_node (Some node) plain_label
 
--- bytes 4096 to 4103 are memory of node 1, the rest of node 2; byte 4101 is claimed
+-- bytes 4096 to 4103 are memory of node 1, all others memory of node 2; byte 4101 is claimed
 abbrev memory : Labels
 memory x = if nat_lt x 4104 then Some (of_node 1) else Some (of_node 2)
 
 abbrev claimed : Labels
 claimed x = if x == 4101 then Some plain_label else None
 
--- two bytes of node 1 at an even address, or of any node at any
+-- two queries: two bytes of node 1 at an even address; two bytes of any node at any address
 abbrev pairs : ℕ → ℕ → Query
 pairs lo hi = record { lo = lo; hi = hi; size = 2; align = 2; node = Some 1 }
 
 abbrev any_pairs : Query
 any_pairs = record { lo = 0; hi = 4200; size = 2; align = 1; node = None }
 
--- above the claim; not over it, not in the other node, not in the first frame, not at an odd
--- address, but there where any will do; not half in node 1 and half in node 2; not where there is
--- no memory
+-- two bytes of node 1 fit above the claimed byte. They don't fit over it, in the other node, in
+-- the first frame, or at an odd address, though two bytes of any node at any address do. They
+-- don't fit across the border of the nodes, nor outside memory.
 fits_in_examples : (fits_in false memory claimed (pairs 0 4200) 4102 ≡ true) × (fits_in false memory claimed (pairs 0 4200) 4100 ≡ false)
     × (fits_in false memory claimed (pairs 0 4200) 4104 ≡ false) × (fits_in false memory claimed (pairs 0 4200) 4094 ≡ false)
     × (fits_in false memory claimed (pairs 0 4200) 4097 ≡ false) × (fits_in false memory claimed any_pairs 4097 ≡ true)
@@ -43,25 +43,28 @@ fits_in_examples : (fits_in false memory claimed (pairs 0 4200) 4102 ≡ true) �
 unfolding fits_in each_in each_from
 fits_in_examples = (refl, refl, refl, refl, refl, refl, refl, refl)
 
--- the window from its first byte, and not below it, to its last, and not past it
+-- a place may begin at the first byte of the window and end at its last, but not begin below or
+-- end above it
 window_examples : (fits_in false memory claimed (pairs 4098 4200) 4098 ≡ true)
     × (fits_in false memory claimed (pairs 4098 4200) 4096 ≡ false) × (fits_in false memory claimed (pairs 0 4104) 4102 ≡ true)
     × (fits_in false memory claimed (pairs 0 4103) 4102 ≡ false)
 unfolding fits_in each_in each_from
 window_examples = (refl, refl, refl, refl)
 
--- bytes 4096 to 4103 mirrored, and no more
+-- only bytes 4096 to 4103 are mirrored; all memory is of node 1
 abbrev half_mirrored : Labels
 half_mirrored x = if nat_lt x 4104 then Some (with_mirror (of_node 1)) else Some (of_node 1)
 
--- in a search of mirrored memory unmirrored memory doesn't fit, and nothing fits across the border
+-- in a search of mirrored memory nothing fits in other memory; in any search nothing fits across
+-- the border of both
 mirrored_examples : (fits_in true memory claimed (pairs 0 4104) 4096 ≡ false)
     × (fits_in true half_mirrored claimed (pairs 0 5000) 4098 ≡ true)
     × (fits_in false half_mirrored claimed (record { lo = 0; hi = 5000; size = 2; align = 1; node = None }) 4103 ≡ false)
 unfolding fits_in each_in each_from
 mirrored_examples = (refl, refl, refl)
 
--- 64 KiB of memory: the best page below its end, or none if only the first frame is unclaimed
+-- 64 KiB of memory: the best place for a page is the highest one, and there is none if only the
+-- first frame is unclaimed
 abbrev small : List Item
 small = item.Mem (bytes 0 0x10000) ∷ []
 
@@ -100,7 +103,7 @@ unfolding best_place
 nothing_best = best_place_in-fails false (table_of which.Memory crowded) (table_of which.Reserved crowded) page
     (λ b lt. false_from_ne_true _ (nothing_fits b))
 
--- its lowest page if the search goes up: never the first frame
+-- if the search goes up, the best place is the lowest one, and never the first frame
 abbrev turned : List Item
 turned = item.Mem (bytes 0 0x10000) ∷ (item.Upward true ∷ [])
 

@@ -1,4 +1,4 @@
--- The greatest and the least number that pass a test, and the searches by them.
+-- The greatest and the least number that pass a test, and the searches that return them.
 use Rattle.std.proofs.Common.{◌≡◌, ◌⊎◌, ℕ, zero, suc, ◌+◌, ◌%◌, ◌^◌, ◌<◌, ◌≤◌, ◌==◌, Bool, true, false, ◌&&◌, nat_le, is_some, is_none, if◌then◌else◌, Option, Some, None, refl, sym, ◌∙◌, ap, subst, inl, inr, arith}
 use Rattle.std.proofs.lemmas.Bool.Decides.{nat_tests}
 use Rattle.std.proofs.lemmas.Bool.{cases_Bool, cases_lt, true≢false, false_from_ne_true, and_from, and_parts}
@@ -16,13 +16,13 @@ use Rattle.memblock_model.specs.Search.{last_below, first_below, outermost_below
 use Rattle.memblock_model.proofs.SameLaws.{same_label_decides_equality}
 use Rattle.bm_base.proofs.EachLaws.{each_in-all, each_in-each}
 
--- the number passes, and none of the greater ones below n does
+-- `a` is the greatest number below n that passes
 pub record IsLastBelow (p : ℕ → Bool) (n a : ℕ) : Type 0 where
   pub below : a < n
   pub passes : p a ≡ true
   pub last : (b : ℕ) → b < n → p b ≡ true → b ≤ a
 
--- a number that passes stays the last one if the next doesn't pass
+-- the greatest number below n that passes is also the greatest below n + 1, if n doesn't pass
 last_more : (p : ℕ → Bool) (n a : ℕ) → p n ≡ false → IsLastBelow p n a → IsLastBelow p (suc n) a
 last_more p n a fails known = record {
   below = let lt = known.below in omega arith;
@@ -33,7 +33,7 @@ last_more p n a fails known = record {
   ];
 }
 
--- the result is the last one that passes
+-- what `last_below` returns is the greatest number below n that passes
 pub last_below-is : (p : ℕ → Bool) (n a : ℕ) → last_below p n ≡ Some a → IsLastBelow p n a
 unfolding last_below
 last_below-is p zero a h = cc
@@ -44,7 +44,7 @@ last_below-is p (suc n) a h =
       | inr fails ↦ last_more p n a fails (last_below-is p n a (rw fails at h))
     ]
 
--- if there is no result, no number passes
+-- if `last_below` returns None, no number below n passes
 pub last_below-none : (p : ℕ → Bool) (n : ℕ) → last_below p n ≡ None → (b : ℕ) → b < n → p b ≡ false
 unfolding last_below
 last_below-none p zero h b lt = absurd (omega arith)
@@ -57,7 +57,7 @@ last_below-none p (suc n) h b lt =
       ]
     ]
 
--- the last one that passes is the result
+-- `last_below` returns the greatest number below n that passes
 pub last_below-last : (p : ℕ → Bool) (n a : ℕ) → IsLastBelow p n a → last_below p n ≡ Some a
 unfolding last_below
 last_below-last p zero a known = absurd (let lt = known.below in omega arith)
@@ -82,14 +82,14 @@ last_below-last p (suc n) a known =
           }))
     ]
 
--- if no number passes, there is no result
+-- if no number below n passes, `last_below` returns None
 pub last_below-fails : (p : ℕ → Bool) (n : ℕ) → ((b : ℕ) → b < n → p b ≡ false) → last_below p n ≡ None
 unfolding last_below
 last_below-fails p zero none = refl
 last_below-fails p (suc n) none = let here : p n ≡ false = none n (omega arith) in
     rw here (last_below-fails p n (λ b lt. none b (omega arith)))
 
--- what it is for an address to fit, part by part
+-- the conditions under which a query fits at an address, one by one
 pub record IsPlace (mirror : Bool) (memory reserved : Labels) (q : Query) (a : ℕ) : Type 0 where
   pub aligned : a % q.align ≡ 0
   pub low : q.lo ≤ a
@@ -145,7 +145,7 @@ fits_in-whole mirror memory reserved q a known =
     (ap is_none (known.free x above below))) in
     and_from _ _ (and_from _ _ (and_from _ _ (and_from _ _ bounds known.held) known.allowed) known.suited) each
 
--- what fits in mirrored memory fits in any
+-- a query that fits in mirrored memory fits in any memory
 fits_unmirrored : (mirror : Bool) (memory reserved : Labels) (q : Query) (a : ℕ) → fits_in mirror memory reserved q a ≡ true
     → fits_in false memory reserved q a ≡ true
 fits_unmirrored mirror memory reserved q a h =
@@ -162,7 +162,7 @@ fits_unmirrored mirror memory reserved q a h =
       free = known.free;
     })
 
--- if some byte isn't free memory of one label, or the label doesn't suit, the address doesn't fit
+-- a query that doesn't fit at an address in any memory doesn't fit there in mirrored memory
 fits_in-unmirrored_fails : (mirror : Bool) (memory reserved : Labels) (q : Query) (a : ℕ) → fits_in false memory reserved q a ≡ false
     → fits_in mirror memory reserved q a ≡ false
 fits_in-unmirrored_fails mirror memory reserved q a fails =
@@ -173,7 +173,7 @@ fits_in-mirror_fails : (mirror : Bool) (memory reserved : Labels) (q : Query) (a
 fits_in-mirror_fails mirror memory reserved q a fails =
     false_from_ne_true _ (λ fits. true≢false (sym (fits_in-parts mirror memory reserved q a fits).suited ∙ fails))
 
--- the first of two results, if there is one
+-- `option_or` is None only if both its arguments are
 or_none : (a b : Option ℕ) → option_or a b ≡ None → a ≡ None
 or_none None b h = refl
 or_none (Some n) b h = cc
@@ -190,13 +190,13 @@ last_fails : (b : Bool) (n : ℕ) → (if b then Some n else None) ≡ None → 
 last_fails true n h = cc
 last_fails false n h = refl
 
--- the number passes, and none of the lower ones does
+-- `a` is the least number that passes, and is below n
 pub record IsFirstBelow (p : ℕ → Bool) (n a : ℕ) : Type 0 where
   pub below : a < n
   pub passes : p a ≡ true
   pub first : (b : ℕ) → b < n → p b ≡ true → a ≤ b
 
--- if there is no result, no number passes
+-- if `first_below` returns None, no number below n passes
 pub first_below-none : (p : ℕ → Bool) (n : ℕ) → first_below p n ≡ None → (b : ℕ) → b < n → p b ≡ false
 unfolding first_below
 first_below-none p zero h b lt = absurd (omega arith)
@@ -207,7 +207,7 @@ first_below-none p (suc n) h b lt =
       | inr ge ↦ let here : n ≡ b = omega arith in subst (λ (k : ℕ). p k ≡ false) here (last_fails (p n) n (rw before at h))
     ]
 
--- one step of it: what the lower ones answer, or the last one
+-- one step of `first_below`: the result for the numbers below n, or else n if it passes
 first_of : (p : ℕ → Bool) (n a : ℕ) (o : Option ℕ) → ((m : ℕ) → o ≡ Some m → IsFirstBelow p n m)
     → (o ≡ None → (b : ℕ) → b < n → p b ≡ false) → option_or o (if p n then Some n else None) ≡ Some a
     → IsFirstBelow p (suc n) a
@@ -233,13 +233,13 @@ first_of p n a None is none h =
       ];
     })
 
--- the result is the first one that passes
+-- what `first_below` returns is the least number that passes
 pub first_below-is : (p : ℕ → Bool) (n a : ℕ) → first_below p n ≡ Some a → IsFirstBelow p n a
 unfolding first_below
 first_below-is p zero a h = cc
 first_below-is p (suc n) a h = first_of p n a (first_below p n) (first_below-is p n) (first_below-none p n) h
 
--- the first one that passes is the result
+-- `first_below` returns the least number that passes
 first_answer : (p : ℕ → Bool) (n a : ℕ) → IsFirstBelow p n a → (o : Option ℕ) → first_below p n ≡ o → first_below p n ≡ Some a
 first_answer p n a known None is = absurd (true≢false (sym known.passes ∙ first_below-none p n is a known.below))
 first_answer p n a known (Some m) is =
@@ -252,14 +252,14 @@ first_answer p n a known (Some m) is =
 pub first_below-first : (p : ℕ → Bool) (n a : ℕ) → IsFirstBelow p n a → first_below p n ≡ Some a
 first_below-first p n a known = first_answer p n a known (first_below p n) refl
 
--- if no number passes, there is no result
+-- if no number below n passes, `first_below` returns None
 pub first_below-fails : (p : ℕ → Bool) (n : ℕ) → ((b : ℕ) → b < n → p b ≡ false) → first_below p n ≡ None
 unfolding first_below
 first_below-fails p zero none = refl
 first_below-fails p (suc n) none = let here : p n ≡ false = none n (omega arith) in
     rw (first_below-fails p n (λ b lt. none b (omega arith)), here) refl
 
--- the top place passes; if there is none, nothing passes
+-- what `outermost_below` returns passes the test; if it returns None, no number below n passes
 pub outermost_below-passes : (up : Bool) (p : ℕ → Bool) (n a : ℕ) → outermost_below up p n ≡ Some a → p a ≡ true
 outermost_below-passes true p n a h = (first_below-is p n a h).passes
 outermost_below-passes false p n a h = (last_below-is p n a h).passes
@@ -272,7 +272,7 @@ pub outermost_below-fails : (up : Bool) (p : ℕ → Bool) (n : ℕ) → ((b : �
 outermost_below-fails true p n none = first_below-fails p n none
 outermost_below-fails false p n none = last_below-fails p n none
 
--- the top place
+-- a query fits at its top place, and at no address beyond it
 pub top_place_in-fits : (mode : Mode) (memory reserved : Labels) (q : Query) (a : ℕ) → top_place_in mode memory reserved q ≡ Some a
     → fits_in mode.mirror memory reserved q a ≡ true
 unfolding top_place_in
@@ -289,8 +289,8 @@ pub top_place_in-fails : (mode : Mode) (memory reserved : Labels) (q : Query)
 unfolding top_place_in
 top_place_in-fails mode memory reserved q none = outermost_below-fails mode.up (fits_in mode.mirror memory reserved q) (2 ^ 64) none
 
--- to show that an address is the top place: it is the last one that fits, or the first if the
--- search goes up
+-- how to show that an address is the top place: it is the greatest one at which the query fits, or
+-- the least if the search goes up
 pub top_place_in-last : (mirror : Bool) (memory reserved : Labels) (q : Query) (a : ℕ)
     → IsLastBelow (fits_in mirror memory reserved q) (2 ^ 64) a
     → top_place_in (record { mirror = mirror; up = false }) memory reserved q ≡ Some a
@@ -303,7 +303,7 @@ pub top_place_in-first : (mirror : Bool) (memory reserved : Labels) (q : Query) 
 unfolding top_place_in
 top_place_in-first mirror memory reserved q a known = first_below-first (fits_in mirror memory reserved q) (2 ^ 64) a known
 
--- the best place is the top place of mirrored memory, or else of any memory
+-- the best place is the top place of mirrored memory, or else that of any memory
 pub best_place_in-mirrored : (up : Bool) (memory reserved : Labels) (q : Query) (a : ℕ)
     → top_place_in (record { mirror = true; up = up }) memory reserved q ≡ Some a → best_place_in up memory reserved q ≡ Some a
 unfolding best_place_in
@@ -315,7 +315,7 @@ pub best_place_in-other : (up : Bool) (memory reserved : Labels) (q : Query)
 unfolding best_place_in
 best_place_in-other up memory reserved q h = rw h refl
 
--- it fits
+-- a query fits at its best place
 pub best_place_in-fits : (up : Bool) (memory reserved : Labels) (q : Query) (a : ℕ) → best_place_in up memory reserved q ≡ Some a
     → fits_in false memory reserved q a ≡ true
 unfolding best_place_in
@@ -343,12 +343,12 @@ best_place_in-fails up memory reserved q none =
     rw (top_place_in-fails (record { mirror = true; up = up }) memory reserved q (λ b lt. fits_in-unmirrored_fails true memory reserved q b (none b lt)))
     (top_place_in-fails (record { mirror = false; up = up }) memory reserved q none)
 
--- plain memory is not mirrored
+-- no place in mirrored memory has bytes with a plain label
 pub plain_or_none : (b : Bool) → is_allowed_mirror true (if b then Some plain_label else None) ≡ false
 plain_or_none true = refl
 plain_or_none false = refl
 
--- if nothing is mirrored, it is the top place of any memory
+-- if no memory is mirrored, the best place is the top place of any memory
 pub top_place_in-mirrorless : (up : Bool) (memory reserved : Labels) (q : Query) → ((x : ℕ) → is_allowed_mirror true (memory x) ≡ false)
     → top_place_in (record { mirror = true; up = up }) memory reserved q ≡ None
 top_place_in-mirrorless up memory reserved q none = top_place_in-fails (record { mirror = true; up = up }) memory reserved q
@@ -358,7 +358,8 @@ pub best_place_in-plain : (up : Bool) (memory reserved : Labels) (q : Query) →
     → best_place_in up memory reserved q ≡ top_place_in (record { mirror = false; up = up }) memory reserved q
 best_place_in-plain up memory reserved q none = best_place_in-other up memory reserved q (top_place_in-mirrorless up memory reserved q none)
 
--- to show that an address is the best place if nothing is mirrored: it is the last one that fits
+-- how to show that an address is the best place if no memory is mirrored: it is the greatest one
+-- at which the query fits
 pub best_place_in-last : (memory reserved : Labels) (q : Query) (a : ℕ) → ((x : ℕ) → is_allowed_mirror true (memory x) ≡ false)
     → IsLastBelow (fits_in false memory reserved q) (2 ^ 64) a → best_place_in false memory reserved q ≡ Some a
 best_place_in-last memory reserved q a none known =

@@ -14,28 +14,28 @@ use Rattle.memblock_model.specs.Tables.{table_of, records_for, records_of, uncov
 use Rattle.memblock_model.proofs.TableLaws.{records_for-is}
 use Rattle.memblock_model.proofs.ItemExamples.{bytes}
 
--- memory of node 7
+-- the label of memory of node 7
 abbrev seventh : LabelView
 seventh = with_node (Some 7) plain_label
 
--- what the two tables say after one journal: byte 3 is claimed memory of node 7, byte 1 is memory
--- without a node
+-- a journal after which byte 3 is claimed memory of node 7 and byte 1 is memory without a node
 abbrev few : List Item
 few = item.Mem (bytes 1 4) ∷ (item.Node (bytes 3 2) 7 ∷ (item.Claim (bytes 2 2) owner.Kernel ∷ []))
 
--- memory with a node and without one, and a claimed byte without its node
+-- the memory table gives a byte with a node and one without; the reserved table gives a claimed
+-- byte without its node
 table_of_examples : (table_of which.Memory few 3 ≡ Some seventh) × (table_of which.Memory few 1 ≡ Some plain_label)
     × (table_of which.Reserved few 3 ≡ Some plain_label)
 table_of_examples = (refl, refl, refl)
 
--- the reserved table doesn't say whose a byte is, so claims of two owners that touch are one record
+-- the reserved table doesn't record owners, so claims of two owners that touch are one record
 claims_are_one_record : runs_from same_label (table_of which.Reserved
     (item.Claim (bytes 1 2) owner.Kernel ∷ (item.Claim (bytes 3 2) owner.Soft ∷ []))) 0 8
     ≡ record { base = 1; size = 4; value = plain_label } ∷ []
 unfolding runs_from
 claims_are_one_record = refl
 
--- over all addresses, by the laws: memory of two nodes is two records
+-- the records over all addresses: memory without a node and memory of node 7 are two records
 abbrev memory_records : List (RunOf LabelView)
 memory_records = record { base = 1; size = 2; value = plain_label } ∷ (record { base = 3; size = 2; value = seventh } ∷ [])
 
@@ -53,7 +53,7 @@ records_of_memory = sym (records_for-is (table_of which.Memory few) memory_recor
       each = λ x. grind (arith, nat_tests);
     }))
 
--- bytes 1 to 6, where 3 and 4 are memory: the gaps over all addresses, by the laws
+-- covering bytes 1 to 6, of which 3 and 4 are memory, adds two records: the gaps on both sides
 abbrev partly : Labels
 partly = table_of which.Memory (item.Mem (bytes 3 2) ∷ [])
 
@@ -74,7 +74,7 @@ two_pieces : uncovered_run_count (bytes 1 6) partly ≡ 2
 unfolding uncovered_run_count
 two_pieces = ap length records_for_bare
 
--- room doubles for the table that grew, and is 128 at first
+-- a table has room for 128 records at first, and for twice as many after each growth of its own
 room_of_examples : (room_of which.Memory (item.Grown which.Memory 4096 256 ∷ (item.Grown which.Reserved 8192 256
     ∷ (item.Grown which.Memory 12288 512 ∷ []))) ≡ 512)
     × (room_of which.Memory (item.Grown which.Reserved 8192 256 ∷ []) ≡ 128)
@@ -84,12 +84,12 @@ room_of_examples = (refl, refl)
 abbrev kernel : RangeView
 kernel = bytes 0x1000000 0x2000000
 
--- the built-in place at first, then the newest
+-- a table is at its built-in place at first, then where it last moved
 place_of_examples : (table_place which.Memory kernel [] ≡ 0x2FFE000)
     × (table_place which.Reserved kernel (item.Grown which.Reserved 8192 256 ∷ (item.Grown which.Memory 4096 256 ∷ [])) ≡ 8192)
 place_of_examples = (refl, refl)
 
--- the bytes of a table at first, and when it has grown
+-- the bytes of a table at first, and after it has grown
 live_examples : (table_bytes which.Reserved kernel [] ≡ bytes 0x2FFF000 3072)
     × (table_bytes which.Memory kernel (item.Grown which.Memory 4096 256 ∷ []) ≡ bytes 4096 6144)
 live_examples = (refl, refl)

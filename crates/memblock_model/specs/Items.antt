@@ -1,5 +1,5 @@
--- What a list of items, oldest first, makes of memory. An item that a definition doesn't name
--- changes nothing there.
+-- What a list of items, oldest first, makes of memory. Each definition names the items that change
+-- something; the other items change nothing.
 use Rattle.std.specs.Prelude.{ℕ, ◌<◌, Bool, false, if◌then◌else◌, Option, Some, None, List, [], ◌∷◌, fold}
 use Rattle.address_runs.specs.Runs.{RunOf, runs_of}
 use Rattle.address_runs.specs.Edits.{cover_range, uncover_range, relabel_range, replace_in_range, agree}
@@ -12,7 +12,7 @@ use Rattle.memblock_model.specs.declared.label.Tag.{Tag}
 use Rattle.memblock_model.specs.declared.item.Item.{Item}
 use Rattle.memblock_model.specs.declared.item.Item.TheVariants as item
 
--- the range of the item, if it has one, isn't empty
+-- if the item has a range, the range isn't empty
 abbrev pub ItemHasBytes : Item → Type 0
 ItemHasBytes (item.Mem range) = 0 < range.size
 ItemHasBytes (item.Node range node) = 0 < range.size
@@ -38,12 +38,13 @@ owners_after f i = f
 abbrev pub no_owners : Owners
 no_owners x = None
 
--- the owner of each byte: none at first, then the newest item that covers the byte decides
+-- the owner of each byte: that of the newest claim or free that covers the byte, or none if there
+-- is no such item
 abbrev pub owner_of : List Item → Owners
 owner_of items = fold owners_after no_owners items
 
--- a byte keeps what it carries if all bytes of its frame carry the same, and else carries nothing
--- (`memblock_trim_memory`)
+-- a byte keeps what it carries if all bytes of its frame carry the same; otherwise it carries
+-- nothing afterwards (`memblock_trim_memory`)
 unfoldable pub trim_frames : Labels → Labels
 trim_frames f x = if each_in (frame_around x) (λ y. agree same_label (f y) (f x)) then f x else None
 
@@ -63,8 +64,8 @@ no_memory x = None
 abbrev pub memory_of : List Item → Labels
 memory_of items = fold memory_after no_memory items
 
--- the tag of each byte after the items: that it isn't memory, or else its node, if it has one, and
--- whether it is mirrored
+-- the tag of each byte after the items: whether it is memory and, if so, its node, if it has one,
+-- and whether it is mirrored
 abbrev pub tag_of : List Item → ℕ → Tag
 tag_of items x = tag_for (memory_of items x)
 

@@ -1,4 +1,5 @@
--- What a byte of memory carries, its label; and what a table says of each byte.
+-- The label of a byte of memory, which is what the byte carries; and the labels that a table gives
+-- all bytes.
 use Rattle.std.specs.Prelude.{ℕ, Bool, true, false, Option, Some, None}
 use Rattle.memblock_model.specs.declared.label.Tag.{Tag}
 use Rattle.memblock_model.specs.declared.label.Tag.TheVariants as tag
@@ -9,7 +10,8 @@ pub record LabelView : Type 0 where
   pub node : Option ℕ
   pub mirror : Bool
 
--- the label that a table gives each byte: that of the record that covers it, if one does
+-- the label that a table gives each byte: that of the record that covers it, or None if no record
+-- does
 abbrev pub Labels : Type 0
 Labels = ℕ → Option LabelView
 
@@ -18,11 +20,11 @@ Labels = ℕ → Option LabelView
 abbrev pub plain_label : LabelView
 plain_label = record { node = None; mirror = false }
 
--- the label with the node
+-- the same label with this node
 abbrev pub with_node : Option ℕ → LabelView → LabelView
 with_node node label = record label { node = node }
 
--- the label of memory that is mirrored (`memblock_mark_mirror`)
+-- the same label, marked as mirrored (`memblock_mark_mirror`)
 abbrev pub with_mirror : LabelView → LabelView
 with_mirror label = record label { mirror = true }
 

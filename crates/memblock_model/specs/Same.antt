@@ -12,20 +12,20 @@ same_which which.Memory which.Reserved = false
 same_which which.Reserved which.Memory = false
 same_which which.Reserved which.Reserved = true
 
--- both have no node, or the same
+-- whether both have no node, or both have the same node
 abbrev pub same_node_or_none : Option ℕ → Option ℕ → Bool
 same_node_or_none None None = true
 same_node_or_none None (Some n) = false
 same_node_or_none (Some m) None = false
 same_node_or_none (Some m) (Some n) = m == n
 
--- both are on, or both off
+-- whether both are true, or both false
 abbrev pub same_bool : Bool → Bool → Bool
 same_bool true b = b
 same_bool false true = false
 same_bool false false = true
 
--- all parts of both labels are the same
+-- whether all parts of both labels are equal
 abbrev pub same_label : LabelView → LabelView → Bool
 same_label a b = same_node_or_none a.node b.node && same_bool a.mirror b.mirror
 
@@ -46,7 +46,8 @@ variant_of (owner.Usage n) = 11
 variant_of (owner.Map n) = 12
 variant_of (owner.Script n) = 13
 
--- the number of the owner: of its node, root, section or ID; 0 or 1 for the tables; else 0
+-- the number in an owner: a node, a root, a section or an ID. For the owner of a table's new place
+-- it is 1 for the reserved table and 0 for the memory table. It is 0 for owners without a number.
 abbrev pub owner_number : Owner → ℕ
 owner_number (owner.Table which.Reserved) = 1
 owner_number (owner.NodeData n) = n
@@ -56,6 +57,6 @@ owner_number (owner.Map n) = n
 owner_number (owner.Script n) = n
 owner_number o = 0
 
--- both have the same variant and the same number
+-- whether both owners have the same variant and the same number
 abbrev pub same_owner : Owner → Owner → Bool
 same_owner a b = (variant_of a == variant_of b) && (owner_number a == owner_number b)

@@ -1,6 +1,6 @@
--- The places that fit a query, and the one that a search returns (`memblock_find_in_range_node`):
--- the highest or the lowest (`__memblock_find_range_top_down`, `__memblock_find_range_bottom_up`),
--- in mirrored memory first (`choose_memblock_flags`).
+-- The addresses at which a query fits, and the one that a search returns
+-- (`memblock_find_in_range_node`): the highest or the lowest (`__memblock_find_range_top_down`,
+-- `__memblock_find_range_bottom_up`), in mirrored memory first (`choose_memblock_flags`).
 use Rattle.std.specs.Prelude.{ℕ, zero, suc, ◌+◌, ◌%◌, ◌^◌, ◌==◌, Bool, true, false, ◌&&◌, nat_le, is_some, is_none, if◌then◌else◌, Option, Some, None, List}
 use Rattle.std.specs.Option.{option_or}
 use Rattle.address_runs.specs.Edits.{agree}
@@ -31,34 +31,34 @@ abbrev pub outermost_below : Bool → (ℕ → Bool) → ℕ → Option ℕ
 outermost_below true p n = first_below p n
 outermost_below false p n = last_below p n
 
--- whether a byte with this label may be part of a place on the node, or on any node if none is
+-- whether a byte with this label may be part of a place on the node; any byte may if no node is
 -- given
 abbrev pub is_allowed_node : Option ℕ → Option LabelView → Bool
 is_allowed_node None carried = true
 is_allowed_node (Some node) None = false
 is_allowed_node (Some node) (Some label) = same_node_or_none label.node (Some node)
 
--- whether a byte with this label may be part of a place in mirrored memory (`true`), or in any
--- memory
+-- whether a byte with this label may be part of a place. If the flag is true, only mirrored bytes
+-- may; if it is false, all bytes may.
 abbrev pub is_allowed_mirror : Bool → Option LabelView → Bool
 is_allowed_mirror false carried = true
 is_allowed_mirror true None = false
 is_allowed_mirror true (Some label) = label.mirror
 
--- whether a place fits that begins at the address: the address is aligned and at or above the
--- window's start and the second frame; the place ends in the window; all its bytes are unclaimed
--- memory of one label; and that label has the query's node, and is mirrored if `mirror` is set
+-- whether the query fits at the address. The address is aligned, and isn't below the query's
+-- window or in the first frame. The place ends in the window. All its bytes are unclaimed memory
+-- of one label. That label has the query's node, and is mirrored if `mirror` is true.
 unfoldable pub fits_in : Bool → Labels → Labels → Query → ℕ → Bool
 fits_in mirror memory reserved q a =
     (a % q.align == 0) && nat_le q.lo a && nat_le FRAME_SIZE a && nat_le (a + q.size) q.hi
     && is_some (memory a) && is_allowed_node q.node (memory a) && is_allowed_mirror mirror (memory a)
     && each_in (record { base = a; size = q.size }) (λ x. agree same_label (memory x) (memory a) && is_none (reserved x))
 
--- the greatest address that fits, or the least if the search goes up
+-- the greatest address at which the query fits, or the least if the search goes up
 unfoldable pub top_place_in : Mode → Labels → Labels → Query → Option ℕ
 top_place_in mode memory reserved q = outermost_below mode.up (fits_in mode.mirror memory reserved q) (2 ^ 64)
 
--- the top place in mirrored memory, or in any memory if no place fits in mirrored memory
+-- the top place in mirrored memory, or, if nothing fits there, in any memory
 unfoldable pub best_place_in : Bool → Labels → Labels → Query → Option ℕ
 best_place_in up memory reserved q =
     option_or (top_place_in (record { mirror = true; up = up }) memory reserved q)

@@ -14,7 +14,8 @@ use Rattle.memblock_model.specs.declared.owner.Which.TheVariants as which
 use Rattle.memblock_model.specs.declared.item.Item.{Item}
 use Rattle.memblock_model.specs.declared.item.Item.TheVariants as item
 
--- the reserved table says that a byte is claimed, but not for whom
+-- the label that the reserved table gives a byte with this owner: it says that the byte is
+-- claimed, but not for whom
 abbrev pub without_owner : Option Owner → Option LabelView
 without_owner None = None
 without_owner (Some owner) = Some plain_label
@@ -27,8 +28,8 @@ abbrev pub table_of : Which → List Item → Labels
 table_of which.Memory items = memory_of items
 table_of which.Reserved items = reserved_labels (owner_of items)
 
--- the labels of the reserved table after an item: a claim covers its range, whoever owned the bytes
--- before
+-- the labels of the reserved table after an item. A claim covers its range, whoever owned the
+-- bytes before.
 abbrev pub reserved_after : Labels → Item → Labels
 reserved_after f (item.Claim range owner) = cover_range range plain_label f
 reserved_after f (item.Free range) = uncover_range range f
@@ -39,8 +40,8 @@ abbrev pub table_after : Which → Labels → Item → Labels
 table_after which.Memory f i = memory_after f i
 table_after which.Reserved f i = reserved_after f i
 
--- the records for these labels: one for each run of bytes with equal labels (`memblock_add_range`
--- merges neighbours)
+-- the records of a table with these labels: one for each run of bytes with equal labels
+-- (`memblock_add_range` merges neighbours)
 unfoldable pub records_for : Labels → List (RunOf LabelView)
 records_for f = runs_of same_label f
 
@@ -62,7 +63,7 @@ room_after w n i = n
 abbrev pub room_of : Which → List Item → ℕ
 room_of w items = fold (room_after w) 128 items
 
--- the place that the table last moved to, if it ever did
+-- the place that the table last moved to, or None if it never moved
 abbrev pub moved_after : Which → Option ℕ → Item → Option ℕ
 moved_after w o (item.Grown which place room) = if same_which w which then Some place else o
 moved_after w o i = o
@@ -70,14 +71,14 @@ moved_after w o i = o
 abbrev pub moved_to : Which → List Item → Option ℕ
 moved_to w items = fold (moved_after w) None items
 
--- the first address of the table: one of the last two frames of the kernel's image. The kernel has
--- its arrays in its image too (`memblock_memory_init_regions`, `memblock_reserved_init_regions`);
--- these places are a choice of this project
+-- the first place of the table, before it has moved: one of the last two frames of the kernel's
+-- image. The kernel has its arrays in its image too (`memblock_memory_init_regions`,
+-- `memblock_reserved_init_regions`). Which frames they are is this project's choice.
 abbrev pub built_in_place : Which → RangeView → ℕ
 built_in_place which.Memory kernel = end_of kernel - 2 * FRAME_SIZE
 built_in_place which.Reserved kernel = end_of kernel - FRAME_SIZE
 
--- the address of the table
+-- the address of the table's first byte
 abbrev pub table_place : Which → RangeView → List Item → ℕ
 table_place w kernel items = unwrap_or (moved_to w items) (built_in_place w kernel)
 

@@ -15,8 +15,8 @@ pub enum Item {
     /// Each frame whose bytes don't all carry the same tag stops being memory
     /// (`memblock_trim_memory`).
     Trim,
-    /// The memory bytes of the range get the node (`memblock_set_node`). An item may have any
-    /// number; a [`crate::Label`] of the memory table has only numbers below 1,024.
+    /// The memory bytes of the range get the node (`memblock_set_node`). The number may be any
+    /// u32, although a [`crate::Label`] of the memory table has only numbers below 1,024.
     Node { range: Range, node: u32 },
     /// The memory bytes of the range become mirrored and keep their node
     /// (`memblock_mark_mirror`).
@@ -26,10 +26,10 @@ pub enum Item {
     /// The bytes of the range lose their owner (`memblock_phys_free`).
     Free { range: Range },
     /// The limit of allocations becomes the address (`memblock_set_current_limit`). An allocation
-    /// stays below the limit, also if its own maximum is greater.
+    /// stays below the limit, even if its own maximum is greater.
     Limit { at: u64 },
-    /// From now on an allocation gets the lowest address that fits if the value is true, else the
-    /// highest (`memblock_set_bottom_up`).
+    /// Sets the direction of searches: from now on an allocation gets the lowest address that fits
+    /// if the value is true, else the highest (`memblock_set_bottom_up`).
     Upward { on: bool },
     /// The table has moved to `place` and has twice the room, `room` records
     /// (`memblock_double_array`). The definitions count the doublings and ignore `room`.

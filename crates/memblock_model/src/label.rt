@@ -7,7 +7,8 @@ use std::marker::Model;
 /// flags 0.
 pub const MIRROR_FLAG: u32 = 2;
 
-/// The label of a table's record: the node, or none yet, and whether the memory is mirrored.
+/// The label in a table's record: the node, or `None` if the memory has none yet, and whether the
+/// memory is mirrored.
 ///
 /// The type guarantees that a node's number is below 1,024 (the greatest `MAX_NUMNODES` of
 /// x86-64) and that the flags are [`MIRROR_FLAG`] or 0.
@@ -51,8 +52,8 @@ impl Label {
         }
     }
 
-    /// Returns the label with the node, if any, which is below 1,024. It is mirrored if `flags`
-    /// is [`MIRROR_FLAG`].
+    /// Returns a label with this node, or with none if `node` is `None`. The node must be below
+    /// 1,024. The label is mirrored if `flags` is [`MIRROR_FLAG`].
     pub fn from_parts(node: Option<u32>, flags: u32) -> Label
         requires { unwrap_or node 0 < 1024 }
         ensures { result ≡ record { node = node; mirror = flags == 2 } }
@@ -61,7 +62,7 @@ impl Label {
         Label { node, flags }
     }
 
-    /// Returns the label with the node, which is below 1,024.
+    /// Returns the same label with this node, which must be below 1,024.
     pub fn with_node(self, node: u32) -> Label
         requires { node < 1024 }
         ensures { result ≡ with_node (Some node) self }
@@ -72,7 +73,7 @@ impl Label {
         }
     }
 
-    /// Returns the label of mirrored memory.
+    /// Returns the same label, marked as mirrored.
     pub fn with_mirror(self) -> Label
         ensures { result ≡ with_mirror self }
     {
@@ -82,7 +83,7 @@ impl Label {
         }
     }
 
-    /// Returns the node, or none yet.
+    /// Returns the node, or `None` if the memory has none yet.
     pub fn node(self) -> Option<u32>
         ensures { result ≡ self.node }
     {
@@ -104,8 +105,8 @@ impl Label {
     }
 }
 
-/// What the items say of a byte of memory. It is a label whose node may have any number, as in a
-/// journal.
+/// The node of a byte of memory, and whether the byte is mirrored, as the items give them. Unlike
+/// a [`Label`], it may have a node of any number, since an item may have one.
 #[derive(Clone, Copy, PartialEq, Eq)]
 pub struct Marks {
     node: Option<u32>,
@@ -136,7 +137,7 @@ impl Marks {
         }
     }
 
-    /// Returns the marks with the node.
+    /// Returns the same marks with this node.
     pub fn with_node(self, node: u32) -> Marks
         ensures { result ≡ with_node (Some node) self }
     {
@@ -146,7 +147,7 @@ impl Marks {
         }
     }
 
-    /// Returns the marks of mirrored memory.
+    /// Returns the same marks, with the byte mirrored.
     pub fn with_mirror(self) -> Marks
         ensures { result ≡ with_mirror self }
     {
@@ -167,7 +168,7 @@ impl Marks {
     }
 }
 
-/// The tag of a byte: what it is to the memory table.
+/// The tag of a byte: what the memory table says of it.
 #[derive(Clone, Copy, Debug, PartialEq, Eq)]
 pub enum Tag {
     /// The byte isn't memory.

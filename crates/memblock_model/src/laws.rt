@@ -29,8 +29,8 @@ pub fn appended_item_acts_last()
         upward_of (items ++ i ∷ []) ≡ upward_after (upward_of items) i }
 {}
 
-/// Law: a table's labels, room and place after a new item depend only on the item and on what each
-/// of them was before. They don't depend on the owners.
+/// Law: a table's labels, room and place after a new item depend only on the item and on the same
+/// table's labels, room and place before it. They don't depend on the owners.
 pub fn tables_need_no_owners()
     ensures says { (w : Which) (items : List Item) (i : Item) →
         table_of w (items ++ i ∷ []) ≡ table_after w (table_of w items) i }
@@ -47,8 +47,9 @@ pub fn tests_decide_equality()
 {}
 
 /// Law: the runs of owners and the records of a table are in ascending order. They don't overlap,
-/// none is empty, and equal neighbours are merged. At each address they give what the items give.
-/// This holds if the items give nothing at or above 2^64.
+/// none is empty, and equal neighbours are merged. In these lists each address has the owner or
+/// label that the items give it. This holds if the items give nothing to addresses at or above
+/// 2^64.
 pub fn lists_are_runs()
     ensures owners { (items : List Item) → IsEmptyFrom (2 ^ 64) (owner_of items) →
         IsRunsOf (owner_of items) (owner_runs_of items) }
@@ -56,14 +57,14 @@ pub fn lists_are_runs()
         IsRunsOf (table_of w items) (records_of w items) }
 {}
 
-/// Law: after a trim all bytes of a frame carry the same label, or none does.
+/// Law: after a trim, either all bytes of a frame carry one label, or none carries any.
 pub fn trimmed_frame_is_whole()
     ensures { (f : Labels) (x y : ℕ) → covers (frame_around x) y ≡ true →
         trim_frames f y ≡ trim_frames f x }
 {}
 
-/// Law: a place fits at the top place. No place fits at a greater address, or at a lower one if the
-/// search goes up. If there is no top place, no place fits at all.
+/// Law: a query fits at its top place. It fits at no greater address, or at no lower one if the
+/// search goes up. If there is no top place, it fits nowhere.
 pub fn top_is_outermost()
     ensures fits { (mode : Mode) (memory reserved : Labels) (q : Query) (a : ℕ) →
         top_place_in mode memory reserved q ≡ Some a →
@@ -81,8 +82,9 @@ pub fn top_is_outermost()
         fits_in mode.mirror memory reserved q b ≡ false }
 {}
 
-/// Law: a place fits at the best place. That is the top place of mirrored memory if there is one,
-/// and else the top place of any memory. If there is no best place, no place fits at all.
+/// Law: a query fits at its best place. The best place is the top place of mirrored memory if
+/// there is one, else the top place of any memory. If there is no best place, the query fits
+/// nowhere.
 pub fn best_is_mirrored_first()
     ensures fits { (up : Bool) (memory reserved : Labels) (q : Query) (a : ℕ) →
         best_place_in up memory reserved q ≡ Some a → fits_in false memory reserved q a ≡ true }

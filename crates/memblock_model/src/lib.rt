@@ -8,8 +8,8 @@
 //!
 //! What an item does to the bytes of a range is defined in `specs/Edits.antt` of `address_runs`,
 //! which the edits of the tables use as well. What a byte of memory carries is a label
-//! (`specs/Labels.antt`). A new part of it is a new field there, in its test of equality
-//! (`specs/Same.antt`), and in the item that sets it.
+//! (`specs/Labels.antt`). If a label is to carry more, it needs a new field, its test of equality
+//! (`specs/Same.antt`) must compare the field, and an item must set it.
 //!
 //! [`Item`], [`Owner`], [`Label`], [`Marks`], [`Tag`], [`Which`], [`OwnerRun`], [`Query`],
 //! [`Request`] and [`Mode`] are plain data. They are here because the definitions use them. A law

@@ -1,7 +1,7 @@
 //! The owners of claimed memory, and the names of memblock's two tables.
 //!
-//! The kernel's reserved table doesn't record owners. They are kept here so that each frame that
-//! isn't handed out has one.
+//! The kernel's reserved table doesn't record owners. This project records them, so that each
+//! frame that isn't handed over to the buddy allocator has an owner.
 
 /// The owner of claimed bytes: what the kernel reserved them for.
 #[derive(Clone, Copy, Debug, PartialEq, Eq)]
@@ -16,9 +16,9 @@ pub enum Owner {
     Low1M,
     /// Memory that firmware sets aside for a driver (`E820_TYPE_SOFT_RESERVED`).
     Soft,
-    /// The new place of a table that has grown (`memblock_double_array`).
+    /// The new place of this table, which has grown (`memblock_double_array`).
     Table(Which),
-    /// The data of a node (`alloc_node_data`).
+    /// The data of the node with this number (`alloc_node_data`).
     NodeData(u32),
     /// The crash kernel's area (`reserve_crashkernel`).
     Crash,
@@ -26,15 +26,15 @@ pub enum Owner {
     CrashLow,
     /// The table of section roots (`memory_present`).
     Roots,
-    /// A root of sections, by its number (`sparse_index_alloc`).
+    /// The root of sections with this number (`sparse_index_alloc`).
     Root(u32),
-    /// The usage data of a group of sections, named by the first one
+    /// The usage data of a group of sections; the number is that of its first section
     /// (`sparse_early_usemaps_alloc_pgdat_section`).
     Usage(u32),
-    /// The page structures of a section, or of a group named by its first section
-    /// (`sparse_buffer_init`).
+    /// The page structures of the section with this number, or of the group whose first section it
+    /// is (`sparse_buffer_init`).
     Map(u32),
-    /// An allocation of the early script, by its ID.
+    /// An allocation of the early script with this ID.
     Script(u32),
 }
 

@@ -11,7 +11,7 @@ pub struct Query {
     pub size: u64,
     /// The alignment of the place's address, a power of two.
     pub align: u64,
-    /// The node of the place, or `None` for any.
+    /// The node that the place must be on, or `None` for any node.
     pub node: Option<u32>,
 }
 
@@ -32,13 +32,14 @@ pub struct Request {
     pub size: u64,
     /// The alignment of the place's address, a power of two.
     pub align: u64,
-    /// The preferred lowest address of the place, or 0. If nothing fits there, lower addresses
-    /// are tried.
+    /// The preferred lowest address of the place, or 0. If nothing fits at or above it, lower
+    /// addresses are tried.
     pub min: u64,
-    /// The highest end of the place, if stated. The limit of allocations holds as well.
+    /// The highest end of the place, or `None`. The limit of allocations holds as well.
     pub max: Option<u64>,
-    /// The preferred node, or `None` for any.
+    /// The preferred node, or `None` for any node.
     pub node: Option<u32>,
-    /// Whether other nodes are excluded.
+    /// Whether the place must be on the preferred node. If false, other nodes are tried after that
+    /// node.
     pub exact: bool,
 }

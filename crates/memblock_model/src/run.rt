@@ -5,7 +5,7 @@ use address_runs::Stretch;
 use bm_base::Range;
 use std::marker::Model;
 
-/// A range of addresses and its owner. In a list of runs it is as long as possible.
+/// A range of addresses and its owner. In a list of runs each range is as long as possible.
 #[derive(Clone, Copy, Debug, PartialEq, Eq)]
 pub struct OwnerRun {
     pub range: Range,

@@ -13,7 +13,7 @@ use Rattle.memblock_ranges.specs.Encoding.{decode_record, encode_record, records
 use Rattle.memblock_ranges.specs.Tables.{IsTable, bytes_outside_table, part_kept_by_edits}
 use Rattle.memblock_ranges.proofs.SpellLaws.{same_bytes, same_records, split_records, length-records_at, length-fields_of, run_back, is_record}
 
--- the list of records after the bytes of one or several have changed
+-- what the list of records becomes after the bytes of one or several records have changed
 module _ (f g : ℕ → ℕ) (a i : ℕ) (below : (x : ℕ) → a ≤ x → x < a + 24 * i → g x ≡ f x) where
   front : records_at g a i ≡ records_at f a i
   front = same_records f g a a i (λ k less. below (a + k) (omega arith) (omega arith))
@@ -57,7 +57,7 @@ module _ (f g : ℕ → ℕ) (a i : ℕ) (below : (x : ℕ) → a ≤ x → x < 
       ∙ drop_at (records_at f a (i + n)) (records_at f (a + 24 * (i + n)) m) (i + n) (length-records_at f a (i + n)) in
       split_records g a i m ∙ rw (front, back, first, last) refl
 
--- the bytes outside the table stay
+-- the bytes outside the table are unchanged if only bytes in the table changed
 pub same_outside : (f g : ℕ → ℕ) (place room : ℕ) → ((x : ℕ) → IsTrue (nat_lt x place || nat_le (place + 24 * room) x) → g x ≡ f x) →
     bytes_outside_table g place room ≡ bytes_outside_table f place room
 same_outside f g place room same =
@@ -78,14 +78,14 @@ pub record_there : (f g : ℕ → ℕ) (a b : ℕ) → ((k : ℕ) → k < 24 →
     IsRecord (bytes_at g b 24)
 record_there f g a b same known = subst IsRecord (sym (same_bytes f g a b 24 same)) known
 
--- the table after an edit
+-- what is true of a table after an edit
 pub record Edited (s u : List ExtentView) (place room count : ℕ) (list : List (RunOf LabelView)) : Type 0 where
   pub list_is : records_at (byte_of u) place count ≡ list
   pub table : IsTable (byte_of u) (is_prepared_at u) place room count
   pub others : bytes_outside_table (byte_of u) place room ≡ bytes_outside_table (byte_of s) place room
   pub ready : is_prepared_at u ≡ is_prepared_at s
 
--- an edited table keeps the rest
+-- an edit keeps the table's address and room, and every byte outside the table
 pub edited_kept : (s u : List ExtentView) (place room count : ℕ) (list : List (RunOf LabelView)) → Edited s u place room count list →
     let h : Head = record { place = place; room = room; count = count } in part_kept_by_edits u h ≡ part_kept_by_edits s h
 edited_kept s u place room count list e = λ j. record { place = place; room = room; others = e.others j; ready = e.ready j }

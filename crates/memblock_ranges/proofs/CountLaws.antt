@@ -65,7 +65,8 @@ length-trimmed f none =
     let is : cut.0 ≡ records_for (trim_frames f) = records_for-is (trim_frames f) cut.0 (nothing-trimmed (2 ^ 64) f none) cut.1 in
     omega (arith, cut.2, ap length is)
 
--- as many pieces end as begin: one of them ends at an address, the other begins at the next
+-- 1 if a test holds, else 0. In a stretch of addresses as many pieces end as begin, except for a
+-- piece that reaches past one of the stretch's bounds.
 abbrev one : Bool → ℕ
 one b = if b then 1 else 0
 

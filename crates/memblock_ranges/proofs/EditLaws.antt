@@ -1,4 +1,4 @@
--- The edits of records: the room that they need, and that the resulting runs are the records.
+-- Edits of records: the room that they need, and that their result is the list of records.
 use Rattle.std.proofs.Common.{◌≡◌, ℕ, ◌+◌, ◌-◌, ◌^◌, ◌≤◌, Bool, false, Option, List, length, refl, sym, ◌∙◌, arith}
 use Rattle.std.proofs.lemmas.Bool.Decides.{nat_tests}
 use Rattle.bm_base.specs.Range.{RangeView, covers}

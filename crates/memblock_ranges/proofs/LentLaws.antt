@@ -1,4 +1,4 @@
--- The slice of a table's bytes has its records.
+-- Reading a table's records from the slice of its bytes.
 use Rattle.std.proofs.Common.{◌≡◌, ℕ, zero, suc, ◌+◌, ◌-◌, ◌*◌, ◌<◌, ◌≤◌, List, ◌∷◌, length, get_or, take, drop, refl, sym, ◌∙◌, ap, subst, arith}
 use Rattle.std.specs.Prelude.{slice_index}
 use Rattle.std.specs.List.{slice_range}
@@ -47,7 +47,7 @@ are_lent s h table known = record {
   records = subst AreRecords (sym (lent_runs (byte_of s) h.place h.count)) known;
 }
 
--- the bytes of the list from an index on
+-- a part of a list of bytes is `bytes_at` of that list, from the part's first index on
 pub slice_is : (bs : List ℕ) (from until n : ℕ) → until ≡ from + n → until ≤ length bs
     → slice_range bs from until ≡ bytes_at (slice_index bs) from n
 slice_is bs from until n is within =
@@ -84,6 +84,6 @@ record_fits bs count i r lent less =
     (sym (get-records_at (slice_index bs) 0 count i r less ∙ ap (λ (y : ℕ). decode_record (bytes_at (slice_index bs) y 24)) here))
     (run_fits (bytes_at (slice_index bs) (24 * i) 24) (lent.each i less))
 
--- the number of records of a table in a store
+-- the number of a table's records is the count of its head
 pub count_is : (s : List ExtentView) (h : Head) → length (records_of_head s h) ≡ h.count
 count_is s h = length-records_at (byte_of s) h.place h.count

@@ -1,4 +1,4 @@
--- A table moves to another place.
+-- Moving a table to another place.
 use Rattle.std.proofs.Common.{◌≡◌, ℕ, ◌+◌, ◌-◌, ◌*◌, ◌^◌, ◌<◌, ◌≤◌, List, ◌||◌, max, nat_le, nat_lt, refl, sym, ◌∙◌, ap, arith, IsTrue}
 use Rattle.std.proofs.lemmas.Bool.{true_from_ne_false}
 use Rattle.std.proofs.lemmas.Bool.Decides.{nat_tests}
@@ -12,7 +12,7 @@ use Rattle.memblock_ranges.proofs.ByteEdits.{record_there}
 abbrev bytes : ℕ → ℕ → RangeView
 bytes base size = record { base = base; size = size }
 
--- an address of both ranges
+-- two ranges that have an address in common overlap
 both : (r s : RangeView) (x : ℕ) → r.base ≤ x → x < r.base + r.size → s.base ≤ x → x < s.base + s.size → Meet r s
 both r s x a b c d = (x, grind (arith, nat_tests))
 

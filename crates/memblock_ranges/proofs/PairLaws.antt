@@ -155,7 +155,7 @@ pub plain_uncovered : (r : RangeView) (rs : List (RunOf LabelView)) → AreRecor
     ArePlainRecords (records_for (uncover_range r (value_at rs)))
 plain_uncovered = plain_amended (λ (carried : Option LabelView). None) (λ o label plain is. cc is)
 
--- a table that moves, apart from the other
+-- a table that moves to a place apart from the other table stays apart from it
 moved_apart : (s t : List ExtentView) (g h o : Head) (place : ℕ) → MovesTable s t g h place →
     ¬ Meet (bytes_of_head o) (record { base = place; size = 48 * g.room }) → ¬ Meet (bytes_of_head o) (bytes_of_head h)
 moved_apart s t g h o place e apart both =
@@ -208,7 +208,7 @@ both_stay s t m r both at_memory at_reserved ready =
     let tables = beside_memory s t m r m both second first.0 both.apart (rw same both.memory_records) in
     (tables.0, first.1, tables.1)
 
--- bytes that belong to no table are filled
+-- both tables are unchanged if bytes outside them are filled
 pub filled_stay : (s t : List ExtentView) (m r : Head) (range : RangeView) (g : ℕ → ℕ) → AreTables s m r
     → WritesBytes s t range.base range.size g →
     ¬ OverlapsTable (let v : TablesView = record { memory = table_of_head s m; reserved = table_of_head s r; store = s } in v) range →
@@ -223,7 +223,7 @@ filled_stay s t m r range g both w apart =
     w.outside x (grind (arith, nat_tests)))
     (λ x was. w.ready x ∙ was)
 
--- more addresses are prepared, and no byte changes
+-- both tables are unchanged if more addresses are prepared and no byte changes
 pub prepared_stay : (s t : List ExtentView) (m r : Head) (range : RangeView) → AreTables s m r → ((x : ℕ) → byte_of t x ≡ byte_of s x) →
     ((x : ℕ) → is_prepared_at t x ≡ (covers range x || is_prepared_at s x)) → AreTables t m r × (table_of_head t m ≡ table_of_head s m)
     × (table_of_head t r ≡ table_of_head s r)

@@ -35,7 +35,7 @@ stretch_ends same tells g from to v less stays =
 abbrev pub bare_label : Bool → Option LabelView
 bare_label b = if b then Some plain_label else None
 
--- a byte without a label, and its neighbour
+-- a piece ends between a byte without a label and a neighbour that has one
 pub edge_bare : (a b : Bool) → run_ends_between same_label (bare_label a) (bare_label b) ≡ (if a && not b then 1 else 0)
 edge_bare true true = refl
 edge_bare true false = refl
@@ -74,7 +74,7 @@ module _ (r : RangeView) (f : Labels) where
       let parts = total-split (run_ends_at same_label g) 0 from (to - from) to from (omega arith) (omega arith) in
       omega (arith, parts, stretch, at_to, so_far)
 
-  -- past the range no further piece ends
+  -- no further piece ends past the range, so the pieces counted so far are all of them
   pub all_pieces : (count : ℕ) → r.base + r.size ≤ 2 ^ 64
       → count ≡ total (run_ends_at same_label (gaps_in_range r plain_label f)) 0 (r.base + r.size) →
       count ≡ uncovered_run_count r f
@@ -91,7 +91,7 @@ pub one_at_most : (b : Bool) → (if b then 1 else 0) ≤ 1
 one_at_most true = omega arith
 one_at_most false = omega arith
 
--- what a test for None means
+-- a test that always says the opposite of `is_some` is `is_none`
 pub none_told : (b : Bool) (o : Option LabelView) → is_some o ≡ not b → b ≡ is_none o
 none_told true None told = refl
 none_told true (Some l) told = absurd (false≢true (sym told))

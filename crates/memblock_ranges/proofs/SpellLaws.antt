@@ -12,7 +12,7 @@ use Rattle.memblock_model.specs.Labels.{LabelView}
 use Rattle.memblock_ranges.specs.declared.region.Region.{Region}
 use Rattle.memblock_ranges.specs.Encoding.{base_in, size_in, flags_in, node_in, decode_region, encode_fields, label_of, flags_field, node_field, decode_record, region_of, encode_record, records_at, FitsRecord, IsRecord}
 
--- the same bytes at two places
+-- if the bytes at two places are equal one by one, they are equal as lists
 pub same_bytes : (f g : ℕ → ℕ) (a b n : ℕ) → ((k : ℕ) → k < n → g (b + k) ≡ f (a + k)) → bytes_at g b n ≡ bytes_at f a n
 same_bytes f g a b n same = told_bytes f a n (bytes_at g b n) (length-bytes_at g b n) (λ k below. get-bytes_at g b n k below ∙ same k below)
 
@@ -24,7 +24,7 @@ same_records f g a b (suc n) same =
     let rest = same_records f g (a + 24) (b + 24) n (λ k below. ap g (omega arith) ∙ same (24 + k) (omega arith) ∙ ap f (omega arith)) in
     rw (first, rest) refl
 
--- the records of a table in two parts
+-- the first m + n records are the first m records and the n after them
 pub split_records : (f : ℕ → ℕ) (a m n : ℕ) → records_at f a (m + n) ≡ records_at f a m ++ records_at f (a + 24 * m) n
 unfolding records_at
 split_records f a zero n =

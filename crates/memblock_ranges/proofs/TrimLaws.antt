@@ -23,7 +23,7 @@ pub record Turns (f : Labels) (at : ℕ) (rs : List (RunOf LabelView)) : Type 0 
 pub turns_all : (rs : List (RunOf LabelView)) → AreRuns rs → Turns (value_at rs) 0 rs
 turns_all rs runs = record { runs = runs; starts = start_zero rs; each = λ x le. refl; turn = λ some. absurd (omega arith) }
 
--- where f is None, the trimmed function is None
+-- if an address has no label, it has none after the trim
 trimmed_none : (f : Labels) (x : ℕ) → f x ≡ None → trim_frames f x ≡ None
 trimmed_none f x none = elim (trim_frames-cases f x) as (λ _. trim_frames f x ≡ None) [
   | inl whole ↦ trim_frames-whole f x whole ∙ none

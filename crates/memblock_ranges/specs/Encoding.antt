@@ -8,7 +8,7 @@ use Rattle.address_runs.specs.Runs.{RunOf, run_end}
 use Rattle.memblock_model.specs.Labels.{LabelView}
 use Rattle.memblock_ranges.specs.declared.region.Region.{Region}
 
--- the numbers at a record's offsets
+-- the number in each field of the 24 bytes
 unfoldable pub base_in : List ℕ → ℕ
 base_in bs = little_number 8 bs
 
@@ -21,29 +21,31 @@ flags_in bs = little_number 4 (drop 16 bs)
 unfoldable pub node_in : List ℕ → ℕ
 node_in bs = little_number 4 (drop 20 bs)
 
--- the record of any four numbers
+-- the four fields of any 24 bytes, without a check
 abbrev pub decode_region : List ℕ → Region
 decode_region bs = record { base = base_in bs; size = size_in bs; flags = flags_in bs; node = node_in bs }
 
--- the four numbers as bytes
+-- the 24 bytes of a record with these four fields
 unfoldable pub encode_fields : ℕ → ℕ → ℕ → ℕ → List ℕ
 encode_fields base size flags node = little_bytes 8 base ++ (little_bytes 8 size ++ (little_bytes 4 flags ++ little_bytes 4 node))
 
--- the node that a node field means, and the label for flags and a node field
+-- `node_of_field` is the node that a node field means, or None for 1,024. `label_of` is the label
+-- that the flags and the node field mean.
 abbrev pub node_of_field : ℕ → Option ℕ
 node_of_field field = if field == 1024 then None else Some field
 
 abbrev pub label_of : ℕ → ℕ → LabelView
 label_of flags field = record { node = node_of_field field; mirror = flags == 2 }
 
--- the flags and the node field of a label
+-- `flags_field` is the flags of a record with this label, and `node_field` its node field.
 abbrev pub flags_field : LabelView → ℕ
 flags_field label = if label.mirror then 2 else 0
 
 abbrev pub node_field : LabelView → ℕ
 node_field label = unwrap_or label.node 1024
 
--- the run that the bytes describe, and a run as a region and as bytes
+-- `decode_record` is the run of addresses that 24 bytes describe. `region_of` is the four fields
+-- of a run, and `encode_record` the 24 bytes of a run.
 abbrev pub decode_record : List ℕ → RunOf LabelView
 decode_record bs = record { base = base_in bs; size = size_in bs; value = label_of (flags_in bs) (node_in bs) }
 
@@ -53,12 +55,13 @@ region_of r = record { base = r.base; size = r.size; flags = flags_field r.value
 abbrev pub encode_record : RunOf LabelView → List ℕ
 encode_record r = encode_fields r.base r.size (flags_field r.value) (node_field r.value)
 
--- the runs of n records, from address a on
+-- the runs that n records describe, which lie one after another from address `a` on; `f` gives the
+-- byte at each address
 unfoldable pub records_at : (ℕ → ℕ) → ℕ → ℕ → List (RunOf LabelView)
 records_at f a zero = []
 records_at f a (suc n) = decode_record (bytes_at f a 24) ∷ records_at f (a + 24) n
 
--- the bytes of a table with room for n records: those of its runs, then zeros
+-- the bytes of a table with room for n records: the records of these runs, then zeros
 unfoldable pub encode_table : List (RunOf LabelView) → ℕ → List ℕ
 encode_table [] n = replicate (24 * n) 0
 encode_table (r ∷ rs) n = encode_record r ++ encode_table rs (n - 1)

@@ -1,4 +1,5 @@
--- A table in the bytes of the memory that it describes, and both tables together.
+-- memblock's two tables, which lie in the memory that they describe: first one table, then both
+-- together.
 use Rattle.std.specs.Prelude.{◌≡◌, ℕ, ◌+◌, ◌*◌, ◌^◌, ◌<◌, ◌≤◌, Bool, true, false, if◌then◌else◌, Some, List, length, get_or, IsTrue}
 use Rattle.bm_base.specs.Range.{RangeView, covers, Meet}
 use Rattle.phys_store.specs.Bytes.{ExtentView, byte_of, is_prepared_at, ArePrepared, bytes_at}
@@ -10,8 +11,9 @@ use Rattle.memblock_model.specs.declared.owner.Which.TheVariants as which
 use Rattle.memblock_ranges.specs.Encoding.{IsRecord, decode_region, region_of, records_at, encode_table}
 use Rattle.memblock_ranges.specs.declared.region.Head.{Head}
 
--- a table at `place` with `room` slots, of which the first `count` have records (`struct
--- memblock_type`): all its bytes are prepared, and those after the records are 0
+-- at address `place` the bytes `f` are a table with `room` slots, of which the first `count` hold
+-- records (`struct memblock_type`). All bytes of the table are prepared, and those after the
+-- records are 0.
 pub record IsTable (f : ℕ → ℕ) (ready : ℕ → Bool) (place room count : ℕ) : Type 0 where
   pub few : count ≤ room
   pub fits : place + 24 * room < 2 ^ 64
@@ -19,7 +21,7 @@ pub record IsTable (f : ℕ → ℕ) (ready : ℕ → Bool) (place room count : 
   pub zeros : (x : ℕ) → place + 24 * count ≤ x → x < place + 24 * room → f x ≡ 0
   pub prepared : (x : ℕ) → place ≤ x → x < place + 24 * room → IsTrue (ready x)
 
--- the bytes outside the table, and 0 for those in it
+-- the bytes `f`, but with 0 for each byte of the table at `place` with `room` slots
 abbrev pub bytes_outside_table : (ℕ → ℕ) → ℕ → ℕ → ℕ → ℕ
 bytes_outside_table f place room x = if covers (record { base = place; size = 24 * room }) x then 0 else f x
 
@@ -35,7 +37,8 @@ abbrev pub part_kept_by_edits : List ExtentView → Head → PartKeptByEdits
 part_kept_by_edits s h =
     record { place = h.place; room = h.room; others = bytes_outside_table (byte_of s) h.place h.room; ready = is_prepared_at s }
 
--- the table of a head in a store
+-- `records_of_head` is the records, as runs, of the table that a head describes. `HasTable` says
+-- that the store has this table.
 abbrev pub records_of_head : List ExtentView → Head → List (RunOf LabelView)
 records_of_head s h = records_at (byte_of s) h.place h.count
 
@@ -77,7 +80,7 @@ place_in w t = (table_in w t).place
 abbrev pub room_in : Which → TablesView → ℕ
 room_in w t = (table_in w t).room
 
--- the bytes of a table: 24 for each record that it has room for
+-- the range of the bytes of a table: 24 bytes for each record that it has room for
 abbrev pub bytes_of : TableView → RangeView
 bytes_of t = record { base = t.place; size = 24 * t.room }
 
@@ -88,7 +91,7 @@ table_range_in w t = bytes_of (table_in w t)
 abbrev pub OverlapsTable : TablesView → RangeView → Type 0
 OverlapsTable t r = (w : Which) × Meet (table_range_in w t) r
 
--- where a table lies, and how many records it has
+-- the head of a table: its address, its room and its number of records
 abbrev pub head_of : TableView → Head
 head_of t = record { place = t.place; room = t.room; count = length t.records }
 
@@ -103,8 +106,8 @@ pub record IsInStore (t : TableView) (store : List ExtentView) : Type 0 where
       decode_region (bytes_at (byte_of store) (t.place + 24 * i) 24) ≡ region_of (get_or t.records i r)
   pub prepared : ArePrepared store t.place (24 * t.room)
 
--- the node fields that a new record may have: in the reserved table only 1,024, so none
--- (`memblock_add_range` with `MAX_NUMNODES`)
+-- the node fields that a new record may have; in the reserved table only 1,024, which means no
+-- node (`memblock_add_range` with `MAX_NUMNODES`)
 abbrev pub MayBeNodeField : Which → ℕ → Type 0
 MayBeNodeField which.Memory node = node ≤ 1024
 MayBeNodeField which.Reserved node = node ≡ 1024
@@ -113,7 +116,7 @@ MayBeNodeField which.Reserved node = node ≡ 1024
 abbrev pub ArePlainRecords : List (RunOf LabelView) → Type 0
 ArePlainRecords rs = (x : ℕ) (label : LabelView) → value_at rs x ≡ Some label → label ≡ plain_label
 
--- the table of a head, as contracts see it
+-- the table that a head describes, as contracts see it, and the range of its bytes
 abbrev pub table_of_head : List ExtentView → Head → TableView
 table_of_head s h = record { records = records_of_head s h; place = h.place; room = h.room }
 

@@ -1,6 +1,6 @@
-//! A table in its bytes, as slots for records: the sweep of `run_edits` reads and writes the store
-//! through these types. Their invariant is that the table lies at the head's address; it holds
-//! again after each step.
+//! A table borrowed from the store, as a sequence of records. Through these types the sweep of
+//! `run_edits` reads and writes the table's bytes in the store. Their invariant is that the bytes
+//! are a table, as its head describes it; this is true again after each step.
 ghost use Rattle.std.specs.Prelude.{◌≡◌, ◌≤◌, ◌<◌, refl, get_or};
 ghost use Rattle.std.proofs.Props.{props};
 ghost use Rattle.phys_store.specs.Bytes.{byte_of, is_prepared_at};

@@ -1,5 +1,5 @@
-//! The changes of a single address's label that `run_edits` doesn't have: a node, and mirrored
-//! memory.
+//! Two changes of a label that `run_edits` doesn't have: giving it a node, and marking it as
+//! mirrored. The sweep applies a change to the label of each address in a range.
 ghost use Rattle.std.specs.Prelude.{◌≡◌, ◌<◌, Some};
 ghost use Rattle.std.specs.Option.{option_map};
 ghost use Rattle.memblock_model.specs.Labels.{with_node, with_mirror};
@@ -7,7 +7,7 @@ ghost use Rattle.memblock_model.specs.Labels.{with_node, with_mirror};
 use memblock_model::Label;
 use run_edits::Change;
 
-/// The change that gives a label the node, and leaves an address without a label as it is
+/// A change that gives a label this node. An address without a label stays without one
 /// (`memblock_set_node`).
 #[derive(Clone, Copy)]
 pub struct SetNode {
@@ -28,8 +28,8 @@ impl Change<Label> for SetNode {
     }
 }
 
-/// The change that makes a label that of mirrored memory, and leaves an address without a label as
-/// it is (`memblock_mark_mirror`).
+/// A change that marks a label as mirrored memory. An address without a label stays without one
+/// (`memblock_mark_mirror`).
 #[derive(Clone, Copy)]
 pub struct SetMirror;
 

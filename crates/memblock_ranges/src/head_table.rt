@@ -50,7 +50,7 @@ pub fn relocate(store: &mut Store, head: &mut Head, place: u64)
     };
 }
 
-/// Returns the record at index `i`, as plain numbers.
+/// Returns the record at index `i`, counted from 0, as plain numbers.
 pub fn region(store: &Store, head: &Head, i: u64) -> Region
     requires table { HasTable store.now head.now }
     requires within { i < length (records_of_head store.now head.now) }

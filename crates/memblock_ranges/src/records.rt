@@ -11,7 +11,7 @@ use crate::region::{RECORD_SIZE, Region, decode_region};
 use memblock_model::Label;
 use std::marker::Model;
 
-/// The records of a table, which borrow the tables. Contracts see their list.
+/// The records of a table, borrowed from the store. Contracts see the list of their runs.
 #[derive(Drop)]
 pub struct Records<'a> {
     bytes: &'a [u8],
@@ -34,7 +34,7 @@ impl<'a> Model for Records<'a> {
 impl<'a> Records<'a> {
     ghost use Rattle.memblock_ranges.specs.RecordBytes.{records_in_bytes, AreRecordBytes};
 
-    /// Wraps the bytes of `count` records.
+    /// Returns a reader for the `count` records that are in `bytes`.
     pub(crate) fn of(bytes: &'a [u8], count: u64) -> Records<'a>
         requires { AreRecordBytes bytes.now count }
         ensures { result ≡ records_in_bytes bytes.entry.now count }

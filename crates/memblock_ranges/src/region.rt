@@ -1,5 +1,5 @@
-//! Records and heads as plain numbers. [`region_at`] decodes any 24 bytes, so a [`Region`] has no
-//! invariant. It also reads a table's record if only the store and the head are at hand.
+//! Records and heads as plain numbers. [`region_at`] reads a record with only the store and the
+//! head of a table. It decodes any 24 bytes, so a [`Region`] has no invariant.
 ghost use Rattle.std.specs.Prelude.{◌≡◌, ◌+◌, ◌*◌, ◌^◌, ◌<◌, ◌≤◌, length};
 ghost use Rattle.phys_store.specs.Bytes.{byte_of, bytes_at};
 ghost use Rattle.memblock_ranges.specs.Encoding.{decode_region};
@@ -23,7 +23,7 @@ pub struct Region {
     pub node: u32,
 }
 
-/// Where a table lies, and how many records it has (`struct memblock_type`).
+/// The head of a table: its address, its room and its number of records (`struct memblock_type`).
 #[derive(Clone, Copy, Debug, PartialEq, Eq)]
 pub struct Head {
     /// The address of the table's first byte.

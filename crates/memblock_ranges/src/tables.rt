@@ -1,6 +1,6 @@
-//! Both tables in one store. Each edit of a table's records borrows the store and that table's
-//! head, and passes a change of one address's label to the sweep of `run_edits`. The other table
-//! is unchanged.
+//! Both tables in one store. An edit of one table's records borrows the store and the head of that
+//! table, and calls the sweep of `run_edits`. A change tells the sweep what happens to the label
+//! of a single address. The other table is unchanged.
 ghost use Rattle.std.specs.Prelude.{◌≡◌, ℕ, ◌+◌, ◌-◌, ◌*◌, ◌^◌, ◌<◌, ◌≤◌, ◌↔◌, ◌||◌, true, false, Some, [], length, get_or, OnOk, OnErr, IfOk, IsTrue};
 ghost use Rattle.bm_base.specs.Range.{covers, end_of, Meet};
 ghost use Rattle.phys_store.specs.Bytes.{byte_of, is_prepared_at, ArePrepared, WritesBytes, bytes_at};
@@ -24,7 +24,7 @@ use crate::trim::trim;
 use bm_base::{FRAME_SIZE, Memory, Range};
 use memblock_model::Which;
 use phys_store::Store;
-use run_edits::{Cover, Uncover, edit_without_cover, range_end_fits, edit_range};
+use run_edits::{Cover, Uncover, edit_range, edit_without_cover, range_end_fits};
 use std::alloc::Global;
 use std::marker::Model;
 
@@ -82,7 +82,7 @@ impl Tables {
         Ok(Tables { store, heads })
     }
 
-    /// Returns where the table lies, and how many records it has.
+    /// Returns the head of the table: its address, its room and its number of records.
     #[tactic(auto, using(crate::proofs::TableSpelling::head_is))]
     pub fn head(&self, which: Which) -> Head
         ensures head { result ≡ head_of (table_in which self.now) }
@@ -362,7 +362,8 @@ impl Tables {
         self.store.fill(range, byte);
     }
 
-    /// Copies the bytes from address `at` on to `into`. They may be a table's own.
+    /// Copies the bytes from address `at` on to `into`. They may be bytes of a table. An address
+    /// that isn't prepared reads as 0. `at + into.len()` must be below 2^64.
     pub fn read(&self, at: u64, into: &mut [u8])
         requires { at + length into.old < 2 ^ 64 }
         ensures { into.new ≡ bytes_at (byte_of self.now.store) at (length into.old) }
@@ -370,8 +371,8 @@ impl Tables {
         self.store.read(at, into);
     }
 
-    /// Returns the parts of the tables: the store and both heads. They hold all that the tables
-    /// say.
+    /// Takes the tables apart and returns the store and both heads. From these alone all records
+    /// can be read.
     #[tactic(auto, using(crate::proofs::TableSpelling::head_is))]
     pub fn into_parts(self) -> (Store, Heads)
         ensures store { result.0 ≡ self.store }
@@ -402,7 +403,7 @@ fn empty_built_in_head(kernel: Range, frames: u64) -> Head
     }
 }
 
-// The tables are the store and two heads, and have no other copy of a record.
+// The tables are only the store and two heads: there is no other copy of a record.
 #[test]
 fn tables_are_bytes_and_two_heads(rt: HostRuntime) -> Result<(), std::test::Fail> {
     let kernel = Range {

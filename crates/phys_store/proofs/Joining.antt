@@ -11,7 +11,7 @@ use Rattle.phys_store.specs.Extents.{extent_view, AreSortedAndApart, nth_extent,
 use Rattle.phys_store.proofs.ByteLists.{length-bytes_at, get-bytes_at}
 use Rattle.phys_store.proofs.Lookup.{is_in_extent-low, is_in_extent-high, ready-below, byte-unready, placed, read-at}
 
--- the extent with index `i`, as it is read
+-- the extent that code reads at index `i` is, as contracts see it, the extent with index `i`
 pub nth_piece : (es : List Extent) (i : ℕ) (e : Extent) → i < length es → e ≡ get_or es i e
     → nth_extent (map extent_view es) i ≡ extent_view e
 nth_piece es i e count is = get_or-map extent_view es i e (record { base = 0; bytes = [] }) count ∙ ap extent_view (sym is)
@@ -64,7 +64,7 @@ apart_left e (suc n) h [] apart above = tt
 apart_left e (suc n) h (q ∷ ps) apart above = apart_left (end_of_extent q + 1) n h ps apart.3
     (λ i from count. above (suc i) (omega arith) (omega arith))
 
--- what is true after the extent `p` has replaced those that it covers
+-- what is true after the extent `p` has replaced the extents that it covers
 pub record Joined (e : ℕ) (ps : List ExtentView) (p : ExtentView) (new : List ExtentView) : Type 0 where
   pub apart : AreSortedAndApart e new
   pub bytes : (x : ℕ) → byte_of new x ≡ byte_of ps x
@@ -132,7 +132,7 @@ there ps i count = get_or_default ps i (nth_extent ps i) (record { base = 0; byt
 pub nth_extent-fits : (ps : List ExtentView) (i : ℕ) → AreSortedAndApart 0 ps → i < length ps → end_of_extent (nth_extent ps i) < 2 ^ 64
 nth_extent-fits ps i apart count = (placed 0 ps i (nth_extent ps i) apart count (there ps i count)).2
 
--- the extents so far, and the addresses that they and the range make up
+-- the extents that the loop has joined so far, and the addresses that they and the range make up
 pub record Hull (ps : List ExtentView) (r : RangeView) (first behind from to : ℕ) : Type 0 where
   pub order : first ≤ behind
   pub most : behind ≤ length ps
@@ -153,7 +153,7 @@ ends_rise ps i j apart order count =
       | inr most ↦ let is : i ≡ j = omega (arith, order, most) in rw is (omega arith)
     ]
 
--- the next extent is joined to those so far if it begins at or below their end
+-- the next extent is joined if it begins at or below the end of those joined so far
 pub hull_more : (ps : List ExtentView) (r : RangeView) (first behind from to : ℕ) → AreSortedAndApart 0 ps → behind < length ps →
     r.base ≤ end_of_extent (nth_extent ps first) → (nth_extent ps behind).base ≤ to → Hull ps r first behind from to →
     Hull ps r first (behind + 1) (min from (nth_extent ps behind).base) (max to (end_of_extent (nth_extent ps behind)))
@@ -187,7 +187,8 @@ hull_more ps r first behind from to apart count reach touches h =
       ];
     }
 
--- if no further extent is joined, they are those that the range overlaps or touches
+-- if the loop joins no further extent, it has joined exactly those that the range overlaps or
+-- touches
 pub hull_joins : (ps : List ExtentView) (r : RangeView) (first behind from to : ℕ) → AreSortedAndApart 0 ps → Hull ps r first behind from to →
     (behind < length ps → to < (nth_extent ps behind).base) → AreTouchedExtents ps first behind from to
 hull_joins ps r first behind from to apart h stop = record {
@@ -202,7 +203,7 @@ hull_joins ps r first behind from to apart h stop = record {
   ];
 }
 
--- an extent of a part of the list
+-- the extent with index `i` of a part of the list is one of the whole list
 pub nth_part : (es : List Extent) (f n i : ℕ) → i < length (take n (drop f es)) →
     nth_extent (map extent_view (take n (drop f es))) i ≡ nth_extent (map extent_view es) (f + i)
 nth_part es f n i count =
@@ -213,7 +214,7 @@ nth_part es f n i count =
     ∙ ap (take n) (sym (drop-map extent_view f es)))
     ∙ get_or-take n (drop f (map extent_view es)) i none inner ∙ get_or-drop f (map extent_view es) i none
 
--- the element right after another is removed
+-- removing the element right after another leaves the elements before and after it
 removed : (xs ys : List Extent) (x : Extent) → remove (xs ++ x ∷ ys) (suc (length xs)) ≡ xs ++ x ∷ drop 1 ys
 removed [] ys x = refl
 removed (a ∷ xs) ys x = ap (λ (l : List Extent). a ∷ l) (removed xs ys x)

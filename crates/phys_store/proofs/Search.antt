@@ -35,7 +35,8 @@ no_position p (x ∷ xs) each =
     let none : nat_lt (length (x ∷ xs)) (length (x ∷ xs)) ≡ false = grind (arith, nat_tests) in
     rw (all, none) refl
 
--- the extent with index `k`, as it is read
+-- whether extent `k` has the address can be tested on the extent that code reads, or as contracts
+-- see it
 same_test : (es : List Extent) (a k : ℕ) (d : Extent) → k < length es
     → is_in_extent (extent_view (get_or es k d)) a ≡ is_in_extent (nth_extent (map extent_view es) k) a
 same_test es a k d count =

@@ -14,7 +14,7 @@ use Rattle.phys_store.proofs.ByteLists.{length-bytes_at, get-bytes_at, told_byte
 use Rattle.phys_store.proofs.Lookup.{is_in_extent-in, is_in_extent-below, is_in_extent-above, is_in_extent-low, is_in_extent-high, ready-below, placed}
 use Rattle.phys_store.proofs.Writes.{length-mid, mid-in, mid-out}
 
--- an extent, given by its two parts
+-- an extent with this address and these bytes
 abbrev pub piece : ℕ → List ℕ → ExtentView
 piece b bs = record { base = b; bytes = bs }
 
@@ -103,7 +103,8 @@ widened p low high f1 f2 up xs zs ys some bytes from to room at over all len tol
           ]
     ])
 
--- copying the bytes of one more extent, from the last to the first
+-- the bytes after the bytes of one more extent have been copied; extents are copied from the last
+-- to the first
 pub absorbed : (ps tail : List ExtentView) (i from to f k m : ℕ) (bs ys : List ℕ) → i < length ps → length bs ≡ f + (to - from) →
     from ≤ (nth_extent ps i).base → end_of_extent (nth_extent ps i) ≤ to → k ≡ f + ((nth_extent ps i).base - from)
     → m ≡ length (nth_extent ps i).bytes →
@@ -225,8 +226,8 @@ united es now ds new p w none e f b k from to apart joins order least below valu
 pub past_covering : (ps : List ExtentView) (from to : ℕ) → from ≤ to → end_of_extent (extent_with_bytes_of ps from to) ≡ to
 past_covering ps from to order = let long = length-bytes_at (byte_of ps) from (to - from) in omega (arith, long, order)
 
--- the others lie in the extended extent, and so does the empty one that is in the list in its
--- place
+-- the other extents lie in the extended extent, and so does the empty extent that is in its place
+-- in the list
 pub others_in : (es ds : List Extent) (none : Extent) (f b k from to : ℕ) → AreTouchedExtents (map extent_view es) f b from to → from ≤ to → k < b
     →
     ds ≡ set es k none → none.base ≡ from → length (extent_view none).bytes ≡ 0 →

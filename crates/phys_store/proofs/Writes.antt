@@ -11,7 +11,7 @@ use Rattle.phys_store.specs.declared.extents.Extent.{Extent}
 use Rattle.phys_store.specs.Extents.{extent_view, AreSortedAndApart}
 use Rattle.phys_store.proofs.Lookup.{Holds, is_in_extent-low, is_in_extent-high, read-at}
 
--- another extent of the same address and length
+-- two extents with the same address and length have the same addresses
 module _ (p q : ExtentView) (base : q.base ≡ p.base) (len : length q.bytes ≡ length p.bytes) where
   same_inside : (x : ℕ) → is_in_extent q x ≡ is_in_extent p x
   same_inside x = rw (base, len) refl
@@ -84,7 +84,7 @@ pub mid-out : (k m : ℕ) (xs ys : List ℕ) (j : ℕ) → length ys ≡ m → k
     get_or (put_mid k m xs ys) j 0 ≡ get_or xs j 0
 mid-out k m xs ys j len within off = grind (arith, places, nat_tests)
 
--- overwriting the bytes of a range in the extent that has it
+-- overwriting the bytes of a range in the extent that has the range is a write of the range
 pub wrote-mid : (es : List Extent) (a n i : ℕ) (e : Extent) (g : ℕ → ℕ) (k m : ℕ) (xs ys : List ℕ) → AreSortedAndApart 0 (map extent_view es)
     → Holds es a n i e →
     k ≡ e.front + (a - e.base) → m ≡ n → xs ≡ e.bytes.items → length ys ≡ n → ((j : ℕ) → j < n → get_or ys j 0 ≡ g j) →
@@ -109,7 +109,7 @@ wrote-mid es a n i e g k m xs ys apart h at count value len told =
     ∙ mid-out k m xs ys (f + j) (len ∙ sym count) within (grind (arith, nat_tests, at, count, off))
     ∙ ap (λ (zs : List ℕ). get_or zs (f + j) 0) value ∙ sym (get_or-drop f e.bytes.items j 0)))
 
--- a write of no bytes
+-- a write of no bytes changes nothing
 pub wrote-none : (ps : List ExtentView) (a n : ℕ) (g : ℕ → ℕ) → n ≡ 0 → WritesBytes ps ps a n g
 wrote-none ps a n g none = record { within = λ k below. absurd (omega arith); outside = λ x off. refl; ready = λ x. refl }
 
@@ -123,7 +123,7 @@ filled k m xs ys b within is =
       λ j below. ap (λ (zs : List ℕ). get_or zs j 0) is ∙ get_or-replicate n j b 0 (omega (arith, below, long)),
     )
 
--- copying one range of an extent to another
+-- copying one range of an extent to another range of it is a write of the second range
 pub wrote-copied : (es : List Extent) (a n i : ℕ) (e d : Extent) (from to count source target m : ℕ) → AreSortedAndApart 0 (map extent_view es)
     → Holds es a n i e →
     a ≤ from → a ≤ to → from + count ≤ a + n → to + count ≤ a + n → d.base ≡ e.base → d.front ≡ e.front →
@@ -170,7 +170,7 @@ wrote-more s t u a n m g first second = record {
   ready = λ x. second.ready x ∙ first.ready x;
 }
 
--- a write by another function that gives the same bytes
+-- a write may be described by any function that gives the same bytes
 pub wrote-like : (s t : List ExtentView) (a n m : ℕ) (f g : ℕ → ℕ) → WritesBytes s t a n f → n ≡ m → ((k : ℕ) → k < m → f k ≡ g k)
     → WritesBytes s t a m g
 wrote-like s t a n m f g w same alike = record {
@@ -179,7 +179,7 @@ wrote-like s t a n m f g w same alike = record {
   ready = w.ready;
 }
 
--- the next part of a copy, if the source and the target don't overlap
+-- copying one more part of the source writes the next part of the target, if the two don't overlap
 pub copied-more : (s t u : List ExtentView) (from to count n m : ℕ) → IsTrue (nat_le (from + count) to || nat_le (to + count) from) →
     n + m ≤ count →
     WritesBytes s t to n (λ k. byte_of s (from + k)) → WritesBytes t u (to + n) m (λ k. byte_of t (from + n + k)) →

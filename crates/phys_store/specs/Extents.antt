@@ -1,5 +1,5 @@
--- How the bytes are kept: as extents, each as long as possible, so that a range that is prepared
--- in parts is in one of them.
+-- How the store keeps its bytes: as extents, each as long as possible. A range that was prepared
+-- in parts is therefore in one extent.
 use Rattle.std.specs.Prelude.{ℕ, ◌+◌, ◌-◌, ◌^◌, ◌<◌, ◌≤◌, List, [], ◌∷◌, ◌++◌, take, drop, length, slice_index_or}
 use Rattle.phys_store.specs.declared.extents.Extent.{Extent}
 use Rattle.phys_store.specs.Bytes.{ExtentView, end_of_extent, byte_of, bytes_at}
@@ -28,8 +28,8 @@ pub record AreTouchedExtents (ps : List ExtentView) (first behind from to : ℕ)
   pub high : (i : ℕ) → first ≤ i → i < behind → end_of_extent (nth_extent ps i) ≤ to
   pub above : (i : ℕ) → behind ≤ i → i < length ps → to < (nth_extent ps i).base
 
--- an extent with the addresses from `from` to below `to` and the bytes of others; a byte that
--- these don't have is 0
+-- one extent with the addresses from `from` to below `to`: each byte is that of the given extents,
+-- or 0 if none of them has its address
 abbrev pub extent_with_bytes_of : List ExtentView → ℕ → ℕ → ExtentView
 extent_with_bytes_of ps from to = record { base = from; bytes = bytes_at (byte_of ps) from (to - from) }
 

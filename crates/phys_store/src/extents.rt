@@ -7,9 +7,10 @@ ghost use Rattle.phys_store.specs.Extents.{extent_view, nth_extent, AreSortedAnd
 
 use bm_base::Range;
 
-/// A longest run of consecutive prepared addresses, for which `Store::prepare` has allocated bytes,
-/// with these bytes. The addresses right before and right after it aren't prepared. There may be
-/// spare room before the first byte, so that an extent that grows downward is seldom moved.
+/// A run of consecutive prepared addresses, as long as possible, with the byte at each of them.
+/// The addresses right before and right after it aren't prepared. `Store::prepare` has allocated
+/// the bytes. There may be spare room before the first byte, so that an extent that grows downward
+/// is seldom moved.
 #[derive(Debug, Drop)]
 pub struct Extent {
     /// The address of the first byte.
@@ -17,6 +18,7 @@ pub struct Extent {
     /// The number of bytes of spare room at the start of `bytes`, before the first byte of the
     /// extent.
     pub front: usize,
+    /// The bytes of the extent, after the spare room.
     pub bytes: Vec<u8>,
 }
 
@@ -43,7 +45,7 @@ fn is_in_extent(extent: &Extent, address: u64) -> bool
 }
 
 /// Returns the index of the first extent that ends at or above `address` (the end is the address
-/// after the last byte), or the number of extents if there is none. It is found by binary search.
+/// after the last byte), or the number of extents if there is none. The search is binary.
 pub fn first_extent_ending_at_or_above(extents: &[Extent], address: u64) -> usize
     requires { AreSortedAndApart 0 (map extent_view extents.now) }
     ensures most { result ≤ length extents.now }
@@ -65,7 +67,8 @@ pub fn first_extent_ending_at_or_above(extents: &[Extent], address: u64) -> usiz
     low
 }
 
-/// The number of extents up to which a linear search is used, which is faster for a few of them.
+/// The greatest number of extents that are searched one by one; up to about this number that is
+/// faster than a binary search.
 const MAX_LINEAR_SEARCH: usize = 16;
 
 /// Returns the index of the extent that has this address, or `None` if no extent has it.
@@ -87,7 +90,8 @@ fn index_by_linear_search(extents: &[Extent], address: u64) -> Option<usize>
 }
 
 /// Like [`index_of_extent`], by a binary search of the extents. Only the first extent that ends at
-/// or above the address can have it: if that one ends exactly there, the next begins above.
+/// or above the address can have it. If that extent ends exactly at the address, the next one
+/// begins above it, because extents don't touch.
 // A function of its own, so that the linear search is small enough to be inlined.
 #[inline(never)]
 fn index_by_binary_search(extents: &[Extent], address: u64) -> Option<usize>

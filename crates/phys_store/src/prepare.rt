@@ -10,7 +10,9 @@ ghost use Rattle.bm_base.specs.Range.{end_of, covers};
 ghost use Rattle.phys_store.specs.Bytes.{end_of_extent, byte_of, is_prepared_at, ArePrepared};
 ghost use Rattle.phys_store.specs.Extents.{extent_view, nth_extent, AreSortedAndApart, AreTouchedExtents, extent_with_bytes_of, merge_extents};
 
-use crate::extents::{Extent, are_prepared, end_of_extent, first_extent_ending_at_or_above, size_of_extent};
+use crate::extents::{
+    Extent, are_prepared, end_of_extent, first_extent_ending_at_or_above, size_of_extent,
+};
 use bm_base::{Memory, Range};
 use std::mem;
 
@@ -153,9 +155,9 @@ fn move_up(bytes: &mut Vec<u8>, from: usize, more: usize) -> Result<(), Memory>
     Ok(())
 }
 
-/// Makes room for `down` bytes before the first byte of the extent. If there is too little, the new
-/// room is at least seven eighths of the extent's size. So the bytes are moved again only when
-/// there are nearly twice as many.
+/// Makes room for `down` bytes before the first byte of the extent. If there is too little, the
+/// new room is at least seven eighths of the extent's size. The bytes are therefore moved again
+/// only when there are nearly twice as many.
 ///
 /// # Errors
 ///
@@ -245,7 +247,8 @@ fn replace(extents: &mut Vec<Extent>, first: usize, behind: usize, extent: Exten
 
 /// Joins the extents with the indices from `first` to just before `behind` into one, from address
 /// `low` to just below `high`. The largest of them is extended, and the others are copied into it.
-/// So each byte that is copied ends up in an extent of at least twice the size.
+/// Each byte that is copied therefore ends up in an extent of at least twice the size of its old
+/// one.
 ///
 /// # Errors
 ///
@@ -315,8 +318,8 @@ fn merge_or_insert(extents: &mut Vec<Extent>, reach: TouchedExtents) -> Result<(
 ///
 /// # Errors
 ///
-/// - `Memory`: the program ran out of memory; no byte and no prepared address has changed. The
-///   range wasn't prepared already.
+/// - `Memory`: the program ran out of memory; no byte has changed, and no address has become
+///   prepared. This error is possible only if some address of the range wasn't prepared.
 pub fn prepare(extents: &mut Vec<Extent>, range: Range) -> Result<(), Memory>
     requires { AreSortedAndApart 0 (map extent_view extents.old.items) }
     ensures apart { AreSortedAndApart 0 (map extent_view extents.new.items) }

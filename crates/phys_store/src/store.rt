@@ -1,6 +1,6 @@
-//! The store as its callers see it: at every address a byte, and whether it is prepared. Each
-//! method makes one call to `extents` or `prepare`. The invariant of the type is that the extents
-//! don't touch.
+//! The store as its callers see it: each address has a byte, and is prepared or not. Each method
+//! makes one call to `extents` or `prepare`. The invariant of the type is that the extents don't
+//! touch.
 ghost use Rattle.std.specs.Prelude.{◌≡◌, ℕ, ◌+◌, ◌-◌, ◌^◌, ◌<◌, ◌≤◌, ◌↔◌, ◌||◌, nat_le, min, max, List, [], length, slice_index, IsTrue, OnOk, OnErr};
 ghost use Rattle.bm_base.specs.Range.{covers};
 ghost use Rattle.phys_store.specs.Bytes.{byte_of, is_prepared_at, ArePrepared, WritesBytes, bytes_at};
@@ -46,8 +46,8 @@ impl Store {
     ///
     /// # Errors
     ///
-    /// - `Memory`: the program ran out of memory; the store is unchanged. The range wasn't
-    ///   prepared already.
+    /// - `Memory`: the program ran out of memory; the store is unchanged. This error is possible
+    ///   only if some address of the range wasn't prepared.
     pub fn prepare(&mut self, range: Range) -> Result<(), Memory>
         ensures bytes { (x : ℕ) → byte_of self.new x ≡ byte_of self.old x }
         ensures ready { OnOk result ((x : ℕ) →

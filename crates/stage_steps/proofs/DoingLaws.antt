@@ -28,7 +28,7 @@ cut_by (Ok a) old new steps next cut = cut-first old new steps (next a).steps cu
 cut_by (Err e) old new steps next cut = cut
 
 module _ {E F A B : Type 0} where
-  -- the first step returned a value, and the rest ends in this way
+  -- how two steps end if the first returned a value
   pub ends-second : (a : A) (r : Result B F) (error : Option E → F) (old mid new : List Item) (f : StageStep E A) (next : A → StageStep E B)
       → EndsAsStage f error (Ok a) old mid → EndsAsStage (next a) error r mid new → EndsAsStage (f >>= next) error r old new
   ends-second a (Ok b) error old mid new f next was h =
@@ -40,7 +40,7 @@ module _ {E F A B : Type 0} where
       (λ told. inl (told.0, told.1, told.2, told.3 ∙ sym (append_groups-append old (f old).steps second)))
       (λ cut. inr (cut.0, cut-behind old new (f old).steps second cut.1)) (rw was.1 at h))
 
-  -- the first step failed, or the program was out of memory in it
+  -- how two steps end if the first failed, or this program ran out of memory in it
   pub ends-first : (e : F) (error : Option E → F) (old new : List Item) (f : StageStep E A) (next : A → StageStep E B)
       → EndsAsStage {A = A} f error (Err e) old new → EndsAsStage {A = B} (f >>= next) error (Err e) old new
   ends-first e error old new f next h = ⊎_elim
@@ -48,7 +48,7 @@ module _ {E F A B : Type 0} where
       (λ cut. inr (cut.0, cut_by (f old).answer old new (f old).steps (λ a. next a (items_after_step old (f old))) cut.1)) h
 
 module _ {E F A : Type 0} where
-  -- memory of the program for a list was allocated, or it was out of memory
+  -- how `read_items_allocating` ends: with the value, or out of memory
   pub ends-listed : (f : List Item → A) (error : Option E → F) (items : List Item)
       → EndsAsStage (read_items_allocating f) error (Ok (f items)) items items
   ends-listed f error items = (refl, sym (append-nil items))

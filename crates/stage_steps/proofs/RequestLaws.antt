@@ -61,9 +61,9 @@ module _ (thing : What) where
   ends-placed (Ok base) old new q who h = placed_by (place_for q old) (Ok base) old new q.size who h
   ends-placed (Err e) old new q who h = placed_by (place_for q old) (Err e) old new q.size who h
 
--- one step in place of another that found no place
+-- how a step ends that is tried if another one found no place
 module _ {A : Type 0} (first other : StageStep StageCause A) (old : List Item) where
-  -- what the first step wrote, as a step that returned
+  -- a step that writes what the first step wrote, and returns
   abbrev sent : StageStep StageCause (Unit {0})
   sent items = record { steps = (first items).steps; answer = Ok tt }
 

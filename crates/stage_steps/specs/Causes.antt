@@ -1,5 +1,6 @@
--- Why a stage stops the boot, and the error that its call returns for it. A definition needs no
--- memory of this program, so out of memory is no cause. It is the error for `None`.
+-- The causes for which a stage stops the boot, and the error that its call returns for each. Out
+-- of memory isn't among them, because a definition needs no memory of this program. The functions
+-- below return it for `None`.
 use Rattle.std.specs.Prelude.{ℕ, Option, Some, None}
 use Rattle.memblock_model.specs.declared.owner.Which.{Which}
 use Rattle.growth_model.specs.declared.refusal.Refusal.{Refusal}
@@ -9,7 +10,8 @@ use Rattle.memblock_grow.specs.declared.stop.What.{What}
 use Rattle.memblock_grow.specs.declared.stop.StageStop.{StageStop}
 use Rattle.memblock_grow.specs.declared.stop.StageStop.TheVariants as stop
 
--- no place fits what the boot needs, or a table had to grow and found no place
+-- `NoPlace`: no place fits what the boot needs. `NoTablePlace`: a table had to grow and found no
+-- place.
 pub data StageCause : Type 0 where
   NoPlace : (thing : What) → StageCause
   NoTablePlace : (which : Which) (room : ℕ) → StageCause
@@ -19,12 +21,12 @@ error_of_stage_cause None = stop.Memory
 error_of_stage_cause (Some (NoPlace thing)) = stop.NoPlace thing
 error_of_stage_cause (Some (NoTablePlace w room)) = stop.NoTablePlace w room
 
--- the error of a stage that makes its own searches: only a table that found no place stops it
+-- the error of a stage that makes its own searches, and stops only for a table that found no place
 abbrev pub refusal_for : Option RefusedGrowth → Refusal
 refusal_for None = refusal.Memory
 refusal_for (Some r) = refusal.NoGapForTable r.which r.room
 
--- why the boot stops if memblock refused the allocation
+-- the stop of the boot after memblock refused the allocation of `thing`
 abbrev pub stop_for_refusal : What → Refusal → StageStop
 stop_for_refusal thing refusal.NoGap = stop.NoPlace thing
 stop_for_refusal thing (refusal.NoGapForTable w room) = stop.NoTablePlace w room

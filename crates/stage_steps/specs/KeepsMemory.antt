@@ -1,9 +1,9 @@
--- Steps that don't change memory: they claim and free, and tables grow.
+-- Steps that don't change memory. They claim and free ranges, and make tables grow.
 use Rattle.std.specs.Prelude.{List}
 use Rattle.memblock_model.specs.declared.item.Item.{Item}
 use Rattle.growth_model.specs.Requests.{StepsKeepMemory}
 use Rattle.stage_steps.specs.Steps.{StageStep}
 
--- after whatever items, the step writes no item that changes memory
+-- the step writes no item that changes memory, whatever items came before it
 pub record KeepsMemory {E A : Type 0} (f : StageStep E A) : Type 0 where
   pub each : (items : List Item) → StepsKeepMemory (f items).steps

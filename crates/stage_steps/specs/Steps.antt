@@ -13,7 +13,7 @@ pub record StepEffect (E A : Type 0) : Type 0 where
 abbrev pub StageStep : Type 0 → Type 0 → Type 0
 StageStep E A = List Item → StepEffect E A
 
--- the items and then the groups
+-- the items, followed by those of all groups
 abbrev pub append_groups : List Item → List (List Item) → List Item
 append_groups items [] = items
 append_groups items (s ∷ ss) = append_groups (items ++ s) ss
@@ -22,7 +22,8 @@ module _ {E A : Type 0} where
   abbrev pub items_after_step : List Item → StepEffect E A → List Item
   items_after_step items d = append_groups items d.steps
 
-  -- writes nothing and returns the value, or fails with the error
+  -- `return_value` writes nothing and returns the value; `fail_with` writes nothing and fails with
+  -- the error
   abbrev pub return_value : A → StageStep E A
   return_value a items = record { steps = []; answer = Ok a }
 
@@ -33,12 +34,13 @@ module _ {E A : Type 0} where
   abbrev pub read_items : (List Item → A) → StageStep E A
   read_items f items = record { steps = []; answer = Ok (f items) }
 
-  -- returns a value that is computed from the items so far, and needs memory of this program for
-  -- it: a group without items
+  -- like `read_items`, for a value that is stored in memory of this program, which may run out.
+  -- The step writes one group without items, so that a call may end before it.
   abbrev pub read_items_allocating : (List Item → A) → StageStep E A
   read_items_allocating f items = record { steps = [] ∷ []; answer = Ok (f items) }
 
--- after a value the next step follows; an error ends all
+-- if the first step returned a value, the next one follows with that value; an error ends the
+-- sequence
 abbrev pub continue_if_ok : {E A B : Type 0} → List (List Item) → Result A E → (A → StepEffect E B) → StepEffect E B
 continue_if_ok steps (Ok a) next = record { steps = steps ++ (next a).steps; answer = (next a).answer }
 continue_if_ok steps (Err e) next = record { steps = steps; answer = Err e }
@@ -47,15 +49,16 @@ infixl 10 ◌>>=◌
 abbrev pub ◌>>=◌ : {E A B : Type 0} → StageStep E A → (A → StageStep E B) → StageStep E B
 (f >>= next) items = continue_if_ok (f items).steps (f items).answer (λ a. next a (items_after_step items (f items)))
 
--- one step for each element of the list, each with the value that the step before returned
+-- one step for each element of the list, in order. The first step gets the value `s`, and each
+-- other one the value that the step before it returned.
 abbrev pub fold_steps : {E S X : Type 0} → (S → X → StageStep E S) → S → List X → StageStep E S
 fold_steps f s [] = return_value s
 fold_steps f s (x ∷ xs) = f s x >>= λ next. fold_steps f next xs
 
 -- How a call that carries out a stage ends. It returns the stage's value, and all groups are
--- written. Or it returns the error for the stage's cause, and all groups before it are written. Or
--- this program is out of memory (`error None`) before a group, and the groups before that one are
--- written.
+-- written. Or it returns the error for the stage's cause, and all groups up to that error are
+-- written. Or this program is out of memory (`error None`) before a group, and the groups before
+-- that one are written.
 abbrev pub EndsAsStepEffect : {E F A : Type 0} → StepEffect E A → (Option E → F) → Result A F → List Item → List Item → Type 0
 EndsAsStepEffect d error (Ok a) old new = (d.answer ≡ Ok a) × (new ≡ items_after_step old d)
 EndsAsStepEffect {E} d error (Err e) old new =

@@ -1,5 +1,5 @@
-//! Laws of stages. That a call of memblock ends as a step is proved here, below all stages. So the
-//! proof of a stage is about its steps, and not about the growth in them.
+//! Laws of stages. They prove, below all stages, that a call of memblock ends as its step is
+//! defined. The proof of a stage is then about its steps, and not about the growth in them.
 
 ghost use Rattle.std.specs.Prelude.{◌≡◌, ℕ, List, Result};
 ghost use Rattle.bm_base.specs.ResultSteps.{map_error};
@@ -16,8 +16,8 @@ ghost use Rattle.stage_steps.specs.Causes.{refusal_for, error_of_stage_cause, st
 ghost use Rattle.stage_steps.specs.Steps.{items_after_step, EndsAsStage};
 ghost use Rattle.stage_steps.specs.Requests.{change_or_stop, make_change, place_or_stop};
 
-/// Law: a call of memblock that makes a change, or an allocation, ends as its step is defined. If
-/// memblock refuses it, the step's error says so.
+/// Law: a call of memblock that makes a change, or an allocation, ends as the step for that call
+/// is defined. If memblock refuses the call, the step fails with the error for that refusal.
 pub fn calls_end_as_steps()
     ensures change { (result : Result (Unit {0}) AnyRefusal) (old new : List Item) (change : Change)
         → EndsAsChange result old new change →

@@ -3,7 +3,7 @@ use Rattle.memblock_find.specs.Places.{is_allowed_label}
 use Rattle.memblock_find.specs.Walk.{nth_record}
 use Rattle.memblock_find.proofs.node.count_to_last_allowed.Given as goal
 
--- the records from `left` on don't serve
+-- the records from `left` on aren't allowed
 abbrev pub invariant-loop-left : goal.invariant-loop-left
 invariant-loop-left l = record {
   within : l.left ≤ l.count;

@@ -19,7 +19,7 @@ use Rattle.memblock_grow.proofs.memory.grow_memory.Goals.{In-Some, In_ok-claim_n
 found : (c : In-Some) → IsBest c.args.journal.now.items c.in-Some.place
 found c = best_place-found c.requires.kept.1.kept c.head-head.ensures.head c.table_frames_between.ensures c.in-Some.is
 
--- after its claim no one else has it
+-- after the claim of the place no other owner has it
 taken : (c : In_ok-claim_new_place) → IsBest c.args.journal.now.items c.in-Some.place
     → IsTaken c.requires.kept.0 c.claim_new_place.new.journal.items (room_of which.Memory c.args.journal.now.items)
     (moved_to which.Memory c.args.journal.now.items) c.in-Some.place.base

@@ -13,7 +13,7 @@ use Rattle.memblock_grow.proofs.PlaceLaws.{knows-mirrors, left-far}
 use Rattle.memblock_grow.proofs.PreparedLaws.{prepares-item}
 use Rattle.memblock_grow.proofs.ReservedLaws.{room-some, frames-some, IsBeside, beside-found, beside-free, beside-apart, growth-none, growth-wants, moved_items, written, items_freeing_old_place-size, items_freeing_old_place-found, twice-is, claim-room, Claimed, claimed, freed-keeps, freed-tells, prepares-moved, still-bytes}
 
--- the place was found apart from the range
+-- the place that was found doesn't overlap the range
 known : (c : In-Some) → IsBeside c.args.journal.now.items c.args.avoid c.in-Some.place
 known c = beside-found c.requires.kept.1.kept c.head-head.ensures.head c.table_frames_beside.ensures c.in-Some.is
 

@@ -1,4 +1,4 @@
--- The best place is the top one of mirrored memory, or else the top one of any.
+-- The best place is the top place of mirrored memory, or else that of any memory.
 use Rattle.memblock_model.proofs.SearchLaws.{best_place_in-fits, best_place_in-mirrored, best_place_in-other, best_place_in-plain, best_place_in-none}
 use Rattle.memblock_model.proofs.laws.best_is_mirrored_first.Goals as goal
 

@@ -1,4 +1,4 @@
--- Both lists are made with a test that decides equality.
+-- Each of the two lists is made with a test that decides equality.
 use Rattle.address_runs.proofs.RunsLaws.{runs_of_are_runs}
 use Rattle.memblock_model.specs.Same.{same_owner}
 use Rattle.memblock_model.specs.Items.{owner_of, owner_runs_of}

@@ -1,4 +1,4 @@
--- `top_place_in` returns the last number below 2^64 that fits, or the first.
+-- `top_place_in` returns the greatest address below 2^64 at which the query fits, or the least.
 use Rattle.std.proofs.Common.{◌≡◌, ℕ, ◌<◌, ◌≤◌, Bool, true, false, Some}
 use Rattle.memblock_model.specs.Search.{outermost_below, top_place_in}
 use Rattle.memblock_model.proofs.SearchLaws.{last_below-is, first_below-is, top_place_in-fits, top_place_in-none}
