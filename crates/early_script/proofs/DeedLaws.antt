@@ -16,7 +16,7 @@ use Rattle.early_script.proofs.HoldLaws.{holds-quiet}
 pub nothing-done : (s : ScriptState) → record { kernel = s.kernel; items = s.items ++ []; ids = s.ids } ≡ s
 nothing-done s = rw append-nil refl
 
--- a call ended as the deed says, in its result and in each byte
+-- a call ended as the effect says, in its result and in each byte
 pub record Ran (r : Result Outcome Memory) (old new : ScriptState) (f g : ℕ → ℕ) (d : LineEffect) : Type 0 where
   pub acts : EndsAsLine r old new d
   pub answered : OnlyAnswers old d → IsOk r
@@ -24,13 +24,13 @@ pub record Ran (r : Result Outcome Memory) (old new : ScriptState) (f g : ℕ �
   pub holds : (fills : List Fill) → AreBytesFromHistory old.kernel old.items fills f
       → AreBytesFromHistory new.kernel new.items (fills_after_line r d fills) g
 
--- by the deed of the act, from the IDs and the memblock before to those after
+-- the call ended by the effect of the act, from the IDs and the memblock before to those after
 abbrev pub RanAct : Result Outcome Memory → LiveView → MemblockView → LiveView → MemblockView → Act → Type 0
 RanAct r ids m next n a =
     Ran r (state_of_memblock ids m) (state_of_memblock next n) (memblock_bytes m) (memblock_bytes n)
     (act_effect (state_of_memblock ids m) (memblock_bytes m) a)
 
--- by an equal act, also if its deed fills nothing
+-- the same is true of an equal act, and of one whose effect fills nothing
 module _ (r : Result Outcome Memory) (ids : LiveView) (m : MemblockView) (next : LiveView) (n : MemblockView) (a b : Act) (is : a ≡ b) where
   abbrev d : LineEffect
   d = act_effect (state_of_memblock ids m) (memblock_bytes m) b

@@ -1,5 +1,5 @@
--- Lines that were run in part, since this program is out of memory; and the items of all lines, in
--- parts.
+-- Lists of lines of which only the first were run, because this program ran out of memory; and the
+-- items after them.
 use Rattle.std.proofs.Common.{◌≡◌, ℕ, ◌+◌, List, [], ◌∷◌, ◌++◌, take, drop, refl, sym, ◌∙◌, ap, subst, append_assoc}
 use Rattle.std.proofs.lemmas.List.{append-nil, take-append-drop}
 use Rattle.memblock_model.specs.declared.item.Item.{Item}
@@ -18,7 +18,7 @@ use Rattle.early_script.specs.Lines.{ScriptSoFar, MatchesScriptSoFar, RunsOutDur
 use Rattle.early_script.proofs.RunLaws.{ran-cut}
 use Rattle.early_script.proofs.StageLaws.{script_after_lines-append, act_effect-reached}
 
--- out of memory during the next line
+-- this program ran out of memory during the next line, after the lines before it were run
 pub out-amid : (start : ScriptSoFar) (lines : List Line) (i : ℕ) (line : Line) (ids later : LiveView) (m next : MemblockView)
     (answers : List Answer) → take (i + 1) lines ≡ take i lines ++ line ∷ [] →
     MatchesScriptSoFar (script_after_lines start (take i lines)) ids m answers →
@@ -86,7 +86,7 @@ all-lines start lines i line more =
     ap (script_after_lines start) (sym (take-append-drop (i + 1) lines)) ∙ script_after_lines-both start (take (i + 1) lines) rest
     ∙ rw (more, script_after_lines-append start (take i lines) line) refl
 
--- all lines were run
+-- the items after all lines have been run
 pub between-all : (start : ScriptSoFar) (lines : List Line) (ids : LiveView) (m : MemblockView) (answers : List Answer) →
     MatchesScriptSoFar (script_after_lines start lines) ids m answers →
     IsPrefixChain start.state.items m.journal.items (script_after_lines start lines).state.items
@@ -97,7 +97,7 @@ between-all start lines ids m answers reached =
     (goes-then start.state.items whole m.journal.items (lines-go start lines) (goes-same whole m.journal.items same))
     (goes-same m.journal.items whole (sym same))
 
--- a part of the lines was run
+-- the items after only the first of the lines have been run
 pub between-out : (start : ScriptSoFar) (lines : List Line) (ids : LiveView) (m : MemblockView) (answers : List Answer) →
     RunsOutDuringLines start lines ids m answers →
     IsPrefixChain start.state.items m.journal.items (script_after_lines start lines).state.items
@@ -115,7 +115,7 @@ between-out start lines ids m answers out =
     (record { more = items_of_steps (take cut.count change.steps); on = cut.stands }))
     (goes-then m.journal.items next.state.items whole (cut-goes-on so_far.state.items m.journal.items change cut) goes_further)
 
--- no line was run
+-- the items if no line has been run
 pub between-none : (start : ScriptSoFar) (lines : List Line) →
     IsPrefixChain start.state.items start.state.items (script_after_lines start lines).state.items
 between-none start lines =

@@ -1,5 +1,5 @@
--- How a line ends, from the end of memblock's call; and that the items decide the bytes if it
--- fills nothing.
+-- How a line ends, from how memblock's call ends. If the line fills nothing, the items decide the
+-- bytes.
 use Rattle.std.proofs.Common.{◌≡◌, ℕ, Bool, None, List, length, Result, Ok, Err, IsOk, refl, sym, ◌∙◌, ap, arith, inl, inr}
 use Rattle.std.proofs.lemmas.Bool.{true≢false}
 use Rattle.std.proofs.Math.Seq.{take-length}
@@ -14,7 +14,7 @@ use Rattle.growth_model.specs.Bytes.{Follows}
 use Rattle.early_script.specs.declared.outcome.Outcome.{Outcome}
 use Rattle.early_script.specs.Effects.{ScriptState, LineEffect, RunsOutDuringChange, OnlyAnswers, EndsAsLine, alloc_effect, reserve_effect, free_effect, trim_effect, byte_after_line}
 
--- out of memory: some of the steps are written, or all
+-- if this program ran out of memory, some of the steps of the change are written, or all
 pub ran-cut : (takes : Bool) (old new : List Item) (o : growth.ChangeEffect) → RunsOutDuringChange takes old new o
     → WritesFirstSteps old new o.steps
 ran-cut takes old new o ran =

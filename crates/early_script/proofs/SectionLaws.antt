@@ -44,7 +44,7 @@ if-clean false r s first second = second
 act_by_name-clean : (name : List ℕ) (words : Words) → Clean (act_by_name true name words)
 act_by_name-clean name words = search (if-clean, bind-clean, ok-clean, err-clean) depth 24
 
--- a line that was read doesn't either
+-- a line that was read doesn't place the sections
 abbrev IsCleanLine : Result (Option Act) ScriptLineFault → Type 0
 IsCleanLine (Ok None) = Unit {0}
 IsCleanLine (Ok (Some a)) = is_sections a ≡ false
@@ -63,7 +63,7 @@ read_line-clean [] = tt
 read_line-clean (name ∷ words) =
     comment-clean (is_comment name) _ (some-clean (act_by_name true name words) (act_by_name-clean name words).known)
 
--- nor do the lines after the one that did
+-- the lines after the one that placed the sections can all be run
 abbrev AreClean : Result (List Line) (ℕ × ScriptLineFault) → Type 0
 AreClean (Ok lines) = All (λ l. CanBeRun l.act) lines
 AreClean (Err fault) = Unit {0}

@@ -1,4 +1,4 @@
--- One more line of a stage.
+-- One more line of the script, after those that have been run.
 use Rattle.std.proofs.Common.{◌≡◌, ℕ, ◌+◌, ◌<◌, ◌≤◌, true, false, List, [], ◌∷◌, ◌++◌, length, take, drop, get_or, Ok, refl, sym, ap, subst, add-one, inl, inr}
 use Rattle.std.specs.List.{All}
 use Rattle.std.proofs.Math.Seq.{drop-cons}
@@ -27,7 +27,7 @@ pub script_after_lines-append : (s : ScriptSoFar) (lines : List Line) (line : Li
 script_after_lines-append s [] line = refl
 script_after_lines-append s (l ∷ lines) line = script_after_lines-append (script_after_line s l) lines line
 
--- one more line
+-- the first i + 1 lines are the first i lines and the next one
 pub take_next : (lines : List Line) (i : ℕ) (line : Line) → i < length lines → line ≡ get_or lines i line →
     take (i + 1) lines ≡ take i lines ++ line ∷ []
 take_next lines i line below is = rw (take_more lines i line below, ← is) refl
@@ -35,7 +35,7 @@ take_next lines i line below is = rw (take_more lines i line below, ← is) refl
 pub begun-along : (items more longer : List Item) → longer ≡ items ++ more → HasFirstItem items → HasFirstItem longer
 begun-along items more longer goes begun = rw goes (more-begun items more begun)
 
--- the deed of a line in the state that the stage has reached
+-- the effect of a line in the state that the lines before it have reached
 pub act_effect-reached : (s : ScriptSoFar) (ids : LiveView) (m : MemblockView) (answers : List Answer) (line : Line)
     → MatchesScriptSoFar s ids m answers →
     act_effect (state_of_memblock ids m) (memblock_bytes m) line.act ≡ line_effect s line

@@ -1,4 +1,4 @@
--- An act on a live ID, from what is known of its range.
+-- An act on a live ID, computed from what is known of the ID's range.
 use Rattle.std.proofs.Common.{◌≡◌, ℕ, ◌<◌, ◌≤◌, ◌↔◌, Bool, if◌then◌else◌, Some, IsTrue, refl}
 use Rattle.bm_base.specs.Range.{RangeView, end_of}
 use Rattle.memblock_model.specs.declared.owner.Owner.TheVariants as owner

@@ -1,5 +1,6 @@
--- What a line of the script does and returns. The tests of its act come in order, and the first
--- that holds is the outcome. Memory changes only if none holds.
+-- What a line of the script does and returns. Each act first tests, in a fixed order, for the
+-- reasons to refuse it. The first reason that applies gives the outcome, and memory changes only
+-- if none applies.
 use Rattle.std.specs.Prelude.{◌≡◌, ◌⊎◌, ℕ, ◌+◌, ◌-◌, nat_le, nat_lt, Bool, true, false, IsTrue, if◌then◌else◌, Option, Some, None, List, [], ◌∷◌, ◌++◌, length, Result, Ok, Err}
 use Rattle.bm_base.specs.declared.memory.Memory.{Memory}
 use Rattle.bm_base.specs.Range.{RangeView}
@@ -27,9 +28,10 @@ pub record ScriptState : Type 0 where
   pub items : List Item
   pub ids : LiveView
 
--- The effect of a line: what it does to memory and, unless that is refused, its outcome, the new
--- live IDs, and a fill. `takes` says whether the line then also allocates memory of this program,
--- for the range of an ID or for the bytes of the fill.
+-- The effect of a line: `change` is what it does to memory. If no growth for that change is
+-- refused, `answer` is the outcome of the line, `ids` are the live IDs after it, and `fill` is
+-- what it fills. `takes` says whether the line also allocates memory of this program, for the
+-- range of an ID or for the bytes of the fill.
 pub record LineEffect : Type 0 where
   pub change : Change
   pub answer : Outcome
@@ -46,7 +48,7 @@ pub record OnlyAnswers (s : ScriptState) (d : LineEffect) : Type 0 where
   pub unchanged : d.change s.items ≡ no_change s.items
   pub untaken : d.takes ≡ false
 
--- alloc: the best place is claimed for the ID
+-- `alloc`: claims the best place for the ID
 abbrev pub alloc_effect_at : ScriptState → ℕ → ℕ → Option ℕ → LineEffect
 alloc_effect_at s id size None = answer_only s outcomes.NoGap
 alloc_effect_at s id size (Some place) = record {
@@ -60,7 +62,7 @@ alloc_effect_at s id size (Some place) = record {
 abbrev pub alloc_effect : ScriptState → ℕ → Request → LineEffect
 alloc_effect s id r = if is_live s.ids id then answer_only s outcomes.Taken else alloc_effect_at s id r.size (place_for r s.items)
 
--- reserve: the range is claimed for the ID, unless it overlaps a table
+-- `reserve`: claims the range for the ID, unless it overlaps a table
 abbrev pub reserve_for_id : ScriptState → ℕ → RangeView → LineEffect
 reserve_for_id s id range = record {
   change = claim_range range (owner.Script id);
@@ -75,7 +77,7 @@ reserve_effect s id range =
     if is_live s.ids id then answer_only s outcomes.Taken else
     (if is_over_table s.kernel s.items range then answer_only s outcomes.TableInUse else reserve_for_id s id range)
 
--- an act on the range of a live ID that owns all of it
+-- an act on the range of an ID, which is refused unless the ID is live and owns all of its range
 abbrev pub act_on_owned_range : ScriptState → ℕ → (RangeView → LineEffect) → Option RangeView → LineEffect
 act_on_owned_range s id act_effect None = answer_only s outcomes.Unknown
 act_on_owned_range s id act_effect (Some range) =
@@ -84,14 +86,14 @@ act_on_owned_range s id act_effect (Some range) =
 abbrev pub on_range_of_id : ScriptState → ℕ → (RangeView → LineEffect) → LineEffect
 on_range_of_id s id act_effect = act_on_owned_range s id act_effect (range_of_id s.ids id)
 
--- free: the whole range of the ID is freed
+-- `free`: frees the whole range of the ID
 abbrev pub free_whole_range : ScriptState → ℕ → RangeView → LineEffect
 free_whole_range s id range = record { change = free_range range; answer = outcomes.Done; ids = without_id s.ids id; fill = None; takes = false }
 
 abbrev pub free_effect : ScriptState → ℕ → LineEffect
 free_effect s id = on_range_of_id s id (free_whole_range s id)
 
--- trim: the bytes from `keep` on are freed, and the ID keeps those before
+-- `trim`: frees the bytes after the first `keep` of the range; the ID keeps those before
 abbrev pub keep_start_of_range : ScriptState → ℕ → ℕ → RangeView → LineEffect
 keep_start_of_range s id keep range = record {
   change = free_range (record { base = range.base + keep; size = range.size - keep });
@@ -107,7 +109,7 @@ trim_whole_range s id keep range = if nat_le range.size keep then answer_only s 
 abbrev pub trim_effect : ScriptState → ℕ → ℕ → LineEffect
 trim_effect s id keep = on_range_of_id s id (trim_whole_range s id keep)
 
--- fill: each byte of the ID's range gets the value, if there are at most 65,536
+-- `fill`: writes the value to each byte of the ID's range, which may have at most 65,536 bytes
 abbrev pub fill_whole_range : ScriptState → ℕ → RangeView → LineEffect
 fill_whole_range s byte range = if nat_lt 65536 range.size then answer_only s outcomes.TooLargeFill else
     record (answer_only s outcomes.Done) { fill = Some (record { range = range; byte = byte; at = length s.items }); takes = true }
@@ -115,7 +117,7 @@ fill_whole_range s byte range = if nat_lt 65536 range.size then answer_only s ou
 abbrev pub fill_effect : ScriptState → ℕ → ℕ → LineEffect
 fill_effect s id byte = on_range_of_id s id (fill_whole_range s byte)
 
--- peek: returns the bytes from the address on
+-- `peek`: returns the bytes from the address on
 abbrev pub peek_effect : ScriptState → (ℕ → ℕ) → ℕ → ℕ → LineEffect
 peek_effect s bytes at len = answer_only s (outcomes.Bytes (record { items = bytes_at bytes at len }))
 
@@ -130,7 +132,8 @@ act_effect s bytes (acts.Fill id byte) = fill_effect s id byte
 act_effect s bytes (acts.Peek at len) = peek_effect s bytes at len
 act_effect s bytes acts.Sections = answer_only s outcomes.Done
 
--- if a table has to grow and finds no place, that is the outcome, and the live IDs are unchanged
+-- if a table has to grow and finds no place, the outcome of the line says so, and the live IDs are
+-- unchanged
 abbrev pub outcome_unless_refused : Option RefusedGrowth → Outcome → Outcome
 outcome_unless_refused None answer = answer
 outcome_unless_refused (Some r) answer = outcomes.NoGapForTable r.which r.room
@@ -149,8 +152,9 @@ script_outcome_at_line s d = outcome_unless_refused (d.change s.items).refused d
 abbrev pub state_after_line : ScriptState → LineEffect → ScriptState
 state_after_line s d = state_after_change s d.ids (d.change s.items)
 
--- this program is out of memory: before a step of the change, which is then missing; or after all
--- steps, if no growth was refused and the line also allocates memory of this program (`takes`)
+-- this program ran out of memory during a change: either before one of its steps, and then that
+-- step and all later ones are missing; or after all steps, which is possible only if no growth was
+-- refused and the line also allocates memory of this program (`takes`)
 abbrev pub RunsOutDuringChange : Bool → List Item → List Item → growth.ChangeEffect → Type 0
 RunsOutDuringChange takes old new o =
     StopsBeforeStep old new o.steps ⊎ (IsTrue takes × (o.refused ≡ None) × (new ≡ items_after_change old o))
@@ -160,22 +164,23 @@ abbrev pub RunsOutDuringLine : ScriptState → ScriptState → LineEffect → Ty
 RunsOutDuringLine old new d =
     RunsOutDuringChange d.takes old.items new.items (d.change old.items) × (new.kernel ≡ old.kernel) × (new.ids ≡ old.ids)
 
--- a line ends with the outcome and the state that its effect gives, or out of memory
+-- a line ends with the outcome and the state that its effect defines, or this program ran out of
+-- memory during it
 abbrev pub EndsAsLine : Result Outcome Memory → ScriptState → ScriptState → LineEffect → Type 0
 EndsAsLine (Ok answer) old new d = (answer ≡ script_outcome_at_line old d) × (new ≡ state_after_line old d)
 EndsAsLine (Err memory) old new d = RunsOutDuringLine old new d
 
--- a byte after the fill, or unchanged if there is none
+-- the byte at address `x`, which was `b`, after the fill; it is unchanged if there is no fill
 abbrev pub byte_after_any_fill : Option Fill → ℕ → ℕ → ℕ
 byte_after_any_fill None x b = b
 byte_after_any_fill (Some f) x b = byte_after_fill f x b
 
--- the byte at an address after a line, if it was b before
+-- the byte at address `x`, which was `b`, after a line
 abbrev pub byte_after_line : Result Outcome Memory → ScriptState → ScriptState → LineEffect → ℕ → ℕ → ℕ
 byte_after_line (Ok answer) old new d x b = byte_after_any_fill d.fill x (byte_after_items old.kernel old.items new.items x b)
 byte_after_line (Err memory) old new d x b = byte_after_items old.kernel old.items new.items x b
 
--- the fills, with that of the line added if it made one
+-- the fills, with the fill of a line appended if the line made one
 abbrev pub add_fill : List Fill → Option Fill → List Fill
 add_fill fills None = fills
 add_fill fills (Some f) = fills ++ f ∷ []

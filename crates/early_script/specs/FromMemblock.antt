@@ -14,11 +14,12 @@ use Rattle.early_script.specs.Effects.{ScriptState}
 abbrev pub state_of_memblock : LiveView → MemblockView → ScriptState
 state_of_memblock ids m = record { kernel = m.kernel; items = m.journal.items; ids = ids }
 
--- the byte at each address
+-- the byte at each address, as the store of the memblock has it
 abbrev pub memblock_bytes : MemblockView → ℕ → ℕ
 memblock_bytes m = byte_of m.tables.store
 
--- a refusal is the outcome, but out of memory is an error and ends the script
+-- the result of a line that memblock refused: the refusal is the outcome, but out of memory is an
+-- error and ends the script
 abbrev pub AnswersRefusal : Result Outcome Memory → Refusal → Type 0
 AnswersRefusal (Ok answer) refusal.NoGap = answer ≡ outcomes.NoGap
 AnswersRefusal (Ok answer) (refusal.NoGapForTable w room) = answer ≡ outcomes.NoGapForTable w room

@@ -12,7 +12,7 @@ use Rattle.early_script.specs.LiveView.{LiveView}
 use Rattle.early_script.specs.Effects.{ScriptState, LineEffect, RunsOutDuringLine, CanBeRun, add_fill, act_effect, script_outcome_at_line, state_after_line}
 use Rattle.early_script.specs.FromMemblock.{state_of_memblock, memblock_bytes}
 
--- what there is before a line: the state, and the fills and outcomes so far
+-- what has happened before a line: the state, and the fills and outcomes so far
 pub record ScriptSoFar : Type 0 where
   pub state : ScriptState
   pub fills : List Fill
@@ -32,24 +32,25 @@ script_after_effect s number d = record {
 abbrev pub script_after_line : ScriptSoFar → Line → ScriptSoFar
 script_after_line s line = script_after_effect s line.number (line_effect s line)
 
--- the state after the lines have been run in their order
+-- the state, the fills and the outcomes after the lines have been run in their order
 abbrev pub script_after_lines : ScriptSoFar → List Line → ScriptSoFar
 script_after_lines s [] = s
 script_after_lines s (line ∷ lines) = script_after_lines (script_after_line s line) lines
 
--- the start of the lines: the state of a memblock after these fills, with these outcomes
+-- what has happened before a list of lines: the state of the memblock `m` with the live IDs
+-- `ids`, the fills `fills` and the outcomes `answers`
 abbrev pub script_so_far : LiveView → MemblockView → List Fill → List Answer → ScriptSoFar
 script_so_far ids m fills answers = record { state = state_of_memblock ids m; fills = fills; answers = answers }
 
--- live IDs, memblock and outcomes are those of `s`, and each byte is what the items and fills of
--- `s` give
+-- the live IDs, the memblock and the outcomes are those of `s`, and each byte is what the items
+-- and fills of `s` define
 pub record MatchesScriptSoFar (s : ScriptSoFar) (ids : LiveView) (m : MemblockView) (answers : List Answer) : Type 0 where
   pub state : state_of_memblock ids m ≡ s.state
   pub answers_are : answers ≡ s.answers
   pub holds : AreBytesFromHistory m.kernel m.journal.items s.fills (memblock_bytes m)
 
--- out of memory before the first line: the list had no room for the outcomes of all lines, and
--- nothing has changed
+-- this program ran out of memory before the first line: the list had no room for the outcomes of
+-- all lines, and nothing has changed
 pub record RunsOutBeforeLines (ids : LiveView) (m : MemblockView) (answers : Vec Answer Global) (lines : List Line)
     (later : LiveView) (next : MemblockView) (told : Vec Answer Global) : Type 0 where
   pub no_room : vec_capacity answers < length answers.items + length lines
@@ -57,8 +58,8 @@ pub record RunsOutBeforeLines (ids : LiveView) (m : MemblockView) (answers : Vec
   pub memblock_stays : next ≡ m
   pub answers_stay : told.items ≡ answers.items
 
--- out of memory during a line, as that line alone may end (`RunsOutDuringLine`); the `count` lines
--- before it have been run, and their outcomes are in the list
+-- this program ran out of memory during a line (`RunsOutDuringLine`). The `count` lines before it
+-- have been run, and their outcomes are in the list.
 pub record RunsOutDuringLines (s : ScriptSoFar) (lines : List Line) (ids : LiveView) (m : MemblockView)
     (answers : List Answer) : Type 0 where
   pub count : ℕ
@@ -69,7 +70,8 @@ pub record RunsOutDuringLines (s : ScriptSoFar) (lines : List Line) (ids : LiveV
       (line_effect (script_after_lines s (take count lines)) line)
   pub holds : AreBytesFromHistory m.kernel m.journal.items (script_after_lines s (take count lines)).fills (memblock_bytes m)
 
--- out of memory before the first line or during one of them, whatever was filled before
+-- this program ran out of memory before the first line, or during one of the lines. The second is
+-- stated for each list of fills that gives the bytes before the lines.
 abbrev pub ScriptRunsOut : LiveView → MemblockView → Vec Answer Global → List Line → LiveView → MemblockView → Vec Answer Global → Type 0
 ScriptRunsOut ids m answers lines later next told =
     RunsOutBeforeLines ids m answers lines later next told
@@ -83,7 +85,8 @@ pub record IsPrefixChain (first second third : List Item) : Type 0 where
   pub goes_on : second ≡ first ++ more
   pub goes_further : third ≡ second ++ rest
 
--- the lines before the one that places the sections, or all of them; and the lines after it
+-- `lines_before_sections` are the lines before the one that places the sections, or all lines if
+-- none does; `lines_after_sections` are the lines after that one
 abbrev pub lines_before_sections : List Line → List Line
 lines_before_sections [] = []
 lines_before_sections (line ∷ lines) = if is_sections line.act then [] else line ∷ lines_before_sections lines
@@ -92,6 +95,6 @@ abbrev pub lines_after_sections : List Line → List Line
 lines_after_sections [] = []
 lines_after_sections (line ∷ lines) = if is_sections line.act then lines else lines_after_sections lines
 
--- no second line places the sections
+-- at most one line places the sections
 abbrev pub PlacesSectionsOnce : List Line → Type 0
 PlacesSectionsOnce lines = All (λ line. CanBeRun line.act) (lines_after_sections lines)

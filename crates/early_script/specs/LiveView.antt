@@ -15,7 +15,7 @@ range_of_id ids id = lookup (is_at (nat_cmp id)) ids
 abbrev pub is_live : LiveView → ℕ → Bool
 is_live ids id = is_some (range_of_id ids id)
 
--- the live IDs after the ID got the range, whatever range it had
+-- the live IDs after the ID got the range; it replaces an older range of the ID
 abbrev pub with_range : LiveView → ℕ → RangeView → LiveView
 with_range ids id range = insert_entry nat_cmp ids id range
 

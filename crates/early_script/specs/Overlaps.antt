@@ -1,4 +1,4 @@
--- Tests for the owner of a range, and for its overlap with a table.
+-- Tests of a range: whether one owner has all of it, and whether it overlaps a table.
 use Rattle.std.specs.Prelude.{Bool, ◌||◌, nat_lt, min, max, Some, List}
 use Rattle.bm_base.specs.Range.{RangeView, end_of}
 use Rattle.bm_base.specs.Each.{each_in}

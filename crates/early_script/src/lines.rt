@@ -1,5 +1,5 @@
-//! The lines of a script in order, each with its outcome. One of the lines may place the sections,
-//! but the crates that do so aren't below this one. So the lines are split there, and the boot
+//! Runs the lines of a script in order. One of the lines may place the sections, but the crates
+//! that do that aren't below this one. The script is therefore split at that line, and the boot
 //! runs both parts.
 
 ghost use Rattle.std.specs.Prelude.{◌≡◌, ℕ, ◌+◌, ◌<◌, ◌≤◌, List, [], ◌∷◌, ◌++◌, OnOk, OnErr, Result, Ok};
@@ -29,9 +29,9 @@ use script_reader::{Act, Line};
 ///
 /// # Errors
 ///
-/// `Memory` if this program is out of memory: either for the list of outcomes, before the first
-/// line, and then nothing has changed; or during a line. All lines before that one have then been
-/// run, and their outcomes are in the list.
+/// `Memory` if this program is out of memory. If the list of outcomes has no room, that is found
+/// before the first line, and nothing has changed. Otherwise it happens during a line. All lines
+/// before that one have then been run, and their outcomes are in the list.
 pub fn run_script_lines(
     live: &mut Live,
     mb: &mut Memblock,
@@ -88,8 +88,8 @@ pub fn split_at_sections(lines: &[Line]) -> (&[Line], &[Line])
     (lines, &[])
 }
 
-/// Law: a line leaves memory, its nodes and the limit unchanged, whatever its outcome, and also if
-/// this program is out of memory during it.
+/// Law: a line leaves memory, its nodes and the limit unchanged, whatever its outcome is. This is
+/// also true if this program runs out of memory during the line.
 pub fn lines_leave_memory()
     ensures memory { (result : Result Outcome Memory) (old new : ScriptState) (bytes : ℕ
         → ℕ) (a : Act) →
@@ -101,8 +101,8 @@ pub fn lines_leave_memory()
         → limit_of new.items ≡ limit_of old.items }
 {}
 
-/// Law: a script that the reader accepted places the sections at most once. So each line after that
-/// one can be run.
+/// Law: a script that the reader accepted places the sections at most once, so each line after
+/// that one can be run.
 pub fn scripts_place_sections_once()
     ensures { (bytes : List ℕ) (lines : List Line) → script_of bytes ≡ Ok lines
         → PlacesSectionsOnce lines }

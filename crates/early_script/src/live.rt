@@ -1,5 +1,6 @@
-//! The live IDs, and the lines that are run on them. For an ID only its range is kept here. The
-//! journal knows whether the ID still owns all of it, since another line may have claimed a part.
+//! The live IDs, and the lines that are run on them. Only the range of each ID is kept here. The
+//! journal knows whether the ID still owns all of that range, since another line may have claimed
+//! a part of it.
 
 ghost use Rattle.std.specs.Prelude.{◌≡◌, ℕ, ◌+◌, ◌-◌, ◌^◌, ◌<◌, ◌≤◌, List, [], OnOk, OnErr, IfOk, IfErr, IsOk};
 ghost use Rattle.bm_base.specs.Range.{RangeView};
@@ -44,7 +45,7 @@ impl Live {
     ghost use Rattle.early_script.specs.Effects.{LineEffect, EndsAsLine, CanBeRun, OnlyAnswers, byte_after_line, fills_after_line, answer_only, on_range_of_id, act_effect, alloc_effect, reserve_effect, free_effect, trim_effect, fill_effect};
     ghost use Rattle.early_script.specs.FromMemblock.{state_of_memblock, memblock_bytes};
 
-    /// Returns a map of the live IDs in which no ID is live.
+    /// Returns an empty map: no ID is live.
     pub fn new(alloc: Global) -> Live
         ensures { result ≡ [] }
     {
@@ -93,6 +94,12 @@ impl Live {
         }
     }
 
+    /// Runs an `alloc` line: claims the best place for the request, and gives its range to the ID.
+    ///
+    /// # Errors
+    ///
+    /// `Memory` if this program is out of memory. Some steps of the change may then be written,
+    /// and the IDs are unchanged.
     fn alloc(&mut self, mb: &mut Memblock, id: u32, request: &Request) -> Result<Outcome, Memory>
         requires begun { HasFirstItem mb.old.journal.items }
         requires some { 1 ≤ request.now.size }
@@ -103,7 +110,7 @@ impl Live {
         ensures goes_on { ContinuesMemblock mb.old mb.new }
     {
         no_items_no_change(mb);
-        // A live ID is taken, whether or not a place fits.
+        // The outcome for a live ID is `Taken`, even if no place fits.
         if self.is_live(id) {
             return Ok(Outcome::Taken);
         }
@@ -120,6 +127,12 @@ impl Live {
         }
     }
 
+    /// Runs a `reserve` line: claims the range and gives it to the ID, unless it overlaps a table.
+    ///
+    /// # Errors
+    ///
+    /// `Memory` if this program is out of memory. Some steps of the change may then be written,
+    /// and the IDs are unchanged.
     fn reserve(&mut self, mb: &mut Memblock, id: u32, range: Range) -> Result<Outcome, Memory>
         requires begun { HasFirstItem mb.old.journal.items }
         requires some { 0 < range.size }
@@ -144,6 +157,12 @@ impl Live {
         }
     }
 
+    /// Runs a `free` line: frees the whole range of the ID, which is then no longer live.
+    ///
+    /// # Errors
+    ///
+    /// `Memory` if this program is out of memory. Some steps of the change may then be written,
+    /// and the IDs are unchanged.
     fn free(&mut self, mb: &mut Memblock, id: u32) -> Result<Outcome, Memory>
         requires { HasFirstItem mb.old.journal.items }
         ensures acts { EndsAsLine result (state_of_memblock self.old mb.old)
@@ -163,6 +182,12 @@ impl Live {
         Ok(Outcome::Done)
     }
 
+    /// Runs a `trim` line: frees all bytes of the ID's range except the first `keep`.
+    ///
+    /// # Errors
+    ///
+    /// `Memory` if this program is out of memory. Some steps of the change may then be written,
+    /// and the IDs are unchanged.
     fn trim(&mut self, mb: &mut Memblock, id: u32, keep: u64) -> Result<Outcome, Memory>
         requires begun { HasFirstItem mb.old.journal.items }
         requires some { 0 < keep }
@@ -188,6 +213,11 @@ impl Live {
         }
     }
 
+    /// Runs a `fill` line: writes `byte` to each byte of the ID's range.
+    ///
+    /// # Errors
+    ///
+    /// `Memory` if this program is out of memory. Nothing has then changed.
     fn fill(&mut self, mb: &mut Memblock, id: u32, byte: u8) -> Result<Outcome, Memory>
         requires { HasFirstItem mb.old.journal.items }
         ensures acts { EndsAsLine result (state_of_memblock self.old mb.old)
@@ -223,6 +253,10 @@ impl Live {
     }
 
     /// Sets the range of the ID, which becomes live if it isn't.
+    ///
+    /// # Errors
+    ///
+    /// `Memory` if this program is out of memory. The IDs are then unchanged.
     fn set_range(&mut self, id: u32, range: Range) -> Result<(), Memory>
         requires { 0 < range.size }
         ensures ok { OnOk result (self.new ≡ with_range self.old id range) }

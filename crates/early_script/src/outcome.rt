@@ -1,12 +1,12 @@
-//! The outcome of a line. A refusal of memblock is an outcome, and the next line follows. Out of
-//! memory isn't an outcome: it ends the boot.
+//! The outcomes of lines. If memblock refuses a request, that is an outcome, and the next line
+//! follows. Out of memory isn't an outcome: it ends the boot.
 
 use arrayvec::ArrayVec;
 use memblock_model::Which;
 
-/// The outcome of a line. The line succeeded if it is `At`, `Done` or `Bytes`. After each other
-/// outcome nothing has changed, except that after `NoGapForTable` the completed steps of a growth
-/// stay.
+/// The outcome of a line. The line succeeded if it is `At`, `Done` or `Bytes`. After any other
+/// outcome nothing has changed, with one exception: after `NoGapForTable` the completed steps of a
+/// growth stay.
 #[derive(Debug, Drop, PartialEq, Eq)]
 pub enum Outcome {
     /// The ID got the range at this address.
@@ -28,13 +28,13 @@ pub enum Outcome {
     NotWhole,
     /// The range overlaps a table.
     TableInUse,
-    /// The ID has at most as many bytes as it should keep.
+    /// A `trim` line would keep at least as many bytes as the ID has.
     TooLargeKeep,
-    /// The ID has more than 65,536 bytes.
+    /// The ID of a `fill` line has more than 65,536 bytes.
     TooLargeFill,
 }
 
-/// The outcome of the line of this number.
+/// The outcome of one line, with the line's number.
 #[derive(Debug, Drop, PartialEq, Eq)]
 pub struct Answer {
     /// The number of the line in the script.

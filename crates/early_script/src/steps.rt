@@ -1,4 +1,4 @@
-//! The steps of a line that need no live ID. They are outside `Live`, so that their contracts are
+//! Steps of a line that need no live ID. They are outside of `Live`, so that their contracts are
 //! only about memblock or numbers.
 
 ghost use Rattle.std.specs.Prelude.{◌≡◌, ℕ, ◌+◌, ◌-◌, ◌^◌, ◌<◌, ◌≤◌, false, MatchOption};
@@ -15,6 +15,10 @@ use bm_base::{Memory, Range};
 use memblock_grow::{Memblock, Refusal, no_items_no_change};
 
 /// Converts a refusal of memblock to an outcome; out of memory stays an error.
+///
+/// # Errors
+///
+/// `Memory` if the refusal is `Memory`.
 pub fn outcome_of_refusal(refusal: Refusal) -> Result<Outcome, Memory>
     ensures { AnswersRefusal result refusal }
 {
@@ -25,8 +29,8 @@ pub fn outcome_of_refusal(refusal: Refusal) -> Result<Outcome, Memory>
     }
 }
 
-/// Splits the range after its first `keep` bytes, or returns `None` if nothing would be left for
-/// the second part.
+/// Splits the range after its first `keep` bytes. Returns `None` if the second part would be
+/// empty.
 pub fn split_range(range: Range, keep: u64) -> Option<(Range, Range)>
     ensures { MatchOption result (range.size ≤ keep) (λ parts. (keep < range.size)
         × (parts.0 ≡ record { base = range.base; size = keep })

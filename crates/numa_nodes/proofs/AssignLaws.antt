@@ -27,7 +27,8 @@ use Rattle.stage_steps.proofs.DoingLaws.{ends-first, ends-listed, ends-second, e
 use Rattle.numa_nodes.specs.Assignment.{NodesView, assign_nodes, assign_nodes_by, place_node_data, set_block_node, is_memory_byte, nodes_view_from_judgement, nodes_with_memory, node_ranges_by, node_ranges, place_data_of_nodes}
 use Rattle.numa_nodes.specs.Steps.{CanGetNodes}
 
--- the list of ranges, what follows them, and what follows the nodes that have memory
+-- `ranges_in` is the list of ranges. The next definitions are the steps after it, and the steps
+-- after the list of nodes that have memory.
 abbrev ranges_in : SratNodesView → List Item → List NumaBlock
 ranges_in found items = node_ranges (limit_of items) found
 
@@ -40,7 +41,7 @@ by_ranges found ranges = fold_steps set_block_node tt ranges >>= behind found
 abbrev nodes_in : List Item → List ℕ
 nodes_in items = nodes_with_memory (memory_of items)
 
--- out of memory before anything was written
+-- how the stage ends if this program runs out of memory before anything is written
 pub by-wanting : (items : List Item) (found : SratNodesView)
     → EndsAsStage {A = NodesView} (assign_nodes_by found) error_of_stage_cause (Err stop.Memory) items items
 unfolding assign_nodes_by
@@ -63,7 +64,7 @@ by-ranges e old new found was =
     by-listed (Err e) old new found
     (ends-first e error_of_stage_cause old new (fold_steps set_block_node tt (ranges_in found old)) (behind found) was)
 
--- after the ranges
+-- how the stage ends after the ranges have got their nodes
 module _ (old mid : List Item) (found : SratNodesView)
     (was : EndsAsStage {A = Unit {0}} (fold_steps set_block_node tt (node_ranges (limit_of old) found)) error_of_stage_cause (Ok tt) old mid) where
   by-behind : (r : Result NodesView StageStop) (new : List Item) → EndsAsStage (behind found tt) error_of_stage_cause r mid new
@@ -72,7 +73,7 @@ module _ (old mid : List Item) (found : SratNodesView)
       by-listed r old new found
       (ends-second tt r error_of_stage_cause old mid new (fold_steps set_block_node tt (ranges_in found old)) (behind found) was rest)
 
-  -- out of memory for the nodes that have memory
+  -- this program runs out of memory for the list of nodes that have memory
   pub data-wanting : EndsAsStage {A = NodesView} (assign_nodes_by found) error_of_stage_cause (Err stop.Memory) old mid
   data-wanting =
       by-behind (Err stop.Memory) mid
@@ -100,7 +101,7 @@ module _ (old mid : List Item) (found : SratNodesView)
       (ends-first e error_of_stage_cause mid new (fold_steps place_node_data tt (nodes_in mid)) (λ done.
       return_value (nodes_view_from_judgement found (nodes_in mid))) placed)
 
--- the stage by its judgement
+-- the whole stage is the one after it has been decided whether the table is used
 pub assign_nodes-is : (table : Option SratView) (off : Bool) (items : List Item)
     → assign_nodes table off items ≡ assign_nodes_by (judge_srat (is_memory_byte items) off table) items
 unfolding assign_nodes
@@ -131,7 +132,7 @@ ranges-cases P why.TooManyBlocks limit j used other = other
 ranges-cases P (why.Overlap m n) limit j used other = other
 ranges-cases P (why.NotCovered frames) limit j used other = other
 
--- each range of the judgement can get its node
+-- each range that gets a node has bytes, and its node is below 1,024
 pub can-get : (limit : ℕ) (found : SratNodesView) (memory : ℕ → Bool) (off : Bool) (table : Option SratView) → 0 < limit
     → found ≡ judge_srat memory off table → CanGetNodes (node_ranges limit found)
 can-get limit found memory off table some is =

@@ -45,7 +45,7 @@ byte_of_each : (noded_all (low ∷ (high ∷ (last ∷ []))) (memory_below 0x900
 unfolding noded_all
 byte_of_each = (refl, refl, refl, refl)
 
--- one byte of memory is enough
+-- a node that has a single byte of memory is listed
 one_byte : (f : Labels) → f 0x1234 ≡ Some (of_node 5) → Contains (nodes_with_memory f) 5
 one_byte f at = nodes-lists f 5 0x1234 (omega arith) (omega arith) (ap (is_of_node 5) at)
 

@@ -31,7 +31,7 @@ use Rattle.srat_nodes.specs.SratNodesView.{SratNodesView, judge_srat}
 use Rattle.numa_nodes.specs.Assignment.{NodesView, assign_nodes, assign_nodes_by, place_node_data, set_block_node, is_memory_byte, node_data_request, nodes_view_from_judgement, nodes_with_memory, node_ranges, place_data_of_nodes}
 use Rattle.numa_nodes.proofs.AssignLaws.{behind}
 
--- the growth that may come before
+-- the growth of the memory table that may come before a range gets its node
 abbrev growth : List Item → ChangeEffect
 growth items = make_table_room which.Memory max_records_added_by_split memory_growth items
 
@@ -181,8 +181,8 @@ turn-memory (r ∷ rs) items answered =
     ∙ turn-memory rs (items_after_step items d) (rw first.1 at answered)
     ∙ ap (noded_all rs) (set_block_node-memory r items first.1))
 
--- after success: memory has the nodes of the ranges, and the nodes that are returned are those
--- that have memory
+-- what is true after success: memory has the nodes of the ranges, and the nodes that are returned
+-- are those that have memory
 pub record IsBehind (items : List Item) (found : SratNodesView) (new : List Item) (set_range_node : NodesView) : Type 0 where
   pub memory : memory_of new ≡ noded_all (node_ranges (limit_of items) found) (memory_of items)
   pub nodes : set_range_node.with_memory ≡ nodes_with_memory (memory_of new)

@@ -27,7 +27,7 @@ use Rattle.numa_nodes.specs.Steps.{CanGetNodes}
 use Rattle.numa_nodes.proofs.AssignLaws.{ranges-cases}
 use Rattle.numa_nodes.proofs.MemoryLaws.{behind-answer, noded_all}
 
--- a label with the node, if there is one to give
+-- the label after it was given the node; it is unchanged if there is no node to give
 abbrev relabel : Option ℕ → Option LabelView → Option LabelView
 relabel None o = o
 relabel (Some n) o = option_map (with_node (Some n)) o
@@ -85,7 +85,7 @@ label-node : (n : Option ℕ) (o : Option LabelView) (label : LabelView) → lab
 label-node n None label at = absurd (none-some label at)
 label-node n (Some l) label at = (refl, ap (λ (k : LabelView). k.node) (sym (same_Some (with_node n l) label at)))
 
--- so memory satisfies IsNoded
+-- memory whose labels were made this way satisfies `IsMemoryWithNodes`
 is-noded : (limit : ℕ) (f g : Labels) (nodes : ℕ → Option ℕ) → IsGiven limit f g nodes → IsConstantInFrames f
     → IsEmptyFrom limit f → IsMemoryWithNodes limit g
 is-noded limit f g nodes by frames within = record {
@@ -103,7 +103,7 @@ is-noded limit f g nodes by frames within = record {
   noded x label None has at some = absurd (true≢false (sym some))
   noded x label (Some n) has at some = (n, has, by.small x n at)
 
--- from a table that is used
+-- memory satisfies it if the table is used
 two-small : (a b : Option ℕ) (n : ℕ) → ((m : ℕ) → a ≡ Some m → m < 1024) → ((m : ℕ) → b ≡ Some m → m < 1024)
     → option_or b a ≡ Some n → n < 1024
 two-small a None n first second at = first n at
@@ -153,7 +153,7 @@ module _ (f : Labels) (off : Bool) (table : Option SratView) where
             rw (same.0, same.1) refl;
       }
 
--- and without one: all memory is below the limit
+-- memory satisfies it without a table: all memory is below the limit, and has node 0
 below-given : (reach limit : ℕ) (f : Labels) → IsEmptyFrom limit f
     → IsGiven reach f (noded_all (record { base = 0; size = limit; value = 0 } ∷ []) f) (λ x. Some 0)
 unfolding noded_all
@@ -172,7 +172,7 @@ below-given reach limit f within = record {
   frames = λ x near. refl;
 }
 
--- from any judgement
+-- memory satisfies it whether the table is used or not
 given-noded : (reach limit : ℕ) (f : Labels) (off : Bool) (table : Option SratView) → reach ≤ 2 ^ 64 → IsConstantInFrames f
     → IsEmptyFrom reach f → IsEmptyFrom limit f
     → IsMemoryWithNodes reach (noded_all (node_ranges limit (judge_srat (λ x. is_some (f x)) off table)) f)

@@ -23,7 +23,7 @@ module _ {X : Type 0} {step : Unit {0} → X → StageStep StageCause (Unit {0})
   drop-next : (x d : X) → i < length xs → x ≡ get_or xs i d → drop i xs ≡ x ∷ drop (i + 1) xs
   drop-next x d below is = drop_more xs i d below ∙ ap (λ (y : X). y ∷ drop (i + 1) xs) (sym is)
 
-  -- the next step returned
+  -- one step further, if the next step returned
   pub turn-next : (x d : X) (mid : List Item) → i < length xs → x ≡ get_or xs i d
       → EndsAsStage (step tt x) error_of_stage_cause (Ok tt) here mid → Turns step xs (i + 1) old mid
   turn-next x d mid below is was = record {
@@ -31,7 +31,7 @@ module _ {X : Type 0} {step : Unit {0} → X → StageStep StageCause (Unit {0})
         (λ next. fold_steps step next (drop (i + 1) xs)) was rest));
   }
 
-  -- the next step failed
+  -- the sequence ends with the error of the next step, if that failed
   pub turn-stops : (x d : X) (new : List Item) (e : StageStop) → i < length xs → x ≡ get_or xs i d
       → EndsAsStage {A = Unit {0}} (step tt x) error_of_stage_cause (Err e) here new
       → EndsAsStage {A = Unit {0}} (fold_steps step tt xs) error_of_stage_cause (Err e) old new
@@ -39,7 +39,7 @@ module _ {X : Type 0} {step : Unit {0} → X → StageStep StageCause (Unit {0})
       turns.ends (Err e) new (rw (drop-next x d below is) (ends-first e error_of_stage_cause here new (step tt x)
       (λ next. fold_steps step next (drop (i + 1) xs)) was))
 
-  -- no step remains
+  -- the sequence has ended if no step remains
   pub turn-done : length xs ≤ i → EndsAsStage {A = Unit {0}} (fold_steps step tt xs) error_of_stage_cause (Ok tt) old here
   turn-done all = turns.ends (Ok tt) here (rw (drop_all i xs all) (refl, refl))
 

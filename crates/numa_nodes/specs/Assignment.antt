@@ -11,7 +11,7 @@ use Rattle.memblock_model.specs.Same.{same_node_or_none}
 use Rattle.srat_reader.specs.Table.{SratView}
 use Rattle.srat_nodes.specs.declared.reasons.Why.{Why}
 use Rattle.srat_nodes.specs.declared.reasons.Why.TheVariants as why
-use Rattle.srat_nodes.specs.declared.reasons.TheConstants.{MAX_NODES}
+use Rattle.bm_base.specs.declared.zone.TheConstants.{MAX_NODES}
 use Rattle.srat_nodes.specs.NodeAt.{NumaBlock}
 use Rattle.srat_nodes.specs.SratNodesView.{SratNodesView, judge_srat}
 use Rattle.memblock_model.specs.declared.query.Request.{Request}
@@ -26,9 +26,9 @@ use Rattle.numa_nodes.specs.declared.stage.Nodes.{Nodes}
 abbrev pub is_memory_byte : List Item → ℕ → Bool
 is_memory_byte items x = is_some (memory_of items x)
 
--- the ranges that get a node, each with its node: if the table is used, the runs of addresses of
--- one node and then the runs of memory that is left over; else all addresses below the limit, with
--- node 0 (`dummy_numa_init`)
+-- the ranges that get a node, each with its node. If the table of domains is used, they are the
+-- runs of addresses of one node, and then the runs of memory that no block covers. Else the only
+-- range is all addresses below the limit, with node 0 (`dummy_numa_init`).
 abbrev pub node_ranges_by : Why → ℕ → SratNodesView → List NumaBlock
 node_ranges_by why.Used limit found = found.joined ++ found.rest
 node_ranges_by reason limit found = record { base = 0; size = limit; value = 0 } ∷ []
@@ -36,11 +36,11 @@ node_ranges_by reason limit found = record { base = 0; size = limit; value = 0 }
 abbrev pub node_ranges : ℕ → SratNodesView → List NumaBlock
 node_ranges limit found = node_ranges_by found.why limit found
 
--- each range gets its node (`memblock_set_node`)
+-- the step that gives a range its node (`memblock_set_node`)
 abbrev pub set_block_node : Unit {0} → NumaBlock → StageStep StageCause (Unit {0})
 set_block_node done r = change_or_stop (set_range_node (range_of_run r) r.value)
 
--- whether the byte is memory of the node
+-- whether a byte with this label is memory of the node
 abbrev pub is_of_node : ℕ → Option LabelView → Bool
 is_of_node node None = false
 is_of_node node (Some label) = same_node_or_none label.node (Some node)
@@ -49,7 +49,7 @@ is_of_node node (Some label) = same_node_or_none label.node (Some node)
 abbrev pub has_node : Labels → ℕ → Bool
 has_node f node = not (each_from (λ x. not (is_of_node node (f x))) 0 (2 ^ 64))
 
--- those of the n nodes from `node` on that have memory, in ascending order
+-- the nodes that have memory among the `n` nodes from `node` on, in ascending order
 abbrev pub nodes_from : Labels → ℕ → ℕ → List ℕ
 nodes_from f node zero = []
 nodes_from f node (suc n) = if has_node f node then node ∷ nodes_from f (node + 1) n else nodes_from f (node + 1) n
@@ -58,8 +58,8 @@ nodes_from f node (suc n) = if has_node f node then node ∷ nodes_from f (node 
 unfoldable pub nodes_with_memory : Labels → List ℕ
 nodes_with_memory f = nodes_from f 0 MAX_NODES
 
--- the data of a node: its size, at a cache line, on the node itself if there is room
--- (`alloc_node_data`)
+-- the request for the data of a node: its size in whole pages, aligned to a cache line, on the
+-- node itself if there is room (`alloc_node_data`)
 abbrev pub node_data_request : ℕ → Request
 node_data_request node = record { size = 0x2B000; align = 64; min = 0; max = None; node = Some node; exact = false }
 
@@ -67,7 +67,7 @@ abbrev pub place_node_data : Unit {0} → ℕ → StageStep StageCause (Unit {0}
 place_node_data done node =
     place_or_stop (what.NodeData node) (node_data_request node) (owner.NodeData node) >>= λ place. return_value tt
 
--- what contracts see of the nodes of a boot
+-- what contracts see of the nodes of a boot (`Nodes`)
 pub record NodesView : Type 0 where
   pub why : Why
   pub domains : List ℕ
@@ -80,17 +80,17 @@ nodes_view n = record { why = n.why; domains = n.domains.items; uncovered = n.un
 abbrev pub nodes_view_from_judgement : SratNodesView → List ℕ → NodesView
 nodes_view_from_judgement found nodes = record { why = found.why; domains = found.domains; uncovered = found.uncovered; with_memory = nodes }
 
--- the data of each node that has memory
+-- the steps that allocate the data of each node that has memory
 abbrev pub place_data_of_nodes : SratNodesView → List ℕ → StageStep StageCause NodesView
 place_data_of_nodes found nodes = fold_steps place_node_data tt nodes >>= λ done. return_value (nodes_view_from_judgement found nodes)
 
--- the whole stage, once it is known whether the table of domains is used
+-- the whole stage after it has been decided (`found`) whether the table of domains is used
 unfoldable pub assign_nodes_by : SratNodesView → StageStep StageCause NodesView
 assign_nodes_by found =
     read_items_allocating (λ items. node_ranges (limit_of items) found) >>= λ ranges. (fold_steps set_block_node tt ranges
     >>= λ done. (read_items_allocating (λ items. nodes_with_memory (memory_of items)) >>= λ nodes. place_data_of_nodes found nodes))
 
--- the whole stage for a table and `numa=off`: whether the table is used is decided, from the
--- machine's memory, before the first range gets its node
+-- the whole stage for a table of domains and the option `numa=off`. Before the first range gets
+-- its node, it decides, from the machine's memory, whether the table is used.
 unfoldable pub assign_nodes : Option SratView → Bool → StageStep StageCause NodesView
 assign_nodes table off = read_items (λ items. judge_srat (is_memory_byte items) off table) >>= λ found. assign_nodes_by found

@@ -1,5 +1,5 @@
-//! Laws of the stage. The steps are about ranges; the stages above need what they mean for each
-//! byte of memory: that it has a node, which is the same for all bytes of its frame.
+//! Laws of the stage. The stage is defined by ranges. The stages above need what the ranges mean
+//! for each byte of memory: it has a node, which is the same for all bytes of its frame.
 ghost use Rattle.std.specs.Prelude.{◌≡◌, ◌↔◌, ℕ, ◌^◌, ◌<◌, ◌≤◌, Bool, true, is_some, Option, List, length, get_or, Ok};
 ghost use Rattle.std.specs.List.{Contains};
 ghost use Rattle.address_runs.specs.Edits.{IsEmptyFrom};

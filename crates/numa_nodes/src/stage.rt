@@ -1,6 +1,6 @@
-//! Nodes for memory, and data for nodes: the Node items and then the allocations. They are one
-//! stage, since the data of a node should lie on the node. So it is allocated after memory has its
-//! nodes, and only for nodes that have memory.
+//! Gives memory its nodes, and then allocates the data of each node. Both are one stage: the data
+//! of a node should lie on the node, so it can be allocated only after memory has its nodes, and
+//! only for nodes that have memory.
 
 ghost use Rattle.std.specs.Prelude.{◌≡◌, ◌^◌, ◌<◌, length, IfOk};
 ghost use Rattle.std.specs.Option.{ForSome, option_map, option_copied};
@@ -29,7 +29,7 @@ use std::alloc::Global;
 pub struct Nodes {
     /// Whether the firmware's table of domains is used and, if not, why.
     pub why: Why,
-    /// The domain of each node if the table is used, else empty.
+    /// The domain of each node, by the number of the node, if the table is used; else empty.
     pub domains: Vec<u32>,
     /// The number of frames of memory that no block covers and that got the lowest node; 0 if the
     /// table isn't used.
@@ -51,7 +51,7 @@ const CACHE_LINE: u64 = 64;
 ///
 /// # Errors
 ///
-/// Completed steps stay.
+/// Steps that were completed before the error stay in effect.
 ///
 /// - `NoPlace` if the data of a node finds no place.
 /// - `NoTablePlace` if a table has to grow and finds no place.
@@ -75,7 +75,12 @@ pub fn assign(
     assign_nodes_by(alloc, memblock, found)
 }
 
-/// Like [`assign`], with `found`, which says whether the table of domains is used.
+/// Like [`assign`], but it is already decided whether the table of domains is used. `found` has
+/// this decision and, if the table is used, the ranges of each node.
+///
+/// # Errors
+///
+/// Steps that were completed before the error stay in effect. The errors are those of [`assign`].
 fn assign_nodes_by(
     alloc: Global,
     memblock: &mut Memblock,
@@ -109,9 +114,13 @@ fn assign_nodes_by(
     })
 }
 
-/// Returns the ranges that get a node, each with its node. If the table is used, these are the
-/// joined ranges and then those that are left over. Else they are the addresses below the limit,
-/// with node 0 (`dummy_numa_init`).
+/// Returns the ranges that get a node, each with its node. If the table of domains is used, these
+/// are the runs of addresses of one node, and then the runs of memory that no block covers. Else
+/// there is one range: all addresses below the limit, with node 0 (`dummy_numa_init`).
+///
+/// # Errors
+///
+/// `Memory` if this program is out of memory.
 fn node_ranges(alloc: Global, limit: u64, found: &SratNodes) -> Result<Vec<NodeRange>, Memory>
     ensures { IfOk result (λ ranges. ranges.items ≡ node_ranges limit (srat_nodes_view found.now)) }
 {
@@ -132,7 +141,12 @@ fn node_ranges(alloc: Global, limit: u64, found: &SratNodes) -> Result<Vec<NodeR
     Ok(ranges)
 }
 
-/// Gives each range its node.
+/// Gives each range its node (`memblock_set_node`).
+///
+/// # Errors
+///
+/// - `NoTablePlace` if a table has to grow and finds no place.
+/// - `Memory` if this program is out of memory.
 fn set_block_nodes(memblock: &mut Memblock, ranges: &[NodeRange]) -> Result<(), StageStop>
     requires begun { HasFirstItem memblock.old.journal.items }
     requires ranges { CanGetNodes ranges.now }
@@ -147,6 +161,12 @@ fn set_block_nodes(memblock: &mut Memblock, ranges: &[NodeRange]) -> Result<(), 
 }
 
 /// Allocates the data of each node.
+///
+/// # Errors
+///
+/// - `NoPlace` if no place fits.
+/// - `NoTablePlace` if a table has to grow and finds no place.
+/// - `Memory` if this program is out of memory.
 fn place_each_node_data(memblock: &mut Memblock, nodes: &[u32]) -> Result<(), StageStop>
     requires begun { HasFirstItem memblock.old.journal.items }
     ensures ends { EndsAsStage (fold_steps place_node_data tt nodes.now) error_of_stage_cause result

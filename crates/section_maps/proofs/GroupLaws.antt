@@ -1,4 +1,4 @@
--- One group after another.
+-- How the stage ends, one group after another.
 use Rattle.std.proofs.Common.{◌≡◌, ℕ, suc, ◌+◌, ◌<◌, ◌==◌, Bool, false, List, [], ◌∷◌, length, take, drop, get_or, Result, Ok, Err, refl, sym, ◌∙◌, ap, inl, inr, eq-eqb, arith}
 use Rattle.std.specs.List.{prefix_len}
 use Rattle.std.proofs.lemmas.Bool.{cases_Bool, eqb-true, false_from_ne_true}
@@ -27,7 +27,7 @@ group_at s ss = record { first = s; others = take (prefix_len (is_of s.node) ss)
 other-eq : (a b : ℕ) → (a == b) ≡ false → (b == a) ≡ false
 other-eq a b other = false_from_ne_true (b == a) (λ same. let back = eq-eqb a b (sym (eqb-true b a same)) in cc)
 
--- the number of sections in it: the first one and those of its node after it
+-- the number of sections in a group: the first one and those of its node after it
 own-length : (s : Section) (ss : List Section) → prefix_len (is_of s.node) (s ∷ ss) ≡ suc (prefix_len (is_of s.node) ss)
 own-length s ss =
     let more : 1 + prefix_len (is_of s.node) ss ≡ suc (prefix_len (is_of s.node) ss) = omega arith in
@@ -68,7 +68,7 @@ goes-first entry sections placed none = record {
       (rw none at h);
 }
 
--- out of memory for the list
+-- how the stage ends if this program is out of memory for the list
 pub place_maps-wanting : (entry : List Item) (sections : List Section)
     → EndsAsStage {A = List Placed} (place_maps sections) error_of_stage_cause (Err stop.Memory) entry entry
 unfolding place_maps

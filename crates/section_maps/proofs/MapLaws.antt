@@ -24,7 +24,7 @@ no_section = record { number = 0; node = 0 }
 abbrev pub placed_at : ℕ → ℕ → Section → Placed
 placed_at usage map s = record { section = s.number; node = s.node; map = map; usage = usage }
 
--- one more section of a group
+-- the addresses of a group with one more section
 consecutive_places-push : (usage map : ℕ) (ss : List Section) (s : Section)
     → consecutive_places usage map (ss ++ s ∷ []) ≡ consecutive_places usage map ss
     ++ placed_at (usage + 40 * length ss) (map + 0x200000 * length ss) s ∷ []
@@ -45,7 +45,7 @@ consecutive_places-next usage map i ss d before now few so_far =
     let more = rw long at (consecutive_places-push usage map (take i ss) (get_or ss i d)) in
     rw (so_far, append_assoc, take_more ss i d few, more) refl
 
--- the maps of sections, one by one
+-- the maps of sections, placed one by one: the sequence ends as the remaining maps do
 pub record Goes (entry : List Item) (usage : ℕ) (first : List Placed) (sections : List Section) (now : List Item) (at : ℕ)
     (place_or_stop : List Placed) (rest : List Section) : Type 0 where
   pub ends : (r : Result (List Placed) StageStop) (new : List Item)

@@ -14,12 +14,13 @@ Differ g h = g.first.node ≢ h.first.node
 abbrev AllDiffer : List SectionGroup → Type 0
 AllDiffer groups = AllAdjacentBelow Differ groups (length groups)
 
--- one more group, of another node than the first
+-- neighbouring groups still differ after one more group is added as the first, if its node isn't
+-- that of the next
 differ-cons : (g h : SectionGroup) (hs : List SectionGroup) → Differ g h → AllDiffer (h ∷ hs) → AllDiffer (g ∷ (h ∷ hs))
 differ-cons g h hs other rest zero d below = other
 differ-cons g h hs other rest (suc k) d below = let next : suc k + 1 ≡ suc (k + 1) = omega arith in rw next (rest k d (omega arith))
 
--- another first group of the same node
+-- neighbouring groups still differ if the first group is replaced by one of its node
 differ-first : (g h : SectionGroup) (hs : List SectionGroup) → g.first.node ≡ h.first.node → AllDiffer (h ∷ hs) → AllDiffer (g ∷ hs)
 differ-first g h hs same all zero d below = λ is. all zero d below (sym same ∙ is)
 differ-first g h hs same all (suc k) d below =
@@ -32,7 +33,7 @@ none-empty groups k d below = omega arith
 one-alone : (s : Section) → HasOneNode (record { first = s; others = [] })
 one-alone s = All-cons (λ t. t.node ≡ s.node) s [] refl (All-nil (λ t. t.node ≡ s.node))
 
--- one more section before the others
+-- the groups of a list are its maximal stretches after one more section is added as the first
 leads : (s : Section) (ss : List Section) (groups : List SectionGroup) → AreMaximalStretches ss groups
     → AreMaximalStretches (s ∷ ss) (prepend_section s groups)
 leads s ss [] are = record {

@@ -1,5 +1,5 @@
--- The maps and the usage data of sections (`sparse_init_nid`, `sparse_buffer_init`,
--- `__populate_section_memmap`).
+-- Defines how the maps and the usage data of sections are placed (`sparse_init_nid`,
+-- `sparse_buffer_init`, `__populate_section_memmap`).
 use Rattle.std.specs.Prelude.{ℕ, ◌+◌, ◌*◌, ◌==◌, Bool, true, false, if◌then◌else◌, Some, None, List, [], ◌∷◌, ◌++◌, length}
 use Rattle.memblock_model.specs.declared.owner.Owner.TheVariants as owner
 use Rattle.memblock_model.specs.declared.query.Request.{Request}
@@ -10,7 +10,7 @@ use Rattle.stage_steps.specs.Steps.{StageStep, ◌>>=◌, return_value, read_ite
 use Rattle.stage_steps.specs.Requests.{place_or_stop, or_else}
 use Rattle.section_maps.specs.declared.placed.Placed.{Placed}
 
--- consecutive sections of one node: the first, and the others
+-- a group: consecutive sections of one node, the first and the others
 pub record SectionGroup : Type 0 where
   pub first : Section
   pub others : List Section
@@ -27,12 +27,13 @@ abbrev pub groups_of : List Section → List SectionGroup
 groups_of [] = []
 groups_of (s ∷ ss) = prepend_section s (groups_of ss)
 
--- the usage data of n sections, on the node if there is room
+-- the request for the usage data of n sections: 40 bytes each, on the node if there is room
 -- (`sparse_early_usemaps_alloc_pgdat_section`)
 abbrev pub usage_request : ℕ → ℕ → Request
 usage_request n node = record { size = 40 * n; align = 64; min = 0; max = None; node = Some node; exact = false }
 
--- the maps of n sections, from 16 MiB on if there is room (`__pa(MAX_DMA_ADDRESS)`)
+-- the request for the maps of n sections: 2 MiB each, at or above 16 MiB if there is room
+-- (`__pa(MAX_DMA_ADDRESS)`); only on the node if `exact` is set
 abbrev pub map_request : ℕ → ℕ → Bool → Request
 map_request n node exact = record {
   size = 0x200000 * n;
@@ -43,26 +44,29 @@ map_request n node exact = record {
   exact = exact;
 }
 
--- the sections of a group, one after another: 40 bytes of usage data and a map of 2 MiB each
+-- the sections of a group with their addresses. The usage data (40 bytes each) lies one after
+-- another from address `usage` on, and the maps (2 MiB each) from address `map` on.
 abbrev pub consecutive_places : ℕ → ℕ → List Section → List Placed
 consecutive_places usage map [] = []
 consecutive_places usage map (s ∷ ss) =
     record { section = s.number; node = s.node; map = map; usage = usage } ∷ consecutive_places (usage + 40) (map + 0x200000) ss
 
--- the map of each section alone
+-- the steps that place the map of each section alone; their usage data is placed already, from
+-- address `usage` on
 abbrev pub place_each_map : ℕ → List Placed → List Section → StageStep StageCause (List Placed)
 place_each_map usage before [] = return_value before
 place_each_map usage before (s ∷ ss) =
     place_or_stop (what.Map s.number) (map_request 1 s.node false) (owner.Map s.number)
     >>= λ map. place_each_map (usage + 40) (before ++ record { section = s.number; node = s.node; map = map; usage = usage } ∷ []) ss
 
--- all maps of a group in one buffer
+-- the step that places all maps of a group in one buffer, on the node itself
 abbrev pub place_map_buffer : ℕ → List Placed → Section → List Section → StageStep StageCause (List Placed)
 place_map_buffer usage before first sections =
     place_or_stop (what.Map first.number) (map_request (length sections) first.node true) (owner.Map first.number)
     >>= λ map. return_value (before ++ consecutive_places usage map sections)
 
--- a group: its usage data, and then its maps in one buffer, or one by one if no buffer is free
+-- the steps for a group: they place its usage data, and then its maps in one buffer, or one by one
+-- if no buffer is free
 abbrev pub place_group : List Placed → Section → List Section → StageStep StageCause (List Placed)
 place_group before first sections =
     place_or_stop (what.Usage first.number) (usage_request (length sections) first.node) (owner.Usage first.number)
@@ -71,6 +75,6 @@ place_group before first sections =
 abbrev pub place_section_group : List Placed → SectionGroup → StageStep StageCause (List Placed)
 place_section_group before g = place_group before g.first (sections_in g)
 
--- a list with room for all sections, and then the groups in order
+-- the whole stage: makes a list with room for all sections, and then places the groups in order
 unfoldable pub place_maps : List Section → StageStep StageCause (List Placed)
 place_maps sections = read_items_allocating (λ items. []) >>= λ none. fold_steps place_section_group none (groups_of sections)

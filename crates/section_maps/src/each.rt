@@ -1,5 +1,5 @@
-//! The maps of sections, placed one by one. This is done if there is no free buffer for all maps of
-//! a group. Each map then has an owner of its own, and may lie on another node.
+//! Places the maps of sections one by one. This is done only if no free buffer has room for all
+//! maps of a group. Each map then has an owner of its own, and may lie on another node.
 
 ghost use Rattle.std.specs.Prelude.{◌≡◌, ◌+◌, ◌*◌, ◌^◌, ◌<◌, ◌≤◌, false, length, vec_len, vec_capacity};
 ghost use Rattle.memblock_model.specs.declared.owner.Owner.TheVariants as owner;
@@ -18,6 +18,12 @@ use memblock_grow::{Memblock, no_items_no_change};
 use stage_steps::{Section, StageStop, What, place_or_stop};
 
 /// Allocates the map of one section, and returns its address.
+///
+/// # Errors
+///
+/// - `NoPlace` if no place fits.
+/// - `NoTablePlace` if a table has to grow and finds no place.
+/// - `Memory` if this program is out of memory.
 fn place_map(memblock: &mut Memblock, section: &Section) -> Result<u64, StageStop>
     requires { HasFirstItem memblock.old.journal.items }
     ensures ends { EndsAsStage (place_or_stop (what.Map section.now.number)
@@ -34,6 +40,12 @@ fn place_map(memblock: &mut Memblock, section: &Section) -> Result<u64, StageSto
 /// Allocates the map of each section, and appends the section with its addresses to `placed`. The
 /// usage data of the sections is allocated already: 40 bytes each, one after another from address
 /// `usage` on.
+///
+/// # Errors
+///
+/// - `NoPlace` if no place fits.
+/// - `NoTablePlace` if a table has to grow and finds no place.
+/// - `Memory` if this program is out of memory.
 pub fn place_each_map(
     memblock: &mut Memblock,
     placed: &mut Vec<Placed>,

@@ -1,4 +1,4 @@
-//! One group: its usage data, and its maps in one buffer or one by one.
+//! Places one group: its usage data, and its maps in one buffer or one by one.
 
 ghost use Rattle.std.specs.Prelude.{◌≡◌, ℕ, ◌+◌, ◌*◌, ◌^◌, ◌<◌, ◌≤◌, ◌==◌, length, vec_len, vec_capacity};
 ghost use Rattle.std.specs.List.{prefix_len};
@@ -16,7 +16,8 @@ use boot_journal::Owner;
 use memblock_grow::Memblock;
 use stage_steps::{Section, StageStop, What, place_or_stop};
 
-/// Returns how many sections at the start of the list have this node, up to the first that doesn't.
+/// Returns the number of sections at the start of the list that have this node, up to the first
+/// that doesn't.
 pub fn count_same_node(sections: &[Section], node: u32) -> usize
     ensures { result ≡ prefix_len (λ s. s.node == node) sections.now }
 {
@@ -26,6 +27,12 @@ pub fn count_same_node(sections: &[Section], node: u32) -> usize
 /// Allocates the maps of a group: in one buffer on the node itself or, if none is free, one by one.
 /// `first` is the group's first section. The usage data of the group is allocated already, at
 /// address `usage`.
+///
+/// # Errors
+///
+/// - `NoPlace` if no place fits.
+/// - `NoTablePlace` if a table has to grow and finds no place.
+/// - `Memory` if this program is out of memory.
 fn place_group_maps(
     memblock: &mut Memblock,
     placed: &mut Vec<Placed>,
@@ -59,7 +66,14 @@ fn place_group_maps(
     }
 }
 
-/// Allocates the usage data and the maps of a group, and appends its sections to the list.
+/// Allocates the usage data and the maps of a group, and appends its sections to the list, which
+/// must have room for them.
+///
+/// # Errors
+///
+/// - `NoPlace` if no place fits.
+/// - `NoTablePlace` if a table has to grow and finds no place.
+/// - `Memory` if this program is out of memory.
 pub fn place_group(
     memblock: &mut Memblock,
     placed: &mut Vec<Placed>,

@@ -1,6 +1,6 @@
-//! Laws of maps, on which a boot may rest. The handover needs that each byte of memory has a node;
-//! if that is true before the maps are placed, it is true after. The second law says what groups
-//! are.
+//! Laws of maps, on which a boot may rest. The handover needs that each byte of memory has a
+//! node. By the first law, placing the maps keeps this true. The second law says what the groups
+//! of sections are.
 
 ghost use Rattle.std.specs.Prelude.{◌≡◌, List};
 ghost use Rattle.memblock_model.specs.declared.item.Item.{Item as AnyItem};

@@ -8,7 +8,7 @@
 //! each other in the list.
 //!
 //! The layers above may rest on the laws: placing maps doesn't change memory
-//! ([`place_maps_keeps_memory_and_limit`]), and groups are such stretches
+//! ([`place_maps_keeps_memory_and_limit`]), and each group is a maximal stretch
 //! ([`groups_are_maximal_stretches`]). A law is an empty function whose contract is a proven fact.
 //! In contracts, a name means the definition in `specs/`.
 #![tactic(auto)]

@@ -1,6 +1,6 @@
-//! The groups of sections, one after another. Each is split off the front of the list when its
-//! turn comes, as in the kernel (`sparse_init`). So there is no list of groups, which would need
-//! memory of this program.
+//! Places the groups of sections, one after another. Each group is split off the start of the list
+//! when its turn comes, as in the kernel (`sparse_init`). No list of groups is made, since that
+//! would need memory of this program.
 
 ghost use Rattle.std.specs.Prelude.{◌≡◌, ◌^◌, ◌<◌, ◌≤◌, AllPairs, length};
 ghost use Rattle.growth_model.specs.Tables.{HasFirstItem};
@@ -40,7 +40,7 @@ fn count_sections(sections: &[Section]) -> usize
 ///
 /// # Errors
 ///
-/// Completed steps stay.
+/// Steps that were completed before the error stay in effect.
 ///
 /// - `NoPlace` if usage data or a map finds no place.
 /// - `NoTablePlace` if a table of memblock has to grow and finds no place.

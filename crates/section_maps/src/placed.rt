@@ -1,5 +1,6 @@
-//! Where the map and the usage data of a section lie. There is one record for each section,
-//! whether its map is in the buffer of a group or alone, so readers don't have to know of groups.
+//! The addresses of the map and the usage data of a section. Each section has one record, whether
+//! its map is in the buffer of a group or alone. Readers therefore don't need to know about
+//! groups.
 
 ghost use Rattle.std.specs.Prelude.{◌≡◌, ◌+◌, ◌*◌, ◌^◌, ◌<◌, ◌≤◌, [], ◌∷◌, ◌++◌, length, IfOk, vec_len, vec_capacity};
 ghost use Rattle.section_maps.specs.Maps.{consecutive_places};
@@ -23,6 +24,10 @@ pub struct Placed {
 }
 
 /// Returns an empty list with room for `count` sections.
+///
+/// # Errors
+///
+/// `Memory` if this program is out of memory.
 pub fn empty_section_list(alloc: Global, count: usize) -> Result<Vec<Placed>, Memory>
     ensures empty { IfOk result (λ placed. placed.items ≡ []) }
     ensures room { IfOk result (λ placed. vec_len placed + count ≤ vec_capacity placed) }

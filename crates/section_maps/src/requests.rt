@@ -1,5 +1,6 @@
-//! The requests for a group of sections and for one section. The maps of a group and the map of
-//! one section differ only in their number, and in whether another node is allowed.
+//! The requests for a group of sections and for one section. The request for the maps of a group
+//! and the one for the map of a section differ only in the number of maps, and in whether another
+//! node is allowed.
 
 ghost use Rattle.std.specs.Prelude.{◌≡◌, ◌+◌, ◌*◌, ◌^◌, ◌≤◌};
 ghost use Rattle.section_maps.specs.Maps.{usage_request, map_request};

@@ -4,14 +4,14 @@ use Rattle.address_runs.specs.Runs.{RunOf, run_end}
 use Rattle.memblock_model.specs.Labels.{LabelView, Labels}
 use Rattle.sparse_sections.specs.Present.{label_of_first_memory_frame, section_label}
 
--- none of the frames is memory
+-- the label if none of the frames is memory
 pub label-none : (f : Labels) (a n : ℕ) → ((y : ℕ) → a ≤ y → y < a + n → f (4096 * y) ≡ None) → label_of_first_memory_frame f a n ≡ None
 unfolding label_of_first_memory_frame
 label-none f a zero none = refl
 label-none f a (suc n) none =
     rw (none a (omega arith) (omega arith)) (label-none f (a + 1) n (λ y above below. none y (omega arith) (omega arith)))
 
--- the k-th frame after the first is memory, and none before it is
+-- the label if the k-th frame after the first is memory, and none before it is
 pub label-found : (f : Labels) (a n k : ℕ) (v : LabelView) → k < n → ((y : ℕ) → a ≤ y → y < a + k → f (4096 * y) ≡ None)
     → f (4096 * (a + k)) ≡ Some v → label_of_first_memory_frame f a n ≡ Some v
 unfolding label_of_first_memory_frame
@@ -22,12 +22,12 @@ label-found f a (suc n) (suc k) v few none found =
     (label-found f (a + 1) n k v (omega arith) (λ y above below. none y (omega arith) (omega arith))
     (ap (λ (y : ℕ). f (4096 * y)) (omega arith) ∙ found))
 
--- a section without memory
+-- the label of a section without memory
 pub section-none : (f : Labels) (s : ℕ) → ((x : ℕ) → 0x8000000 * s ≤ x → x < 0x8000000 * (s + 1) → f x ≡ None) → section_label f s ≡ None
 section-none f s none =
     label-none f (32768 * s) 32768 (λ y above below. none (4096 * y) (omega arith) (omega arith))
 
--- a section whose first memory is in a record
+-- the label of a section whose lowest memory is in this record
 pub section-found : (f : Labels) (s : ℕ) (r : RunOf LabelView) → r.base % 4096 ≡ 0 → r.base < 0x8000000 * (s + 1)
     → 0x8000000 * s < run_end r
     → 0 < r.size → ((x : ℕ) → 0x8000000 * s ≤ x → x < r.base → f x ≡ None)

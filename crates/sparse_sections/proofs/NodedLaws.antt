@@ -53,7 +53,7 @@ noded-records f rs is noded k d few =
       ];
     }
 
--- the records of memory
+-- the records of memory whose bytes have nodes
 far : (limit : ℕ) (f : Labels) → limit ≤ 2 ^ 64 → IsEmptyFrom limit f → IsEmptyFrom (2 ^ 64) f
 far limit f less none x above = none x (omega arith)
 

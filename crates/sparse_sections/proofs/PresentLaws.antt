@@ -12,7 +12,7 @@ use Rattle.memblock_grow.specs.declared.stop.Section.{Section}
 use Rattle.sparse_sections.specs.Present.{section_label, sections_below, present, sections_from, IsWholeFramesWithNode}
 use Rattle.sparse_sections.proofs.LabelLaws.{section-none, section-found}
 
--- none of the next sections has memory
+-- the sections with memory, if none of the next `k` sections has memory
 pub sections-none : (f : Labels) (n k : ℕ) → ((s : ℕ) → n ≤ s → s < n + k → section_label f s ≡ None)
     → sections_below f (n + k) ≡ sections_below f n
 unfolding sections_below
@@ -20,7 +20,7 @@ sections-none f n zero none = rw add-zero refl
 sections-none f n (suc k) none =
     rw (add-suc, none (n + k) (omega arith) (omega arith), append-nil) (sections-none f n k (λ s above below. none s above (omega arith)))
 
--- each of the next sections has memory of one node
+-- the sections with memory, if each of the next `k` sections has memory of one node
 pub sections-run : (f : Labels) (n k node : ℕ) (v : LabelView) → v.node ≡ Some node
     → ((s : ℕ) → n ≤ s → s < n + k → section_label f s ≡ Some v)
     → sections_below f (n + k) ≡ sections_below f n ++ sections_from n k node
@@ -30,7 +30,7 @@ sections-run f n (suc k) node v has all =
     let so_far = sections-run f n k node v has (λ s above below. all s above (omega arith)) in
     rw (add-suc, all (n + k) (omega arith) (omega arith), has, so_far, append_assoc) refl
 
--- the sections of one node, one by one
+-- the list of sections of one node, to which sections are added one by one
 pub from-none : (before : List Section) (first node : ℕ) → before ≡ before ++ sections_from first (first - first) node
 unfolding sections_from
 from-none before first node =
@@ -63,7 +63,7 @@ starts-next : (r : RunOf LabelView) (rs : List (RunOf LabelView)) (at : ℕ) →
 starts-next r [] at less starts = tt
 starts-next r (s ∷ ss) at less starts = omega arith
 
--- after a record
+-- what remains after a record
 pub left-next : (f : Labels) (next : ℕ) (r : RunOf LabelView) (rs : List (RunOf LabelView)) → IsLeft f next (r ∷ rs)
     → IsLeft f ((run_end r - 1) / 0x8000000 + 1) rs
 left-next f next r rs left =
@@ -75,7 +75,7 @@ left-next f next r rs left =
       each = λ x above. rw (behind r x (omega arith)) at (left.each x (omega arith));
     }
 
--- the sections of a record
+-- the sections with memory after one more record
 pub sections-record : (f : Labels) (next : ℕ) (r : RunOf LabelView) (rs : List (RunOf LabelView)) (first until node : ℕ)
     → IsLeft f next (r ∷ rs)
     → r.base % 4096 ≡ 0 → r.value.node ≡ Some node → first ≡ max next (r.base / 0x8000000) → until ≡ (run_end r - 1) / 0x8000000 + 1
@@ -130,7 +130,7 @@ pub present-none : (f : Labels) → sections_below f 0 ≡ []
 unfolding sections_below
 present-none f = refl
 
--- no record remains
+-- if no record remains, all sections with memory have been found
 pub present-end : (f : Labels) (next : ℕ) → IsLeft f next [] → next ≤ 2 ^ 25 → sections_below f next ≡ present f
 unfolding present
 present-end f next left reach =

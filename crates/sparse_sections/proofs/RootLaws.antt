@@ -80,7 +80,7 @@ pub goes-all : (entry : List Item) (sections : List Section) (now : List Item) (
 goes-all entry sections now place_roots last i all goes =
     let here = rw (drop_all i sections all) at goes in here.ends (Ok place_roots) now (ends-returns place_roots error_of_stage_cause now)
 
--- the table and then the roots
+-- how the stage ends: the table, and then the roots
 pub place_roots-fail : (e : StageStop) (width : Width) (q : Request) (sections : List Section) (old new : List Item)
     → q ≡ cache_line_request (root_table_size_of width) None
     → EndsAsStage {A = ℕ} (place_or_stop what.Roots q owner.Roots) error_of_stage_cause (Err e) old new

@@ -1,4 +1,4 @@
--- Which sections have memory, and the node of each (`memory_present`, `sparse_init`).
+-- Defines which sections have memory, and the node of each (`memory_present`, `sparse_init`).
 use Rattle.std.specs.Prelude.{◌≡◌, ℕ, zero, suc, ◌+◌, ◌*◌, ◌/◌, ◌%◌, ◌^◌, ◌<◌, ◌≤◌, Option, Some, None, List, [], ◌∷◌, ◌++◌, length, get_or}
 use Rattle.std.specs.List.{All}
 use Rattle.std.specs.Option.{option_or}
@@ -7,16 +7,17 @@ use Rattle.address_runs.specs.Runs.{RunOf, run_end}
 use Rattle.memblock_model.specs.Labels.{LabelView, Labels}
 use Rattle.memblock_grow.specs.declared.stop.Section.{Section}
 
--- the label of the first of the n frames from `frame` on that is memory
+-- the label of the first frame that is memory, among the `n` frames from `frame` on; None if none
+-- of them is
 unfoldable pub label_of_first_memory_frame : Labels → ℕ → ℕ → Option LabelView
 label_of_first_memory_frame f frame zero = None
 label_of_first_memory_frame f frame (suc n) = option_or (f (FRAME_SIZE * frame)) (label_of_first_memory_frame f (frame + 1) n)
 
--- the label of the first of the 32,768 frames of section s that is memory
+-- the label of the first frame that is memory, among the 32,768 frames of section `s`
 abbrev pub section_label : Labels → ℕ → Option LabelView
 section_label f s = label_of_first_memory_frame f (32768 * s) 32768
 
--- the section, if it has memory, with the node of its lowest frame of memory
+-- section `s` with its node, if it has memory: the node is that of its lowest frame of memory
 abbrev pub section_if_on_node : ℕ → Option ℕ → List Section
 section_if_on_node s None = []
 section_if_on_node s (Some node) = record { number = s; node = node } ∷ []
@@ -30,8 +31,8 @@ unfoldable pub sections_below : Labels → ℕ → List Section
 sections_below f zero = []
 sections_below f (suc n) = sections_below f n ++ section_with_label n (section_label f n)
 
--- all sections with memory: 2^25 sections end at 2^52, the highest address that the kernel's
--- memory model can have (`MAX_PHYSMEM_BITS`)
+-- all sections with memory. There are 2^25 sections: they end at address 2^52, the highest that
+-- the kernel's memory model can have (`MAX_PHYSMEM_BITS`).
 unfoldable pub present : Labels → List Section
 present f = sections_below f (2 ^ 25)
 
@@ -40,7 +41,7 @@ unfoldable pub sections_from : ℕ → ℕ → ℕ → List Section
 sections_from first zero node = []
 sections_from first (suc n) node = sections_from first n node ++ record { number = first + n; node = node } ∷ []
 
--- the record of memory is whole frames on one node, and ends at or below address 2^52
+-- the record of the memory table is whole frames with a node, and ends at or below address 2^52
 pub record IsWholeFramesWithNode (r : RunOf LabelView) : Type 0 where
   pub node : ℕ
   pub has : r.value.node ≡ Some node
@@ -62,7 +63,7 @@ pub record IsSectionAt (ss : List Section) (i number : ℕ) : Type 0 where
   pub within : i < length ss
   pub is : (d : Section) → (get_or ss i d).number ≡ number
 
--- sections in ascending order, below 2^52
+-- the sections are in ascending order, and lie below address 2^52
 pub record AreSectionsInOrder (ss : List Section) : Type 0 where
   pub ascend : (i j : ℕ) (d : Section) → i < j → j < length ss → (get_or ss i d).number < (get_or ss j d).number
   pub below : All (λ s. s.number < 2 ^ 25) ss

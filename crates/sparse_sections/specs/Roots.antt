@@ -1,4 +1,5 @@
--- The allocations of the table of roots and of the roots (`memory_present`, `sparse_index_alloc`).
+-- Defines the allocations of the table of roots and of each root (`memory_present`,
+-- `sparse_index_alloc`).
 use Rattle.std.specs.Prelude.{ℕ, ◌/◌, ◌==◌, Bool, false, if◌then◌else◌, Option, Some, None, List, [], ◌∷◌, ◌++◌}
 use Rattle.bm_base.specs.declared.range.TheConstants.{FRAME_SIZE}
 use Rattle.bm_base.specs.declared.width.Width.{Width}
@@ -13,7 +14,7 @@ use Rattle.stage_steps.specs.Requests.{place_or_stop}
 use Rattle.sparse_sections.specs.declared.places.RootPlace.{RootPlace}
 use Rattle.sparse_sections.specs.declared.places.Roots.{Roots}
 
--- the root of a section: each root has 256 (`SECTIONS_PER_ROOT`)
+-- the number of a section's root; each root has entries for 256 sections (`SECTIONS_PER_ROOT`)
 abbrev pub root_of : Section → ℕ
 root_of s = s.number / 256
 
@@ -21,18 +22,18 @@ abbrev pub is_last_root : Option ℕ → ℕ → Bool
 is_last_root None root = false
 is_last_root (Some last) root = last == root
 
--- of sections in ascending order, the first one of each root; the sections of the root `last` are
--- left out, since that root has been placed
+-- the first section of each root, if the sections are in ascending order; the sections of the root
+-- `last` are left out, because that root has been placed already
 abbrev pub first_of_each_root : Option ℕ → List Section → List Section
 first_of_each_root last [] = []
 first_of_each_root last (s ∷ ss) =
     if is_last_root last (root_of s) then first_of_each_root last ss else (s ∷ first_of_each_root (Some (root_of s)) ss)
 
--- a request for `size` bytes at a cache line, on the node if there is room
+-- a request for `size` bytes, aligned to a cache line, on the node if there is room
 abbrev pub cache_line_request : ℕ → Option ℕ → Request
 cache_line_request size node = record { size = size; align = 64; min = 0; max = None; node = node; exact = false }
 
--- a root is a page, on the node of its first section
+-- the step that places the root of a section: a page, on the section's node if there is room
 abbrev pub place_root : List RootPlace → Section → StageStep StageCause (List RootPlace)
 place_root before s =
     place_or_stop (what.Root (root_of s)) (cache_line_request FRAME_SIZE (Some s.node)) (owner.Root (root_of s))
@@ -41,7 +42,7 @@ place_root before s =
 abbrev pub place_each_root : List Section → StageStep StageCause (List RootPlace)
 place_each_root sections = read_items_allocating (λ items. []) >>= λ none. fold_steps place_root none (first_of_each_root None sections)
 
--- what contracts see of the roots
+-- what contracts see of the table of roots and the roots (`Roots`)
 pub record RootsView : Type 0 where
   pub table : ℕ
   pub roots : List RootPlace
@@ -49,8 +50,8 @@ pub record RootsView : Type 0 where
 abbrev pub roots_view : Roots → RootsView
 roots_view r = record { table = r.table; roots = r.roots.items }
 
--- the table, which has room for each root that addresses of this width can have, and then the
--- roots in order, in a list
+-- the whole stage: the step that places the table, which has room for each root that addresses of
+-- this width can have, and then the steps that place the roots in order
 unfoldable pub place_roots : Width → List Section → StageStep StageCause RootsView
 place_roots width sections =
     place_or_stop what.Roots (cache_line_request (root_table_size_of width) None) owner.Roots

@@ -1,6 +1,6 @@
 //! Laws of sections, on which a boot may rest. Sections are found in records that are whole frames
-//! on one node. It is proved here that the stage of nodes leaves such records, since that stage
-//! doesn't know of sections.
+//! on one node. This file proves that the stage of nodes leaves such records. That stage itself
+//! doesn't mention sections.
 
 ghost use Rattle.std.specs.Prelude.{◌≡◌, ℕ, ◌/◌, ◌^◌, ◌<◌, ◌≤◌, ◌==◌, Some, None, List, length, get_or, find};
 ghost use Rattle.std.specs.List.{All};
@@ -53,9 +53,9 @@ pub fn present_sections_ascend()
         → All (λ s. s.node < 1024) (present f) }
 {}
 
-/// Law: if the sections are in ascending order, so are the roots that are placed. So each root is
-/// placed once. A root is placed for the first section that belongs to it. So the roots are exactly
-/// those of the sections, each with the node of its lowest section.
+/// Law: if the sections are in ascending order, so are the roots that are placed, and each root is
+/// placed once. A root is placed for the first section that belongs to it. The roots are therefore
+/// exactly those of the sections, each with the node of its lowest section.
 pub fn roots_ascend()
     ensures ascend { (sections : List AnySection) → AreSectionsInOrder sections →
         (i j : ℕ) (d : AnySection) → i < j → j < length (first_of_each_root None sections) →
@@ -66,7 +66,8 @@ pub fn roots_ascend()
         ≡ find (λ s. root_of s == root) sections }
 {}
 
-/// Law: placing roots changes neither memory nor the limit, whether they find a place or not.
+/// Law: placing roots changes neither memory nor the limit, whether each root finds a place or
+/// not.
 pub fn place_roots_keeps_memory_and_limit()
     ensures memory { (width : AnyWidth) (sections : List AnySection) (items : List AnyItem) →
         memory_of (items_after_step items (place_roots width sections items)) ≡ memory_of items }

@@ -2,19 +2,20 @@
 //! roots.
 //!
 //! The kernel keeps page structures one section at a time (`SECTION_SIZE_BITS`), and only for
-//! sections that have memory. It marks these (`memory_present`), and allocates the table of roots
-//! and each root that has such a section (`sparse_index_alloc`). `specs/Present.antt` defines the
-//! sections, each by itself. A root covers 256 sections (`specs/Roots.antt`).
+//! sections that have memory. It marks these sections (`memory_present`), and allocates the table
+//! of roots and each root that has such a section (`sparse_index_alloc`). `specs/Present.antt`
+//! defines for each section whether it has memory, and its node. A root covers 256 sections
+//! (`specs/Roots.antt`).
 //!
 //! [`present`] finds the sections in one pass over the records of the memory table, and doesn't
-//! look at a section without memory. [`place_roots`] carries out the allocations that `roots`
-//! defines.
+//! look at a section without memory. [`place_roots`] carries out the allocations that
+//! `place_roots` of `specs/Roots.antt` defines.
 //!
 //! The layers above may rest on the laws of `src/laws.rt`. After the stage of nodes the records
 //! are whole frames with nodes. The sections that are found are those of memory, in ascending
-//! order. Their roots are ascending too, each with its first section. Placing roots doesn't change
-//! memory. A law is an empty function whose contract is a proven fact. In contracts, a name means
-//! the definition in `specs/`.
+//! order. Their roots are in ascending order too, each with its first section. Placing roots
+//! doesn't change memory. A law is an empty function whose contract is a proven fact. In
+//! contracts, a name means the definition in `specs/`.
 #![tactic(auto)]
 
 mod laws;
@@ -23,8 +24,7 @@ mod sections;
 
 pub use laws::{
     memory_with_nodes_is_whole_frames, place_roots_keeps_memory_and_limit,
-    present_sections_are_memory,
-    present_sections_ascend, roots_ascend,
+    present_sections_are_memory, present_sections_ascend, roots_ascend,
 };
 pub use places::{RootPlace, Roots, place_roots};
 pub use sections::present;

@@ -1,6 +1,6 @@
-//! The allocations of the table of roots and of each root. The kernel makes them as it meets the
-//! sections. Here the sections are a list by then; since it is ascending, the last root that was
-//! placed is enough to know whether a root has its place.
+//! Allocates the table of roots and each root. The kernel allocates a root when it comes to the
+//! first section of it. Here the sections are a list in ascending order. The root of a section is
+//! therefore already placed exactly if it is the root that was placed last.
 
 ghost use Rattle.std.specs.Prelude.{◌≡◌, ◌≤◌, ◌<◌, ◌+◌, ℕ, None, [], IfOk, length, vec_len, vec_capacity};
 ghost use Rattle.bm_base.specs.Width.{root_table_size_of};
@@ -26,7 +26,7 @@ pub struct RootPlace {
     pub place: u64,
 }
 
-/// The table of roots and the roots.
+/// The addresses of the table of roots and of each root.
 #[derive(Debug, Drop)]
 pub struct Roots {
     /// The address of the table's first byte.
@@ -82,6 +82,12 @@ fn is_last_root(last: Option<u32>, root: u32) -> bool
 }
 
 /// Allocates the section's root and appends it to the list, which must have room for it.
+///
+/// # Errors
+///
+/// - `NoPlace` if no place fits.
+/// - `NoTablePlace` if a table has to grow and finds no place.
+/// - `Memory` if this program is out of memory.
 fn place_root(
     memblock: &mut Memblock,
     roots: &mut Vec<RootPlace>,
@@ -106,6 +112,10 @@ fn place_root(
 }
 
 /// Returns an empty list of roots, with room for as many as there are sections.
+///
+/// # Errors
+///
+/// `Memory` if this program is out of memory.
 fn empty_root_list(alloc: Global, sections: &[Section]) -> Result<Vec<RootPlace>, Memory>
     ensures empty { IfOk result (λ place_roots. place_roots.items ≡ []) }
     ensures room { IfOk result (λ place_roots.
@@ -115,6 +125,12 @@ fn empty_root_list(alloc: Global, sections: &[Section]) -> Result<Vec<RootPlace>
 }
 
 /// Allocates the root of each section, once for all sections of a root.
+///
+/// # Errors
+///
+/// - `NoPlace` if no place fits.
+/// - `NoTablePlace` if a table has to grow and finds no place.
+/// - `Memory` if this program is out of memory.
 fn place_each_root(
     alloc: Global,
     memblock: &mut Memblock,
@@ -146,7 +162,7 @@ fn place_each_root(
 ///
 /// # Errors
 ///
-/// Completed steps stay.
+/// Steps that were completed before the error stay in effect.
 ///
 /// - `NoPlace` if the table or a root finds no place.
 /// - `NoTablePlace` if a table of memblock has to grow and finds no place.

@@ -1,8 +1,8 @@
-//! The sections with memory, from the records of the memory table.
+//! Finds the sections with memory, from the records of the memory table.
 //!
 //! A record has bytes of all sections from the one of its first byte to the one of its last byte.
-//! The record before it may end in the first of these sections. That section then gets the node of
-//! the record before, since the node of a section is that of its lowest frame.
+//! The previous record may end in the first of these sections. That section then has the node of
+//! the previous record, since the node of a section is that of its lowest frame of memory.
 
 ghost use Rattle.std.specs.Prelude.{◌≡◌, ◌+◌, ◌-◌, ◌/◌, ◌^◌, ◌<◌, ◌≤◌, ◌++◌, max, OnOk, IfOk};
 ghost use Rattle.std.specs.List.{All};
@@ -18,9 +18,9 @@ use std::alloc::Global;
 /// The size of a section in bytes (`SECTION_SIZE_BITS`).
 const SECTION_SIZE: u64 = 0x800_0000;
 
-/// Returns which sections the record has bytes of: the number of the first one, and the number
-/// after that of the last one. Numbers below `next` are left out. The record must not be empty, and
-/// must end at or below 4 PiB.
+/// Returns the sections that the record has bytes of: the number of the first one, and the number
+/// after that of the last one. Sections with numbers below `next` are left out. The record must
+/// not be empty, and must end at or below 4 PiB.
 fn section_numbers(region: &Region, next: u32) -> (u32, u32)
     requires some { 0 < region.now.size }
     requires reach { region.now.base + region.now.size ≤ 2 ^ 52 }
@@ -33,6 +33,10 @@ fn section_numbers(region: &Region, next: u32) -> (u32, u32)
 }
 
 /// Appends the sections with the numbers from `first` to just below `until`, all with this node.
+///
+/// # Errors
+///
+/// `Memory` if this program is out of memory.
 fn push_sections(
     sections: &mut Vec<Section>,
     first: u32,

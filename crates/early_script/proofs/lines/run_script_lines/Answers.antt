@@ -33,7 +33,7 @@ loop-line-preserved c =
       ready = λ x h. c.run_line.ensures.still_ready x (c.loop-line.invariant.ready x h);
     }
 
--- what holds in any case
+-- what always holds, holds of each error
 on_err : (r : Result (Unit {0}) Memory) (P : Type 0) → P → OnErr r P
 on_err (Ok x) P holds = tt
 on_err (Err memory) P holds = holds

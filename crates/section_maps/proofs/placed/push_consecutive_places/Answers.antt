@@ -1,4 +1,4 @@
--- One more section.
+-- The list after one more section.
 use Rattle.std.proofs.Common.{◌∙◌, arith}
 use Rattle.section_maps.proofs.MapLaws.{no_section, consecutive_places-next}
 use Rattle.section_maps.proofs.placed.push_consecutive_places.Goals as goal

@@ -1,4 +1,4 @@
--- One more section.
+-- The list after one more section.
 use Rattle.std.proofs.Common.{◌∙◌, arith}
 use Rattle.sparse_sections.proofs.PresentLaws.{from-none, from-next}
 use Rattle.sparse_sections.proofs.sections.push_sections.Goals as goal

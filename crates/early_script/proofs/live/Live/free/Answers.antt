@@ -1,4 +1,4 @@
--- One ID less.
+-- The live IDs lose the ID that is freed.
 use Rattle.early_script.proofs.IdsLaws.{bytes-without}
 use Rattle.early_script.proofs.live.Live.free.Goals as goal
 

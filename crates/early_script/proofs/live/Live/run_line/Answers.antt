@@ -1,4 +1,4 @@
--- Each act is one call, with the deed of the act.
+-- Each act is one call, which ends as the effect of the act.
 use Rattle.std.proofs.Common.{Ok, refl, sym}
 use Rattle.script_reader.specs.declared.act.Act.TheVariants as acts
 use Rattle.early_script.specs.Effects.{act_effect}

@@ -1,4 +1,4 @@
--- One more ID, with a range that isn't empty.
+-- The live IDs get one more ID, with a range that isn't empty.
 use Rattle.early_script.proofs.IdsLaws.{bytes-with}
 use Rattle.early_script.proofs.live.Live.set_range.Goals as goal
 
