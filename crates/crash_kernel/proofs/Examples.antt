@@ -1,4 +1,5 @@
--- Worked examples: total memory, the request for it, the windows, and outcomes.
+-- Worked examples: total memory, what is requested of it, the windows of the search, and the
+-- outcomes.
 use Rattle.std.proofs.Common.{◌≡◌, ℕ, ◌^◌, nat_le, true, false, Some, None, List, [], ◌∷◌, refl, ap, arith}
 use Rattle.std.proofs.lemmas.Bool.Decides.{nat_tests}
 use Rattle.std.proofs.lemmas.Option.{same_Some}
@@ -25,7 +26,8 @@ use Rattle.crash_kernel.specs.Reservation.{reserve_crash_area}
 use Rattle.crash_kernel.specs.ReservedArea.{HasLowPartIfNeeded, IsCrashArea, IsFreeMemory}
 use Rattle.crash_kernel.proofs.TotalLaws.{runs-bytes}
 
--- 636 KiB and, of two nodes, 512 KiB and 512 KiB with 2 bytes more: not rounded
+-- 636 KiB without a node, and two nodes of 512 KiB and of 512 KiB plus 2 bytes: the total isn't
+-- rounded
 abbrev two_nodes : List (RunOf LabelView)
 two_nodes = record { base = 0x1000; size = 0x9F000; value = plain_label }
     ∷ (record { base = 0x100000; size = 0x80000; value = with_node (Some 0) plain_label }
@@ -54,7 +56,7 @@ nothing_behind x le =
 counted : memory_bytes (value_at two_nodes) ≡ 0x19F002
 counted = runs-bytes two_nodes are_runs nothing_behind
 
--- a range has its start, and not its end
+-- the start of a range is in it, its end isn't
 abbrev middle : CrashRange
 middle = record { start = 0x10000000; end = Some 0x20000000; size = 0x1000000 }
 
@@ -66,7 +68,7 @@ in_examples : (is_in_total_range 0xFFFFFFF middle ≡ false) × (is_in_total_ran
     × (is_in_total_range 0x20000000 middle ≡ false) × (is_in_total_range 0xFFFFFFFFFFFF open_range ≡ true)
 in_examples = (refl, refl, refl, refl, refl)
 
--- the first range that has the total counts; if there is none, nothing is requested
+-- the first range that contains the total counts; if no range does, nothing is requested
 size_examples : (size_for_total 0x18000000 (middle ∷ (record { start = 0; end = None; size = 7 } ∷ [])) ≡ 0x1000000)
     × (size_for_total 0x20000000 (middle ∷ (open_range ∷ [])) ≡ 0x4000000) × (size_for_total 0x1000 (middle ∷ (open_range ∷ [])) ≡ 0)
 size_examples = (refl, refl, refl)
@@ -84,8 +86,8 @@ area_examples : (request_for 0x40000000 both_forms ≡ Some (record { size = 0x4
 unfolding request_for
 area_examples = (refl, refl, refl, refl)
 
--- memory at 1 MiB for a request of two bytes: three bytes; three of which one is claimed; and two
--- of node 1
+-- Three layouts of memory at 1 MiB: three bytes; three bytes of which one is claimed; and three
+-- bytes of which the last two are of node 1.
 abbrev three : List Item
 three = item.Mem (record { base = 0x100000; size = 3 }) ∷ []
 
@@ -95,8 +97,8 @@ claimed_one = item.Mem (record { base = 0x100000; size = 3 }) ∷ (item.Claim (r
 abbrev noded_bytes : List Item
 noded_bytes = item.Mem (record { base = 0x100000; size = 3 }) ∷ (item.Node (record { base = 0x100001; size = 2 }) 1 ∷ [])
 
--- two bytes fit, and four don't; two don't fit if one is claimed or of another node, if the base
--- isn't a multiple of 1 MiB, or if the range ends at 2^64
+-- Two bytes fit, and four don't. Two don't fit if one of them is claimed or of another node, if the
+-- base isn't a multiple of 1 MiB, or if the range ends at 2^64.
 fixed_examples : (fixed_range 0x100000 2 three ≡ Some (record { base = 0x100000; size = 2 }))
     × (main_range 2 (placement.Fixed 0x100000) three ≡ Some (record { base = 0x100000; size = 2 }))
     × (fixed_range 0x100000 4 three ≡ None) × (fixed_range 0x100000 2 claimed_one ≡ None) × (fixed_range 0x100001 2 three ≡ None)
@@ -104,7 +106,7 @@ fixed_examples : (fixed_range 0x100000 2 three ≡ Some (record { base = 0x10000
 unfolding main_range fits fits_in each_in each_from
 fixed_examples = (refl, refl, refl, refl, refl, refl, refl)
 
--- free memory, and an area of it that needs no low part
+-- free memory of two bytes, and a two-byte area in it that needs no low part
 abbrev two_bytes : RangeView
 two_bytes = record { base = 0x100000; size = 2 }
 
@@ -137,14 +139,15 @@ two_told = record {
 low_part_wanting : HasLowPartIfNeeded two_asked three (record { base = 0x100000000; size = 2 }) None → ⊥
 low_part_wanting known = let clash : true ≡ false = known in cc
 
--- a low part is needed from 4 GiB on, of 256 MiB by default, and not if its size is 0
+-- an area that ends past 4 GiB needs a low part only if it begins at or above 4 GiB; the default
+-- size is 256 MiB, and size 0 means none
 low_examples : (needs_low_part (record { base = 0xFF000000; size = 0x2000000 }) 0x10000000 ≡ false)
     × (needs_low_part (record { base = 0x100000000; size = 0x2000000 }) 1 ≡ true)
     × (needs_low_part (record { base = 0x100000000; size = 0x2000000 }) 0 ≡ false)
     × (low_size no_crash ≡ 0x10000000) × (low_size (record no_crash { low = Some 0 }) ≡ 0)
 low_examples = (refl, refl, refl, refl, refl)
 
--- if nothing is requested, nothing is done, whatever the items
+-- without a request the stage does nothing, whatever the items
 nothing_asked : (items : List Item) → reserve_crash_area no_crash items ≡ return_value crash.Nothing items
 unfolding reserve_crash_area request_for
 nothing_asked items = refl

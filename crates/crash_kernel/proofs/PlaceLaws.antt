@@ -1,5 +1,5 @@
--- Ranges that a search found: they end in the window, and a search of exactly one range finds its
--- base.
+-- Ranges that a search found end in its window. A search whose window is exactly one range finds
+-- the base of that range.
 use Rattle.std.proofs.Common.{◌≡◌, ℕ, ◌+◌, ◌%◌, ◌^◌, ◌<◌, ◌≤◌, ◌==◌, Bool, true, false, nat_lt, if◌then◌else◌, Some, None, List, refl, arith}
 use Rattle.std.proofs.lemmas.Bool.Decides.{nat_tests}
 use Rattle.memblock_model.specs.declared.owner.Which.TheVariants as which
@@ -25,7 +25,7 @@ unfolding best_place fits
 best_none items q none place lt = best_place_in-none (upward_of items) (table_of which.Memory items) (table_of which.Reserved items)
     q none place lt
 
--- a search of exactly a range finds its base, or the range doesn't fit
+-- a search whose window is exactly one range can only find the base of that range
 pub exact-base : (items : List Item) (size base place : ℕ) → best_place items (area_query size 1 base (base + size)) ≡ Some place
     → place ≡ base
 exact-base items size base place found =
@@ -34,7 +34,7 @@ exact-base items size base place found =
     let high : place + size ≤ base + size = known.high in
     omega arith
 
--- the range at a requested base, by that search
+-- the range at a requested base is what a search of exactly that range finds
 fixed_by : (items : List Item) (size base : ℕ) (b : Bool) → base % 0x100000 ≡ 0 → base + size < 2 ^ 64
     → fits items (area_query size 1 base (base + size)) false base ≡ b
     → fixed_range base size items ≡ (if b then Some (record { base = base; size = size }) else None)

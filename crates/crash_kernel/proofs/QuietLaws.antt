@@ -13,9 +13,10 @@ use Rattle.crash_kernel.specs.declared.request.AreaRequest.{AreaRequest}
 use Rattle.crash_kernel.specs.declared.crash.Crash.{Crash}
 use Rattle.crash_kernel.specs.declared.crash.Crash.TheVariants as crash
 use Rattle.crash_kernel.specs.Total.{memory_bytes}
-use Rattle.crash_kernel.specs.Request.{request_for}
+use Rattle.crash_kernel.specs.Request.{request_by, request_for}
+use Rattle.crash_kernel.specs.declared.rule.CrashRule.{CrashRule}
 use Rattle.crash_kernel.specs.Places.{low_range, low_size, main_range, needs_low_part, search_failure}
-use Rattle.crash_kernel.specs.Reservation.{reserve_low_part, reserve_crash_area, reserve_request, claim_low_part, claim_area}
+use Rattle.crash_kernel.specs.Reservation.{reserve_low_part, reserve_crash_area, reserve_crash_area_by, reserve_request, claim_low_part, claim_area}
 
 quiet_if : (b : Bool) (f g : StageStep RefusedGrowth Crash) → KeepsMemory f → KeepsMemory g → KeepsMemory (if b then f else g)
 quiet_if true f g first second = first
@@ -45,3 +46,9 @@ unfolding reserve_crash_area
 quiet-reserved asked =
     quiet-bind _ _ (quiet-seen (λ items. memory_bytes (memory_of items)))
     (λ total. quiet_with_area (low_size asked) (request_for total asked))
+
+pub quiet-reserved_by : (rule : CrashRule) (added : ℕ) (asked : CrashOptionView) → KeepsMemory (reserve_crash_area_by rule added asked)
+unfolding reserve_crash_area_by
+quiet-reserved_by rule added asked =
+    quiet-bind _ _ (quiet-seen (λ items. memory_bytes (memory_of items)))
+    (λ total. quiet_with_area (low_size asked) (request_by rule total added asked))

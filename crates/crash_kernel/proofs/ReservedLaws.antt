@@ -1,4 +1,4 @@
--- The stage step by step: how its parts end, from the ends of the calls in them.
+-- How the parts of the stage end, from how the calls in them end.
 use Rattle.std.proofs.Common.{◌≡◌, ◌≢◌, ℕ, Bool, if◌then◌else◌, Option, Some, None, List, [], ◌∷◌, ◌++◌, Result, Ok, Err, refl, sym, ◌∙◌, ap}
 use Rattle.bm_base.specs.Range.{RangeView}
 use Rattle.memblock_model.specs.declared.owner.Which.TheVariants as which
@@ -21,11 +21,12 @@ use Rattle.crash_kernel.specs.declared.request.AreaRequest.{AreaRequest}
 use Rattle.crash_kernel.specs.declared.crash.Crash.{Crash}
 use Rattle.crash_kernel.specs.declared.crash.Crash.TheVariants as crash
 use Rattle.crash_kernel.specs.Total.{memory_bytes}
-use Rattle.crash_kernel.specs.Request.{request_for}
+use Rattle.crash_kernel.specs.Request.{request_by}
+use Rattle.crash_kernel.specs.declared.rule.CrashRule.{CrashRule}
 use Rattle.crash_kernel.specs.Places.{low_range, low_size, main_range, needs_low_part}
-use Rattle.crash_kernel.specs.Reservation.{reserve_low_part, reserve_crash_area, reserve_request, claim_low_part, claim_area}
+use Rattle.crash_kernel.specs.Reservation.{reserve_low_part, reserve_crash_area_by, reserve_request, claim_low_part, claim_area}
 
--- a change and an outcome after it, and a change that was refused
+-- a change followed by an outcome ends as the change does, with that outcome
 pub change-then : (a : Crash) (old new : List Item) (change : Change) → EndsAsChange {T = Unit {0}} (Ok tt) old new change
     → EndsAsStage (make_change change >>= λ done. return_value a) refusal_for (Ok a) old new
 change-then a old new change h =
@@ -36,13 +37,13 @@ pub change-fails : (e : Refusal) (old new : List Item) (change : Change) (next :
     → EndsAsChange {T = Unit {0}} (Err e) old new change → EndsAsStage {A = Crash} (make_change change >>= next) refusal_for (Err e) old new
 change-fails e old new change next h = ends-first e refusal_for old new (make_change change) next (ends-change (Err e) old new change h)
 
--- the low part, by the range that was found
+-- the low part ends as its definition says, if `low` is the range that the search found
 pub low-at : (items : List Item) (main : RangeView) (size : ℕ) (low : Option RangeView) → low ≡ low_range size items
     → reserve_low_part main size items ≡ claim_low_part main low items
 unfolding reserve_low_part
 low-at items main size low found = rw found refl
 
--- after the claim of the area
+-- the rest of the stage after the claim of the area
 pub main-then : (r : Result Crash Refusal) (old mid new : List Item) (low : ℕ) (area : AreaRequest) (main : RangeView) (b : Bool)
     → b ≡ needs_low_part main low → EndsAsChange {T = Unit {0}} (Ok tt) old mid (claim_range main owner.Crash)
     → EndsAsStage (if b then reserve_low_part main low else return_value (crash.At main None)) refusal_for r mid new
@@ -60,29 +61,29 @@ main-fails e old new low area main h =
     (λ done. if needs_low_part main low then reserve_low_part main low else return_value (crash.At main None)) h
 
 -- the rest of the stage after the total, the request and the range are known
-pub area-at : (items : List Item) (asked : CrashOptionView) (total : ℕ) (area : Option AreaRequest) → total ≡ memory_bytes (memory_of items)
-    → area ≡ request_for total asked → reserve_crash_area asked items ≡ reserve_request (low_size asked) area items
-unfolding reserve_crash_area
-area-at items asked total area counted is = rw (is, counted) refl
+module _ (rule : CrashRule) (added : ℕ) (items : List Item) (asked : CrashOptionView) (total : ℕ) where
+  pub area-at : (area : Option AreaRequest) → total ≡ memory_bytes (memory_of items) → area ≡ request_by rule total added asked
+      → reserve_crash_area_by rule added asked items ≡ reserve_request (low_size asked) area items
+  unfolding reserve_crash_area_by
+  area-at area counted is = rw (is, counted) refl
 
-pub main-at : (items : List Item) (asked : CrashOptionView) (total : ℕ) (area : AreaRequest) (main : Option RangeView)
-    → total ≡ memory_bytes (memory_of items)
-    → Some area ≡ request_for total asked → main ≡ main_range area.size area.placement items
-    → reserve_crash_area asked items ≡ claim_area area (low_size asked) main items
-main-at items asked total area main counted is found = rw (area-at items asked total (Some area) counted is, found) refl
+  pub main-at : (area : AreaRequest) (main : Option RangeView) → total ≡ memory_bytes (memory_of items)
+      → Some area ≡ request_by rule total added asked → main ≡ main_range area.size area.placement items
+      → reserve_crash_area_by rule added asked items ≡ claim_area area (low_size asked) main items
+  main-at area main counted is found = rw (area-at (Some area) counted is, found) refl
 
--- the outcome of a stage that takes no step is the one that it returns
+-- a stage without steps ends only with the outcome that it returns
 pub idle-ok : (a told : Crash) (old new : List Item) (f : StageStep RefusedGrowth Crash) → EndsAsStage f refusal_for (Ok a) old new
     → f old ≡ return_value told old → ◌≡◌ {A = Result Crash Refusal} (Ok a) (Ok told)
 idle-ok a told old new f h is =
     let same : a ≡ told = cc (sym h.0 ∙ ap (λ (t : StepEffect RefusedGrowth Crash). t.answer) is) in rw same refl
 
--- steps with one that writes among them
+-- a list of steps with a step in its middle isn't empty
 some-step : (before behind : List (List Item)) (one : List Item) → (before ++ one ∷ []) ++ behind ≢ []
 some-step [] behind one = λ is. cc
 some-step (s ∷ ss) behind one = λ is. cc
 
--- a change that ends with a written item, and then returns an outcome, has a step
+-- a change that ends with a written item has a step
 writes : (told : Crash) (items : List Item) (first : ChangeEffect) (refused : Option RefusedGrowth) (i : Item)
     (next : Unit {0} → StepEffect RefusedGrowth Crash) → first.refused ≡ refused
     → continue_if_ok (followed_by first refused (write_item i items)).steps
@@ -93,7 +94,7 @@ writes told items first None i next same = λ is.
 writes told items first (Some r) i next same = λ is.
     let none = rw same at (ap (λ (t : StepEffect RefusedGrowth Crash). t.answer) is) in cc none
 
--- so a claim isn't a stage without a step
+-- a stage that begins with a claim has a step
 pub claim-writes : (told : Crash) (items : List Item) (range : RangeView) (who : Owner) (next : Unit {0} → StageStep RefusedGrowth Crash)
     → (make_change (claim_range range who) >>= next) items ≢ return_value told items
 unfolding claim_range

@@ -28,10 +28,11 @@ use Rattle.crash_kernel.specs.declared.request.Placement.TheVariants as placemen
 use Rattle.crash_kernel.specs.declared.crash.Crash.{Crash}
 use Rattle.crash_kernel.specs.declared.crash.Crash.TheVariants as crash
 use Rattle.crash_kernel.specs.Total.{memory_bytes}
-use Rattle.crash_kernel.specs.Request.{request_for}
+use Rattle.crash_kernel.specs.Request.{request_by, request_for}
+use Rattle.crash_kernel.specs.declared.rule.CrashRule.{CrashRule}
 use Rattle.crash_kernel.specs.Places.{area_query, best_range, high_range, low_range, low_size, main_range, needs_low_part, search_failure}
-use Rattle.crash_kernel.specs.Reservation.{reserve_low_part, reserve_crash_area, reserve_request, claim_low_part, claim_area}
-use Rattle.crash_kernel.specs.ReservedArea.{HasLowPartIfNeeded, IsCrashArea, IsFreeMemory, items_after_claim}
+use Rattle.crash_kernel.specs.Reservation.{reserve_low_part, reserve_crash_area, reserve_crash_area_by, reserve_request, claim_low_part, claim_area}
+use Rattle.crash_kernel.specs.ReservedArea.{HasLowPartIfNeeded, IsAreaFor, IsCrashArea, IsFreeMemory, items_after_claim}
 
 -- a range that fits is free
 free_by : (items : List Item) (r : RangeView) (o : Option LabelView) → is_some o ≡ true
@@ -48,7 +49,8 @@ place_free items q place known =
     (λ x at. let inside = covers-from r x at in known.label x inside.0 inside.1)
     (λ x at. let inside = covers-from r x at in no_owner (owner_of items x) (known.free x inside.0 inside.1))
 
--- a range that was found: free, of that size, at a multiple of 1 MiB, and ending in its window
+-- a range that a search found: it is free, has the requested size, begins at a multiple of 1 MiB,
+-- and ends in its window
 record IsMain (items : List Item) (size : ℕ) (r : RangeView) : Type 0 where
   free : IsFreeMemory items r
   sized : r.size ≡ size
@@ -72,7 +74,7 @@ best_by items size lo hi (Some place) r was is =
 best_found : (items : List Item) (size lo hi : ℕ) (r : RangeView) → best_range size lo hi items ≡ Some r → IsFound items size hi r
 best_found items size lo hi r is = best_by items size lo hi (best_place items (area_query size 0x1000000 lo hi)) r refl is
 
--- the range at a requested base
+-- the range at a requested base is free if the search of exactly that range succeeds
 fits_free : (items : List Item) (size base : ℕ) → fits items (area_query size 1 base (base + size)) false base ≡ true
     → IsFreeMemory items (record { base = base; size = size })
 unfolding fits
@@ -109,7 +111,7 @@ main_found items size placement.Automatic r is =
     ]
 main_found items size placement.High r is = (best_found items size 0x1000000 (2 ^ 46) r is).main
 
--- from the stage's outcome back to what it found: a refused change has no area
+-- the outcome of a stage as a result; a refused change has no area
 abbrev ok : Crash → Result Crash RefusedGrowth
 ok a = Ok a
 
@@ -123,7 +125,7 @@ change_told change items next a = by (change items).refused where
   by None h = h
   by (Some r) h = cc
 
--- after the claim, by the range of the low part
+-- the area after its claim, for each answer of the search for a low part
 with_low_told : (asked : CrashOptionView) (items : List Item) (m main : RangeView) (low found : Option RangeView)
     → low_range (low_size asked) (items_after_claim m items) ≡ found → needs_low_part m (low_size asked) ≡ true
     → (claim_low_part m found (items_after_claim m items)).answer ≡ Ok (crash.At main low)
@@ -142,7 +144,7 @@ with_low_told asked items m main low (Some l) is needs h =
     let found = best_found mid (low_size asked) 0 (2 ^ 32) l is in
     (rw (← there) (needs, record { size = found.main.sized; free = found.main.free; within = found.within }), same)
 
--- by whether a low part is needed
+-- the area if it needs a low part, and if it doesn't
 needs_told : (asked : CrashOptionView) (items : List Item) (m main : RangeView) (low : Option RangeView) (b : Bool)
     → needs_low_part m (low_size asked) ≡ b
     → ((if b then reserve_low_part m (low_size asked) else return_value (crash.At m None)) (items_after_claim m items)).answer
@@ -157,17 +159,17 @@ needs_told asked items m main low false is h =
     let there : None ≡ low = cc in
     (rw (← there) is, same)
 
--- an outcome without a range isn't an area
+-- the outcome of a failed search isn't an area
 unplaced_told : (s : Placement) (main : RangeView) (low : Option RangeView) → ok (search_failure s) ≡ Ok (crash.At main low) → ⊥
 unplaced_told (placement.Fixed base) main low h = cc
 unplaced_told placement.Automatic main low h = cc
 unplaced_told placement.High main low h = cc
 
-main_told : (asked : CrashOptionView) (items : List Item) (area : AreaRequest) (main : RangeView) (low found : Option RangeView)
-    → request_for (memory_bytes (memory_of items)) asked ≡ Some area → main_range area.size area.placement items ≡ found
-    → (claim_area area (low_size asked) found items).answer ≡ Ok (crash.At main low) → IsCrashArea asked items main low
-main_told asked items area main low None asks is h = absurd (unplaced_told area.placement main low h)
-main_told asked items area main low (Some m) asks is h =
+main_told : (request : Option AreaRequest) (asked : CrashOptionView) (items : List Item) (area : AreaRequest) (main : RangeView)
+    (low found : Option RangeView) → request ≡ Some area → main_range area.size area.placement items ≡ found
+    → (claim_area area (low_size asked) found items).answer ≡ Ok (crash.At main low) → IsAreaFor request asked items main low
+main_told request asked items area main low None asks is h = absurd (unplaced_told area.placement main low h)
+main_told request asked items area main low (Some m) asks is h =
     let next : Unit {0} → StageStep RefusedGrowth Crash = λ done.
     if needs_low_part m (low_size asked) then reserve_low_part m (low_size asked) else return_value (crash.At m None) in
     let behind = needs_told asked items m main low (needs_low_part m (low_size asked)) refl
@@ -181,15 +183,21 @@ main_told asked items area main low (Some m) asks is h =
       low_part = behind.0;
     })
 
-area_told : (asked : CrashOptionView) (items : List Item) (main : RangeView) (low : Option RangeView) (area : Option AreaRequest)
-    → request_for (memory_bytes (memory_of items)) asked ≡ area
-    → (reserve_request (low_size asked) area items).answer ≡ Ok (crash.At main low) → IsCrashArea asked items main low
-area_told asked items main low None asks h = let told : ok crash.Nothing ≡ Ok (crash.At main low) = h in cc
-area_told asked items main low (Some area) asks h =
-    main_told asked items area main low (main_range area.size area.placement items) asks refl h
+area_told : (asked : CrashOptionView) (items : List Item) (main : RangeView) (low : Option RangeView) (request : Option AreaRequest)
+    → (reserve_request (low_size asked) request items).answer ≡ Ok (crash.At main low) → IsAreaFor request asked items main low
+area_told asked items main low None h = let told : ok crash.Nothing ≡ Ok (crash.At main low) = h in cc
+area_told asked items main low (Some area) h =
+    main_told (Some area) asked items area main low (main_range area.size area.placement items) refl refl h
 
 pub reserve_crash_area-told : (asked : CrashOptionView) (items : List Item) (main : RangeView) (low : Option RangeView)
     → (reserve_crash_area asked items).answer ≡ Ok (crash.At main low) → IsCrashArea asked items main low
 unfolding reserve_crash_area
 reserve_crash_area-told asked items main low h =
-    area_told asked items main low (request_for (memory_bytes (memory_of items)) asked) refl h
+    area_told asked items main low (request_for (memory_bytes (memory_of items)) asked) h
+
+pub reserve_crash_area_by-told : (rule : CrashRule) (added : ℕ) (asked : CrashOptionView) (items : List Item) (main : RangeView)
+    (low : Option RangeView) → (reserve_crash_area_by rule added asked items).answer ≡ Ok (crash.At main low)
+    → IsAreaFor (request_by rule (memory_bytes (memory_of items)) added asked) asked items main low
+unfolding reserve_crash_area_by
+reserve_crash_area_by-told rule added asked items main low h =
+    area_told asked items main low (request_by rule (memory_bytes (memory_of items)) added asked) h

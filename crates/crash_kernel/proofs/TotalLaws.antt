@@ -1,4 +1,4 @@
--- The bytes that are memory, counted record by record.
+-- The number of bytes that are memory is the sum of the sizes of the memory table's records.
 use Rattle.std.proofs.Common.{◌≡◌, ℕ, zero, suc, ◌+◌, ◌-◌, ◌^◌, ◌<◌, ◌≤◌, true, false, ◌||◌, min, is_some, sum_by, List, [], ◌∷◌, length, take, get_or, refl, ◌∙◌, ap, inl, inr, arith}
 use Rattle.std.proofs.lemmas.Bool.{cases_Bool, cases_lt}
 use Rattle.std.proofs.lemmas.Bool.Decides.{nat_tests}
@@ -22,7 +22,7 @@ module _ {X : Type 0} where
   abbrev pub sizes : List (RunOf X) → ℕ
   sizes rs = sum_by (λ r. r.size) rs
 
-  -- the sizes of the runs before one add up to at most its base
+  -- the sizes of all runs before a run add up to at most its base
   sizes_below : (at i : ℕ) (rs : List (RunOf X)) (d : RunOf X) → StartAtOrPast at rs → AreRuns rs → i < length rs
       → at + sizes (take i rs) ≤ (get_or rs i d).base
   sizes_below at i [] d start runs lt = absurd (omega arith)
@@ -34,7 +34,7 @@ module _ {X : Type 0} where
   pub sizes-before : (i : ℕ) (rs : List (RunOf X)) (d : RunOf X) → AreRuns rs → i < length rs → sizes (take i rs) ≤ (get_or rs i d).base
   sizes-before i rs d runs lt = let from = sizes_below 0 i rs d (start_zero rs) runs lt in omega (arith, from)
 
-  -- runs below an address end there at most
+  -- runs without values from `n` on end at or below `n`
   ends_by : (n : ℕ) (r : RunOf X) (rs : List (RunOf X)) → 0 < r.size → IsEmptyFrom n (value_at (r ∷ rs)) → run_end r ≤ n
   ends_by n r rs some none = elim (cases_lt n (run_end r)) as (λ _. run_end r ≤ n) [
     | inl past ↦
@@ -58,7 +58,7 @@ module _ {X : Type 0} where
       elim (cases_Bool (lies_in r x)) as (λ _. is_some (value_at (r ∷ rs) x) ≡ (lies_in r x || is_some (value_at rs x)))
       [ inl here ↦ rw here refl | inr other ↦ rw other refl ]
 
-  -- so the number of addresses with a value is the sum of the sizes
+  -- the number of addresses with a value is the sum of the sizes of the runs
   pub sizes-count : (n : ℕ) (rs : List (RunOf X)) → AreRuns rs → IsEmptyFrom n (value_at rs)
       → count_below (λ x. is_some (value_at rs x)) n ≡ sizes rs
   sizes-count n [] runs none = count_none (λ x. false) n (λ i lt. refl)

@@ -30,8 +30,8 @@ fixed_range base size items =
 abbrev pub high_range : ℕ → List Item → Option RangeView
 high_range size items = best_range size 0x1000000 (2 ^ 46) items
 
--- the range of the crash area: the requested one, or a free one; without `,high` memory below 4
--- GiB (`CRASH_ADDR_LOW_MAX`) is searched first
+-- the range of the crash area: at the requested base, or else the range that memblock picks.
+-- Without `,high` a range below 4 GiB (`CRASH_ADDR_LOW_MAX`) is searched for first.
 unfoldable pub main_range : ℕ → Placement → List Item → Option RangeView
 main_range size (placement.Fixed base) items = fixed_range base size items
 main_range size placement.Automatic items = option_or (best_range size 0x1000000 (2 ^ 32) items) (high_range size items)
@@ -47,8 +47,8 @@ search_failure placement.High = crash.NoArea
 abbrev pub low_size : CrashOptionView → ℕ
 low_size asked = unwrap_or asked.low 0x10000000
 
--- whether the area needs a low part of that size: it lies at or above 4 GiB, and the size isn't 0
--- (`crashkernel=0,low`)
+-- whether the area `main` needs a low part of `low` bytes: it lies at or above 4 GiB, and `low`
+-- isn't 0 (`crashkernel=0,low`)
 abbrev pub needs_low_part : RangeView → ℕ → Bool
 needs_low_part main low = nat_le (2 ^ 32) main.base && nat_lt 0 low
 

@@ -13,7 +13,8 @@ use Rattle.crash_kernel.specs.declared.request.AreaRequest.{AreaRequest}
 use Rattle.crash_kernel.specs.declared.crash.Crash.{Crash}
 use Rattle.crash_kernel.specs.declared.crash.Crash.TheVariants as crash
 use Rattle.crash_kernel.specs.Total.{memory_bytes}
-use Rattle.crash_kernel.specs.Request.{request_for}
+use Rattle.crash_kernel.specs.Request.{request_by, request_for}
+use Rattle.crash_kernel.specs.declared.rule.CrashRule.{CrashRule}
 use Rattle.crash_kernel.specs.Places.{low_range, low_size, main_range, needs_low_part, search_failure}
 
 -- searches for a low part and claims it; if no range was found for it, frees the area again
@@ -44,8 +45,15 @@ reserve_request low (Some area) = do
   main ← read_items (main_range area.size area.placement)
   claim_area area low main
 
--- computes the request from total memory, and reserves it (`reserve_crashkernel`)
+-- reserves the area that `crashkernel=` requests for the machine's total memory, if it requests one
+-- (`reserve_crashkernel`)
 unfoldable pub reserve_crash_area : CrashOptionView → StageStep RefusedGrowth Crash
 reserve_crash_area asked = do
   total ← read_items (λ items. memory_bytes (memory_of items))
   reserve_request (low_size asked) (request_for total asked)
+
+-- the stage by a rule: `added` bytes became memory before it was trimmed to whole frames
+unfoldable pub reserve_crash_area_by : CrashRule → ℕ → CrashOptionView → StageStep RefusedGrowth Crash
+reserve_crash_area_by rule added asked = do
+  total ← read_items (λ items. memory_bytes (memory_of items))
+  reserve_request (low_size asked) (request_by rule total added asked)

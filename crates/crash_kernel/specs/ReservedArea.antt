@@ -11,19 +11,20 @@ use Rattle.growth_model.specs.Tables.{IsUnclaimed}
 use Rattle.stage_steps.specs.Steps.{items_after_step}
 use Rattle.stage_steps.specs.Requests.{make_change}
 use Rattle.boot_options.specs.Crash.{CrashOptionView}
+use Rattle.crash_kernel.specs.declared.request.AreaRequest.{AreaRequest}
 use Rattle.crash_kernel.specs.declared.request.Placement.{Placement}
 use Rattle.crash_kernel.specs.Total.{memory_bytes}
 use Rattle.crash_kernel.specs.Request.{request_for}
 use Rattle.crash_kernel.specs.Places.{low_size, needs_low_part}
 
--- every byte of the range is memory, all of one node and alike in being mirrored, and no byte is
--- claimed
+-- every byte of the range is memory that nobody has claimed, and all bytes have one label: one
+-- node, and either all are mirrored or none
 pub record IsFreeMemory (items : List Item) (r : RangeView) : Type 0 where
   pub label : LabelView
   pub memory : (x : ℕ) → covers r x ≡ true → memory_of items x ≡ Some label
   pub free : IsUnclaimed (owner_of items) r
 
--- the items once the area is claimed
+-- the items after the claim of the area `main`
 abbrev pub items_after_claim : RangeView → List Item → List Item
 items_after_claim main items = items_after_step items (make_change (claim_range main owner.Crash) items)
 
@@ -39,10 +40,15 @@ abbrev pub HasLowPartIfNeeded : CrashOptionView → List Item → RangeView → 
 HasLowPartIfNeeded asked items main None = needs_low_part main (low_size asked) ≡ false
 HasLowPartIfNeeded asked items main (Some low) = (needs_low_part main (low_size asked) ≡ true) × IsLowPart asked items main low
 
--- the area has the requested size, begins at a multiple of 1 MiB, and was free
-pub record IsCrashArea (asked : CrashOptionView) (items : List Item) (main : RangeView) (low : Option RangeView) : Type 0 where
+-- the area has the size of this request, begins at a multiple of 1 MiB, and was free
+pub record IsAreaFor (request : Option AreaRequest) (asked : CrashOptionView) (items : List Item) (main : RangeView)
+    (low : Option RangeView) : Type 0 where
   pub placement : Placement
-  pub size : request_for (memory_bytes (memory_of items)) asked ≡ Some (record { size = main.size; placement = placement })
+  pub size : request ≡ Some (record { size = main.size; placement = placement })
   pub free : IsFreeMemory items main
   pub aligned : main.base % 0x100000 ≡ 0
   pub low_part : HasLowPartIfNeeded asked items main low
+
+-- the area is one for the request of `bootmem`'s own rule
+abbrev pub IsCrashArea : CrashOptionView → List Item → RangeView → Option RangeView → Type 0
+IsCrashArea asked items main low = IsAreaFor (request_for (memory_bytes (memory_of items)) asked) asked items main low

@@ -7,14 +7,14 @@ use bm_base::Range;
 pub enum Crash {
     /// Neither the plain nor the high form of `crashkernel=` requests any memory.
     Nothing,
-    /// The area is claimed. So is its low part, if the area lies at or above 4 GiB and the low
-    /// part's size isn't 0.
+    /// The area is claimed. Its low part is claimed too if the area lies at or above 4 GiB and
+    /// the low part's size isn't 0.
     At { main: Range, low: Option<Range> },
     /// No free range fits the area (the kernel logs `No suitable area found`).
     NoArea,
-    /// The requested base isn't a multiple of 1 MiB, or the range there isn't entirely free memory
-    /// of one node. A range that would end past 2^64 - 1 isn't free (the kernel logs `memory is in
-    /// use`).
+    /// The requested base isn't a multiple of 1 MiB, or the range at that base isn't entirely free
+    /// memory of one node (the kernel logs `memory is in use`). A range that would end past 2^64 -
+    /// 1 counts as not free.
     InUse,
     /// No free range below 4 GiB fits the low part, and the area was freed again (the kernel logs
     /// `Cannot reserve ..MB crashkernel low memory`).

@@ -1,6 +1,6 @@
 //! Claims the crash area and its low part, or frees the area again if the low part doesn't fit.
 
-ghost use Rattle.std.specs.Prelude.{◌≡◌, ◌≢◌, ◌<◌, IfErr, Ok};
+ghost use Rattle.std.specs.Prelude.{◌≡◌, ◌≢◌, ◌<◌, ◌≤◌, ◌^◌, IfErr, Ok};
 ghost use Rattle.growth_model.specs.Tables.{HasFirstItem, OverlapsNoTable};
 ghost use Rattle.growth_model.specs.declared.refusal.Refusal.TheVariants as refusals;
 ghost use Rattle.stage_steps.specs.Causes.{refusal_for};
@@ -8,11 +8,12 @@ ghost use Rattle.stage_steps.specs.Steps.{EndsAsStage, return_value};
 ghost use Rattle.memblock_grow.specs.Continues.{ContinuesMemblock};
 ghost use Rattle.boot_options.specs.Crash.{crash_option_view};
 ghost use Rattle.crash_kernel.specs.declared.crash.Crash.{Crash as AnyCrash};
-ghost use Rattle.crash_kernel.specs.Reservation.{reserve_low_part, reserve_crash_area};
+ghost use Rattle.crash_kernel.specs.Reservation.{reserve_low_part, reserve_crash_area, reserve_crash_area_by};
 
 use crate::crash::Crash;
 use crate::places::{low_range, main_range, needs_low_part, search_failure};
-use crate::request::{request_for, total_memory};
+use crate::request::{request_by, total_memory};
+use crate::rule::CrashRule;
 use bm_base::Range;
 use boot_options::CrashOption;
 use growth_model::Refusal;
@@ -20,7 +21,8 @@ use memblock_grow::Memblock;
 use memblock_model::Owner;
 
 /// The size of the low part without `crashkernel=SIZE,low`, 256 MiB (`reserve_crashkernel_low`).
-/// The kernel takes more if `swiotlb=` requests larger bounce buffers; this doesn't.
+/// The kernel takes more if `swiotlb=` requests larger bounce buffers; this program ignores
+/// `swiotlb=`.
 const DEFAULT_LOW_SIZE: u64 = 1 << 28;
 
 /// Reserves the crash area that `option` requests, and its low part if it needs one
@@ -45,8 +47,35 @@ pub fn reserve(memblock: &mut Memblock, option: &CrashOption) -> Result<Crash, R
     ensures found { IfErr result (λ refusal. refusal ≢ refusals.NoGap) }
     ensures goes_on { ContinuesMemblock memblock.old memblock.new }
 {
+    reserve_by(memblock, CrashRule::ExactTotal, 0, option)
+}
+
+/// Reserves the crash area that `option` requests by `rule`. `added` is the number of bytes that
+/// became memory before memblock trimmed it to whole frames; only the rule of Linux 6.1 looks at
+/// it. In all else the call does what [`reserve`] does.
+///
+/// # Errors
+///
+/// Those of [`reserve`].
+pub fn reserve_by(
+    memblock: &mut Memblock,
+    rule: CrashRule,
+    added: u64,
+    option: &CrashOption,
+) -> Result<Crash, Refusal>
+    requires begun { HasFirstItem memblock.old.journal.items }
+    requires in_reach { added ≤ 2 ^ 52 }
+    ensures ends { EndsAsStage
+        (reserve_crash_area_by rule added (crash_option_view option.now)) refusal_for result
+        memblock.old.journal.items memblock.new.journal.items }
+    ensures idle { (crash : AnyCrash) →
+        reserve_crash_area_by rule added (crash_option_view option.now) memblock.old.journal.items
+        ≡ return_value crash memblock.old.journal.items → result ≡ Ok crash }
+    ensures found { IfErr result (λ refusal. refusal ≢ refusals.NoGap) }
+    ensures goes_on { ContinuesMemblock memblock.old memblock.new }
+{
     let total = total_memory(memblock.tables());
-    let Some(area) = request_for(total, option) else {
+    let Some(area) = request_by(rule, total, added, option) else {
         return Ok(Crash::Nothing);
     };
     let Some(main) = main_range(memblock, &area) else {

@@ -8,7 +8,7 @@ use Rattle.crash_kernel.specs.Total.{memory_bytes}
 use Rattle.crash_kernel.proofs.TotalLaws.{sizes-before, runs-bytes}
 use Rattle.crash_kernel.proofs.request.total_memory.Goals as goal
 
--- the value for a record that doesn't exist
+-- any value, for an index past the last record
 nothing : RunOf LabelView
 nothing = record { base = 0; size = 0; value = plain_label }
 
