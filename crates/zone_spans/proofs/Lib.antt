@@ -1,4 +1,6 @@
 mod Examples
+pub mod HullLaws
+pub mod RuleLaws
 pub mod SpanLaws
 pub mod SlotLaws
 pub mod TableLaws

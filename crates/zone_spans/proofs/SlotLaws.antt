@@ -10,7 +10,7 @@ use Rattle.bm_base.specs.Zones.{zone_of}
 use Rattle.address_runs.specs.Edits.{IsEmptyFrom}
 use Rattle.buddy_blocks.specs.Frames.{Frames}
 use Rattle.buddy_blocks.proofs.CountLaws.{zone_self, zone_is}
-use Rattle.memblock_frames.specs.declared.frames.TheConstants.{MAX_NODES}
+use Rattle.bm_base.specs.declared.zone.TheConstants.{MAX_NODES}
 use Rattle.zone_spans.specs.declared.span.Span.{Span}
 use Rattle.zone_spans.specs.Spans.{with_frames, span_below, span_of, spans_from, spans_of}
 use Rattle.zone_spans.specs.Slots.{zone_index, SlotsHoldSpans, SpansHaveAtMost, frames_with_node_run, slot_after, spans_in_slots}
@@ -53,7 +53,7 @@ told_more f k at until w old new nothing some low zones told put n z =
     let other = span_other f n k at until (2 ^ 52) z w nothing zones in
     grind (arith, nat_tests, put, told n z, low_place z, low_place w, zone_by_place w z, grown, other)
 
--- a run in two parts
+-- giving a node to a run in two parts is the same as giving it to the whole run
 pub run_parts : (first at until n : ℕ) (f : Frames) → first ≤ at → at ≤ until
     → frames_with_node_run at until n (frames_with_node_run first at n f) ≡ frames_with_node_run first until n f
 run_parts first at until n f order order_too =

@@ -37,7 +37,7 @@ grow f n z m (suc k) all =
     rw (add-suc m (suc k), here, rest) (ap (λ (s : Span). Some s) (one_more n z m (suc k) (span_below f n z m)))
 
 -- what the span states of all frames below m; without a span there are none
-abbrev IsToldBelow : Frames → ℕ → Zone → ℕ → Option Span → Type 0
+abbrev pub IsToldBelow : Frames → ℕ → Zone → ℕ → Option Span → Type 0
 IsToldBelow f n z m o =
     MatchOption o (((x : ℕ) → x < m → is_in_node_zone f n z x ≡ false) × (count_below_in_zone f n z m ≡ 0)) (λ s. IsSpan f n z m s)
 
@@ -49,7 +49,7 @@ told_next f n z m true (Some s) here told = grind (arith, told.all)
 told_next f n z m false None out told = grind (arith, told.0)
 told_next f n z m false (Some s) out told = grind (arith, told.all)
 
-told_below : (f : Frames) (n : ℕ) (z : Zone) (m : ℕ) → IsToldBelow f n z m (span_below f n z m)
+pub told_below : (f : Frames) (n : ℕ) (z : Zone) (m : ℕ) → IsToldBelow f n z m (span_below f n z m)
 unfolding span_below count_below_in_zone
 told_below f n z zero = ((λ x below. absurd (omega arith)), refl)
 told_below f n z (suc m) = told_next f n z m (is_in_node_zone f n z m) (span_below f n z m) refl (told_below f n z m)

@@ -1,2 +1,4 @@
+pub mod Hull
+pub mod HullSlots
 pub mod Slots
 pub mod Spans

@@ -1,4 +1,5 @@
--- The slots of spans while the records of memory are read: three for a node, one for each zone.
+-- The slots for spans, which are filled while the records of memory are read. Each node has three
+-- slots, one for each zone.
 use Rattle.std.specs.Prelude.{◌≡◌, ℕ, ◌+◌, ◌-◌, ◌*◌, ◌==◌, ◌≤◌, ◌&&◌, nat_le, nat_lt, if◌then◌else◌, Option, Some, None, List, [], ◌∷◌, ◌++◌, get_or, option_to_list}
 use Rattle.bm_base.specs.declared.zone.Zone.{Zone}
 use Rattle.bm_base.specs.declared.zone.Zone.TheVariants as zone
@@ -15,11 +16,13 @@ zone_index zone.Normal = 2
 abbrev pub SlotsHoldSpans : Frames → List (Option Span) → Type 0
 SlotsHoldSpans f slots = (n : ℕ) (z : Zone) → get_or slots (3 * n + zone_index z) None ≡ span_of f n z
 
--- no span has more frames than there are below this one
+-- no span in the slots has more than `at` memory frames, which is true as long as all frames that
+-- were added are below frame `at`
 abbrev pub SpansHaveAtMost : ℕ → List (Option Span) → Type 0
 SpansHaveAtMost at slots = (i : ℕ) (s : Span) → get_or slots i None ≡ Some s → s.present ≤ at
 
--- the frames from `first` to below `end` are of the node; the others are unchanged
+-- the node of each frame after the frames from `first` to below `end` were given the node `n`; the
+-- others are unchanged
 abbrev pub frames_with_node_run : ℕ → ℕ → ℕ → Frames → Frames
 frames_with_node_run first end n f x = if nat_le first x && nat_lt x end then Some n else f x
 

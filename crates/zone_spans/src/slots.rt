@@ -1,5 +1,6 @@
-//! Slots for the spans of each node and zone, up to the highest node so far: three for a node. A
-//! record of memory finds its slot by its node and zone, so one pass over the records is enough.
+//! Keeps the spans of each node and zone in slots, three for each node up to the highest node that
+//! has been found. A record of memory finds its slot by its node and zone, so one pass over the
+//! records is enough.
 
 ghost use Rattle.std.specs.Prelude.{◌≡◌, ◌^◌, ℕ, ◌+◌, ◌*◌, ◌<◌, ◌≤◌, None, get_or, max, OnOk, IfOk, vec_len};
 ghost use Rattle.bm_base.specs.Zones.{zone_of};
@@ -12,7 +13,8 @@ use bm_base::{Memory, Zone, zone_of};
 use buddy_blocks::zone_until;
 use std::alloc::Global;
 
-/// Returns the index of a zone among the three slots of a node.
+/// Returns the index of a zone's slot among the three slots of a node: 0 for DMA, 1 for DMA32 and
+/// 2 for Normal.
 fn zone_index(zone: Zone) -> u64
     ensures { result ≡ zone_index zone }
 {

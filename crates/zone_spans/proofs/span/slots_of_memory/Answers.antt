@@ -1,4 +1,4 @@
-use Rattle.std.proofs.Common.{◌≡◌, ◌<◌, ◌≤◌, [], length, get_or, None, refl, sym, ◌∙◌, arith}
+use Rattle.std.proofs.Common.{◌≡◌, ◌<◌, [], length, get_or, None, refl, sym, ◌∙◌, arith}
 use Rattle.std.proofs.lemmas.List.{get_or_past}
 use Rattle.address_runs.specs.Runs.{RunOf, value_at}
 use Rattle.memblock_model.specs.Labels.{LabelView, plain_label}
@@ -6,11 +6,10 @@ use Rattle.memblock_ranges.specs.Tables.{records_of_head}
 use Rattle.memblock_ranges.proofs.LentLaws.{count_is}
 use Rattle.memblock_frames.specs.Frames.{node_of_frame}
 use Rattle.memblock_frames.proofs.TakeLaws.{frames_below, frames_in_order, frames_some}
-use Rattle.zone_spans.specs.Slots.{SlotsHoldSpans}
-use Rattle.zone_spans.proofs.SlotLaws.{told_none, bounded_higher, listed}
+use Rattle.zone_spans.proofs.SlotLaws.{told_none, bounded_higher}
 use Rattle.zone_spans.proofs.TableLaws.{low_node, nothing_taken, taken_run, taken_left, taken_all}
-use Rattle.zone_spans.proofs.span.spans.Goals as goal
-use Rattle.zone_spans.proofs.span.spans.Goals.{in-Some+in_ok-add_frames, in_default}
+use Rattle.zone_spans.proofs.span.slots_of_memory.Goals as goal
+use Rattle.zone_spans.proofs.span.slots_of_memory.Goals.{in-Some+in_ok-add_frames, in_default}
 
 nobody : RunOf LabelView
 nobody = record { base = 0; size = 0; value = plain_label }
@@ -73,11 +72,8 @@ loop-i-preserved c =
           }
     ]
 
-pub returns : goal.returns
-returns c =
+pub returns-clause-spans : goal.returns-clause-spans
+returns-clause-spans c =
     let ms = records_of_head c.args.store.now c.args.heads.now.memory in
-    let ss = c.loop-i.slots.items in
     let all : c.loop-i.i ≡ length ms = omega (arith, count_is c.args.store.now c.args.heads.now.memory) in
-    let told : SlotsHoldSpans (node_of_frame (value_at ms)) ss = rw (← taken_all ms c.loop-i.i all) c.loop-i.invariant.told in
-    let few : length ss ≤ 3072 = let size = c.loop-i.slots.ok.0 in omega (arith, size) in
-    rw (← listed (node_of_frame (value_at ms)) ss told few, ← c.deref.ensures.value) c.spans_in_slots.ensures
+    rw (← taken_all ms c.loop-i.i all) c.loop-i.invariant.told

@@ -4,7 +4,7 @@ use Rattle.memblock_model.specs.Labels.{LabelView}
 use Rattle.memblock_ranges.specs.Tables.{records_of_head}
 use Rattle.memblock_frames.specs.Frames.{node_of_frame, frames_of_record}
 use Rattle.zone_spans.specs.Slots.{SlotsHoldSpans, SpansHaveAtMost}
-use Rattle.zone_spans.proofs.span.spans.Given as goal
+use Rattle.zone_spans.proofs.span.slots_of_memory.Given as goal
 
 abbrev pub invariant-loop-i : goal.invariant-loop-i
 invariant-loop-i l = record {
