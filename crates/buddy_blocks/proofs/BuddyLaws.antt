@@ -25,7 +25,7 @@ covers_set o x y other = false_from_ne_true (covers (set_around o x) y) (λ on.
 pub in_set_or_not : (o x y : ℕ) → IsInSet o x y ⊎ (IsInSet o x y → ⊥)
 in_set_or_not o x y = cases_eq (y / 2 ^ o) (x / 2 ^ o)
 
--- a set that was removed, and one that was added back
+-- `without_set` removes the set, and `with_set` adds it back
 pub without_is : (order x : ℕ) (f : Frames) → RemovesFrameSet f (without_set order x f) order x
 without_is order x f = record {
   gone = λ y same. rw (set_covers order x y same) refl;
@@ -51,7 +51,7 @@ not_in_block : (f : Frames) (b c : Block) (y : ℕ) → IsBlock f b → IsBlock 
 not_in_block f b c y one two other inner outer =
     other (same_Some c b (sym (found_block f y c two inner) ∙ found_block f y b one outer))
 
--- the other blocks stay
+-- the other blocks are still blocks
 pub others_stay : (f g : Frames) (low x : ℕ) (b c : Block) → RemovesFrameSet f g low x → IsBlock f b → IsInBlock b x → low ≤ b.order
     → IsBlock f c → c ≢ b → IsBlock g c
 others_stay f g low x b c without block inner order was other = record {
@@ -88,7 +88,7 @@ others_were f g low x b c without block inner order is outside =
           rw same at some.1
     ]
 
--- the two numbers of a pair
+-- an even number and the odd one after it have the same half
 half_of_other : (q : ℕ) → other_half q / 2 ≡ q / 2
 half_of_other q = grind (arith, nat_tests)
 
@@ -164,7 +164,7 @@ parting (suc d) low x y same other =
           }
     ]
 
--- the block has no other blocks left
+-- no other block is left of the block
 pub rest_is_left : (f g : Frames) (low x : ℕ) (b c : Block) → RemovesFrameSet f g low x → IsBlock f b → IsInBlock b x → low ≤ b.order
     → IsBlock g c → IsInBlock b c.first → IsBuddy b low b.order x c
 rest_is_left f g low x b c without block inner order is within =
@@ -191,7 +191,7 @@ pub one_at : (f : Frames) (b c : Block) → IsBlock f b → IsBlock f c → b.fi
 one_at f b c one two same =
     same_Some b c (sym (found_block f b.first b one refl) ∙ found_block f b.first c two (ap (λ x. x / 2 ^ c.order) same))
 
--- the blocks after the removal, in both directions
+-- the blocks after the removal are the buddies and the other blocks, and no others
 pub blocks_left : (f g : Frames) (low x : ℕ) (b c : Block) → RemovesFrameSet f g low x → IsBlock f b → IsInBlock b x → low ≤ b.order
     → IsBlock g c ↔ ((IsBlock f c × (IsInBlock b c.first → ⊥)) ⊎ IsBuddy b low b.order x c)
 blocks_left f g low x b c without block inner order = (

@@ -41,7 +41,7 @@ ends_at_first f first end n rs run free =
     absurd (run.before (row_end r - 1) next (last.1 ∙ ap (λ m. Some m) node)))
     free
 
--- the consecutive blocks from here on are one more row
+-- the consecutive blocks from frame `at` on are one more row of the list
 pub long_more : (f : Frames) (first end n o s at k : ℕ) (rs new : List BlockRow)
     → new ≡ rs ++ record { order = o; first = at; count = k; node = n; zone = zone_of at } ∷ []
     → IsWholeNodeRun f first end n → first ≤ at → 0 < k → at + k * s ≤ end → s ≡ 2 ^ o → at % s ≡ 0 → SetFits first end at s

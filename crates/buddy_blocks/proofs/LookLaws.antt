@@ -103,7 +103,7 @@ nothing_behind b r rs runs none =
     let last : value_at (r ∷ rs) (run_end r - 1) ≡ Some r.value = value_inside r rs (run_end r - 1) (omega arith) (omega arith) in
     cc (sym last ∙ none (run_end r - 1) (omega arith)))) in (low, λ x high. sym (value_behind r rs x (omega arith)) ∙ none x high)
 
--- they are the blocks of all frames
+-- the blocks of the runs are the blocks of all free frames
 listed_from : (f : Frames) (b at : ℕ) (rs : List (RunOf ℕ)) → AreRuns rs → StartAtOrPast at rs → IsEmptyFrom b (value_at rs) → at ≤ b
     → ((x : ℕ) → at ≤ x → f x ≡ value_at rs x) → blocks_from f at (b - at) ≡ listed f rs
 unfolding listed
@@ -134,7 +134,7 @@ listed_all rs runs none =
     sym (ap (λ n. blocks_from (value_at rs) 0 n) (sym all)
     ∙ listed_from (value_at rs) MAX_FRAMES 0 rs runs (start_zero rs) none (omega arith) (λ x above. refl))
 
--- one more run of the list
+-- the blocks of one run, followed by those of the runs after it
 pub listed_more : (f : Frames) (rs : List (RunOf ℕ)) (i : ℕ) (d : RunOf ℕ) → i < length rs
     → listed f (drop i rs) ≡ blocks_from f (get_or rs i d).base (get_or rs i d).size ++ listed f (drop (i + 1) rs)
 unfolding listed

@@ -93,7 +93,7 @@ none_up f n z order (suc k) c is has node_is zone_is from until =
           ]
     ]
 
--- what is found by going up: a block of the least order that has one
+-- what a search through the orders finds: a block of the least order that has one
 record IsFoundUp (f : Frames) (n : ℕ) (z : Zone) (order k : ℕ) (b : Block) : Type 0 where
   pub has : ListsBlock (blocks_of f) b
   pub serves : CanServe n z order b

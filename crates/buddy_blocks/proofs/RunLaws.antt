@@ -38,7 +38,7 @@ found f first end n o x run above below small fits greatest =
     up_is f x n 10 o (run.inside x above below) small (free_inside f first end n o x run fits)
     (λ less free. greatest (suc o) (omega arith) (omega arith) (inside_free f first end n (suc o) x run above below free))
 
--- the blocks up to here, and the one that begins here
+-- the blocks that begin before frame `at`, and the one that begins there
 pub one_more : (f : Frames) (first end n o at s : ℕ) → IsWholeNodeRun f first end n → first ≤ at → at < end → o ≤ 10 → s ≡ 2 ^ o
     → SetFits first end at s → IsGreatestFittingOrder first end at o → at % s ≡ 0
     → blocks_from f first (at + s - first) ≡ blocks_from f first
@@ -62,7 +62,7 @@ pub start_whole : (first end at o s : ℕ) → FittingSetsBeginAt first end at �
 start_whole first end at o s start small size fits =
     subst (λ (t : ℕ). at % t ≡ 0) (sym size) (start o small (subst (λ (t : ℕ). SetFits first end at t) size fits))
 
--- the next block begins after it
+-- the next block begins right after this one
 pub start_next : (first end at o s : ℕ) → at % s ≡ 0 → o ≤ 10 → s ≡ 2 ^ o → IsGreatestFittingOrder first end at o → FittingSetsBeginAt first end (at + s)
 start_next first end at o s whole few size greatest p small fits =
     let there : (at + s) % 2 ^ o ≡ 0 =
@@ -109,7 +109,7 @@ step_down first end x (suc o) s size above below fails greatest =
 pub start_at_ten : (first end at : ℕ) → at % 2 ^ 10 ≡ 0 → FittingSetsBeginAt first end at
 start_at_ten first end at whole o small fits = multiple o 10 at small whole
 
--- no frames, no blocks
+-- a run without frames has no blocks
 pub nothing_more : (f : Frames) (first : ℕ) (bs : List Block) → bs ≡ bs ++ blocks_from f first (first - first)
 nothing_more f first bs =
     let empty = from-none f first (first - first) (λ y above below. absurd (omega arith)) in

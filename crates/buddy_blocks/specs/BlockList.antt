@@ -9,30 +9,32 @@ use Rattle.buddy_blocks.specs.declared.block.Block.{Block}
 use Rattle.buddy_blocks.specs.declared.run.TheConstants.{MAX_FRAMES}
 use Rattle.buddy_blocks.specs.Frames.{Frames}
 
--- the node is n; false for no node (`None`)
+-- whether the node is `n`; false for no node (`None`)
 abbrev pub is_node : Option ℕ → ℕ → Bool
 is_node None n = false
 is_node (Some m) n = m == n
 
--- the frames of the aligned set of this order that has frame x
+-- the aligned set of `2^order` frames that has frame `x`, as a range of frames
 abbrev pub set_around : ℕ → ℕ → RangeView
 set_around order x = record { base = x - x % 2 ^ order; size = 2 ^ order }
 
--- all frames of that set are free, on the node
+-- whether all frames of the aligned set around frame `x` are free, on node `n`
 unfoldable pub are_free : Frames → ℕ → ℕ → ℕ → Bool
 are_free f order x n = each_in (set_around order x) (λ y. is_node (f y) n)
 
--- the largest order up to m whose set around the frame is free, on the node
+-- the largest order up to `m` such that all frames of the aligned set around frame `x` are free,
+-- on node `n`
 unfoldable pub greatest_free_order : Frames → ℕ → ℕ → ℕ → ℕ
 greatest_free_order f x n zero = 0
 greatest_free_order f x n (suc m) = if are_free f (suc m) x n then suc m else greatest_free_order f x n m
 
--- the set of this order around the frame, as a block
+-- the aligned set of this order around frame `x`, as a block of node `n`
 abbrev pub block_around : ℕ → ℕ → ℕ → Block
 block_around order x n = record { order = order; first = x - x % 2 ^ order; node = n; zone = zone_of (x - x % 2 ^ order) }
 
--- the block that has frame x, if x is free on this node: of the largest order up to 10 whose set
--- around x is free; none if x isn't free
+-- the block that has frame `x`, if that frame is free on this node. It has the largest order, up
+-- to 10, whose aligned set around the frame is free. If the frame isn't free (`None`), there is no
+-- block.
 abbrev pub block_for : Frames → ℕ → Option ℕ → Option Block
 block_for f x None = None
 block_for f x (Some n) = Some (block_around (greatest_free_order f x n 10) x n)
@@ -41,17 +43,18 @@ block_for f x (Some n) = Some (block_around (greatest_free_order f x n 10) x n)
 abbrev pub block_of : Frames → ℕ → Option Block
 block_of f x = block_for f x (f x)
 
--- the list with the block added as its first, if the block begins at this frame; else the list
+-- the list with the block added at its start, if the block begins at frame `x`; else the list as
+-- it is
 abbrev pub prepend_block_at : ℕ → Option Block → List Block → List Block
 prepend_block_at x None bs = bs
 prepend_block_at x (Some b) bs = if b.first == x then b ∷ bs else bs
 
--- the blocks that begin in the n frames from x on
+-- the blocks that begin in the `n` frames from `x` on
 unfoldable pub blocks_from : Frames → ℕ → ℕ → List Block
 blocks_from f x zero = []
 blocks_from f x (suc n) = prepend_block_at x (block_of f x) (blocks_from f (x + 1) n)
 
--- all blocks, by their first frames
+-- all blocks, in ascending order of their first frames
 unfoldable pub blocks_of : Frames → List Block
 blocks_of f = blocks_from f 0 MAX_FRAMES
 
@@ -70,7 +73,7 @@ is_block_of n z order b = (b.node == n) && ((b.order == order) && is_same_zone b
 unfoldable pub count_blocks : Frames → ℕ → Zone → ℕ → ℕ
 count_blocks f n z order = count_by (is_block_of n z order) (blocks_of f)
 
--- the list has the block
+-- the block is in the list
 abbrev pub ListsBlock : List Block → Block → Type 0
 ListsBlock [] b = ⊥
 ListsBlock (c ∷ cs) b = (c ≡ b) ⊎ ListsBlock cs b

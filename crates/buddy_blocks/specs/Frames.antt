@@ -1,6 +1,6 @@
--- Free frames and their blocks, each defined by itself as a set of frames. No range is cut and no
--- blocks are merged, so the blocks don't depend on the order in which the frames became free
--- (`memblock_free_all`, `__free_one_page`).
+-- Free frames and their blocks. Each block is defined by itself, as a set of frames: no range is
+-- cut and no blocks are merged. The blocks therefore don't depend on the order in which the frames
+-- became free (`memblock_free_all`, `__free_one_page`).
 use Rattle.std.specs.Prelude.{◌≡◌, ℕ, ◌+◌, ◌/◌, ◌%◌, ◌^◌, ◌<◌, ◌≤◌, Option, Some}
 use Rattle.bm_base.specs.declared.zone.Zone.{Zone}
 use Rattle.bm_base.specs.Zones.{zone_of}
@@ -14,11 +14,12 @@ Frames = ℕ → Option ℕ
 abbrev pub IsInSet : ℕ → ℕ → ℕ → Type 0
 IsInSet order first frame = frame / 2 ^ order ≡ first / 2 ^ order
 
--- each frame of that set is free, on the node
+-- each frame of the aligned set of 2^order frames that has `first` is free, on the node
 abbrev pub AreFree : Frames → ℕ → ℕ → ℕ → Type 0
 AreFree free order first node = (frame : ℕ) → IsInSet order first frame → free frame ≡ Some node
 
--- each frame of that set is free, on the node, and in the zone
+-- the aligned set of 2^order frames that has `first` is *good*: each of its frames is free, on
+-- the node, and in the zone
 abbrev pub IsFreeInOneZone : Frames → ℕ → ℕ → ℕ → Zone → Type 0
 IsFreeInOneZone free order first node zone = (frame : ℕ) → IsInSet order first frame → (free frame ≡ Some node) × (zone_of frame ≡ zone)
 

@@ -1,5 +1,5 @@
--- The block from which the page allocator serves a request for an order (`__rmqueue_smallest`): of
--- the smallest sufficient order, and of those blocks the lowest.
+-- The block from which the page allocator serves a request for an order (`__rmqueue_smallest`). It
+-- has the smallest sufficient order, and it is the lowest block of that order.
 use Rattle.std.specs.Prelude.{◌≡◌, ◌⊎◌, ℕ, zero, suc, ◌+◌, ◌-◌, ◌<◌, ◌≤◌, Option, None}
 use Rattle.std.specs.List.{find}
 use Rattle.std.specs.Option.{option_or, option_map}
@@ -8,7 +8,8 @@ use Rattle.buddy_blocks.specs.declared.block.Block.{Block}
 use Rattle.buddy_blocks.specs.Frames.{Frames, IsBlock}
 use Rattle.buddy_blocks.specs.BlockList.{blocks_of, is_block_of}
 
--- the block is on the node, in the zone, and of this order or a larger one
+-- the block can serve the request: it is on the node, in the zone, and of this order or a larger
+-- one
 pub record CanServe (n : ℕ) (z : Zone) (order : ℕ) (b : Block) : Type 0 where
   pub node : b.node ≡ n
   pub zone : b.zone ≡ z
@@ -21,12 +22,13 @@ pub record IsPicked (f : Frames) (node : ℕ) (zone : Zone) (order : ℕ) (b : B
   pub serves : CanServe node zone order b
   pub least : (c : Block) → IsBlock f c → CanServe node zone order c → (b.order < c.order) ⊎ ((b.order ≡ c.order) × (b.first ≤ c.first))
 
--- no block serves the request
+-- no block can serve the request
 abbrev pub NoneServes : Frames → ℕ → Zone → ℕ → Type 0
 NoneServes f node zone order = (b : Block) → IsBlock f b → CanServe node zone order b → ⊥
 
--- the block from which the request is served, as a function: of the k orders from `order` on, the
--- first one that has a block there, and the lowest block of that order
+-- the block that is picked, as a function of the free frames. It looks at the `k` orders from
+-- `order` on. Of the first order that has a block on the node and in the zone, it takes the lowest
+-- such block.
 abbrev pub picked_block_from : Frames → ℕ → Zone → ℕ → ℕ → Option Block
 picked_block_from f node zone order zero = None
 picked_block_from f node zone order (suc k) =

@@ -5,24 +5,25 @@ use Rattle.buddy_blocks.specs.declared.block.BlockRow.{BlockRow}
 use Rattle.buddy_blocks.specs.Frames.{Frames}
 use Rattle.buddy_blocks.specs.Rows.{row_end}
 
--- the frames from `first` to below `end` are a whole run of the node: all are free on it, and
--- neither neighbour is
+-- the frames from `first` to below `end` are a whole run of node `n`: all of them are free on it,
+-- and neither the frame before nor the frame after them is
 pub record IsWholeNodeRun (f : Frames) (first end n : ℕ) : Type 0 where
   pub inside : (x : ℕ) → first ≤ x → x < end → f x ≡ Some n
   pub before : (x : ℕ) → suc x ≡ first → f x ≢ Some n
   pub behind : f end ≢ Some n
 
--- the aligned set of s frames around the frame lies between `first` and `end`
+-- the aligned set of `s` frames around the frame lies in the frames from `first` to below `end`
 pub record SetFits (first end frame s : ℕ) : Type 0 where
   pub above : first ≤ frame - frame % s
   pub below : frame - frame % s + s ≤ end
 
--- no aligned set around the frame of an order above `order`, up to 10, lies between `first` and
--- `end`
+-- no aligned set around the frame that is of an order above `order`, up to 10, lies in the frames
+-- from `first` to below `end`
 abbrev pub IsGreatestFittingOrder : ℕ → ℕ → ℕ → ℕ → Type 0
 IsGreatestFittingOrder first end frame order = (o : ℕ) → order < o → o ≤ 10 → SetFits first end frame (2 ^ o) → ⊥
 
--- each aligned set around the frame that fits begins at the frame
+-- each aligned set around frame `at` that lies in the frames from `first` to below `end` begins at
+-- `at`
 abbrev pub FittingSetsBeginAt : ℕ → ℕ → ℕ → Type 0
 FittingSetsBeginAt first end at = (o : ℕ) → o ≤ 10 → SetFits first end at (2 ^ o) → at % 2 ^ o ≡ 0
 

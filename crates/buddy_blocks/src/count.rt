@@ -11,12 +11,12 @@ ghost use Rattle.buddy_blocks.specs.Sets.{IsWholeNodeRun};
 
 use crate::block::MAX_ORDER;
 use crate::run::{FrameRun, MAX_FRAMES};
-use crate::set::{MAX_BLOCK_FRAMES, AlignedSet, set_within, zone_until};
+use crate::set::{AlignedSet, MAX_BLOCK_FRAMES, set_within, zone_until};
 use bm_base::{Zone, zone_of};
 
-/// Returns the number of blocks on this node, in this zone and of this order. Allocates nothing.
-/// Takes about twenty steps for each run of the node. The runs must be canonical, and all frames
-/// below [`MAX_FRAMES`].
+/// Returns the number of blocks on this node, in this zone and of this order. The call allocates
+/// nothing. It takes about twenty steps for each run of the node. The runs must be canonical, and
+/// all frames below [`MAX_FRAMES`].
 pub fn count_blocks(runs: &[FrameRun], node: u32, zone: Zone, order: u32) -> u64
     requires runs { AreRuns runs.now }
     requires low { IsEmptyFrom MAX_FRAMES (value_at runs.now) }
@@ -31,8 +31,8 @@ pub fn count_blocks(runs: &[FrameRun], node: u32, zone: Zone, order: u32) -> u64
     total
 }
 
-/// Returns the number of blocks in this zone and of this order, of the run from frame `first` to
-/// below `end`.
+/// Returns the number of blocks in this zone and of this order that lie in one run of free frames,
+/// from frame `first` to below `end`.
 fn count_blocks_in_run(first: u64, end: u64, zone: Zone, order: u32) -> u64
     requires { first ≤ end }
     ensures few { result ≤ end - first }
@@ -52,17 +52,17 @@ fn count_blocks_in_run(first: u64, end: u64, zone: Zone, order: u32) -> u64
     total
 }
 
-/// Tests whether a block of the set's order that begins at frame `at` has the order `order` and is
-/// in the zone `zone`.
+/// Tests whether the set has the order `order`, and frame `at`, where it begins, is in the zone
+/// `zone`.
 fn has_order_and_zone(set: AlignedSet, at: u64, zone: Zone, order: u32) -> bool
     ensures { IsTrue result ↔ (set.order ≡ order) × (zone_of at ≡ zone) }
 {
     set.order == order && zone_of(at) == zone
 }
 
-/// Returns how many blocks of the set's order follow each other from frame `at` on, all in its zone
-/// and below frame `end`. For the largest order that is as many as fit before the zone or the
-/// frames end. For any other order it is 1.
+/// Returns the number of consecutive blocks of the set's order from frame `at` on that lie in the
+/// zone of `at` and below frame `end`. For the largest order these are as many as fit below the
+/// end of the zone and below `end`. For any other order the number is 1.
 pub fn count_equal_blocks(at: u64, end: u64, set: AlignedSet) -> u64
     requires small { set.order ≤ 10 }
     requires size { set.order ≡ 10 → set.size ≡ 1024 }

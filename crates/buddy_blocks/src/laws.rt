@@ -1,5 +1,5 @@
-//! The laws of this crate: the functions that list blocks return exactly the sets of frames that
-//! are blocks.
+//! The laws of this crate. They say that the functions that list blocks return exactly the sets of
+//! frames that are blocks.
 
 ghost use Rattle.std.specs.Prelude.{◌≡◌, ◌⊎◌, ◌↔◌, ℕ, ◌/◌, ◌^◌, ◌<◌, ◌≤◌, Some, None};
 ghost use Rattle.bm_base.specs.declared.zone.Zone.{Zone as AnyZone};
@@ -20,8 +20,8 @@ pub fn sets_lie_in_one_zone()
 {}
 
 /// Law: the block of a frame is the only block that has the frame; a frame without a block isn't
-/// free. The list of blocks ascends, and has only blocks. It has all of them if the free frames
-/// are below [`crate::MAX_FRAMES`].
+/// free. The list of blocks is in ascending order and has only blocks. It has all blocks if the
+/// free frames are below [`crate::MAX_FRAMES`].
 pub fn listed_blocks_are_blocks()
     ensures block { (f : Frames) (x : ℕ) (b : AnyBlock) → block_of f x ≡ Some b
         → IsBlock f b × IsInBlock b x }
@@ -47,8 +47,8 @@ pub fn picked_block_is_least()
 {}
 
 /// Law: if an aligned set of frames of a block is no longer free, the rest of the block is split
-/// into buddies: one of each order from the set's to below the block's. All other blocks stay.
-/// Removing a set of frames, or adding it back, changes only the frames of that set.
+/// into buddies: one of each order from the set's to below the block's. All other blocks are
+/// unchanged. Removing a set of frames, or adding it back, changes only the frames of that set.
 pub fn rest_of_block_is_buddies()
     ensures left { (f : Frames) (order x : ℕ) → RemovesFrameSet f (without_set order x f) order x }
     ensures back { (f : Frames) (order x n : ℕ) → ((y : ℕ) → IsInSet order x y → f y ≡ None) →

@@ -82,8 +82,8 @@ pub fn block_rows(alloc: Global, runs: &[FrameRun]) -> Result<Vec<BlockRow>, Mem
     Ok(rows)
 }
 
-/// Appends the blocks of one run, row by row. The list stays canonical (`AreCanonicalRows`) if it
-/// was so, and if the last frame of its last row is free.
+/// Appends the blocks of one run, row by row. If the list was canonical (`AreCanonicalRows`) and
+/// the last frame of its last row is free, the list stays canonical.
 ///
 /// # Errors
 ///
@@ -115,8 +115,9 @@ fn push_rows(rows: &mut Vec<BlockRow>, first: u64, end: u64, node: u32) -> Resul
     Ok(())
 }
 
-/// Returns the block that has this frame, or `None` if the frame isn't free. Allocates nothing.
-/// Takes one look-up of the run, and a test of each order.
+/// Returns the block that contains this frame, or `None` if the frame isn't free. It searches the
+/// run of the frame once, and then tries the orders from 10 down until one fits. It allocates
+/// nothing.
 pub fn block_of(runs: &Vec<FrameRun>, frame: u64) -> Option<Block>
     requires { AreRuns runs.now.items }
     ensures { result ≡ block_of (value_at runs.now.items) frame }

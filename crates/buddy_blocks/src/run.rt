@@ -4,7 +4,7 @@ use address_runs::Stretch;
 use bm_base::Range;
 use std::marker::Model;
 
-/// Frames have numbers below this, since addresses have at most 52 bits.
+/// All frame numbers are below this limit, since addresses have at most 52 bits.
 pub const MAX_FRAMES: u64 = 1 << 40;
 
 /// Consecutive free frames of one node. In a canonical list each run is as long as possible.
@@ -30,7 +30,7 @@ impl Model for FrameRun {
     ghost inverse = { λ r. record { first = r.base; count = r.size; node = r.value } };
 }
 
-/// Frame numbers take the place of addresses in other runs.
+/// A run of frames is used like a run of addresses, with frame numbers in place of addresses.
 impl Stretch for FrameRun {
     type Value = u32;
 

@@ -1,5 +1,6 @@
-//! Finds the largest aligned set of frames that has a given frame and fits into a run. That is the
-//! block of the frame, since an aligned set is good exactly if it lies in one run.
+//! Finds the largest aligned set of frames that has a given frame and fits into a run. This set is
+//! the block of the frame, since an aligned set is good (`IsFreeInOneZone`) exactly if it lies in
+//! one run.
 
 ghost use Rattle.std.specs.Prelude.{◌≡◌, ◌^◌, ◌<◌, ◌≤◌, ◌↔◌, IsTrue, ◌≢◌, ◌⊎◌, ℕ, ◌+◌, ◌%◌};
 ghost use Rattle.buddy_blocks.specs.Sets.{SetFits, IsGreatestFittingOrder};

@@ -12,7 +12,7 @@ some_frames = record { runs = record { base = 4; size = 2; value = 7 } ∷ []; s
 free_examples : (node_of_free_frame some_frames 5 ≡ Some 7) × (node_of_free_frame some_frames 6 ≡ None)
 free_examples = (refl, refl)
 
--- this and the next: no label, and no free frame
+-- no byte has a label, and no frame is free
 abbrev nobody : Labels
 nobody x = None
 

@@ -27,12 +27,12 @@ first_is f n z o b low is = ap (option_map (λ (c : Block). c.first)) (picked_is
 pub first_none : (f : Frames) (n : ℕ) (z : Zone) (o : ℕ) → IsEmptyFrom MAX_FRAMES f → NoneServes f n z o → picked_first_frame f n z o ≡ None
 first_none f n z o low none = ap (option_map (λ (c : Block). c.first)) (picked_none f n z o low none)
 
--- without a block of an order, none is found there
+-- if no block passes the test, a search finds none
 none_left : (p : Block → Bool) (bs : List Block) → length (filter p bs) ≡ 0 → find p bs ≡ None
 none_left p [] is = refl
 none_left p (b ∷ bs) is = grind (arith, none_left p bs)
 
--- with a block of an order, one is found there
+-- if a block passes the test, a search finds one
 some_left : (p : Block → Bool) (bs : List Block) → 0 < length (filter p bs) → IsSome (find p bs)
 some_left p [] some = absurd (omega (arith, some))
 some_left p (b ∷ bs) some = grind (arith, some_left p bs)
@@ -58,7 +58,7 @@ pub serves_is : (f : Frames) (n : ℕ) (z : Zone) (o : ℕ)
 unfolding picked_block
 serves_is f n z o = first_there (picked_block_from f n z o (11 - o))
 
--- a set is gone from two lists of the same frames
+-- removing a set leaves the same frames, however they are written
 same_without : (f g h : Frames) (o x : ℕ) → RemovesFrameSet f g o x → ((y : ℕ) → h y ≡ g y) → RemovesFrameSet f h o x
 same_without f g h o x without same = record {
   gone = λ y in_it. same y ∙ without.gone y in_it;
@@ -69,7 +69,7 @@ same_without f g h o x without same = record {
 pub runs_without : (f : Frames) (rs : List (RunOf ℕ)) (o x : ℕ) → IsRunsOf (without_set o x f) rs → RemovesFrameSet f (value_at rs) o x
 runs_without f rs o x runs = same_without f (without_set o x f) (value_at rs) o x (without_is o x f) runs.each
 
--- a set came back: without it, the runs give the frames of before
+-- if a set came back, the runs without it give the frames from before
 pub runs_with : (g : Frames) (rs : List (RunOf ℕ)) (o x n : ℕ) → ((y : ℕ) → IsInSet o x y → g y ≡ None) → IsRunsOf (with_set o x n g) rs
     → RemovesFrameSet (value_at rs) g o x
 runs_with g rs o x n held runs =
@@ -82,7 +82,7 @@ set_fits f x n o b is small free found =
     let most = up_most f x n 10 o small free in
     grind (arith, most, is, found)
 
--- the block that has a set that has come back
+-- after a set has come back, one block has all of it
 pub joined_block : (g : Frames) (rs : List (RunOf ℕ)) (o x n : ℕ) (b : Option Block) → o ≤ 10 → IsRunsOf (with_set o x n g) rs
     → b ≡ block_of (value_at rs) x
     → IfSome b (λ c. IsBlock (value_at rs) c × IsInBlock c x × (o ≤ c.order))

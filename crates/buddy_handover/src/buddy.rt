@@ -1,10 +1,11 @@
-//! The free frames, and what the page allocator's lists hold of them. Beside the runs a `Buddy`
-//! keeps the number of further list entries that it has room for. So a caller of `free_frames`
-//! knows beforehand whether that call can run out of memory.
+//! The free frames, and the blocks that the page allocator's lists hold. A `Buddy` keeps the runs
+//! of free frames, and for how many more runs its list has room. A caller of `free_frames`
+//! therefore knows beforehand whether that call can run out of memory.
 //!
 //! The index of the blocks (`free_areas`) is a cache that contracts don't see. The first `take`
-//! makes it, and `take` and `put_back` keep it up to date. Frames that become free otherwise drop
-//! it, and so does running out of memory for it. No result depends on it.
+//! makes the index, and `take` and `put_back` keep it up to date. Any other call that frees frames
+//! drops it. It is also dropped if this program runs out of memory for it. No result depends on
+//! the index.
 
 ghost use Rattle.std.specs.Prelude.{◌≡◌, ℕ, ◌+◌, ◌-◌, ◌%◌, ◌^◌, ◌<◌, ◌≤◌, max, is_some, Some, None, IsSome, [], IsOk, OnOk, OnErr, IfOk, IfErr, vec_len, vec_capacity};
 ghost use Rattle.address_runs.specs.Runs.{IsRunsOf};
@@ -25,12 +26,12 @@ use free_areas::Areas;
 use std::alloc::Global;
 use std::marker::Model;
 
-/// Why [`crate::Buddy::take`] allocates nothing.
+/// The reason why [`crate::Buddy::take`] fails.
 #[derive(Clone, Copy, Debug, PartialEq, Eq)]
 pub enum Take {
-    /// The node and the zone have no block of the order or a greater one.
+    /// The node has no block of the order or a greater one in the zone.
     NoBlock,
-    /// This program is out of memory. It is returned only if there is such a block.
+    /// This program is out of memory. This error is returned only if such a block exists.
     Memory,
 }
 
@@ -48,8 +49,8 @@ impl From<Memory> for Take {
 /// The greatest number of entries that one call adds to the list of runs.
 const MAX_NEW_ENTRIES: u64 = 2;
 
-/// The free frames, each with its node. Contracts see their runs, ascending, and `spare`, the
-/// number of further entries of that list that there is room for.
+/// The free frames, each with its node. Contracts see the runs of free frames in ascending order,
+/// and `spare`: for how many more runs (entries) the list has room.
 #[derive(Debug, Drop)]
 pub struct Buddy {
     runs: Vec<FrameRun>,
@@ -109,7 +110,7 @@ impl Buddy {
         let _ = &self.runs; // the invariant says so
     }
 
-    /// Makes room for `n` more entries, if there is less.
+    /// Makes room for `n` more entries, unless there is room for that many already.
     ///
     /// # Errors
     ///
@@ -151,7 +152,7 @@ impl Buddy {
     }
 
     /// Frees `count` frames from `first` on, for node `node`, whether they were free before or
-    /// not.
+    /// not. The call uses up two entries of `spare`, and makes room first if there are fewer.
     ///
     /// # Errors
     ///
@@ -178,15 +179,15 @@ impl Buddy {
     }
 
     /// Allocates `2^order` frames of the node and the zone, and returns the number of the first
-    /// (`__rmqueue_smallest`). They are the first frames of a block. That is the lowest block of
-    /// the least order that is `order` or greater.
+    /// (`__rmqueue_smallest`). They are the first frames of the lowest block of the smallest
+    /// sufficient order.
     ///
     /// # Errors
     ///
-    /// - `NoBlock`: exactly if no such block exists
-    /// - `Memory`: out of memory, only if such a block exists
+    /// - `NoBlock`: no block of `order` or a greater order exists on the node and in the zone.
+    /// - `Memory`: this program is out of memory; such a block exists.
     ///
-    /// Nothing has changed after either.
+    /// After either error nothing has changed.
     pub fn take(&mut self, node: u32, zone: Zone, order: u32) -> Result<u64, Take>
         requires { order ≤ 10 }
         ensures first { IfOk result (λ first.
@@ -219,9 +220,9 @@ impl Buddy {
         Ok(block.first)
     }
 
-    /// Returns whether the node and the zone have a block of `order` or a greater order. Allocates
-    /// nothing. Looks at all runs for each order, so it is slow. It is meant for a call that ran
-    /// out of memory and must still say whether there was such a block.
+    /// Tests whether the node has a block of `order` or a greater order in the zone. The call
+    /// allocates nothing. It is slow, because it looks at all runs for each order. It is meant for
+    /// callers that ran out of memory and must still say whether there was such a block.
     pub fn has_block(&self, node: u32, zone: Zone, order: u32) -> bool
         requires { order ≤ 10 }
         ensures { result ≡ is_some (picked_first_frame (node_of_free_frame self.now) node zone
@@ -236,8 +237,8 @@ impl Buddy {
     }
 
     /// Frees `2^order` frames from `first` on, for node `node` (`__free_one_page`). They are
-    /// merged with the free frames beside them, as far as blocks allow. `first` must be a multiple
-    /// of their number. Each frame must lie below [`MAX_FRAMES`], and none may be free.
+    /// merged with free buddies, as far as possible. `first` must be a multiple of `2^order`. Each
+    /// frame must lie below [`MAX_FRAMES`], and none may be free.
     ///
     /// # Errors
     ///
@@ -261,6 +262,10 @@ impl Buddy {
     }
 
     /// Moves the index out of the cache and returns it. Makes one if the cache is empty.
+    ///
+    /// # Errors
+    ///
+    /// Out of memory for the index. The free frames are unchanged.
     fn take_or_make_index(&mut self) -> Result<Areas, Memory>
         ensures areas { IfOk result (λ areas. IndexesFreeBlocks (node_of_free_frame self.old)
             areas) }
@@ -288,7 +293,7 @@ impl Buddy {
 
     /// Returns the same blocks as [`Buddy::blocks`], in rows: about twenty rows for each run of
     /// free frames, however long the run is. No row is empty, and no two rows of the greatest
-    /// order could be one.
+    /// order could be joined.
     ///
     /// # Errors
     ///

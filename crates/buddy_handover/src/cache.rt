@@ -1,4 +1,4 @@
-//! The index of blocks, kept as long as there is memory for it.
+//! Keeps the index of blocks up to date. If there is no memory for a change, the index is dropped.
 
 ghost use Rattle.std.specs.Prelude.{◌≡◌, ℕ, ◌+◌, ◌^◌, ◌<◌, ◌≤◌, Some, IfSome};
 ghost use Rattle.buddy_blocks.specs.Frames.{Frames, IsBlock, IsInBlock};
@@ -9,9 +9,9 @@ ghost use Rattle.free_areas.specs.Areas.{IndexesFreeBlocks};
 use buddy_blocks::{Block, MAX_FRAMES};
 use free_areas::Areas;
 
-/// Returns the index after the first `2^order` frames of `block` have left it, or `None` if there
-/// is no memory for it. `behind` must be the block that begins where `block` ends, or `None` if the
-/// frame there isn't free.
+/// Returns the index after the first `2^order` frames of `block` were allocated, or `None` if
+/// there is no memory for it. `behind` must be the block that begins where `block` ends, or `None`
+/// if the frame there isn't free.
 pub fn index_after_alloc(
     areas: Areas,
     block: &Block,
@@ -32,8 +32,9 @@ pub fn index_after_alloc(
     }
 }
 
-/// Returns the index after `2^order` frames from `frame` on have come back into `block`, or `None`
-/// if there was no index or no block, or if there is no memory for it.
+/// Returns the index after the `2^order` frames from `frame` on were freed; `block` must be the
+/// block that has them now. Returns `None` if there was no index or `block` is `None`, or if there
+/// is no memory for the index.
 pub fn index_after_free(
     areas: Option<Areas>,
     block: Option<Block>,

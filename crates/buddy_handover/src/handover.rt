@@ -1,7 +1,8 @@
 //! The end of the early boot: memory that isn't reserved becomes free (`memblock_free_all`).
 //!
-//! Both tables are read in one pass. For each memory record, the reserved records that meet its
-//! frames are looked at, from the one that the memory record before it came to.
+//! Both tables are read in one pass. For each memory record, the reserved records that overlap its
+//! frames are read. Reading begins at the reserved record at which it stopped for the memory
+//! record before.
 
 ghost use Rattle.std.specs.Prelude.{◌≡◌, ℕ, ◌+◌, ◌*◌, ◌^◌, ◌<◌, ◌≤◌, IfOk};
 ghost use Rattle.address_runs.specs.Runs.{value_at};
@@ -19,9 +20,9 @@ use memblock_ranges::{Head, Heads};
 use phys_store::Store;
 use std::alloc::Global;
 
-/// Returns the free frames by the bytes of both tables: all frames that are memory and have no
-/// reserved byte, each with the node of its memory record. The memory records must be whole frames
-/// below [`MAX_FRAMES`]. A frame of a record without a node isn't free.
+/// Reads both tables from their bytes and returns the free frames: all frames that are memory and
+/// have no reserved byte, each with the node of its memory record. The memory records must be
+/// whole frames below [`MAX_FRAMES`]. A frame of a record without a node isn't free.
 ///
 /// # Errors
 ///
@@ -54,7 +55,8 @@ pub fn hand_over(alloc: Global, store: &Store, heads: &Heads) -> Result<Buddy, M
 }
 
 /// Frees, for node `node`, the frames from `first` to below `end` in which no byte is reserved.
-/// Looks at the reserved records from `index` on, and returns the index that it came to.
+/// Reads the reserved records from `index` on. Returns the index of the reserved record from which
+/// the next call can read on.
 ///
 /// # Errors
 ///

@@ -6,17 +6,17 @@
 //! [`Buddy`]: the free frames, each with its node. [`Buddy::blocks`], [`Buddy::block_rows`],
 //! [`Buddy::count`] and [`Buddy::block_of`] return its blocks (`buddy_blocks`).
 //!
-//! After the handover [`Buddy::free_frames`] frees more frames, [`Buddy::take`] allocates a block,
-//! and [`Buddy::put_back`] frees one.
+//! After the handover [`Buddy::free_frames`] frees more frames, [`Buddy::take`] allocates
+//! `2^order` frames, and [`Buddy::put_back`] frees `2^order` frames.
 //!
 //! The kernel's lists have one entry for each block. Here the free frames are one ascending list
-//! of runs, however long a run is. A call adds at most two entries, and [`Buddy::ready`] makes
-//! room for them beforehand. Blocks are computed on request. The first [`Buddy::take`] makes an
-//! index of them (`free_areas`).
+//! of runs. A run is one entry, however long it is. A call adds at most two entries, and
+//! [`Buddy::ready`] makes room for them beforehand. Blocks are computed on request. The first
+//! [`Buddy::take`] makes an index of them (`free_areas`).
 //!
-//! The layer above may rest on this: contracts see the runs (`specs/BuddyView.antt`), and `free` is
-//! the node of each free frame. After a handover it is what both tables say of the frame
-//! (`free_node_in` of `memblock_frames`).
+//! The layer above may rest on these facts. Contracts see the runs (`specs/BuddyView.antt`);
+//! `node_of_free_frame` gives the node of each free frame. After a handover this node is what both
+//! tables say of the frame (`free_node_in` of `memblock_frames`).
 //!
 //! A law is an empty function whose contract is a proven fact. In contracts, a name means the
 //! definition in `specs/`, here or in a crate below.

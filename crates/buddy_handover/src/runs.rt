@@ -1,8 +1,8 @@
-//! The runs of free frames, as frames become free or are allocated.
+//! Changes the runs of free frames when frames become free or are allocated.
 //!
 //! A range of frames is inserted in a sorted list of runs, or cut from it, by one edit
-//! (`run_edits`). Runs that touch and have one node become one run. The functions work on any such
-//! list, and `Buddy` uses them.
+//! (`run_edits`). Runs that touch and have one node become one run. The functions work on any
+//! sorted list of runs; `Buddy` uses them.
 
 ghost use Rattle.std.specs.Prelude.{◌≡◌, ◌+◌, ◌^◌, ◌<◌, ◌≤◌, vec_len, vec_capacity};
 ghost use Rattle.address_runs.specs.Runs.{AreRuns, IsRunsOf, value_at};
@@ -13,8 +13,9 @@ use bm_base::Range;
 use buddy_blocks::{FrameRun, MAX_FRAMES};
 use run_edits::{Replace, Uncover, edit_without_cover};
 
-/// Makes the frames of the range free, for node `node`, whatever they were. An empty range changes
-/// nothing. Allocates nothing, and looks only at runs that meet or touch the range.
+/// Makes the frames of the range free, on node `node`, whether they were free before or not. An
+/// empty range changes nothing. The list must have room for two more runs. The call allocates
+/// nothing, and looks only at runs that overlap or touch the range.
 pub fn insert_frames(runs: &mut Vec<FrameRun>, frames: &Range, node: u32)
     requires low { frames.now.base + frames.now.size ≤ MAX_FRAMES }
     requires runs { AreRuns runs.old.items }
@@ -32,8 +33,9 @@ pub fn insert_frames(runs: &mut Vec<FrameRun>, frames: &Range, node: u32)
     edit_without_cover(runs, frames, Replace(node));
 }
 
-/// Makes the frames of the range not free. The range must not be empty. Allocates nothing, and
-/// looks only at runs that meet or touch the range.
+/// Removes the frames of the range from the free frames. The range must not be empty, and the list
+/// must have room for two more runs. The call allocates nothing, and looks only at runs that
+/// overlap or touch the range.
 pub fn remove_frames(runs: &mut Vec<FrameRun>, frames: &Range)
     requires some { 0 < frames.now.size }
     requires runs { AreRuns runs.old.items }
@@ -47,7 +49,7 @@ pub fn remove_frames(runs: &mut Vec<FrameRun>, frames: &Range)
     edit_without_cover(runs, frames, Uncover);
 }
 
-/// Returns the aligned set of `2^order` frames that has `frame`.
+/// Returns the aligned set of `2^order` frames that has `frame`, as a range of frames.
 pub fn set_around(order: u32, frame: u64) -> Range
     requires small { order ≤ 10 }
     requires low { frame < MAX_FRAMES }

@@ -48,7 +48,7 @@ behind_differs f b c block like inner same =
     let aligned = block.aligned in
     absurd (omega (arith, high, aligned))
 
--- a set is taken from the block b
+-- the list is an index after a set has been taken from block `b`
 pub split_areas : (f g : Frames) (low x : ℕ) (b : Block) (behind : Option Block) (bs ms cs : List Block) → IndexesFreeBlocks f bs
     → RemovesFrameSet f g low x → IsBlock f b → IsInBlock b x → low ≤ b.order → behind ≡ block_of f (b.first + 2 ^ b.order)
     → ((c : Block) → ListsBlock ms c → ((c ≢ b) × ListsBlock bs c) ⊎ ((behind ≡ Some c) × AreLargestInSameZone b c))
@@ -100,7 +100,7 @@ split_areas f g low x b behind bs ms cs areas without block inner order next sou
   ];
 }
 
--- a set is freed, and b is the block that has it then
+-- the list is an index after a set has been freed, if `b` is the block that has it then
 pub join_areas : (f g : Frames) (low x : ℕ) (b : Block) (bs ms cs : List Block) → IndexesFreeBlocks g bs
     → RemovesFrameSet f g low x → IsBlock f b → IsInBlock b x → low ≤ b.order → RemovesBuddies b low b.order x bs ms
     → ((c : Block) → ListsBlock cs c ↔ ((c ≡ b) ⊎ ListsBlock ms c)) → IndexesFreeBlocks f cs
@@ -180,7 +180,7 @@ led_by (suc k) f bs c areas is low = ⊎_elim
 pub led : (f : Frames) (bs : List Block) (c : Block) → IndexesFreeBlocks f bs → IsBlock f c → IsLed bs c
 led f bs c areas is = led_by c.first f bs c areas is (omega arith)
 
--- the first blocks of rows
+-- the first block of each row
 pub leads : List BlockRow → List Block
 leads [] = []
 leads (r ∷ rs) = first_block_of_row r ∷ leads rs

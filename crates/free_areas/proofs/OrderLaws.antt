@@ -109,7 +109,7 @@ cmp_area b c node_is zone_is =
     let two : zone_cmp b.zone c.zone ≡ Equal = ap (λ z. zone_cmp z c.zone) zone_is ∙ zone_self c.zone in
     cmp_is b c ∙ rw (one, two) refl
 
--- the members of a set
+-- a look-up in an ordered set finds a block exactly if the block is in the list of keys
 equal_told : (o : Ordering) → is_eq o ≡ true → o ≡ Equal
 equal_told Less h = cc
 equal_told Equal h = refl
@@ -146,7 +146,7 @@ has_key b s has = in_list b s.keys has
 pub key_has : (b : Block) (s : BTreeSet Block) → contains block_cmp s b ≡ true → ListsBlock s.keys b
 key_has b s is = list_in b s.keys is
 
--- adding a key, and removing one
+-- the members after adding a key, and after removing one
 pub inserted : (old new : BTreeSet Block) (k b : Block) → Updates block_cmp old new k true
     → ListsBlock new.keys b ↔ ((b ≡ k) ⊎ ListsBlock old.keys b)
 inserted old new k b updates =

@@ -1,6 +1,6 @@
--- When a list of blocks is the index of free frames. All its members are blocks, and it has each
--- block, except those of the largest order that come right after another of the same node and
--- zone.
+-- Defines when a list of blocks is an index of the free frames. All its members are blocks. It has
+-- each block, except that it may lack blocks of the largest order that come right after another
+-- one on the same node and in the same zone.
 use Rattle.std.specs.Prelude.{◌≡◌, ◌⊎◌, ◌↔◌, ℕ, ◌-◌, ◌≤◌, List}
 use Rattle.buddy_blocks.specs.declared.block.Block.{Block}
 use Rattle.buddy_blocks.specs.declared.block.BlockRow.{BlockRow}
@@ -15,7 +15,7 @@ pub record FollowsLargestBlock (f : Frames) (b : Block) : Type 0 where
   pub room : 1024 ≤ b.first
   pub before : IsBlock f (record b { first = b.first - 1024 })
 
--- the list is an index of the blocks
+-- the list is an index of the blocks of the free frames `f`
 pub record IndexesFreeBlocks (f : Frames) (bs : List Block) : Type 0 where
   pub sound : (b : Block) → ListsBlock bs b → IsBlock f b
   pub complete : (b : Block) → IsBlock f b → ListsBlock bs b ⊎ FollowsLargestBlock f b
@@ -31,11 +31,12 @@ pub record AreLargestInSameZone (b next : Block) : Type 0 where
   pub node : next.node ≡ b.node
   pub zone : next.zone ≡ b.zone
 
--- the second list has what the first has, and also the buddies, inside block b, of the sets around
--- x of the orders from `low` to below `until`
+-- the list `new` has the blocks of `old`, and also the buddies that are left of block `b` without
+-- the set around `x`: one of each order from `low` to below `until` (`IsBuddy`)
 abbrev pub AddsBuddies : Block → ℕ → ℕ → ℕ → List Block → List Block → Type 0
 AddsBuddies b low until x old new = (c : Block) → ListsBlock new c ↔ (IsBuddy b low until x c ⊎ ListsBlock old c)
 
--- the second list has what the first has, without those buddies
+-- the list `new` has the blocks of `old`, except the buddies that are left of block `b` without
+-- the set around `x`: one of each order from `low` to below `until` (`IsBuddy`)
 abbrev pub RemovesBuddies : Block → ℕ → ℕ → ℕ → List Block → List Block → Type 0
 RemovesBuddies b low until x old new = (c : Block) → ListsBlock new c ↔ ((IsBuddy b low until x c → ⊥) × ListsBlock old c)

@@ -1,4 +1,4 @@
-//! The index, as its users see it.
+//! The index of free blocks, as its users see it.
 
 ghost use Rattle.std.specs.Prelude.{◌≡◌, ℕ, ◌+◌, ◌^◌, ◌<◌, ◌≤◌, OnOk, IfOk, MatchOption};
 ghost use Rattle.address_runs.specs.Runs.{AreRuns, value_at};
@@ -10,7 +10,7 @@ ghost use Rattle.buddy_blocks.specs.Buddies.{RemovesFrameSet};
 ghost use Rattle.free_areas.specs.Areas.{IndexesFreeBlocks};
 
 use crate::index::{
-    insert_block, insert_buddies, first_block_of_row, remove_and_expose_next, remove_buddies,
+    first_block_of_row, insert_block, insert_buddies, remove_and_expose_next, remove_buddies,
 };
 use bm_base::{Memory, Zone};
 use buddy_blocks::{Block, FrameRun, MAX_FRAMES, MAX_ORDER, block_rows};
@@ -18,8 +18,8 @@ use std::alloc::Global;
 use std::collections::BTreeSet;
 use std::marker::Model;
 
-/// The blocks of free frames, in the order of the page allocator's lists. Contracts see them as a
-/// list.
+/// An index of the blocks of free frames, in the order of the page allocator's lists: by node,
+/// zone, order and first frame. Contracts see the list of its blocks.
 #[derive(Debug, Drop)]
 pub struct Areas {
     blocks: BTreeSet<Block>,
@@ -35,8 +35,8 @@ impl Model for Areas {
 }
 
 impl Areas {
-    /// Returns the index of the free frames. It has about twenty keys for each run. The runs must
-    /// be canonical, and all frames below `MAX_FRAMES`.
+    /// Returns an index of the blocks of these free frames. It has about twenty keys for each run.
+    /// The runs must be canonical, and all frames below `MAX_FRAMES`.
     ///
     /// # Errors
     ///
@@ -55,8 +55,9 @@ impl Areas {
     }
 
     /// Returns the block from which a request for `2^order` frames of the node and the zone is
-    /// served (`__rmqueue_smallest`), or `None` if no block is large enough. It is of the smallest
-    /// sufficient order, and of those the lowest. Takes one look-up. `order` is at most 10.
+    /// served (`__rmqueue_smallest`), or `None` if no block is large enough. The block has the
+    /// smallest sufficient order, and is the lowest of that order in the zone. The call takes one
+    /// look-up. `order` must be at most 10.
     pub fn find_picked_block(&self, node: u32, zone: Zone, order: u32) -> Option<Block>
         requires { order ≤ 10 }
         ensures { (f : Frames) → IndexesFreeBlocks f self.now →
@@ -79,9 +80,9 @@ impl Areas {
     }
 
     /// Updates the index after the `2^order` frames around `frame` were taken from `block`
-    /// (`expand`). The free halves that are left replace it: one buddy of each order from `order`
-    /// to below the block's. `behind` must be the block that begins where `block` ends, or `None`
-    /// if there is none.
+    /// (`expand`). The free halves that are left replace `block` in the index: one buddy of each
+    /// order from `order` to below the block's. `behind` must be the block that begins where
+    /// `block` ends, or `None` if there is none.
     ///
     /// # Errors
     ///
@@ -106,7 +107,8 @@ impl Areas {
     }
 
     /// Updates the index after the `2^order` frames around `frame` were freed (`__free_one_page`).
-    /// `block` is the block that has them now. It replaces the buddies from which it was merged.
+    /// `block` must be the block that has these frames now. It replaces the buddies from which it
+    /// was merged.
     ///
     /// # Errors
     ///

@@ -1,4 +1,4 @@
-//! The keys of the index, and changes to them, one key at a time.
+//! Changes the index one key at a time. The keys are blocks.
 
 ghost use Rattle.std.specs.Prelude.{◌≡◌, ◌≢◌, ◌⊎◌, ◌↔◌, ℕ, ◌+◌, ◌*◌, ◌/◌, ◌^◌, ◌<◌, ◌≤◌, Some, None, OnOk, IfSome, IfNone};
 ghost use Rattle.buddy_blocks.specs.declared.block.Block.{Block as AnyBlock};
@@ -108,7 +108,8 @@ pub fn remove_buddies(blocks: &mut BTreeSet<Block>, block: &Block, order: u32, f
 }
 
 /// Returns `behind`, the block after `block`, if both are of the largest order, on one node and in
-/// one zone. The index may lack such a block as long as it has the first one of its row.
+/// one zone, else `None`. The index may lack `behind` in this case, as long as it has the first
+/// block of the row.
 fn next_block_of_row(block: &Block, behind: Option<Block>) -> Option<Block>
     ensures some { IfSome result (λ next. (behind ≡ Some next) × AreLargestInSameZone block.now
         next) }

@@ -108,7 +108,7 @@ took_none b new id order node zone none picked is =
     ∙ sym (ap (allocate_unless_id_holds (page_state_of b) id order node zone) none
     ∙ ap (allocate_frames (page_state_of b) id order node) picked)
 
--- a request that is served needs memory
+-- a request that is served needs memory of this program
 takes_by : (s : PageState) (id order node : ℕ) (o : Option ℕ) → IsSome o → NeedsMemory (allocate_frames s id order node o).0
 takes_by s id order node None some = cc some
 takes_by s id order node (Some first) some = tt

@@ -6,7 +6,7 @@ use Rattle.std.proofs.lemmas.Bool.{cases_Bool}
 use Rattle.std.specs.Option.{option_map}
 use Rattle.address_runs.specs.Edits.{IsEmptyFrom}
 use Rattle.bm_base.specs.declared.zone.Zone.TheVariants as zones
-use Rattle.bm_base.specs.Zones.{zone_of}
+use Rattle.bm_base.specs.Zones.{zone_of, zone_name}
 use Rattle.text_words.specs.Words.{words_in}
 use Rattle.text_words.specs.declared.separators.Separators.TheVariants as separators
 use Rattle.buddy_blocks.specs.declared.block.Block.{Block}
@@ -27,7 +27,7 @@ use Rattle.page_alloc.specs.declared.outcome.Held.{Held}
 use Rattle.page_alloc.specs.declared.outcome.PageOutcome.{PageOutcome}
 use Rattle.page_alloc.specs.declared.outcome.PageOutcome.TheVariants as outcomes
 use Rattle.page_alloc.specs.Forms.{zone_by_name, pages_line, give_line}
-use Rattle.page_alloc.specs.Spelling.{pages as pages_form, give as give_form, zone_word, page_words_of, HasPageScriptNumbers, page_grammar}
+use Rattle.page_alloc.specs.Spelling.{pages as pages_form, give as give_form, page_words_of, HasPageScriptNumbers, page_grammar}
 use Rattle.page_alloc.specs.FramePlaces.{HoldsFrame, IsInOneBlockOrHeld, IsInNoBlockNorHeld, IsValidPageState}
 use Rattle.page_alloc.specs.Pages.{PageState, first_page_state, with_held_frames, allocate_frames, free_held_frames, page_step, HasValidOrder, HaveValidOrders}
 use Rattle.page_alloc.specs.Reading.{page_lines, page_lines_of}
@@ -47,7 +47,7 @@ lone_at x n is =
 lone_low : IsEmptyFrom MAX_FRAMES lone
 lone_low x high = let off : (nat_le 5 x && nat_lt x 6) ≡ false = grind (arith, nat_tests) in rw off refl
 
--- it is the block that is picked for one frame
+-- that frame is the block that is picked for one frame
 lone_is : (x : ℕ) → x / 1 ≡ 5 → x ≡ 5
 lone_is x same = sym (div-one x) ∙ same
 
@@ -75,7 +75,7 @@ block_is_picked = record {
 picked_first : picked_first_frame lone 7 zones.Dma 0 ≡ Some 5
 picked_first = ap (option_map (λ (b : Block). b.first)) (picked_is lone 7 zones.Dma 0 block lone_low block_is_picked)
 
--- after it is allocated no frame is free
+-- after that frame is allocated, no frame is free
 nothing_left : (x : ℕ) → without_set 0 5 lone x ≡ None
 nothing_left x = elim (in_set_or_not 0 5 x) as (λ _. without_set 0 5 lone x ≡ None) [
   | inl inside ↦ (without_is 0 5 lone).gone x inside
@@ -199,7 +199,7 @@ lowest_fault = (refl, refl)
 -- a form takes any word for a number, but a zone only by its name
 spelled_forms : HasLineForm page_grammar (codes "give" ∷ codes "x" ∷ [])
     × HasLineForm page_grammar (codes "pages" ∷ codes "1" ∷ codes "0" ∷ codes "7" ∷ codes "DMA" ∷ [])
-    × (zone_word zones.Normal ≡ codes "Normal") × (HasPageScriptNumbers (give_form (codes "x")) → ⊥)
+    × (zone_name zones.Normal ≡ codes "Normal") × (HasPageScriptNumbers (give_form (codes "x")) → ⊥)
     × (page_words_of (give_form (codes "1")) ≡ codes "give" ∷ codes "1" ∷ [])
 spelled_forms = (
   (give_form (codes "x"), refl),

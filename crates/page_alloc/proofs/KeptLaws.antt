@@ -66,7 +66,7 @@ in_none f s x goes none = (
   λ id holds. cc (sym (goes.shares.held id holds.what holds.is x holds.inside) ∙ none),
 )
 
--- the first state
+-- the first state has all free frames, and none is held
 pub begun_goes : (f : Frames) → IsEmptyFrom MAX_FRAMES f → Goes f (first_page_state f)
 begun_goes f low = record {
   kept = record { low = low; well = λ id what is. cc; apart = λ i j g h is other x one two. cc };
@@ -316,7 +316,7 @@ module _ (s : PageState) (id : ℕ) (what : Held) where
     };
   }
 
--- each line
+-- each line keeps free frames apart from held ones, and loses none
 served_goes : (f : Frames) (s : PageState) (id order node : ℕ) (zone : Zone) (o : Option ℕ) → order ≤ 10 → Goes f s → s.held id ≡ None
     → picked_first_frame s.frames node zone order ≡ o → Goes f (allocate_frames s id order node o).1
 served_goes f s id order node zone None small goes none is = goes
@@ -338,7 +338,7 @@ step_goes f s (acts.Pages id order node zone) small goes = asked_goes f s id ord
 step_goes f s (acts.Near id order node) small goes = goes
 step_goes f s (acts.Give id) small goes = back_goes f s id (s.held id) goes refl
 
--- a state by itself
+-- each line keeps what is always true of a state
 served_kept : (s : PageState) (id order node : ℕ) (zone : Zone) (o : Option ℕ) → order ≤ 10 → IsValidPageState s
     → picked_first_frame s.frames node zone order ≡ o → IsValidPageState (allocate_frames s id order node o).1
 served_kept s id order node zone None small keeps is = keeps

@@ -1,4 +1,4 @@
--- Lemma: the orders of the lines that were read.
+-- Lemma: the orders in the lines that were read are at most 10.
 use Rattle.std.proofs.Common.{List, [], ◌∷◌}
 use Rattle.std.specs.List.{All}
 use Rattle.std.proofs.lemmas.List.Elements.{All-head, All-tail}

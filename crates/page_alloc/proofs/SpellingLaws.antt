@@ -12,10 +12,11 @@ use Rattle.script_reader.proofs.GrammarLaws.{Reads}
 use Rattle.script_reader.proofs.StepLaws.{within_or, is_key, one_or}
 use Rattle.page_alloc.specs.declared.act.PageAct.{PageAct}
 use Rattle.page_alloc.specs.Forms.{greatest_order, zone_by_name, pages_line, near_line, give_line, page_act_by_name}
-use Rattle.page_alloc.specs.Spelling.{PageForm, pages, near, give, zone_word, page_words_of, HasPageScriptNumbers, page_act_of, page_grammar}
+use Rattle.page_alloc.specs.Spelling.{PageForm, pages, near, give, page_words_of, HasPageScriptNumbers, page_act_of, page_grammar}
+use Rattle.bm_base.specs.Zones.{zone_name}
 
--- a zone, by its word
-zone_or : (word : List ℕ) → ((zone : Zone) × (word ≡ zone_word zone)) ⊎ (zone_by_name word ≡ Err wrong.Form)
+-- a word is the word for a zone, or it names none
+zone_or : (word : List ℕ) → ((zone : Zone) × (word ≡ zone_name zone)) ⊎ (zone_by_name word ≡ Err wrong.Form)
 zone_or word =
     elim (is_key word (codes "DMA")) [
       | inl is ↦ inl (zones.Dma, is)
@@ -28,12 +29,12 @@ zone_or word =
       ]
     ]
 
-zone_read : (zone : Zone) → zone_by_name (zone_word zone) ≡ Ok zone
+zone_read : (zone : Zone) → zone_by_name (zone_name zone) ≡ Ok zone
 zone_read zones.Dma = refl
 zone_read zones.Dma32 = refl
 zone_read zones.Normal = refl
 
--- words have a form, or have the fault `PageForm`
+-- words have a form of the grammar, or their fault is `Form`
 pages_form : (words : Words) → HasLineForm page_grammar (codes "pages" ∷ words) ⊎ (pages_line words ≡ Err wrong.Form)
 pages_form [] = inr refl
 pages_form (i ∷ []) = inr refl

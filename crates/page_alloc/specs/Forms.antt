@@ -1,5 +1,5 @@
--- The forms of a line of a page script: the words after the first, and the act that they spell.
--- The form is checked before all numbers.
+-- The forms of a line of a page script: which words may follow the first, and the act that they
+-- spell. The form of a line is checked before its numbers.
 use Rattle.std.specs.Prelude.{ℕ, if◌then◌else◌, List, codes, Result, Ok, Err}
 use Rattle.std.specs.Str.{bytes_eq}
 use Rattle.bm_base.specs.declared.zone.Zone.{Zone}
@@ -12,18 +12,18 @@ use Rattle.script_reader.specs.Forms.{greatest_id, greatest_node}
 use Rattle.page_alloc.specs.declared.act.PageAct.{PageAct}
 use Rattle.page_alloc.specs.declared.act.PageAct.TheVariants as acts
 
--- the largest order
+-- the largest order of a block
 abbrev pub greatest_order : ℕ
 greatest_order = 10
 
--- a zone, by the kernel's name for it
+-- the zone that the kernel calls by this name
 abbrev pub zone_by_name : List ℕ → Result Zone ScriptLineFault
 zone_by_name word =
     if bytes_eq word (codes "DMA") then Ok zones.Dma else
     (if bytes_eq word (codes "DMA32") then Ok zones.Dma32 else
     (if bytes_eq word (codes "Normal") then Ok zones.Normal else Err wrong.Form))
 
--- pages ID ORDER NODE ZONE
+-- the line `pages ID ORDER NODE ZONE`
 abbrev pub pages_line : Words → Result PageAct ScriptLineFault
 pages_line words = do
   id ← first_word words
@@ -36,7 +36,7 @@ pages_line words = do
   of_node ← number_within greatest_node node.0
   Ok (acts.Pages of_id of_order of_node zone)
 
--- near ID ORDER NODE
+-- the line `near ID ORDER NODE`
 abbrev pub near_line : Words → Result PageAct ScriptLineFault
 near_line words = do
   id ← first_word words
@@ -47,7 +47,7 @@ near_line words = do
   of_node ← number_within greatest_node node
   Ok (acts.Near of_id of_order of_node)
 
--- give ID
+-- the line `give ID`
 abbrev pub give_line : Words → Result PageAct ScriptLineFault
 give_line words = do
   said ← one_word words

@@ -1,5 +1,4 @@
--- Where a frame is: in a block of the free frames, or in what an ID holds; and that no frame is in
--- both.
+-- Defines where a frame is: in a block of free frames, held by an ID, or neither.
 use Rattle.std.specs.Prelude.{◌≡◌, ◌⊎◌, ℕ, ◌+◌, ◌%◌, ◌^◌, ◌≤◌, Some, None}
 use Rattle.address_runs.specs.Edits.{IsEmptyFrom}
 use Rattle.buddy_blocks.specs.declared.block.Block.{Block}
@@ -14,7 +13,7 @@ pub record HoldsFrame (s : PageState) (id x : ℕ) : Type 0 where
   pub is : s.held id ≡ Some what
   pub inside : IsInSet what.order what.first x
 
--- the frame is in exactly one block of the free frames; or in none
+-- the frame is in exactly one block of free frames (`IsInOneBlock`), or in none (`IsInNoBlock`)
 pub record IsInOneBlock (s : PageState) (x : ℕ) : Type 0 where
   pub block : Block
   pub is : IsBlock s.frames block
@@ -24,7 +23,7 @@ pub record IsInOneBlock (s : PageState) (x : ℕ) : Type 0 where
 abbrev pub IsInNoBlock : PageState → ℕ → Type 0
 IsInNoBlock s x = (b : Block) → IsBlock s.frames b → IsInBlock b x → ⊥
 
--- exactly one ID holds the frame; or none does
+-- exactly one ID holds the frame (`IsHeldByOne`), or none does (`IsHeldByNone`)
 pub record IsHeldByOne (s : PageState) (x : ℕ) : Type 0 where
   pub id : ℕ
   pub holds : HoldsFrame s id x
@@ -41,15 +40,16 @@ IsInOneBlockOrHeld s x = (IsInOneBlock s x × IsHeldByNone s x) ⊎ (IsHeldByOne
 abbrev pub IsInNoBlockNorHeld : PageState → ℕ → Type 0
 IsInNoBlockNorHeld s x = IsInNoBlock s x × IsHeldByNone s x
 
--- held frames are an aligned set of frames that aren't free
+-- the frames that an ID holds are an aligned set of frames, none of which is free
 pub record IsAlignedAndNotFree (s : PageState) (what : Held) : Type 0 where
   pub small : what.order ≤ 10
   pub aligned : what.first % 2 ^ what.order ≡ 0
   pub low : what.first + 2 ^ what.order ≤ MAX_FRAMES
   pub taken : (x : ℕ) → IsInSet what.order what.first x → s.frames x ≡ None
 
--- all frames that IDs hold are such sets, no two IDs hold the same frame, and all free frames are
--- below the limit
+-- what is always true of the state: the frames that each ID holds are an aligned set of frames,
+-- none of which is free; no two IDs hold the same frame; and all free frames are below
+-- `MAX_FRAMES`
 pub record IsValidPageState (s : PageState) : Type 0 where
   pub low : IsEmptyFrom MAX_FRAMES s.frames
   pub well : (id : ℕ) (what : Held) → s.held id ≡ Some what → IsAlignedAndNotFree s what

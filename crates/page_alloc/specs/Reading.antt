@@ -10,12 +10,13 @@ use Rattle.page_alloc.specs.declared.reading.PageFault.{PageFault}
 use Rattle.page_alloc.specs.declared.reading.PageFault.TheVariants as faults
 use Rattle.page_alloc.specs.Forms.{page_act_by_name}
 
--- the fault of a script whose line of this number has the fault `wrong`: its form, or else a number
+-- the fault of a script whose line number `line` has the fault `wrong`: either its form is wrong,
+-- or one of its numbers
 abbrev pub page_script_fault_at : ℕ → ScriptLineFault → PageFault
 page_script_fault_at line wrong.Form = faults.BadLine line
 page_script_fault_at line other = faults.BadNumber line
 
--- the lines of a page script: each act may occur more than once
+-- the kind of script whose lines are those of a page script; each act may occur more than once
 abbrev pub page_lines : ScriptKind PageAct PageLine
 page_lines = record { forms = λ seen. page_act_by_name; is_once = λ act. false; line = λ number act. record { number = number; act = act } }
 

@@ -1,5 +1,5 @@
-//! Reads the words of one line. The first selects the form; the steps of each form are in the order
-//! of the faults.
+//! Reads the words of one line. The first word selects the form. Each form checks its words in the
+//! order in which faults are reported.
 
 ghost use Rattle.std.specs.Prelude.{◌≡◌, IfOk, IfErr};
 ghost use Rattle.script_reader.specs.Numbers.{IsWordFault};
@@ -10,17 +10,19 @@ ghost use Rattle.page_alloc.specs.Pages.{HasValidOrder};
 
 use crate::act::PageAct;
 use bm_base::Zone;
-use script_reader::{GREATEST_ID, GREATEST_NODE, ScriptLineFault, first_word, number_within, one_word};
+use script_reader::{
+    GREATEST_ID, GREATEST_NODE, ScriptLineFault, first_word, number_within, one_word,
+};
 
 /// The largest order of a block.
 const GREATEST_ORDER: u64 = 10;
 
-/// Reads the words after the first one, which is the name of the command.
+/// Returns the command `name` with its arguments, which are the words of `rest`.
 ///
 /// # Errors
 ///
-/// - `Form`: the words have no form.
-/// - `Number`: the words have a form, but a number is malformed or above its limit.
+/// - `Form`: there is no such command, or its words don't have the command's form.
+/// - `Number`: the words have the form, but a number is malformed or above its limit.
 pub fn page_act_by_name(name: &[u8], rest: &[u8]) -> Result<PageAct, ScriptLineFault>
     ensures value { result ≡ page_act_by_name name.now (words_in separators.Script rest.now) }
     ensures order { IfOk result HasValidOrder }
@@ -60,6 +62,11 @@ fn zone_by_name(word: &[u8]) -> Result<Zone, ScriptLineFault>
 }
 
 /// Reads `ID ORDER NODE ZONE`, the words of a `pages` line after the first.
+///
+/// # Errors
+///
+/// - `Form`: the words don't have this form.
+/// - `Number`: a number is malformed or above its limit.
 fn pages_line(text: &[u8]) -> Result<PageAct, ScriptLineFault>
     ensures value { result ≡ pages_line (words_in separators.Script text.now) }
     ensures order { IfOk result HasValidOrder }
@@ -81,6 +88,11 @@ fn pages_line(text: &[u8]) -> Result<PageAct, ScriptLineFault>
 }
 
 /// Reads `ID ORDER NODE`, the words of a `near` line after the first.
+///
+/// # Errors
+///
+/// - `Form`: the words don't have this form.
+/// - `Number`: a number is malformed or above its limit.
 fn near_line(text: &[u8]) -> Result<PageAct, ScriptLineFault>
     ensures value { result ≡ near_line (words_in separators.Script text.now) }
     ensures order { IfOk result HasValidOrder }
@@ -96,6 +108,11 @@ fn near_line(text: &[u8]) -> Result<PageAct, ScriptLineFault>
 }
 
 /// Reads `ID`, the only word of a `give` line after the first.
+///
+/// # Errors
+///
+/// - `Form`: the words don't have this form.
+/// - `Number`: a number is malformed or above its limit.
 fn give_line(text: &[u8]) -> Result<PageAct, ScriptLineFault>
     ensures value { result ≡ give_line (words_in separators.Script text.now) }
     ensures order { IfOk result HasValidOrder }

@@ -1,4 +1,4 @@
-//! The law of lines: they are read as what their words spell, and nothing else is accepted.
+//! The law of lines: each line is read as what its words spell, and no other line is accepted.
 
 ghost use Rattle.std.specs.Prelude.{◌≡◌, ◌↔◌, ℕ, Bool, List, Some, None, Ok, Err};
 ghost use Rattle.text_words.specs.Spelling.{HasWords};

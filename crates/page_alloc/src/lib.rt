@@ -1,5 +1,5 @@
-//! Allocates and frees pages, blocks of frames under an ID each, after memblock has handed its
-//! free frames over to the buddy lists (`memblock_free_all`).
+//! Allocates and frees pages for IDs, after memblock has handed its free frames over to the buddy
+//! lists (`memblock_free_all`). Each ID holds at most one set of `2^order` frames.
 //!
 //! [`Pages`] has the buddy lists (`buddy_handover`) and what was allocated from them: which ID
 //! holds which frames. A request gets the first frames of the block that the lists pick
@@ -8,8 +8,8 @@
 //!
 //! [`read_pages`] reads a page script, or returns the first fault, a [`PageFault`]: that of the
 //! lowest line that has one. [`Pages::run_line`] carries out one line. The layer above runs whole
-//! scripts. It also carries out `near` lines, which this crate only reads, since it knows the
-//! distances between nodes.
+//! scripts. It also carries out `near` lines, because it knows the distances between nodes; this
+//! crate only reads the text of such lines.
 //!
 //! In contracts, a name means the definition in `specs/`:
 //!
@@ -18,7 +18,7 @@
 //! - `Reading.antt`: the lines of a page script
 //! - `Spelling.antt`: the same forms as a user writes them
 //! - `Pages.antt`: what each line does to the free frames and to what the IDs hold
-//! - `FramePlaces.antt`: what stays true of that state
+//! - `FramePlaces.antt`: what is always true of that state
 //!
 //! A law is an empty function whose contract is a proven fact. By
 //! [`page_lines_are_read_as_spelled`] a line is read exactly as what its words spell. The layer

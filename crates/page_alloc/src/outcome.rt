@@ -1,4 +1,4 @@
-//! The outcome of a line, and the frames that an ID holds.
+//! The outcomes of lines, and the frames that an ID holds.
 
 /// The frames that an ID holds: `2^order` of them. The number of the first is a multiple of
 /// `2^order`.
@@ -12,14 +12,15 @@ pub struct Held {
     pub node: u32,
 }
 
-/// The outcome of a line.
+/// The outcome of a line of a page script.
 #[derive(Clone, Copy, Debug, PartialEq, Eq)]
 pub enum PageOutcome {
     /// The ID now holds the frames at this address, in bytes.
     At(u64),
     /// The frames that the ID held are free again.
     Done,
-    /// No block of the node and the zone is large enough.
+    /// No block on the node and in the zone is large enough; for a `near` line, no zone in the
+    /// node's list has a block that is.
     NoBlock,
     /// The ID already holds frames.
     Taken,

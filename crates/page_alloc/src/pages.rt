@@ -1,4 +1,4 @@
-//! The buddy lists, and which ID holds which frames from them.
+//! The buddy lists, and the frames that each ID holds from them.
 
 ghost use Rattle.std.specs.Prelude.{◌≡◌, ◌⊎◌, ◌+◌, ◌*◌, ◌^◌, ◌<◌, ◌≤◌, IfOk, OnErr};
 ghost use Rattle.buddy_handover.specs.BuddyView.{node_of_free_frame};
@@ -54,7 +54,7 @@ impl Pages {
         &self.buddy
     }
 
-    /// Returns the frames that were allocated for the ID, or `None` if it holds none.
+    /// Returns the frames that the ID holds, or `None` if it holds none.
     pub fn held(&self, id: u32) -> Option<Held>
         ensures { result ≡ (page_state_of self.now).held id }
     {
@@ -63,8 +63,8 @@ impl Pages {
 
     /// Allocates `2^order` frames of the node and the zone for the ID. `order` is at most 10.
     /// Returns `At` with the address of the first frame. Returns `Taken` if the ID already holds
-    /// frames; else `NoBlock` if no block there is of this order or a larger one. In both cases
-    /// nothing changes.
+    /// frames. Otherwise it returns `NoBlock` if the node has no block of this order or a larger
+    /// one in the zone. In both cases nothing changes.
     ///
     /// # Errors
     ///

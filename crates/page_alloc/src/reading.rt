@@ -1,4 +1,4 @@
-//! Reads a whole page script.
+//! Reads whole page scripts.
 
 ghost use Rattle.std.specs.Prelude.{◌≡◌, ◌<◌, ◌^◌, length, Err, IfOk, IsOkAnd};
 ghost use Rattle.bm_base.specs.Answers.{Answers};
@@ -15,7 +15,7 @@ use std::alloc::Global;
 /// fault, from 1 on. If that line has both faults, the first of this list is reported.
 #[derive(Clone, Copy, Debug, PartialEq, Eq)]
 pub enum PageFault {
-    /// The words of the line have no form, whatever their numbers are.
+    /// The words of the line don't have the form of a command, whatever its numbers are.
     BadLine { line: u32 },
     /// A word isn't entirely a number, or the number is above its limit: 2^32 - 1 for an ID, 10
     /// for an order, 1,023 for a node.
@@ -53,8 +53,8 @@ impl ScriptLine for PageLine {
 /// Reads a page script, and returns the lines that have a command, in their order.
 ///
 /// Lines end with a newline, which the last one may lack. The bytes 0x20, 0x09 and 0x0D separate
-/// words. A line has no command if it has no words, or its first word begins with `#`. There must
-/// be fewer than 2^32 bytes.
+/// words. A line has no command if it has no words, or its first word begins with `#`. The script
+/// must have fewer than 2^32 bytes.
 ///
 /// # Errors
 ///
@@ -76,8 +76,8 @@ pub fn read_pages(alloc: Global, bytes: &[u8]) -> Result<Vec<PageLine>, PageFaul
     }
 }
 
-/// Returns the fault of a script whose line of this number has the fault `wrong`. Only `Form` and
-/// `Number` can be wrong.
+/// Returns the fault of a script whose line number `line` has the fault `wrong`, which must be
+/// `Form` or `Number`.
 fn page_script_fault_at(line: u32, wrong: ScriptLineFault) -> PageFault
     requires { IsWordFault wrong }
     ensures { result ≡ page_script_fault_at line wrong }

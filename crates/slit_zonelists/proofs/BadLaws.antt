@@ -1,4 +1,4 @@
--- Searches along rows and columns.
+-- Searches for bad cells along rows and columns.
 use Rattle.std.proofs.Common.{◌≡◌, ◌⊎◌, ℕ, zero, suc, ◌+◌, ◌-◌, ◌<◌, ◌≤◌, Bool, true, false, nat_lt, Option, Some, None, List, ◌∷◌, refl, sym, ◌∙◌, ap, subst, inl, inr, arith}
 use Rattle.std.proofs.lemmas.Bool.{cases_Bool, cases_lt}
 use Rattle.std.proofs.lemmas.Bool.Decides.{nat_tests}
@@ -57,7 +57,7 @@ pub skipped : (p : ℕ → Bool) (c n : ℕ) → c < n → p c ≡ false
     → find p (range_with_len (c + 1) (n - (c + 1))) ≡ find p (range_with_len c (n - c))
 skipped p c n lt off = sym (ap (find p) (range_more c n lt) ∙ rw off refl)
 
--- one more row without a bad cell doesn't change it either
+-- one more row without a bad cell doesn't change what a search over rows finds
 pub row_skipped : (m : SlitView) (c n : ℕ) → c < n → first_bad_column m c ≡ None
     → first_member (filter_map (first_bad_in_row m) (range_with_len (c + 1) (n - (c + 1))))
     ≡ first_member (filter_map (first_bad_in_row m) (range_with_len c (n - c)))

@@ -51,8 +51,8 @@ use_examples : (slit_use None (0 ∷ []) ≡ uses.Absent) × (slit_use (Some bad
     × (slit_use (Some bad) (0 ∷ []) ≡ uses.NotValid 1 0) × (slit_use (Some three) (0 ∷ []) ≡ uses.Used)
 use_examples = (refl, refl, refl, refl)
 
--- this and the next four: node 0 is domain 1, node 1 is a domain that the table lacks, and node 2
--- is domain 0
+-- a small machine: node 0 is domain 1, node 1 is a domain that the table lacks, and node 2 is
+-- domain 0
 abbrev span : ℕ → Span
 span n = record { node = n; zone = zones.Dma32; start = 0; end = 1; present = 1 }
 
@@ -82,7 +82,7 @@ list_examples : (zones_at_distance nodes 1 20 ≡ zone 0 ∷ low_zone ∷ zone 2
 unfolding zone_list_of
 list_examples = (refl, refl, refl, refl)
 
--- this and the next: nothing is free, and what an ID holds
+-- a state in which no frame is free and no ID holds anything, and a frame that an ID may hold
 abbrev empty : PageState
 empty = first_page_state (λ x. None)
 

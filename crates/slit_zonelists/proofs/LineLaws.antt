@@ -39,7 +39,7 @@ zone_takes s id order zs None is none some = cc some
 zone_takes s id order zs (Some z) is none some =
     served_takes s id order z.node z.zone none (found_passes (has_block s order) zs z is)
 
--- so does the request near the node
+-- a request near a node needs memory too, if a zone in the list serves it
 pub near_takes : (k : ZoneListsView) (s : PageState) (id order node : ℕ) → s.held id ≡ None → IsSome (first_zone s order (zone_list_of k node))
     → NeedsMemory (page_step_by_distance k s (acts.Near id order node)).0
 near_takes k s id order node none some =
@@ -68,7 +68,7 @@ step_with_goes k f s (acts.Pages id order node zone) small goes = step_goes f s 
 step_with_goes k f s (acts.Near id order node) small goes = asked_goes f s id order (zone_list_of k node) (s.held id) small goes
 step_with_goes k f s (acts.Give id) small goes = step_goes f s (acts.Give id) small goes
 
--- they stay apart after any lines
+-- free frames stay apart from those that are held, after any lines
 pub after_goes : (k : ZoneListsView) (f : Frames) (s : PageState) (ls : List PageLine) → HaveValidOrders ls → Goes f s
     → Goes f (page_state_after k s ls)
 after_goes k f s [] orders goes = goes

@@ -1,4 +1,5 @@
--- The effect of a line that requests frames near a node, and of all lines of a page script.
+-- Defines what a line that requests frames near a node does, and what all lines of a page script
+-- do.
 use Rattle.std.specs.Prelude.{◌≡◌, ◌⊎◌, ℕ, ◌<◌, Bool, true, false, is_some, Option, Some, None, List, [], ◌∷◌, ◌++◌, length}
 use Rattle.std.specs.List.{find, All}
 use Rattle.buddy_blocks.specs.PickedBlock.{picked_first_frame}
@@ -14,21 +15,22 @@ use Rattle.page_alloc.specs.Pages.{PageState, page_step, NeedsMemory}
 use Rattle.slit_zonelists.specs.declared.order.ListZone.{ListZone}
 use Rattle.slit_zonelists.specs.Lists.{ZoneListsView, zone_list_of}
 
--- the zone has a block of the order or a greater one
+-- whether the zone has a block of the order or a greater one
 abbrev pub has_block : PageState → ℕ → ListZone → Bool
 has_block s order z = is_some (picked_first_frame s.frames z.node z.zone order)
 
--- the first zone that has such a block
+-- the first zone of the list that has a block of the order or a greater one
 abbrev pub first_zone : PageState → ℕ → List ListZone → Option ListZone
 first_zone s order zs = find (has_block s order) zs
 
--- the same request to that zone alone, or `NoBlock` if there is no such zone
+-- the outcome of the request if it goes to this zone alone, and the state after it; `NoBlock` if
+-- there is no zone
 abbrev pub take_from_zone : PageState → ℕ → ℕ → Option ListZone → PageOutcome × PageState
 take_from_zone s id order None = (outcomes.NoBlock, s)
 take_from_zone s id order (Some z) = page_step s (acts.Pages id order z.node z.zone)
 
--- the request to the first of the zones that has such a block, or `Taken` if the ID already holds
--- something
+-- the outcome of a request to the first of the zones that has a block of the order or a greater
+-- one, and the state after it; `Taken` if the ID already holds frames
 abbrev pub take_from_nearest : PageState → ℕ → ℕ → List ListZone → Option Held → PageOutcome × PageState
 take_from_nearest s id order zs (Some what) = (outcomes.Taken, s)
 take_from_nearest s id order zs None = take_from_zone s id order (first_zone s order zs)
@@ -39,25 +41,25 @@ page_step_by_distance k s (acts.Pages id order node zone) = page_step s (acts.Pa
 page_step_by_distance k s (acts.Near id order node) = take_from_nearest s id order (zone_list_of k node) (s.held id)
 page_step_by_distance k s (acts.Give id) = page_step s (acts.Give id)
 
--- the answers to several lines, in order
+-- the outcomes of a list of lines, in order, each with the number of its line
 abbrev pub page_answers_of : ZoneListsView → PageState → List PageLine → List PageAnswer
 page_answers_of k s [] = []
 page_answers_of k s (l ∷ ls) =
     record { line = l.number; outcome = (page_step_by_distance k s l.act).0 } ∷ page_answers_of k (page_step_by_distance k s l.act).1 ls
 
--- the state after several lines
+-- the state after all lines of a list
 abbrev pub page_state_after : ZoneListsView → PageState → List PageLine → PageState
 page_state_after k s [] = s
 page_state_after k s (l ∷ ls) = page_state_after k (page_step_by_distance k s l.act).1 ls
 
--- this program is out of memory before the first line: there is at least one, and nothing has
--- changed
+-- this program ran out of memory before the first line: there is at least one line, and nothing
+-- has changed
 pub record StopsBeforeLines (b : PagesView) (lines : List PageLine) (later : PagesView) : Type 0 where
   pub some : 0 < length lines
   pub pages_stay : later ≡ b
 
--- this program is out of memory at a line that isn't refused: the lines before it have been
--- carried out, and nothing has changed since
+-- this program ran out of memory at a line that isn't refused: the lines before it have been
+-- carried out, and nothing has changed since then
 pub record StopsAtLine (k : ZoneListsView) (s : PageState) (lines : List PageLine) (later : PageState) : Type 0 where
   pub before : List PageLine
   pub line : PageLine
@@ -66,12 +68,12 @@ pub record StopsAtLine (k : ZoneListsView) (s : PageState) (lines : List PageLin
   pub takes : NeedsMemory (page_step_by_distance k (page_state_after k s before) line.act).0
   pub state : later ≡ page_state_after k s before
 
--- where among the lines this program is out of memory
+-- this program ran out of memory before the first line, or at one of the lines
 abbrev pub RunsOutInPageScript : ZoneListsView → PagesView → List PageLine → PagesView → Type 0
 RunsOutInPageScript k b lines later = StopsBeforeLines b lines later ⊎ StopsAtLine k (page_state_of b) lines (page_state_of later)
 
--- the zone is in the list and has a block of the order or a greater one, and none before it has
--- one
+-- the zone is in the list and has a block of the order or a greater one, and no zone before it in
+-- the list has such a block
 pub record IsFirstZone (s : PageState) (order : ℕ) (zs : List ListZone) (z : ListZone) : Type 0 where
   pub before : List ListZone
   pub behind : List ListZone

@@ -8,11 +8,11 @@ pub record SlitView : Type 0 where
   pub count : ℕ
   pub cells : List ℕ
 
--- the matrix of a SLIT
+-- the matrix of a SLIT, as contracts see it
 abbrev pub slit_view : Slit → SlitView
 slit_view slit = record { count = slit.count; cells = slit.cells.items }
 
--- there is a cell from each domain to each
+-- the matrix has a cell from each domain to each domain
 abbrev pub IsSquare : SlitView → Type 0
 IsSquare m = length m.cells ≡ m.count * m.count
 

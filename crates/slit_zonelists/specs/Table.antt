@@ -11,7 +11,7 @@ use Rattle.slit_zonelists.specs.SlitView.{SlitView}
 abbrev pub locality_count : List ℕ → ℕ
 locality_count bytes = little_number 8 (drop 36 bytes)
 
--- a matrix of `count` rows and columns has that many cells
+-- whether `cells` is the number of cells of a matrix with `count` rows and `count` columns
 abbrev pub is_square_of : ℕ → ℕ → Bool
 is_square_of count cells = count * count == cells
 
@@ -27,7 +27,7 @@ first_slit_fault bytes =
     else (if not (sum bytes % 256 == 0) then Some faults.Checksum
     else (if not (is_square_of (locality_count bytes) (length bytes - 44)) then Some faults.Localities else None))))
 
--- the fault if there is one, else the matrix
+-- the matrix, or the fault if there is one
 abbrev pub slit_unless_fault : Option SlitFault → SlitView → Result SlitView SlitFault
 slit_unless_fault None m = Ok m
 slit_unless_fault (Some fault) m = Err fault

@@ -1,4 +1,4 @@
--- Whether the distances of a SLIT are used (`slit_valid`, `acpi_numa_slit_init`).
+-- Defines whether the distances of a SLIT are used (`slit_valid`, `acpi_numa_slit_init`).
 use Rattle.std.specs.Prelude.{◌≡◌, ◌⊎◌, ℕ, ◌==◌, ◌<◌, ◌≤◌, Bool, true, not, nat_le, if◌then◌else◌, List, [], ◌∷◌, Option, Some, None}
 use Rattle.std.specs.List.{find, filter_map, range_with_len}
 use Rattle.std.specs.Option.{option_map}
@@ -27,18 +27,20 @@ first_member (x ∷ xs) = Some x
 abbrev pub first_bad_cell : SlitView → Option (ℕ × ℕ)
 first_bad_cell m = first_member (filter_map (first_bad_in_row m) (range_with_len 0 m.count))
 
--- whether the matrix is used, by its first bad cell
+-- whether the matrix is used, given its first bad cell: it is used if there is none; else the
+-- result names that cell
 abbrev pub use_by_bad_cell : Option (ℕ × ℕ) → SlitUse
 use_by_bad_cell None = uses.Used
 use_by_bad_cell (Some at) = uses.NotValid at.0 at.1
 
--- whether the matrix is used, if the nodes have these domains: the first reason against it
+-- whether the matrix is used, and if not, the first reason against it: there is no SLIT, no node
+-- has a domain (no SRAT is used), or a cell is bad
 abbrev pub slit_use : Option SlitView → List ℕ → SlitUse
 slit_use None domains = uses.Absent
 slit_use (Some m) [] = uses.NoSrat
 slit_use (Some m) (d ∷ ds) = use_by_bad_cell (first_bad_cell m)
 
--- the cell is bad, and no other bad cell comes before it, by row and then by column
+-- the cell is bad, and no other bad cell comes before it, in the order of rows and then of columns
 pub record IsFirstBadCell (m : SlitView) (row column : ℕ) : Type 0 where
   pub low : row < m.count
   pub left : column < m.count

@@ -1,4 +1,4 @@
-//! Laws about the definitions, and about the state after any lines.
+//! Laws about the SLIT, zone lists and near requests, and about the state after any lines.
 
 ghost use Rattle.std.specs.Prelude.{◌≡◌, ℕ, ◌<◌, false, List, Option, Some, None, IsSome, IfSome, map};
 ghost use Rattle.std.specs.List.{All};
@@ -42,9 +42,9 @@ pub fn zone_lists_have_each_zone_in_order()
         (zone_list_of (zonelists_from_slit slit domains spans) node) }
 {}
 
-/// Law: a request near a node is served from the first zone in the node's list that has a block of
-/// the order or a greater one, if the ID holds nothing. If no zone has one, the outcome is
-/// `NoBlock`. If the ID already holds something, it is `Taken`.
+/// Law: if the ID holds nothing, a request near a node is served from the first zone in the node's
+/// list that has a block of the order or a greater one. If no zone in the list has such a block,
+/// the outcome is `NoBlock`. If the ID already holds something, it is `Taken`.
 pub fn near_takes_from_the_first_zone()
     ensures first { (k : ZoneListsView) (s : PageState) (id order node : ℕ) (z : AnyZone)
         → s.held id ≡ None → IsFirstZone s order (zone_list_of k node) z →

@@ -4,7 +4,7 @@
 //! The "System Locality Information Table" of ACPI (SLIT, section 5.2.17) is a matrix of
 //! distances: one byte from each domain to each. [`read_slit`] returns a [`Slit`], or the first
 //! fault of the bytes. The SRAT says which domain each node is. [`SlitUse`] says whether the
-//! matrix is used, and if not because of a cell, which cell it is (`slit_valid`).
+//! matrix is used. If a bad cell prevents that, it names the cell (`slit_valid`).
 //!
 //! [`Lists`] has, for each node, the zones of all nodes in the order in which a request near that
 //! node looks at them (`build_zonelists`, `node_zonelist`). That order is by distance, then by the
@@ -32,9 +32,8 @@ mod table;
 mod uses;
 
 pub use laws::{
-    reported_bad_cell_is_first, frames_stay_in_one_block_or_held,
+    frames_stay_in_one_block_or_held, near_takes_from_the_first_zone, reported_bad_cell_is_first,
     zone_lists_have_each_zone_in_order,
-    near_takes_from_the_first_zone,
 };
 pub use lists::Lists;
 pub use near_request::near;

@@ -1,4 +1,4 @@
-//! A request for frames from the zones near a node.
+//! Carries out requests for frames near a node.
 
 ghost use Rattle.std.specs.Prelude.{◌≡◌, ◌⊎◌, ◌≤◌, None, IsSome, IfOk, OnErr};
 ghost use Rattle.page_alloc.specs.declared.act.PageAct.TheVariants as act;
@@ -12,19 +12,19 @@ use crate::order::ListZone;
 use bm_base::Memory;
 use page_alloc::{PageOutcome, Pages};
 
-/// Allocates `2^order` frames for the ID, as near to the node as possible, and returns the outcome.
-/// They are from the first zone in the node's list that has a block of the order or a greater one.
-/// The outcomes are:
+/// Allocates `2^order` frames for the ID, as near to the node as possible, and returns the
+/// outcome. The frames are from the first zone in the node's list that has a block of the order or
+/// a greater one. The outcomes are:
 ///
 /// - `Taken`: the ID already holds something
 /// - `NoBlock`: otherwise, if no zone in the list has such a block
 /// - `At` with the address of the first frame: otherwise
 ///
-/// Nothing changes with `Taken` and `NoBlock`.
+/// After `Taken` and `NoBlock` nothing has changed.
 ///
 /// # Errors
 ///
-/// Out of memory, only in place of `At`. Nothing has changed then.
+/// Out of memory, only if the outcome would be `At`. Nothing has changed then.
 pub fn near(
     pages: &mut Pages,
     lists: &Lists,
@@ -50,9 +50,9 @@ pub fn near(
     take_from_first_zone(pages, &zones, id, order)
 }
 
-/// Returns the outcome of a request near the node if the program is out of memory for the node's
-/// list. It is `NoBlock` if no zone in that list has a block of the order or a greater one.
-/// Allocates nothing.
+/// Returns the outcome of a request near the node if the program ran out of memory for the node's
+/// zone list. It is `NoBlock` if no zone in that list has a block of the order or a greater one.
+/// The call allocates nothing.
 ///
 /// # Errors
 ///
@@ -78,9 +78,9 @@ pub fn outcome_without_list(
     Ok(PageOutcome::NoBlock)
 }
 
-/// Allocates `2^order` frames for the ID, which must hold nothing, and returns the outcome. They
-/// are from the first of `zones` that has a block of the order or a greater one. Returns `NoBlock`
-/// if none has one, and changes nothing then.
+/// Allocates `2^order` frames for the ID, which must hold nothing, and returns the outcome. The
+/// frames are from the first of `zones` that has a block of the order or a greater one. If no zone
+/// has such a block, the outcome is `NoBlock`, and nothing has changed.
 ///
 /// # Errors
 ///

@@ -1,5 +1,5 @@
-//! All lines of a page script, one after another. The list of a node is made at the first line
-//! that needs it, and kept.
+//! Runs all lines of a page script, one after another. The zone list of a node is made at the
+//! first line that needs it, and kept for later lines.
 
 ghost use Rattle.std.specs.Prelude.{◌≡◌, ◌+◌, ◌<◌, ◌≤◌, [], ◌∷◌, ◌++◌, IfOk, OnOk, OnErr, IsSome};
 ghost use Rattle.std.specs.BTreeMap.{get};
@@ -23,8 +23,9 @@ use std::collections::BTreeMap;
 ///
 /// Out of memory, in one of two places:
 ///
-/// - before the first line, if there is one; nothing has changed then
-/// - at a line that isn't refused, after the lines before it; that line changes nothing
+/// - before the first line, if there is a line; nothing has changed then
+/// - at a line that isn't refused, after all lines before it have been carried out; that line
+///   itself changes nothing
 pub fn run_page_lines(
     alloc: Global,
     pages: &mut Pages,
@@ -55,7 +56,8 @@ pub fn run_page_lines(
 ///
 /// # Errors
 ///
-/// Out of memory, only at a line that isn't refused. No page has changed then.
+/// Out of memory, only at a line that isn't refused. The free frames, and what the IDs hold, are
+/// unchanged then.
 fn run_page_line(
     pages: &mut Pages,
     lists: &Lists,
@@ -86,7 +88,7 @@ fn run_page_line(
     }
 }
 
-/// Makes the list of the node, unless it was made before.
+/// Makes the zone list of the node and keeps it in `made`, unless it is there already.
 ///
 /// # Errors
 ///

@@ -30,7 +30,7 @@ pub struct Slit {
     pub cells: Vec<u8>,
 }
 
-/// Why bytes are no SLIT, in the order in which they are checked.
+/// The reasons why bytes aren't a SLIT, in the order in which they are checked.
 #[derive(Clone, Copy, Debug, PartialEq, Eq)]
 pub enum SlitFault {
     /// There are fewer than 44 bytes.
@@ -63,8 +63,8 @@ impl From<Memory> for SlitFault {
 ///
 /// # Errors
 ///
-/// The first fault of the bytes, or `Memory` if the program is out of memory. `Memory` comes only
-/// for bytes without a fault that have at least one locality.
+/// The first fault of the bytes, or `Memory` if the program is out of memory. `Memory` is returned
+/// only if the bytes have no fault and state at least one locality.
 pub fn read_slit(alloc: Global, bytes: &[u8]) -> Result<Slit, SlitFault>
     ensures answers { Answers SlitFault.Memory slit_view result (slit_of bytes.now) }
     ensures memory { IfErr result (λ fault. fault ≡ SlitFault.Memory
@@ -78,7 +78,7 @@ pub fn read_slit(alloc: Global, bytes: &[u8]) -> Result<Slit, SlitFault>
     Ok(read_cells(alloc, bytes)?)
 }
 
-/// Returns the matrix of bytes that have no fault.
+/// Returns the matrix of a SLIT whose bytes have no fault.
 ///
 /// # Errors
 ///
@@ -150,7 +150,7 @@ fn first_slit_fault(bytes: &[u8]) -> Option<SlitFault>
     None
 }
 
-/// Returns whether `cells` is the number of cells of `count` rows of `count` cells.
+/// Tests whether `cells` is the number of cells in `count` rows of `count` cells.
 fn is_square_of(count: u64, cells: u64) -> bool
     ensures { result ≡ is_square_of count cells }
 {

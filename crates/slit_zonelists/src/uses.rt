@@ -1,4 +1,4 @@
-//! Whether the distances of a SLIT are used, and if not, why.
+//! Decides whether the distances of a SLIT are used, and if not, why.
 
 ghost use Rattle.std.specs.Prelude.{◌≡◌, ◌<◌};
 ghost use Rattle.std.specs.Option.{ForSome, option_map, option_copied};
@@ -10,23 +10,24 @@ use crate::table::Slit;
 /// The distance of a domain to itself (`LOCAL_DISTANCE`).
 pub const LOCAL_DISTANCE: u8 = 10;
 
-/// Whether the distances of the firmware are used. Of the reasons against it, the first that holds
-/// is given, in the order of the variants after `Used`.
+/// Whether the distances of the firmware are used. If they aren't, the variant is the first reason
+/// that holds, in the order of the variants after `Used`.
 #[derive(Clone, Copy, Debug, PartialEq, Eq)]
 pub enum SlitUse {
-    /// None of the others holds.
+    /// The distances are used: none of the reasons below holds.
     Used,
     /// There is no SLIT.
     Absent,
     /// No node has a domain: there is no SRAT, or it isn't used.
     NoSrat,
     /// The cell in this row and column, both from 0 on, is the first bad one, by row and then by
-    /// column. A cell from a domain to itself is bad if it isn't 10. Any other is bad if it is 10
-    /// or less (`slit_valid`).
+    /// column. A cell from a domain to itself is bad if it isn't 10. Any other cell is bad if it
+    /// is 10 or less (`slit_valid`).
     NotValid { row: u32, column: u32 },
 }
 
-/// Returns whether the SLIT is used, if the nodes have these domains.
+/// Returns whether the SLIT is used, and if not, the first reason against it. `domains` has the
+/// domain of each node; it is empty if no SRAT is used.
 pub fn decide_slit_use(slit: Option<&Slit>, domains: &[u32]) -> SlitUse
     requires { ForSome slit (λ slit. IsSquare (slit_view slit.now)) }
     ensures { result ≡ slit_use (option_map slit_view (option_copied slit.entry)) domains.now }
@@ -43,7 +44,8 @@ pub fn decide_slit_use(slit: Option<&Slit>, domains: &[u32]) -> SlitUse
     }
 }
 
-/// Returns the row and column of the first bad cell, by row and then by column.
+/// Returns the row and column of the first bad cell, by row and then by column, or `None` if no
+/// cell is bad.
 fn first_bad_cell(slit: &Slit) -> Option<(u32, u32)>
     requires { IsSquare (slit_view slit.now) }
     ensures { result ≡ first_bad_cell (slit_view slit.now) }
@@ -56,7 +58,8 @@ fn first_bad_cell(slit: &Slit) -> Option<(u32, u32)>
     None
 }
 
-/// Returns the first column in which the row has a bad cell.
+/// Returns the first column in which the row has a bad cell, or `None` if no cell of the row is
+/// bad.
 fn first_bad_column(slit: &Slit, row: u32) -> Option<u32>
     requires square { IsSquare (slit_view slit.now) }
     requires row { row < slit.now.count }
@@ -70,8 +73,8 @@ fn first_bad_column(slit: &Slit, row: u32) -> Option<u32>
     None
 }
 
-/// Returns whether the cell is bad: not 10 from a domain to itself, or 10 or less to another
-/// (`slit_valid`).
+/// Tests whether the cell is bad: from a domain to itself it isn't 10, or to another domain it is
+/// 10 or less (`slit_valid`).
 fn is_bad_cell(slit: &Slit, row: u32, column: u32) -> bool
     requires square { IsSquare (slit_view slit.now) }
     requires row { row < slit.now.count }
