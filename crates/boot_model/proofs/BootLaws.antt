@@ -21,9 +21,8 @@ use Rattle.e820_sanitise.specs.Stop.{judge_frames}
 use Rattle.boot_model.specs.declared.stop.Cause.{Cause}
 use Rattle.script_reader.specs.declared.act.Line.{Line}
 use Rattle.early_script.specs.Lines.{script_after_lines, lines_before_sections, lines_after_sections}
-use Rattle.boot_model.specs.Boot.{InputsView, BootSoFar, begin_boot, with_script_state, boot, claims, early_inputs, usable_frames_stage, memory_stage, map_size_stage, later_stages, lies_in_memory, judge_map, map_stages, reach, made_with_crash_area, made_with_nodes, made_with_sections, script_stage, script_state, types_in_reach, made_or_stop}
+use Rattle.boot_model.specs.Boot.{ExtraView, InputsView, BootSoFar, begin_boot, crash_area_stage, with_script_state, boot_with, claims, claims_stage, claims_state, early_inputs, with_claims_state, usable_frames_stage, memory_stage, map_size_stage, later_stages, lies_in_memory, judge_map, map_stages, reach, reserve_for_map, made_with_crash_area, made_with_nodes, made_with_sections, script_stage, script_state, types_in_reach, made_or_stop}
 use Rattle.numa_nodes.specs.Assignment.{assign_nodes}
-use Rattle.crash_kernel.specs.Reservation.{reserve_crash_area}
 use Rattle.boot_model.specs.First.{items_with_growths}
 use Rattle.boot_model.specs.Sections.{place_present_sections}
 use Rattle.boot_model.specs.Stop.{cause_of_growth, cause_of_stage}
@@ -31,25 +30,25 @@ use Rattle.boot_model.proofs.ReachLaws.{reach-small}
 use Rattle.boot_model.proofs.StageLaws.{AllKeep, Keeps, chain_keeps, goes_by, passes, steps_keep}
 use Rattle.boot_model.specs.Stages.{run_each_stage}
 
--- what is known if the stages end without a stop
+-- what is known of the map if the boot accepts it
 pub record AcceptsMap (given : InputsView) (made : BootSoFar) : Type 0 where
   pub map : made.map ≡ map_of (claims given)
   pub fits : nat_lt E820_MAX_ENTRIES (length (map_of (claims given))) ≡ false
   pub judged : judge_frames (types_in_reach given) ≡ None
 
--- a stage that stops if the map is full leaves what was made as it is, unless it stops
+-- the stage that checks the size of the map changes nothing unless it stops the boot
 pub room_passed : (full : Bool) (cause : Cause) (before after : BootSoFar) → (if full then Err cause else Ok before) ≡ Ok after
     → (full ≡ false) × (before ≡ after)
 room_passed true cause before after ends = absurd (cc)
 room_passed false cause before after ends = (refl, cc)
 
--- a stage that judges the frames leaves what was made as it is, unless it stops
+-- the stage that counts usable frames changes nothing unless it stops the boot
 pub frames_passed : (reason : Option MapStop) (before after : BootSoFar) → made_or_stop reason before ≡ Ok after
     → (reason ≡ None) × (before ≡ after)
 frames_passed None before after ends = (refl, cc)
 frames_passed (Some reason) before after ends = absurd (cc)
 
--- after them, what was made is what the boot began with
+-- the stages that accept the map change nothing: what was made is still what the boot began with
 pub accepted_map_is_unchanged : (given : InputsView) (made : BootSoFar) → judge_map given ≡ Ok made
     → (made ≡ begin_boot given) × (judge_frames (types_in_reach given) ≡ None)
     × (nat_lt E820_MAX_ENTRIES (length (map_of (claims given))) ≡ false)
@@ -69,28 +68,37 @@ lines_passed kernel lines before after ends = cc
 pub lines_map : (kernel : RangeView) (lines : List Line) → Keeps (λ (made : BootSoFar). made.map) (script_stage kernel lines)
 lines_map kernel lines before after ends = ap (λ (m : BootSoFar). m.map) (lines_passed kernel lines before after ends)
 
--- each of the stages after those that judge it leaves the map as it is
-pub later_keep : (given : InputsView) → AllKeep (λ (made : BootSoFar). made.map) (later_stages given)
-later_keep given =
+-- the lines of early claims leave the map as it is
+pub claims_passed : (kernel : RangeView) (lines : List Line) (before after : BootSoFar) → claims_stage kernel lines before ≡ Ok after
+    → after ≡ with_claims_state before (script_after_lines (claims_state kernel before) lines)
+claims_passed kernel lines before after ends = cc
+
+claims_map : (kernel : RangeView) (lines : List Line) → Keeps (λ (made : BootSoFar). made.map) (claims_stage kernel lines)
+claims_map kernel lines before after ends = ap (λ (m : BootSoFar). m.map) (claims_passed kernel lines before after ends)
+
+-- each stage after the map was accepted leaves the map as it is
+pub later_keep : (extra : ExtraView) (given : InputsView) → AllKeep (λ (made : BootSoFar). made.map) (later_stages extra given)
+later_keep extra given =
     let map : BootSoFar → List (RunOf ℕ) = λ made. made.map in
     let memory : Keeps map (memory_stage given) = λ before after ends. steps_keep map cause_of_growth (λ done next. next)
     (items_with_growths (early_items (early_inputs given) before.map)) (λ a m. refl) (λ last. refl) before after ends in
     let nodes = steps_keep map cause_of_stage made_with_nodes (assign_nodes given.domains given.options.numa_off) (λ a m. refl) (λ before.
     refl) in
-    let crash = steps_keep map cause_of_growth made_with_crash_area (reserve_crash_area given.options.crash) (λ a m. refl) (λ before.
-    refl) in
+    let crash : Keeps map (crash_area_stage extra.profile given) = λ before after ends. steps_keep map cause_of_growth made_with_crash_area
+    (reserve_for_map extra.profile given before.map) (λ a m. refl) (λ last. refl) before after ends in
+    let early = claims_map given.kernel extra.claims in
     let sections = steps_keep map cause_of_stage made_with_sections (place_present_sections given.width) (λ a m. refl) (λ before. refl) in
     let before = lines_map given.kernel (lines_before_sections given.lines) in
     let behind = lines_map given.kernel (lines_after_sections given.lines) in
-    (memory, (nodes, (crash, (before, (sections, (behind, tt))))))
+    (memory, (early, (nodes, (crash, (before, (sections, (behind, tt)))))))
 
-pub goes_on : (given : InputsView) (made : BootSoFar) → boot given ≡ Ok made → AcceptsMap given made
-unfolding boot
-goes_on given made ends =
-    let judged_map = goes_by (judge_map given) (λ m. run_each_stage (later_stages given) m) made ends in
+pub goes_on : (extra : ExtraView) (given : InputsView) (made : BootSoFar) → boot_with extra given ≡ Ok made → AcceptsMap given made
+unfolding boot_with
+goes_on extra given made ends =
+    let judged_map = goes_by (judge_map given) (λ m. run_each_stage (later_stages extra given) m) made ends in
     let known = accepted_map_is_unchanged given judged_map.middle judged_map.first in
     record {
-      map = chain_keeps (λ (m : BootSoFar). m.map) (later_stages given) (later_keep given) judged_map.middle made judged_map.rest
+      map = chain_keeps (λ (m : BootSoFar). m.map) (later_stages extra given) (later_keep extra given) judged_map.middle made judged_map.rest
           ∙ ap (λ (m : BootSoFar). m.map) known.0;
       fits = known.2;
       judged = known.1;
@@ -101,7 +109,8 @@ pub map_between : (c : Claims) → IsRunsBetween (kinds c) 0 (2 ^ 64) (map_of c)
 unfolding map_of runs_of
 map_between c = from_runs same_kind same_kind_decides_equality (kinds c) (2 ^ 64) 0
 
--- an address is memory if the list gives it a memory type
+-- for sorted runs, the type at an address is memory exactly if the address lies in a run of RAM or
+-- of the kernel's own memory
 pub memory_lies : (rs : List (RunOf ℕ)) (x : ℕ) → AreRuns rs → is_memory (value_at rs x) ≡ lies_in_memory rs x
 memory_lies [] x runs = refl
 memory_lies (r ∷ rs) x runs =
@@ -114,10 +123,10 @@ memory_lies (r ∷ rs) x runs =
     ]
 
 -- the runs of the map determine which frames are usable
-pub usable_lies : (given : InputsView) (made : BootSoFar) (frame : ℕ) → boot given ≡ Ok made → 4096 * frame + 4096 ≤ reach given
+pub usable_lies : (extra : ExtraView) (given : InputsView) (made : BootSoFar) (frame : ℕ) → boot_with extra given ≡ Ok made → 4096 * frame + 4096 ≤ reach given
     → is_usable_frame (types_in_reach given) frame ≡ each_in (bytes_of_frame frame) (lies_in_memory made.map)
 unfolding is_usable_frame
-usable_lies given made frame ends low =
+usable_lies extra given made frame ends low =
     let c : Claims = claims given in
     let between = map_between c in
     each_in-same (bytes_of_frame frame) _ _ (λ x from below. (
@@ -125,24 +134,24 @@ usable_lies given made frame ends low =
     let far : reach given ≤ 2 ^ 52 = reach-small given in
     let value : value_at (map_of c) x ≡ kinds c x = between.within x (omega arith) (omega (arith, far)) in
     let told : is_memory (kinds c x) ≡ lies_in_memory (map_of c) x = ap is_memory (sym value) ∙ memory_lies (map_of c) x between.runs in
-    rw (low_x, (goes_on given made ends).map) told))
+    rw (low_x, (goes_on extra given made ends).map) told))
 
 -- each address below 2^64 has in the map the type that the claims give it
-pub map_has_claimed_types : (given : InputsView) (made : BootSoFar) (x : ℕ) → boot given ≡ Ok made → x < 2 ^ 64
+pub map_has_claimed_types : (extra : ExtraView) (given : InputsView) (made : BootSoFar) (x : ℕ) → boot_with extra given ≡ Ok made → x < 2 ^ 64
     → value_at made.map x ≡ kinds (claims given) x
-map_has_claimed_types given made x ends low = rw (goes_on given made ends).map ((map_between (claims given)).within x (omega arith) (omega arith))
+map_has_claimed_types extra given made x ends low = rw (goes_on extra given made ends).map ((map_between (claims given)).within x (omega arith) (omega arith))
 
--- a number of frames for which no stop is due
+-- a number of frames for which the boot doesn't stop is 1 to 2^32
 pub frames_within : (n : ℕ) → (if n == 0 then Some reasons.NoRam else (if nat_lt (2 ^ 32) n then Some (reasons.TooMuchRam n) else
     None)) ≡ None
     → (0 < n) × (n ≤ 2 ^ 32)
 frames_within n fine = grind (arith, nat_tests)
 
--- a map that isn't refused has usable frames, at least one and at most 2^32
-pub accepted_map_has_usable_frames : (given : InputsView) (made : BootSoFar) → boot given ≡ Ok made
+-- a map that the boot accepts has 1 to 2^32 usable frames
+pub accepted_map_has_usable_frames : (extra : ExtraView) (given : InputsView) (made : BootSoFar) → boot_with extra given ≡ Ok made
     → (0 < usable_frames (types_in_reach given)) × (usable_frames (types_in_reach given) ≤ 2 ^ 32)
-accepted_map_has_usable_frames given made ends = frames_within (usable_frames (types_in_reach given)) (goes_on given made ends).judged
+accepted_map_has_usable_frames extra given made ends = frames_within (usable_frames (types_in_reach given)) (goes_on extra given made ends).judged
 
--- a map that isn't refused fits in the kernel's table
-pub accepted_map_fits : (given : InputsView) (made : BootSoFar) → boot given ≡ Ok made → length made.map ≤ E820_MAX_ENTRIES
-accepted_map_fits given made ends = let known = goes_on given made ends in rw known.map (grind (arith, nat_tests, known.fits))
+-- a map that the boot accepts fits in the kernel's table
+pub accepted_map_fits : (extra : ExtraView) (given : InputsView) (made : BootSoFar) → boot_with extra given ≡ Ok made → length made.map ≤ E820_MAX_ENTRIES
+accepted_map_fits extra given made ends = let known = goes_on extra given made ends in rw known.map (grind (arith, nat_tests, known.fits))

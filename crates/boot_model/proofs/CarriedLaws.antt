@@ -1,5 +1,5 @@
--- The stage that carries out items one after another ends after all of them, or at the first
--- growth that was refused.
+-- The stage that carries out a list of items ends after the last item, or before the first item
+-- whose growth is refused.
 use Rattle.std.proofs.Common.{◌≡◌, List, [], ◌∷◌, ◌++◌, Option, Some, None, Result, Ok, Err, refl, sym, ◌∙◌, ap}
 use Rattle.bm_base.specs.ResultSteps.{◌>>=◌}
 use Rattle.memblock_model.specs.declared.item.Item.{Item}
@@ -36,7 +36,7 @@ carried_said (i ∷ is) items =
     let o : ChangeEffect = change_writing_item i items in
     step_said o.steps o.refused is items (carried_said is (append_groups items o.steps))
 
--- the stage that makes memory ends after all of its items
+-- if the stage that makes memory doesn't stop, it ends after all of its items
 pub memory_carried : (given : InputsView) (made next : BootSoFar) → memory_stage given made ≡ Ok next
     → carry_out_items (early_items (early_inputs given) made.map) made.items ≡ Ok next.items
 memory_carried given made next ends =

@@ -1,5 +1,5 @@
--- Small boots and their parts. A map isn't computed, since `map_of` goes over all addresses. The
--- map of empty entries follows from laws.
+-- Small boots and parts of boots. No example computes a map, since `map_of` goes over all
+-- addresses. The map of entries of size 0 follows from laws.
 use Rattle.std.proofs.Common.{◌≡◌, ℕ, ◌*◌, ◌^◌, true, false, List, [], ◌∷◌, length, Some, None, Ok, Err, refl, sym, arith}
 use Rattle.std.proofs.lemmas.Bool.Decides.{nat_tests}
 use Rattle.bm_base.specs.Range.{RangeView}
@@ -21,11 +21,11 @@ use Rattle.bm_base.specs.Each.{each_from, each_in}
 use Rattle.memblock_frames.specs.Frames.{free_node_in}
 use Rattle.memblock_model.specs.declared.item.Item.{Item}
 use Rattle.memblock_model.specs.declared.owner.Owner.TheVariants as owner
-use Rattle.boot_model.specs.Boot.{InputsView, BootSoFar, begin_boot, begin_with_map, inputs_without_files, boot, claims, handover_frames, map_size_stage, lies_in_memory, no_options, reach, script_stage, finish_boot}
+use Rattle.boot_model.specs.Boot.{InputsView, BootSoFar, begin_boot, begin_with_map, inputs_without_files, boot, boot_with, claims, handover_frames, map_size_stage, lies_in_memory, no_options, reach, script_stage, finish_boot}
 use Rattle.boot_model.specs.Kernel.{IsKernel, is_kernel}
 use Rattle.boot_model.specs.Mirrors.{IsMirror, frame_range_of}
 
--- this and the next four: the values of the examples that follow
+-- this and the next four: values for the examples below
 abbrev two_runs : List (RunOf ℕ)
 two_runs = record { base = 0x1000; size = 0x1000; value = 1 } ∷ record { base = 0x2000; size = 0x1000; value = 2 } ∷ []
 
@@ -41,7 +41,7 @@ empty = record { addr = 0; size = 0; kind = 0 }
 abbrev of_image : InputsView
 of_image = inputs_without_files Bits46 image
 
--- the report: both tables are empty and lie in the image's last two frames
+-- both tables are empty, and lie in the last two frames of the kernel's image
 told_example : ((finish_boot of_image made).heads.memory.place ≡ 0x2FFE000) × ((finish_boot of_image made).heads.reserved.place ≡ 0x2FFF000)
 told_example = (refl, refl)
 
@@ -49,7 +49,7 @@ told_example = (refl, refl)
 reach_examples : (reach of_image ≡ 0x400000000000) × (reach (inputs_without_files Bits52 image) ≡ 0x10000000000000)
 reach_examples = (refl, refl)
 
--- mirrored memory is whole frames, at least one; the range and its frames
+-- a mirrored range consists of whole frames, at least one, and has these frames
 mirror_examples : IsMirror (record { base = 0x4000000; size = 0x1000 })
     × (frame_range_of (record { base = 0x4000000; size = 0x1000000 }) ≡ record { first = 0x4000; count = 0x1000 })
 mirror_examples = (record { some = omega arith; at_frame = refl; of_frames = refl }, refl)
@@ -60,7 +60,7 @@ no_mirrors : (IsMirror (record { base = 0x4000000; size = 0x1800 }) → ⊥)
     × (IsMirror (record { base = 0x4000000; size = 0 }) → ⊥)
 no_mirrors = (λ known. omega (arith, known.of_frames), λ known. omega (arith, known.at_frame), λ known. omega (arith, known.some))
 
--- a line that names an unknown ID is answered, and nothing else is made
+-- a line that names an unknown ID gets an outcome, and changes nothing else
 unknown_line : script_stage image (record { number = 3; act = acts.Free 7 } ∷ []) made
     ≡ Ok (record made { answers = record { line = 3; outcome = outcomes.Unknown } ∷ [] })
 unfolding act_effect
@@ -77,7 +77,7 @@ handed_examples : (handover_frames two_frames 1 ≡ None) × (handover_frames tw
 unfolding free_node_in each_in each_from
 handed_examples = (refl, refl)
 
--- 3,200 runs fit, 3,201 don't, and the stop gives their number
+-- 3,200 runs fit; 3,201 don't, and the stop gives their number
 full_map : (runs : List (RunOf ℕ)) → length runs ≡ 3200 → map_size_stage (record made { map = runs }) ≡ Ok (record made { map = runs })
 full_map runs many = rw many refl
 
@@ -90,9 +90,9 @@ memory_examples : (lies_in_memory two_runs 0x1000 ≡ true) × (lies_in_memory t
     × (lies_in_memory (record { base = 0; size = 1; value = 128 } ∷ []) 0 ≡ true)
 memory_examples = (refl, refl, refl, refl, refl)
 
--- An image of two frames at 1 MiB may lie there, and so may one that ends at the limit of physical
--- addresses. One that begins in the middle of a frame, has one frame, or ends a frame later may
--- not. With 52 bits the limit is higher.
+-- An image of two frames may lie at 1 MiB, and one may end at the limit of physical addresses. No
+-- image begins in the middle of a frame, has only one frame, or ends a frame past the limit. With
+-- 52 bits the limit is higher.
 kernel_tests : (is_kernel Bits46 (record { base = 0x100000; size = 8192 }) ≡ true)
     × (is_kernel Bits46 (record { base = 0x3FFFFFFFE000; size = 0x2000 }) ≡ true)
     × (is_kernel Bits46 (record { base = 0x100800; size = 0x2000000 }) ≡ false)
@@ -102,7 +102,7 @@ kernel_tests : (is_kernel Bits46 (record { base = 0x100000; size = 8192 }) ≡ t
     × (is_kernel Bits52 (record { base = 0xFFFFFFFFFF000; size = 0x2000 }) ≡ false)
 kernel_tests = (refl, refl, refl, refl, refl, refl, refl)
 
--- an image lies above the first MiB, and is whole frames
+-- an image must lie above the first MiB and consist of whole frames
 kernel_examples : IsKernel Bits46 (record { base = 0x1000000; size = 0x2000000 })
     × (IsKernel Bits46 (record { base = 0xFF000; size = 0x2000000 }) → ⊥)
     × (IsKernel Bits46 (record { base = 0x1000000; size = 0x2800 }) → ⊥)
@@ -166,5 +166,5 @@ begins_without_a_run : (begin_boot two_empty).map ≡ []
 begins_without_a_run = no_runs (claims two_empty) nothing_claimed
 
 no_ram : boot two_empty ≡ Err causes.NoRam
-unfolding boot
+unfolding boot boot_with
 no_ram = rw (no_runs (claims two_empty) nothing_claimed, no_frame (reach two_empty) (claims two_empty) nothing_claimed) refl

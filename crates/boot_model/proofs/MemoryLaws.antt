@@ -1,5 +1,5 @@
--- Memory and the limit of a boot that isn't stopped: they come from its map. Each stage after the
--- one that makes them leaves them as they are.
+-- A boot that isn't stopped gets its memory and its limit from its map. Each stage after the one
+-- that makes memory leaves both as they are.
 use Rattle.std.proofs.Common.{◌≡◌, ℕ, ◌/◌, ◌^◌, ◌<◌, ◌≤◌, ◌∙◌, ap, refl, arith, inl, inr, Bool, true, false, nat_lt, if◌then◌else◌, is_some, Option, Some, None, List, [], ◌∷◌, drop, Ok, sym}
 use Rattle.std.specs.Option.{option_map}
 use Rattle.std.proofs.lemmas.Bool.{cases_Bool}
@@ -26,32 +26,33 @@ use Rattle.script_reader.specs.declared.act.Line.{Line}
 use Rattle.early_script.specs.Effects.{script_outcome_at_line, state_after_line}
 use Rattle.early_script.specs.Lines.{ScriptSoFar, script_after_line, script_after_lines, lines_before_sections, lines_after_sections, line_effect}
 use Rattle.early_script.proofs.QuietLaws.{acts-keep, act_effect-quiet}
-use Rattle.boot_model.specs.Boot.{InputsView, BootSoFar, Stage, boot, claims, early_inputs, crash_area_stage, memory_stage, nodes_stage, sections_stage, later_stages, judge_map, all_mirrors, made_with_crash_area, made_with_nodes, made_with_sections, reach, script_stage, script_state, types_in_reach}
+use Rattle.boot_model.specs.Added.{added_bytes}
+use Rattle.boot_model.specs.declared.extra.Profile.{Profile}
+use Rattle.boot_model.specs.Boot.{ExtraView, InputsView, BootSoFar, Stage, boot_with, claims, claims_stage, claims_state, early_inputs, crash_area_stage, memory_stage, nodes_stage, sections_stage, later_stages, judge_map, all_mirrors, made_with_crash_area, made_with_nodes, made_with_sections, reach, reserve_for_map, script_stage, script_state, types_in_reach}
 use Rattle.boot_model.specs.Sections.{place_present_sections}
 use Rattle.boot_model.specs.Stop.{cause_of_growth, cause_of_stage}
 use Rattle.numa_nodes.specs.Assignment.{assign_nodes}
 use Rattle.numa_nodes.proofs.MemoryLaws.{keeps-limit, keeps-memory}
-use Rattle.crash_kernel.specs.Reservation.{reserve_crash_area}
-use Rattle.crash_kernel.proofs.QuietLaws.{quiet-reserved}
+use Rattle.crash_kernel.proofs.QuietLaws.{quiet-reserved_by}
 use Rattle.stage_steps.specs.KeepsMemory.{KeepsMemory}
 use Rattle.stage_steps.proofs.QuietLaws.{quiet-appended_limit, quiet-appended_memory, quiet-bind, quiet-listed, quiet-returns}
 use Rattle.sparse_sections.proofs.QuietLaws.{quiet-roots}
 use Rattle.section_maps.proofs.QuietLaws.{quiet-maps}
 use Rattle.boot_model.specs.Stages.{run_each_stage}
-use Rattle.boot_model.proofs.BootLaws.{accepted_map_is_unchanged, lines_passed, map_between}
+use Rattle.boot_model.proofs.BootLaws.{claims_passed, accepted_map_is_unchanged, lines_passed, map_between}
 use Rattle.boot_model.proofs.CarriedLaws.{memory_carried}
 use Rattle.boot_model.proofs.ReachLaws.{reach-small}
 use Rattle.boot_model.proofs.StageLaws.{AllKeep, Keeps, chain_keeps, goes_by, passes, steps_keep}
 
--- whether the byte is memory, by the items
+-- whether the byte is memory, after the items
 abbrev pub held_by : BootSoFar → ℕ → Bool
 held_by made x = is_some (memory_of made.items x)
 
--- the labels of memory, by the items
+-- the labels of memory, after the items
 abbrev pub labels_by : BootSoFar → Labels
 labels_by made = memory_of made.items
 
--- the limit of allocations, by the items
+-- the limit of allocations, after the items
 abbrev pub bound_by : BootSoFar → ℕ
 bound_by made = limit_of made.items
 
@@ -77,7 +78,17 @@ lines_bound : (kernel : RangeView) (lines : List Line) → Keeps bound_by (scrip
 lines_bound kernel lines before last ends =
     ap bound_by (lines_passed kernel lines before last ends) ∙ lines_keep limit_of quiet-limit (script_state kernel before) lines
 
--- the stage of nodes leaves which bytes are memory as it is
+-- lines of early claims leave the labels as they are
+pub claims_labels : (kernel : RangeView) (lines : List Line) → Keeps labels_by (claims_stage kernel lines)
+claims_labels kernel lines before last ends =
+    ap labels_by (claims_passed kernel lines before last ends) ∙ lines_keep memory_of quiet-memory (claims_state kernel before) lines
+
+-- lines of early claims leave the limit as it is
+pub claims_bound : (kernel : RangeView) (lines : List Line) → Keeps bound_by (claims_stage kernel lines)
+claims_bound kernel lines before last ends =
+    ap bound_by (claims_passed kernel lines before last ends) ∙ lines_keep limit_of quiet-limit (claims_state kernel before) lines
+
+-- the stage of nodes doesn't change which bytes are memory
 nodes_hold : (given : InputsView) → Keeps held_by (nodes_stage given)
 nodes_hold given =
     steps_keep held_by cause_of_stage made_with_nodes (assign_nodes given.domains given.options.numa_off) (λ a m. refl)
@@ -90,18 +101,18 @@ nodes_bound given =
     (λ before. keeps-limit given.domains given.options.numa_off before.items)
 
 -- the stage of the crash area leaves the labels as they are
-pub crash_labels : (given : InputsView) → Keeps labels_by (crash_area_stage given)
-crash_labels given =
-    steps_keep labels_by cause_of_growth made_with_crash_area (reserve_crash_area given.options.crash) (λ a m. refl)
-    (λ before. quiet-appended_memory before.items (reserve_crash_area given.options.crash before.items).steps
-    ((quiet-reserved given.options.crash).each before.items))
+pub crash_labels : (profile : Profile) (given : InputsView) → Keeps labels_by (crash_area_stage profile given)
+crash_labels profile given before last =
+    steps_keep labels_by cause_of_growth made_with_crash_area (reserve_for_map profile given before.map) (λ a m. refl)
+    (λ made. quiet-appended_memory made.items (reserve_for_map profile given before.map made.items).steps
+    ((quiet-reserved_by profile.crash (added_bytes (reach given) before.map) given.options.crash).each made.items)) before last
 
 -- the stage of the crash area leaves the limit as it is
-crash_bound : (given : InputsView) → Keeps bound_by (crash_area_stage given)
-crash_bound given =
-    steps_keep bound_by cause_of_growth made_with_crash_area (reserve_crash_area given.options.crash) (λ a m. refl)
-    (λ before. quiet-appended_limit before.items (reserve_crash_area given.options.crash before.items).steps
-    ((quiet-reserved given.options.crash).each before.items))
+crash_bound : (profile : Profile) (given : InputsView) → Keeps bound_by (crash_area_stage profile given)
+crash_bound profile given before last =
+    steps_keep bound_by cause_of_growth made_with_crash_area (reserve_for_map profile given before.map) (λ a m. refl)
+    (λ made. quiet-appended_limit made.items (reserve_for_map profile given before.map made.items).steps
+    ((quiet-reserved_by profile.crash (added_bytes (reach given) before.map) given.options.crash).each made.items)) before last
 
 quiet_sections : (width : Width) → KeepsMemory (place_present_sections width)
 unfolding place_present_sections
@@ -121,53 +132,54 @@ section_bound given =
     (λ before. quiet-appended_limit before.items (place_present_sections given.width before.items).steps
     ((quiet_sections given.width).each before.items))
 
--- if the labels stay, so does which bytes are memory
+-- a stage that leaves the labels as they are doesn't change which bytes are memory
 by_labels : (stage : Stage) → Keeps labels_by stage → Keeps held_by stage
 by_labels stage keeps before last ends = let held : Labels → ℕ → Bool = λ f x. is_some (f x) in ap held (keeps before last ends)
 
 -- the stages after the nodes leave the labels as they are
-pub labels_keep : (given : InputsView) → AllKeep labels_by (drop 2 (later_stages given))
-labels_keep given =
+pub labels_keep : (extra : ExtraView) (given : InputsView) → AllKeep labels_by (drop 3 (later_stages extra given))
+labels_keep extra given =
     let before = lines_labels given.kernel (lines_before_sections given.lines) in
     let behind = lines_labels given.kernel (lines_after_sections given.lines) in
-    (crash_labels given, (before, (section_labels given, (behind, tt))))
+    (crash_labels extra.profile given, (before, (section_labels given, (behind, tt))))
 
--- the stages after memory is made leave which bytes are memory as it is
-memory_keep : (given : InputsView) → AllKeep held_by (drop 1 (later_stages given))
-memory_keep given =
+-- the stages after memory is made don't change which bytes are memory
+memory_keep : (extra : ExtraView) (given : InputsView) → AllKeep held_by (drop 1 (later_stages extra given))
+memory_keep extra given =
     let before = by_labels _ (lines_labels given.kernel (lines_before_sections given.lines)) in
     let behind = by_labels _ (lines_labels given.kernel (lines_after_sections given.lines)) in
-    (nodes_hold given, (by_labels _ (crash_labels given), (before, (by_labels _ (section_labels given), (behind, tt)))))
+    (by_labels _ (claims_labels given.kernel extra.claims), (nodes_hold given, (by_labels _ (crash_labels extra.profile given), (before, (by_labels _ (section_labels given), (behind, tt))))))
 
 -- the stages after memory is made leave the limit as it is
-limit_keep : (given : InputsView) → AllKeep bound_by (drop 1 (later_stages given))
-limit_keep given =
+limit_keep : (extra : ExtraView) (given : InputsView) → AllKeep bound_by (drop 1 (later_stages extra given))
+limit_keep extra given =
     let before = lines_bound given.kernel (lines_before_sections given.lines) in
     let behind = lines_bound given.kernel (lines_after_sections given.lines) in
-    (nodes_bound given, (crash_bound given, (before, (section_bound given, (behind, tt)))))
+    (claims_bound given.kernel extra.claims, (nodes_bound given, (crash_bound extra.profile given, (before, (section_bound given, (behind, tt))))))
 
--- what is known once memory is made
+-- after the boot, which bytes are memory, and the limit, are as the stage left them that made
+-- memory
 pub record HasMemory (given : InputsView) (made : BootSoFar) : Type 0 where
   pub first : BootSoFar
   pub carried : carry_out_items (early_items (early_inputs given) (map_of (claims given))) [] ≡ Ok first.items
   pub memory : held_by made ≡ held_by first
   pub limit : limit_of made.items ≡ limit_of first.items
 
-pub memory_made : (given : InputsView) (made : BootSoFar) → boot given ≡ Ok made → HasMemory given made
-unfolding boot
-memory_made given made ends =
-    let judged = goes_by (judge_map given) (λ m. run_each_stage (later_stages given) m) made ends in
-    let behind = passes (memory_stage given) (drop 1 (later_stages given)) judged.middle made judged.rest in
+pub memory_made : (extra : ExtraView) (given : InputsView) (made : BootSoFar) → boot_with extra given ≡ Ok made → HasMemory given made
+unfolding boot_with
+memory_made extra given made ends =
+    let judged = goes_by (judge_map given) (λ m. run_each_stage (later_stages extra given) m) made ends in
+    let behind = passes (memory_stage given) (drop 1 (later_stages extra given)) judged.middle made judged.rest in
     let known = accepted_map_is_unchanged given judged.middle judged.first in
     record {
       first = behind.middle;
       carried = ap (λ (m : BootSoFar). carry_out_items (early_items (early_inputs given) m.map) m.items) (sym known.0)
           ∙ memory_carried given judged.middle behind.middle behind.first;
-      memory = chain_keeps held_by (drop 1 (later_stages given)) (memory_keep given) behind.middle made behind.rest;
-      limit = chain_keeps bound_by (drop 1 (later_stages given)) (limit_keep given) behind.middle made behind.rest;
+      memory = chain_keeps held_by (drop 1 (later_stages extra given)) (memory_keep extra given) behind.middle made behind.rest;
+      limit = chain_keeps bound_by (drop 1 (later_stages extra given)) (limit_keep extra given) behind.middle made behind.rest;
     }
 
--- below the limit of physical addresses the map has the claims' types
+-- below the limit of physical addresses, the map has the types that the claims give
 reached_same : (limit : ℕ) (c : Claims) (x : ℕ) → limit ≤ 2 ^ 52 → types_below limit (value_at (map_of c)) x ≡ types_below limit (kinds c) x
 reached_same limit c x small =
     elim (cases_Bool (nat_lt x limit)) [
@@ -183,7 +195,7 @@ some_is : (b : Bool) → is_some (if b then Some plain_label else None) ≡ b
 some_is true = refl
 some_is false = refl
 
--- a byte is memory if it was before being mirrored
+-- marking a byte as mirrored doesn't change whether it is memory
 mapped_some : (mirrored : Bool) (o : Option LabelView) → is_some (if mirrored then option_map with_mirror o else o) ≡ is_some o
 mapped_some true None = refl
 mapped_some true (Some label) = refl
@@ -193,10 +205,10 @@ mirrored_some : (mirrors : List FrameRange) (f : Labels) (x : ℕ) → is_some (
 mirrored_some mirrors f x = mapped_some (is_mirrored mirrors x) (f x)
 
 -- a byte is memory exactly if its frame is usable
-pub booted_memory_is_usable : (given : InputsView) (made : BootSoFar) (x : ℕ) → boot given ≡ Ok made
+pub booted_memory_is_usable : (extra : ExtraView) (given : InputsView) (made : BootSoFar) (x : ℕ) → boot_with extra given ≡ Ok made
     → is_some (memory_of made.items x) ≡ is_usable_frame (types_in_reach given) (x / 4096)
-booted_memory_is_usable given made x ends =
-    let known : HasMemory given made = memory_made given made ends in
+booted_memory_is_usable extra given made x ends =
+    let known : HasMemory given made = memory_made extra given made ends in
     let map : List (RunOf ℕ) = map_of (claims given) in
     let reached : TypeAt = types_below (reach given) (value_at map) in
     let first = first_memory (early_inputs given) map known.first.items (map_between (claims given)).runs known.carried x in
@@ -206,9 +218,9 @@ booted_memory_is_usable given made x ends =
     ∙ ap (λ (t : TypeAt). is_usable_frame t (x / 4096)) (types_same given)
 
 -- the limit is the end of the last usable frame
-pub limit_is_memory_end : (given : InputsView) (made : BootSoFar) → boot given ≡ Ok made
+pub limit_is_memory_end : (extra : ExtraView) (given : InputsView) (made : BootSoFar) → boot_with extra given ≡ Ok made
     → limit_of made.items ≡ memory_end (reach given) (kinds (claims given))
-limit_is_memory_end given made ends =
-    let known : HasMemory given made = memory_made given made ends in
+limit_is_memory_end extra given made ends =
+    let known : HasMemory given made = memory_made extra given made ends in
     known.limit ∙ first_limit (early_inputs given) (map_of (claims given)) known.first.items known.carried
     ∙ memory_end-same (reach given) (value_at (map_of (claims given))) (kinds (claims given)) (types_same given)

@@ -1,4 +1,4 @@
--- Ranges of whole frames: the frames of a range, and their bytes.
+-- Ranges of whole frames: their frames, and the bytes of these.
 use Rattle.std.proofs.Common.{◌≡◌, ℕ, ◌-◌, ◌*◌, ◌/◌, ◌%◌, Bool, true, false, not, nat_lt, if◌then◌else◌, Option, Some, None, List, [], ◌∷◌, map, IfOk, IfSome, Result, Ok, Err, refl, subst, arith}
 use Rattle.std.specs.Int.{next_multiple_of}
 use Rattle.std.specs.List.{All}
@@ -14,14 +14,14 @@ use Rattle.efi_map.specs.Map.{EfiContent, descriptors_of, efi_of, far_descriptor
 use Rattle.early_memory.specs.EarlyInputs.{bytes_of_frames}
 use Rattle.boot_model.specs.Mirrors.{IsMirror, frame_range_of}
 
--- the bytes of its frames are the range
+-- the bytes of the frames of a mirrored range are the range
 pub mirror-frames : (r : RangeView) → IsMirror r → bytes_of_frames (frame_range_of r) ≡ r
 mirror-frames r mirror =
     let base : 4096 * (r.base / 4096) ≡ r.base = omega (arith, mirror.at_frame) in
     let size : 4096 * (r.size / 4096) ≡ r.size = omega (arith, mirror.of_frames) in
     rw (base, size) refl
 
--- the whole frames of a range, if it has some, are a mirror
+-- a range cut to whole frames, if it has some, may be mirrored
 whole-mirrors : (r m : RangeView) → frames_within r ≡ Some m → IsMirror m
 whole-mirrors r m is =
     let from : ℕ = next_multiple_of r.base 4096 in
@@ -36,7 +36,7 @@ if_some (Some m) mirror = mirror m refl
 pub cut-mirrors : (r : RangeView) → IfSome (frames_within r) IsMirror
 cut-mirrors r = if_some (frames_within r) (whole-mirrors r)
 
--- so are the mirrors of descriptors
+-- a mirrored range that a descriptor gives consists of whole frames
 mirror_whole : (mirrors : Bool) (r m : RangeView) → (if mirrors then frames_within r else None) ≡ Some m → IsMirror m
 mirror_whole true r m is = whole-mirrors r m is
 mirror_whole false r m is = absurd (cc is)

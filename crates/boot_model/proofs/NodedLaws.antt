@@ -1,5 +1,5 @@
--- Memory once the map has become memory, and once its nodes are assigned: what each stage may rest
--- on.
+-- Memory after the map was turned into it, and memory after the nodes were assigned: what later
+-- stages may rely on.
 use Rattle.std.proofs.Common.{◌≡◌, ℕ, ◌*◌, ◌/◌, ◌<◌, ◌≤◌, ◌^◌, ◌∙◌, false, Option, Some, None, List, [], ◌∷◌, drop, Ok, refl, ap, sym, inl, inr, arith}
 use Rattle.std.proofs.lemmas.Bool.{cases_lt, false_from_ne_true}
 use Rattle.address_runs.specs.Runs.{RunOf, value_at}
@@ -20,13 +20,15 @@ use Rattle.early_memory.proofs.MirrorLaws.{mirrored-alike}
 use Rattle.stage_steps.specs.Nodes.{IsConstantInFrames, IsMemoryWithNodes}
 use Rattle.numa_nodes.specs.Assignment.{assign_nodes}
 use Rattle.numa_nodes.proofs.NodedLaws.{answer-noded}
-use Rattle.boot_model.specs.Boot.{InputsView, BootSoFar, Stage, boot, claims, early_inputs, memory_stage, nodes_stage, later_stages, judge_map, all_mirrors, made_with_nodes, reach}
+use Rattle.bm_base.specs.Range.{RangeView}
+use Rattle.script_reader.specs.declared.act.Line.{Line}
+use Rattle.boot_model.specs.Boot.{ExtraView, InputsView, BootSoFar, Stage, boot_with, claims, claims_stage, early_inputs, memory_stage, nodes_stage, later_stages, judge_map, all_mirrors, made_with_nodes, reach}
 use Rattle.boot_model.specs.First.{IsFirstMemory}
 use Rattle.boot_model.specs.Stages.{run_each_stage}
 use Rattle.boot_model.specs.Stop.{cause_of_stage}
 use Rattle.boot_model.proofs.BootLaws.{frames_within, accepted_map_is_unchanged, map_between}
 use Rattle.boot_model.proofs.CarriedLaws.{memory_carried}
-use Rattle.boot_model.proofs.MemoryLaws.{labels_by, labels_keep, types_same}
+use Rattle.boot_model.proofs.MemoryLaws.{claims_bound, claims_labels, labels_by, labels_keep, types_same}
 use Rattle.boot_model.proofs.ReachLaws.{reach-below}
 use Rattle.boot_model.proofs.StageLaws.{AllKeep, chain_keeps, goes_by, passes, steps_answered}
 
@@ -42,13 +44,13 @@ past_end limit f mirrors at high x far =
     none_from at (mirrored_memory mirrors (usable_memory limit f)) x (mirrored_memory mirrors (usable_memory limit f) x) refl
     (λ label is. (let low : x < memory_end limit f = mirrored_below limit f mirrors x label is in omega arith)) far
 
--- mirrored ranges of frames mirror the bytes of a frame alike
+-- marking ranges of whole frames as mirrored keeps one label in each frame
 mirrored_whole : (mirrors : List FrameRange) (f : Labels) → IsConstantInFrames f → IsConstantInFrames (mirrored_memory mirrors f)
 mirrored_whole mirrors f whole x =
     let frame : x / 4096 ≡ (4096 * (x / 4096)) / 4096 = omega arith in
     mirrored-alike mirrors f x (4096 * (x / 4096)) frame (whole x)
 
--- a map with a usable frame ends above 0
+-- if memory ends at 0, no frame is usable
 no_frame_low : (limit : ℕ) (f : TypeAt) (frame : ℕ) → memory_end limit f ≡ 0 → is_usable_frame (types_below limit f) frame ≡ false
 no_frame_low limit f frame zero = false_from_ne_true _ (λ usable.
     let number : (4096 * frame) / 4096 ≡ frame = omega arith in
@@ -64,7 +66,7 @@ end_some limit f some = elim (cases_lt 0 (memory_end limit f)) [
       absurd (omega arith)
 ]
 
--- memory after the map became memory, if the boot goes on with the map
+-- what is known of memory after it was made from an accepted map
 pub first_known : (given : InputsView) (made : BootSoFar) (items : List Item) → judge_map given ≡ Ok made
     → carry_out_items (early_items (early_inputs given) made.map) made.items ≡ Ok items → IsFirstMemory (reach given) items
 first_known given made items ends carried =
@@ -88,7 +90,7 @@ first_known given made items ends carried =
       some = rw limit (end_some (reach given) (value_at map) some);
     }
 
--- memory after its nodes
+-- what is known of memory after the nodes were assigned
 pub nodes_known : (given : InputsView) (before last : BootSoFar) → IsFirstMemory (reach given) before.items
     → nodes_stage given before ≡ Ok last
     → IsMemoryWithNodes (reach given) (labels_by last)
@@ -97,17 +99,46 @@ nodes_known given before last first ends =
     rw told.same (answer-noded (reach given) given.domains given.options.numa_off before.items told.value told.answer (reach-below given)
     first.frames first.within first.low)
 
--- memory after any stages that leave the labels, as at the end of the boot
-pub later_memory_has_nodes : (given : InputsView) (first made : BootSoFar) (rest : List Stage) → judge_map given ≡ Ok first → AllKeep labels_by rest
-    → run_each_stage (memory_stage given ∷ nodes_stage given ∷ rest) first ≡ Ok made → IsMemoryWithNodes (reach given) (memory_of made.items)
-later_memory_has_nodes given first made rest judged keep ends =
-    let behind = passes (memory_stage given) (nodes_stage given ∷ rest) first made ends in
-    let nodes = passes (nodes_stage given) rest behind.middle made behind.rest in
-    let known = first_known given first behind.middle.items judged (memory_carried given first behind.middle behind.first) in
-    rw (chain_keeps labels_by rest keep nodes.middle made nodes.rest) (nodes_known given behind.middle nodes.middle known nodes.first)
+-- early claims leave memory and the limit as they are
+pub first_after_claims : (reach : ℕ) (kernel : RangeView) (lines : List Line) (before last : BootSoFar) → IsFirstMemory reach before.items
+    → claims_stage kernel lines before ≡ Ok last → IsFirstMemory reach last.items
+first_after_claims reach kernel lines before last first ends =
+    let labels : memory_of last.items ≡ memory_of before.items = claims_labels kernel lines before last ends in
+    let limit : limit_of last.items ≡ limit_of before.items = claims_bound kernel lines before last ends in
+    record {
+      frames = rw labels first.frames;
+      within = rw labels first.within;
+      low = rw (labels, limit) first.low;
+      some = rw limit first.some;
+    }
 
-pub noded_told : (given : InputsView) (made : BootSoFar) → boot given ≡ Ok made → IsMemoryWithNodes (reach given) (memory_of made.items)
-unfolding boot
-noded_told given made ends =
-    let judged = goes_by (judge_map given) (λ m. run_each_stage (later_stages given) m) made ends in
-    later_memory_has_nodes given judged.middle made (drop 2 (later_stages given)) judged.first (labels_keep given) judged.rest
+-- memory after the early claims, if the boot goes on with the map
+pub claimed_known : (given : InputsView) (lines : List Line) (first made : BootSoFar) → judge_map given ≡ Ok first
+    → run_each_stage (memory_stage given ∷ claims_stage given.kernel lines ∷ []) first ≡ Ok made → IsFirstMemory (reach given) made.items
+claimed_known given lines first made judged ends =
+    let behind = passes (memory_stage given) (claims_stage given.kernel lines ∷ []) first made ends in
+    let early = passes (claims_stage given.kernel lines) [] behind.middle made behind.rest in
+    let known = first_known given first behind.middle.items judged (memory_carried given first behind.middle behind.first) in
+    let same : early.middle ≡ made = cc (early.rest) in
+    rw (← same) (first_after_claims (reach given) given.kernel lines behind.middle early.middle known early.first)
+
+-- memory has its nodes after any later stages that leave its labels, for example at the end of the
+-- boot
+pub later_memory_has_nodes : (given : InputsView) (lines : List Line) (first made : BootSoFar) (rest : List Stage) → judge_map given ≡ Ok first
+    → AllKeep labels_by rest
+    → run_each_stage (memory_stage given ∷ claims_stage given.kernel lines ∷ nodes_stage given ∷ rest) first ≡ Ok made
+    → IsMemoryWithNodes (reach given) (memory_of made.items)
+later_memory_has_nodes given lines first made rest judged keep ends =
+    let behind = passes (memory_stage given) (claims_stage given.kernel lines ∷ nodes_stage given ∷ rest) first made ends in
+    let early = passes (claims_stage given.kernel lines) (nodes_stage given ∷ rest) behind.middle made behind.rest in
+    let nodes = passes (nodes_stage given) rest early.middle made early.rest in
+    let known = first_known given first behind.middle.items judged (memory_carried given first behind.middle behind.first) in
+    let claimed = first_after_claims (reach given) given.kernel lines behind.middle early.middle known early.first in
+    rw (chain_keeps labels_by rest keep nodes.middle made nodes.rest) (nodes_known given early.middle nodes.middle claimed nodes.first)
+
+pub noded_told : (extra : ExtraView) (given : InputsView) (made : BootSoFar) → boot_with extra given ≡ Ok made
+    → IsMemoryWithNodes (reach given) (memory_of made.items)
+unfolding boot_with
+noded_told extra given made ends =
+    let judged = goes_by (judge_map given) (λ m. run_each_stage (later_stages extra given) m) made ends in
+    later_memory_has_nodes given extra.claims judged.middle made (drop 3 (later_stages extra given)) judged.first (labels_keep extra given) judged.rest

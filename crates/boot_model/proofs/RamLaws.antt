@@ -11,20 +11,19 @@ use Rattle.early_memory.specs.FirstItems.{early_items}
 use Rattle.stage_steps.specs.Causes.{StageCause, NoPlace, NoTablePlace}
 use Rattle.stage_steps.specs.Steps.{StageStep, items_after_step}
 use Rattle.numa_nodes.specs.Assignment.{assign_nodes}
-use Rattle.crash_kernel.specs.Reservation.{reserve_crash_area}
 use Rattle.boot_model.specs.declared.stop.Cause.{Cause}
 use Rattle.boot_model.specs.declared.stop.Cause.TheVariants as causes
-use Rattle.boot_model.specs.Boot.{InputsView, BootSoFar, Stage, begin_boot, boot, stage_of_steps, early_inputs, later_stages, judge_map, map_stages, made_with_crash_area, made_with_nodes, made_with_sections, types_in_reach, made_or_stop, finish_stage}
+use Rattle.boot_model.specs.Boot.{ExtraView, InputsView, BootSoFar, Stage, begin_boot, boot_with, reserve_for_map, stage_of_steps, early_inputs, later_stages, judge_map, map_stages, made_with_crash_area, made_with_nodes, made_with_sections, types_in_reach, made_or_stop, finish_stage}
 use Rattle.boot_model.specs.First.{items_with_growths}
 use Rattle.boot_model.specs.Sections.{place_present_sections}
 use Rattle.boot_model.specs.Stages.{run_each_stage}
 use Rattle.boot_model.specs.Stop.{cause_of_growth, cause_of_stage}
 
--- what a cause says of the number of usable frames
+-- `NoRam` claims that no frame is usable; other causes claim nothing
 abbrev IsTold : ℕ → Cause → Type 0
 IsTold frames cause = cause ≡ causes.NoRam → frames ≡ 0
 
--- each error of the stages satisfies `P`
+-- each error that one of the stages may return satisfies `P`
 AllErr : (Cause → Type 0) → List Stage → Type 0
 AllErr P [] = Unit {0}
 AllErr P (one ∷ stages) = ((made : BootSoFar) → IfErr (one made) P) × AllErr P stages
@@ -39,7 +38,7 @@ unfolding AllErr
 chain_errs P [] all made = tt
 chain_errs P (one ∷ stages) all made = then_errs P (one made) (run_each_stage stages) (all.0 made) (chain_errs P stages all.1)
 
--- a map that doesn't fit in the kernel's table doesn't stop with `NoRam`
+-- the check of the map's size never stops with `NoRam`
 room_errs : (frames : ℕ) (full : Bool) (runs : ℕ) (made : BootSoFar)
     → IfErr (if full then Err (causes.MapFull runs) else Ok made) (IsTold frames)
 room_errs frames true runs made = λ same. absurd (cc same)
@@ -52,7 +51,7 @@ frames_errs frames true many made is = λ same. grind (arith, nat_tests, is)
 frames_errs frames false true made is = λ same. absurd (cc same)
 frames_errs frames false false made is = tt
 
--- a stage that makes steps stops with the causes of its own errors
+-- each cause with which a stage of steps stops is that of an error of its steps
 answer_errs : {E A : Type 0} (P : Cause → Type 0) (cause : E → Cause) (put : A → BootSoFar → BootSoFar) (next : BootSoFar)
     (answer : Result A E) → ((e : E) → P (cause e)) → IfErr (finish_stage cause put next answer) P
 answer_errs P cause put next (Ok a) errs = tt
@@ -71,7 +70,7 @@ stage_told : (frames : ℕ) (why : StageCause) → IsTold frames (cause_of_stage
 stage_told frames (NoPlace thing) = λ same. absurd (cc same)
 stage_told frames (NoTablePlace w room) = λ same. absurd (cc same)
 
--- what the errors of the map's stages say: one fact for each stage
+-- the errors of the stages that accept the map satisfy `IsTold`
 map_errs : (given : InputsView) → AllErr (IsTold (usable_frames (types_in_reach given))) (map_stages given)
 unfolding AllErr
 map_errs given =
@@ -79,27 +78,29 @@ map_errs given =
     let room = λ (made : BootSoFar). room_errs frames (nat_lt E820_MAX_ENTRIES (length made.map)) (length made.map) made in
     (room, ((λ made. frames_errs frames (frames == 0) (nat_lt (2 ^ 32) frames) made refl), tt))
 
-later_errs : (given : InputsView) → AllErr (IsTold (usable_frames (types_in_reach given))) (later_stages given)
+later_errs : (extra : ExtraView) (given : InputsView) → AllErr (IsTold (usable_frames (types_in_reach given))) (later_stages extra given)
 unfolding AllErr
-later_errs given =
+later_errs extra given =
     let frames : ℕ = usable_frames (types_in_reach given) in
     let memory = λ (made : BootSoFar). steps_errs frames cause_of_growth (λ done next. next)
     (items_with_growths (early_items (early_inputs given) made.map)) (growth_told frames) made in
     let nodes = steps_errs frames cause_of_stage made_with_nodes (assign_nodes given.domains given.options.numa_off)
     (stage_told frames) in
-    let crash = steps_errs frames cause_of_growth made_with_crash_area (reserve_crash_area given.options.crash) (growth_told frames) in
+    let crash = λ (made : BootSoFar). steps_errs frames cause_of_growth made_with_crash_area (reserve_for_map extra.profile given made.map)
+    (growth_told frames) made in
     let sections = steps_errs frames cause_of_stage made_with_sections (place_present_sections given.width) (stage_told frames) in
-    (memory, (nodes, (crash, ((λ made. tt), (sections, ((λ made. tt), tt))))))
+    (memory, ((λ made. tt), (nodes, (crash, ((λ made. tt), (sections, ((λ made. tt), tt)))))))
 
 told_of : (said : Result BootSoFar Cause) (frames : ℕ) → IfErr said (IsTold frames) → said ≡ Err causes.NoRam → frames ≡ 0
 told_of (Ok made) frames errs is = absurd (cc is)
 told_of (Err cause) frames errs is = errs (cc is)
 
-pub no_ram_told : (given : InputsView) → boot given ≡ Err causes.NoRam → usable_frames (types_in_reach given) ≡ 0
-unfolding boot
-no_ram_told given stops =
+pub no_ram_told : (extra : ExtraView) (given : InputsView) → boot_with extra given ≡ Err causes.NoRam
+    → usable_frames (types_in_reach given) ≡ 0
+unfolding boot_with
+no_ram_told extra given stops =
     let frames : ℕ = usable_frames (types_in_reach given) in
-    told_of (boot given) frames
-    (then_errs (IsTold frames) (judge_map given) (λ made. run_each_stage (later_stages given) made)
+    told_of (boot_with extra given) frames
+    (then_errs (IsTold frames) (judge_map given) (λ made. run_each_stage (later_stages extra given) made)
     (chain_errs (IsTold frames) (map_stages given) (map_errs given) (begin_boot given))
-    (chain_errs (IsTold frames) (later_stages given) (later_errs given))) stops
+    (chain_errs (IsTold frames) (later_stages extra given) (later_errs extra given))) stops

@@ -1,4 +1,4 @@
--- The greatest limit of physical addresses, and that it is whole frames.
+-- The limit of physical addresses is at most 2^52 and a multiple of the frame size.
 use Rattle.std.proofs.Common.{◌≡◌, ◌%◌, ◌^◌, ◌≤◌, refl, arith}
 use Rattle.bm_base.specs.Width.{address_limit_of}
 use Rattle.bm_base.specs.declared.width.Width.{Width}

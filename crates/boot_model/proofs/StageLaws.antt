@@ -1,4 +1,4 @@
--- Sequences of stages: what the first stage did, and what all of them leave as it is.
+-- Sequences of stages: what the first stage made, and what no stage changes.
 use Rattle.std.proofs.Common.{◌≡◌, List, [], ◌∷◌, Result, Ok, Err, refl, sym, ap, ◌∙◌}
 use Rattle.bm_base.specs.ResultSteps.{◌>>=◌}
 use Rattle.boot_model.specs.Stages.{run_each_stage}
@@ -6,7 +6,7 @@ use Rattle.stage_steps.specs.Steps.{StageStep, items_after_step}
 use Rattle.boot_model.specs.declared.stop.Cause.{Cause}
 use Rattle.boot_model.specs.Boot.{BootSoFar, stage_of_steps, finish_stage}
 
--- a step that went on with `middle`, from which the other steps end with `made`
+-- the first step went on with `middle`, and the other steps make `made` of it
 pub record GoesBy {S E : Type 0} (answer : Result S E) (others : S → Result S E) (made : S) : Type 0 where
   pub middle : S
   pub first : answer ≡ Ok middle
@@ -17,12 +17,12 @@ pub goes_by : {S E : Type 0} (answer : Result S E) (others : S → Result S E) (
 goes_by (Ok middle) others made ends = record { middle = middle; first = refl; rest = ends }
 goes_by (Err error) others made ends = absurd (cc)
 
--- a sequence that ends passed its first stage
+-- if a sequence isn't stopped, its first stage wasn't either
 pub passes : {S E : Type 0} (stage : S → Result S E) (stages : List (S → Result S E)) (state made : S)
     → run_each_stage (stage ∷ stages) state ≡ Ok made → GoesBy (stage state) (λ next. run_each_stage stages next) made
 passes stage stages state made ends = goes_by (stage state) (λ next. run_each_stage stages next) made ends
 
--- the stage leaves a part as it is
+-- the stage doesn't change this part of the state
 abbrev pub Keeps : {S E A : Type 0} → (S → A) → (S → Result S E) → Type 0
 Keeps part stage = (before items_after_step : _) → stage before ≡ Ok items_after_step → part items_after_step ≡ part before
 
@@ -30,7 +30,7 @@ abbrev pub AllKeep : {S E A : Type 0} → (S → A) → List (S → Result S E) 
 AllKeep part [] = Unit {0}
 AllKeep part (stage ∷ stages) = Keeps part stage × AllKeep part stages
 
--- a sequence of such stages leaves the part as it is
+-- if no stage of a sequence changes a part, the sequence doesn't either
 pub chain_keeps : {S E A : Type 0} (part : S → A) (stages : List (S → Result S E)) → AllKeep part stages
     → (before items_after_step : S) → run_each_stage stages before ≡ Ok items_after_step → part items_after_step ≡ part before
 chain_keeps part [] keep before items_after_step ends = let same : before ≡ items_after_step = cc in ap part (sym same)
@@ -38,7 +38,7 @@ chain_keeps part (stage ∷ stages) keep before items_after_step ends =
     let known = passes stage stages before items_after_step ends in
     chain_keeps part stages keep.1 known.middle items_after_step known.rest ∙ keep.0 before known.middle known.first
 
--- a stage of steps leaves a part as it is if neither its items nor its value changes it
+-- a stage of steps doesn't change a part if neither its items nor its value does
 answer_keeps : {E A B : Type 0} (part : BootSoFar → B) (cause : E → Cause) (put : A → BootSoFar → BootSoFar) (next last : BootSoFar)
     (answer : Result A E)
     → ((a : A) (m : BootSoFar) → part (put a m) ≡ part m) → finish_stage cause put next answer ≡ Ok last → part last ≡ part next
@@ -55,7 +55,7 @@ steps_keep part cause put doing puts items before last ends =
     ends
     ∙ items before
 
--- such a stage ended with a value
+-- the stage of steps ended with a value
 pub record Answered {E A : Type 0} (put : A → BootSoFar → BootSoFar) (doing : StageStep E A) (before last : BootSoFar) : Type 0 where
   pub value : A
   pub answer : (doing before.items).answer ≡ Ok value

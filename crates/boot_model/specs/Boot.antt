@@ -19,6 +19,7 @@ use Rattle.memblock_model.specs.declared.owner.Which.TheVariants as which
 use Rattle.memblock_ranges.specs.declared.region.Heads.{Heads}
 use Rattle.memblock_ranges.specs.Tables.{head_of}
 use Rattle.growth_model.specs.Bytes.{Fill, table_from_items}
+use Rattle.growth_model.specs.Change.{RefusedGrowth}
 use Rattle.early_memory.specs.EarlyInputs.{EarlyInputs, FrameRange}
 use Rattle.early_memory.specs.FirstItems.{early_items}
 use Rattle.script_reader.specs.declared.act.Line.{Line}
@@ -34,7 +35,7 @@ use Rattle.stage_steps.specs.Steps.{StageStep, StepEffect, items_after_step}
 use Rattle.numa_nodes.specs.Assignment.{NodesView, assign_nodes}
 use Rattle.crash_kernel.specs.declared.crash.Crash.{Crash}
 use Rattle.crash_kernel.specs.declared.crash.Crash.TheVariants as crash
-use Rattle.crash_kernel.specs.Reservation.{reserve_crash_area}
+use Rattle.crash_kernel.specs.Reservation.{reserve_crash_area_by}
 use Rattle.memblock_frames.specs.Frames.{free_node_in, node_of_frame}
 use Rattle.buddy_blocks.specs.Frames.{Frames}
 use Rattle.page_alloc.specs.declared.act.PageLine.{PageLine}
@@ -45,6 +46,11 @@ use Rattle.slit_zonelists.specs.Lists.{ZoneListsView, zonelists_from_slit}
 use Rattle.slit_zonelists.specs.Near.{page_state_after, page_answers_of}
 use Rattle.zone_spans.specs.declared.span.Span.{Span}
 use Rattle.zone_spans.specs.Spans.{spans_of}
+use Rattle.zone_spans.specs.Hull.{spans_by}
+use Rattle.zone_spans.specs.declared.rule.ZoneRule.{ZoneRule}
+use Rattle.boot_model.specs.declared.extra.Profile.{Profile}
+use Rattle.boot_model.specs.Added.{added_bytes}
+use Rattle.boot_model.specs.Profiles.{own_profile}
 use Rattle.boot_model.specs.declared.stop.Cause.{Cause}
 use Rattle.boot_model.specs.declared.stop.Cause.TheVariants as causes
 use Rattle.boot_model.specs.First.{items_with_growths}
@@ -52,17 +58,18 @@ use Rattle.boot_model.specs.Sections.{SectionPlaces, no_sections, place_present_
 use Rattle.boot_model.specs.Stages.{run_each_stage}
 use Rattle.boot_model.specs.Stop.{cause_of_growth, cause_of_map, cause_of_stage}
 
--- the firmware's own map of memory: its entries, and the frames of which the machine keeps a
--- second copy
+-- what the EFI memory map gives a boot: its entries, and the frames that the machine mirrors
 pub record EfiMapView : Type 0 where
   pub entries : List Entry
   pub mirrors : List FrameRange
 
--- The inputs of a boot. They are the zero page's entries and its initrd if there is one, the
--- extension's entries, the options, and the table of domains if there is one. Then come the width
--- of physical addresses, the place of the kernel, which memory is mirrored, and whether searches
--- go from the lowest address up. The rest are the lines of both scripts, the table of distances if
--- there is one, and the firmware's own map of memory if there is one.
+-- The inputs of a boot.
+--
+-- - from files: the entries of the zero page and its initrd, the entries of the extension, the
+--   options of the command line, the table of domains (SRAT), the lines of both scripts, the table
+--   of distances (SLIT), and the EFI memory map
+-- - from the words of the command: the width of physical addresses, the place of the kernel, the
+--   mirrored frames, and `upward`, which is true if searches go from the lowest address up
 pub record InputsView : Type 0 where
   pub entries : List Entry
   pub initrd : Option RangeView
@@ -78,12 +85,21 @@ pub record InputsView : Type 0 where
   pub slit : Option SlitView
   pub efi : Option EfiMapView
 
--- a command line without words
+-- What a boot is given besides its inputs: the profile, and the lines of early claims. The lines
+-- are those of a script without `sections`.
+pub record ExtraView : Type 0 where
+  pub profile : Profile
+  pub claims : List Line
+
+-- what `bootmem` gives each boot: its own profile and no early claims
+abbrev pub no_extra : ExtraView
+no_extra = record { profile = own_profile; claims = [] }
+
+-- the options of an empty command line
 abbrev pub no_options : OptionsView
 no_options = record { edits = []; crash = no_crash; numa_off = false; add_efi = false }
 
--- the inputs without any file: the width of physical addresses, the place of the kernel, and
--- nothing else
+-- the inputs of a boot for which every input file is absent
 abbrev pub inputs_without_files : Width → RangeView → InputsView
 inputs_without_files width kernel = record {
   entries = [];
@@ -105,17 +121,16 @@ inputs_without_files width kernel = record {
 abbrev pub reach : InputsView → ℕ
 reach given = address_limit_of given.width
 
--- the mirrored frames of the firmware's own map (`efi_find_mirror`)
+-- the mirrored frames of the EFI map (`efi_find_mirror`)
 abbrev pub efi_mirrors : Option EfiMapView → List FrameRange
 efi_mirrors None = []
 efi_mirrors (Some efi) = efi.mirrors
 
--- the frames that are mirrored: first those of the command words, then those of the firmware's own
--- map
+-- the mirrored frames: those that the command words name, and then those of the EFI map
 abbrev pub all_mirrors : InputsView → List FrameRange
 all_mirrors given = given.mirrors ++ efi_mirrors given.efi
 
--- what the first items are computed from, except for the map
+-- what the first items are computed from, besides the map
 abbrev pub early_inputs : InputsView → EarlyInputs
 early_inputs given = record {
   limit = reach given;
@@ -125,9 +140,10 @@ early_inputs given = record {
   upward = given.upward;
 }
 
--- What a boot has made so far: the map, the options and what happened to memory, oldest first.
--- Then the nodes, the outcome for the crash area, and the places of sections. The rest is the
--- early script's: the live IDs, the fills and the answers.
+-- What a boot has made so far: the map, the options, what happened to memory (oldest first), the
+-- nodes, the outcome for the crash area, and the places of the sections. The last four fields are
+-- of the early claims and the early script: the live IDs and the fills of both, and the answers of
+-- each.
 pub record BootSoFar : Type 0 where
   pub map : List (RunOf ℕ)
   pub options : OptionsView
@@ -137,12 +153,13 @@ pub record BootSoFar : Type 0 where
   pub sections : SectionPlaces
   pub ids : LiveView
   pub fills : List Fill
+  pub claim_answers : List Answer
   pub answers : List Answer
 
--- What is reported at the end: what the boot made, except for the live IDs and the fills, which
--- are in the bytes of memory. It adds the width of physical addresses, the heads of the two
--- tables, and what the memory of each node spans. It also has the free frames, the order of zones
--- for each node, and the answers of the page script, with what that script left.
+-- What is reported at the end. Besides what the boot made, it has the width of physical
+-- addresses, the heads of the two tables, the spans of the nodes, the free frames, the order of
+-- zones for each node, and the answers of the page script with the state after it. It lacks the
+-- live IDs and the fills, since they are in the bytes of memory.
 pub record BootedView : Type 0 where
   pub width : Width
   pub map : List (RunOf ℕ)
@@ -152,6 +169,7 @@ pub record BootedView : Type 0 where
   pub nodes : NodesView
   pub crash : Crash
   pub sections : SectionPlaces
+  pub claim_answers : List Answer
   pub answers : List Answer
   pub spans : List Span
   pub free : Frames
@@ -159,20 +177,21 @@ pub record BootedView : Type 0 where
   pub page_answers : List PageAnswer
   pub after : PageState
 
--- the nodes before memory has any
+-- the nodes before any memory has one
 abbrev pub no_nodes : NodesView
 no_nodes = record { why = why.Absent; domains = []; uncovered = 0; with_memory = [] }
 
--- a stage: what it makes of what the stages before it made, or why the boot stops there
+-- A stage takes what the earlier stages made. It returns what they made with its own part added,
+-- or the cause for which the boot stops.
 abbrev pub Stage : Type 0
 Stage = BootSoFar → Result BootSoFar Cause
 
--- the entries of the firmware's own map, or none if there is no such map
+-- the entries of the EFI map, or none if there is no such map
 abbrev pub efi_entries : Option EfiMapView → List Entry
 efi_entries None = []
 efi_entries (Some efi) = efi.entries
 
--- these entries, if the command line asks for them (`add_efi_memmap`); else none
+-- the entries of the EFI map if the command line asks for them (`add_efi_memmap`), else none
 abbrev pub added_entries : InputsView → List Entry
 added_entries given = if given.options.add_efi then efi_entries given.efi else []
 
@@ -180,15 +199,15 @@ added_entries given = if given.options.add_efi then efi_entries given.efi else [
 abbrev pub claims : InputsView → Claims
 claims given = final_claims given.entries given.extension given.options.edits (added_entries given)
 
--- the heads of memblock's two tables after these items
+-- the heads of memblock's two tables after `items`
 abbrev pub heads_of : RangeView → List Item → Heads
 heads_of kernel items = record {
   memory = head_of (table_from_items which.Memory kernel items);
   reserved = head_of (table_from_items which.Reserved kernel items);
 }
 
--- the frames that go to the buddy lists, each with the node of its memory: those in which all
--- bytes are memory and none is claimed (`memblock_free_all`)
+-- the frames that go to the buddy lists, each with the node of its memory: all bytes of such a
+-- frame are memory, and none is claimed (`memblock_free_all`)
 abbrev pub handover_frames : List Item → Frames
 handover_frames items = free_node_in (memory_of items) (reserved_labels (owner_of items))
 
@@ -196,19 +215,23 @@ handover_frames items = free_node_in (memory_of items) (reserved_labels (owner_o
 abbrev pub spans_of_memory : List Item → List Span
 spans_of_memory items = spans_of (node_of_frame (memory_of items))
 
--- the limit of physical addresses, for a report
+-- what the memory of each node spans in each zone by a rule
+abbrev pub spans_by_rule : ZoneRule → List Item → List Span
+spans_by_rule rule items = spans_by rule (node_of_frame (memory_of items))
+
+-- the limit of physical addresses of a boot that is over, in bytes
 abbrev pub booted_address_limit : BootedView → ℕ
 booted_address_limit finish_boot = address_limit_of finish_boot.width
 
--- for each node, the zones with memory, in the order in which its requests look at them
+-- for each node, the zones with memory, in the order in which an allocation for the node tries them
 -- (`build_zonelists`)
 abbrev pub booted_zonelists : InputsView → BootSoFar → ZoneListsView
 booted_zonelists given made = zonelists_from_slit given.slit made.nodes.domains (spans_of_memory made.items)
 
--- the report of what the boot made; the page script runs on a copy of the frames handed over, of
--- which none is allocated at first
-abbrev pub finish_boot : InputsView → BootSoFar → BootedView
-finish_boot given made = record {
+-- what is reported of the boot; the page script runs on a copy of the frames that were handed over,
+-- and none of them is allocated at first
+abbrev pub finish_boot_by : Profile → InputsView → BootSoFar → BootedView
+finish_boot_by profile given made = record {
   width = given.width;
   map = made.map;
   options = made.options;
@@ -217,15 +240,20 @@ finish_boot given made = record {
   nodes = made.nodes;
   crash = made.crash;
   sections = made.sections;
+  claim_answers = made.claim_answers;
   answers = made.answers;
-  spans = spans_of_memory made.items;
+  spans = spans_by_rule profile.zones made.items;
   free = handover_frames made.items;
   lists = booted_zonelists given made;
   page_answers = page_answers_of (booted_zonelists given made) (first_page_state (handover_frames made.items)) given.page_lines;
   after = page_state_after (booted_zonelists given made) (first_page_state (handover_frames made.items)) given.page_lines;
 }
 
--- a boot begins with a map, and nothing has happened to memory yet
+-- the report by `bootmem`'s own profile
+abbrev pub finish_boot : InputsView → BootSoFar → BootedView
+finish_boot given made = finish_boot_by own_profile given made
+
+-- the state in which a boot with this map begins: nothing has happened to memory yet
 abbrev pub begin_with_map : List (RunOf ℕ) → OptionsView → BootSoFar
 begin_with_map map options = record {
   map = map;
@@ -236,27 +264,28 @@ begin_with_map map options = record {
   sections = no_sections;
   ids = [];
   fills = [];
+  claim_answers = [];
   answers = [];
 }
 
--- a boot begins with the map that its claims give
+-- the state in which a boot begins, with the map that its claims give
 abbrev pub begin_boot : InputsView → BootSoFar
 begin_boot given = begin_with_map (map_of (claims given)) given.options
 
--- the types of the addresses below the limit of physical addresses
+-- the type of each address below the limit of physical addresses
 abbrev pub types_in_reach : InputsView → TypeAt
 types_in_reach given = types_below (reach given) (kinds (claims given))
 
--- the runs of the map fit in the kernel's table (`E820_MAX_ENTRIES`)
+-- stops the boot if the map has more runs than the kernel's table has room for (`E820_MAX_ENTRIES`)
 abbrev pub map_size_stage : Stage
 map_size_stage made = if nat_lt E820_MAX_ENTRIES (length made.map) then Err (causes.MapFull (length made.map)) else Ok made
 
--- goes on with what was made, unless the map is refused for this reason
+-- stops the boot if there is a reason why the map is refused; else the state is unchanged
 abbrev pub made_or_stop : Option MapStop → Stage
 made_or_stop None made = Ok made
 made_or_stop (Some reason) made = Err (cause_of_map reason)
 
--- the map has usable frames below the limit of physical addresses, and not too many
+-- stops the boot if no frame below the limit of physical addresses is usable, or too many are
 -- (`e820__memblock_setup`)
 abbrev pub usable_frames_stage : InputsView → Stage
 usable_frames_stage given made = made_or_stop (judge_frames (types_in_reach given)) made
@@ -265,11 +294,12 @@ usable_frames_stage given made = made_or_stop (judge_frames (types_in_reach give
 abbrev pub map_stages : InputsView → List Stage
 map_stages given = map_size_stage ∷ usable_frames_stage given ∷ []
 
--- the boot after its first stages
+-- the state after the stages that accept the map, or the cause for which one of them stops the
+-- boot
 abbrev pub judge_map : InputsView → Result BootSoFar Cause
 judge_map given = run_each_stage (map_stages given) (begin_boot given)
 
--- the state that lines of the script begin with
+-- the state in which lines of the early script begin
 abbrev pub script_state : RangeView → BootSoFar → ScriptSoFar
 script_state kernel made = record {
   state = record { kernel = kernel; items = made.items; ids = made.ids };
@@ -277,72 +307,99 @@ script_state kernel made = record {
   answers = made.answers;
 }
 
--- what was made, with the state in which the lines of the script ended
+-- what the boot has made after lines of the early script ended in the state `s`
 abbrev pub with_script_state : BootSoFar → ScriptSoFar → BootSoFar
 with_script_state made s = record made { items = s.state.items; ids = s.state.ids; fills = s.fills; answers = s.answers }
 
--- The lines of the early script are carried out. A refused line gets its outcome, and the boot goes
--- on with the next line.
+-- runs lines of the early script; if a line is refused, its outcome is recorded and the boot goes
+-- on with the next line
 abbrev pub script_stage : RangeView → List Line → Stage
 script_stage kernel lines made = Ok (with_script_state made (script_after_lines (script_state kernel made) lines))
 
--- The value of a stage is put into what was made, or its error stops the boot with its cause.
+-- the state that the lines of early claims begin with
+abbrev pub claims_state : RangeView → BootSoFar → ScriptSoFar
+claims_state kernel made = record (script_state kernel made) { answers = made.claim_answers }
+
+-- what was made, with the state in which the lines of early claims ended
+abbrev pub with_claims_state : BootSoFar → ScriptSoFar → BootSoFar
+with_claims_state made s = record made { items = s.state.items; ids = s.state.ids; fills = s.fills; claim_answers = s.answers }
+
+-- The lines of early claims are carried out as those of a script. Their IDs stay live, and their
+-- answers are a list of their own.
+abbrev pub claims_stage : RangeView → List Line → Stage
+claims_stage kernel lines made = Ok (with_claims_state made (script_after_lines (claims_state kernel made) lines))
+
+-- puts the value of a stage into what the boot made, or stops the boot with the cause for the
+-- stage's error
 abbrev pub finish_stage : {E A : Type 0} → (E → Cause) → (A → BootSoFar → BootSoFar) → BootSoFar → Result A E → Result BootSoFar Cause
 finish_stage cause put next (Ok a) = Ok (put a next)
 finish_stage cause put next (Err error) = Err (cause error)
 
--- the end of a stage made of steps, as `finish_stage`: the items of the steps come after those that
--- were made before
+-- ends a stage made of steps: appends the items of its steps, and then does what `finish_stage`
+-- does with its value or error
 abbrev pub finish_steps : {E A : Type 0} → (E → Cause) → (A → BootSoFar → BootSoFar) → BootSoFar → StepEffect E A → Result BootSoFar Cause
 finish_steps cause put made done = finish_stage cause put (record made { items = items_after_step made.items done }) done.answer
 
--- a stage that is made of steps
+-- a stage made of steps, as a stage of the boot
 abbrev pub stage_of_steps : {E A : Type 0} → (E → Cause) → (A → BootSoFar → BootSoFar) → StageStep E A → Stage
 stage_of_steps cause put doing made = finish_steps cause put made (doing made.items)
 
--- the first claims are made, the map becomes memory in whole frames, and the first MiB is claimed
+-- makes the first claims, turns the map into memory in whole frames, and claims the first MiB
 -- (`early_reserve_memory`, `e820__memblock_setup`, `reserve_real_mode`)
 abbrev pub memory_stage : InputsView → Stage
 memory_stage given made =
     stage_of_steps cause_of_growth (λ done next. next) (items_with_growths (early_items (early_inputs given) made.map)) made
 
--- what the boot made, with these nodes
+-- what the boot has made, with its nodes replaced by `nodes`
 abbrev pub made_with_nodes : NodesView → BootSoFar → BootSoFar
 made_with_nodes nodes made = record made { nodes = nodes }
 
--- memory gets its nodes, and each node its data (`initmem_init`)
+-- gives memory its nodes, and each node its data (`initmem_init`)
 abbrev pub nodes_stage : InputsView → Stage
 nodes_stage given = stage_of_steps cause_of_stage made_with_nodes (assign_nodes given.domains given.options.numa_off)
 
--- what the boot made, with this crash area
+-- what the boot has made, with its outcome for the crash area replaced by `area`
 abbrev pub made_with_crash_area : Crash → BootSoFar → BootSoFar
 made_with_crash_area area made = record made { crash = area }
 
--- the crash area is claimed (`reserve_crashkernel`)
-abbrev pub crash_area_stage : InputsView → Stage
-crash_area_stage given = stage_of_steps cause_of_growth made_with_crash_area (reserve_crash_area given.options.crash)
+-- reserves the crash area by the profile's rule (`reserve_crashkernel`)
+abbrev pub reserve_for_map : Profile → InputsView → List (RunOf ℕ) → StageStep RefusedGrowth Crash
+reserve_for_map profile given map = reserve_crash_area_by profile.crash (added_bytes (reach given) map) given.options.crash
 
--- what the boot made, with these places of sections
+abbrev pub crash_area_stage : Profile → InputsView → Stage
+crash_area_stage profile given made = stage_of_steps cause_of_growth made_with_crash_area (reserve_for_map profile given made.map) made
+
+-- what the boot has made, with its places of sections replaced by `sections`
 abbrev pub made_with_sections : SectionPlaces → BootSoFar → BootSoFar
 made_with_sections sections made = record made { sections = sections }
 
--- the sections that have memory get their places (`sparse_init`)
+-- places the sections that have memory (`sparse_init`)
 abbrev pub sections_stage : InputsView → Stage
 sections_stage given = stage_of_steps cause_of_stage made_with_sections (place_present_sections given.width)
 
--- the stages after the map, in their order; the script's lines say where the sections are placed
--- among them
-abbrev pub later_stages : InputsView → List Stage
-later_stages given =
-    memory_stage given ∷ nodes_stage given ∷ crash_area_stage given ∷ script_stage given.kernel (lines_before_sections given.lines)
+-- The stages after the map, in their order. The early claims come once the first MiB is claimed,
+-- before memory gets its nodes. The `sections` line of the early script says where among its lines
+-- the sections are placed.
+abbrev pub later_stages : ExtraView → InputsView → List Stage
+later_stages extra given =
+    memory_stage given ∷ claims_stage given.kernel extra.claims ∷ nodes_stage given ∷ crash_area_stage extra.profile given
+    ∷ script_stage given.kernel (lines_before_sections given.lines)
     ∷ sections_stage given
     ∷ script_stage given.kernel (lines_after_sections given.lines) ∷ []
 
--- the boot (`setup_arch`) up to the handover (`mem_init`)
-unfoldable pub boot : InputsView → Result BootSoFar Cause
-boot given = judge_map given >>= λ made. run_each_stage (later_stages given) made
+-- the boot up to the handover (`setup_arch`, up to `mem_init`), with a profile and early claims
+unfoldable pub boot_with : ExtraView → InputsView → Result BootSoFar Cause
+boot_with extra given = judge_map given >>= λ made. run_each_stage (later_stages extra given) made
 
--- the boot, and the report of what it made
+-- the boot by `bootmem`'s own profile, without early claims
+unfoldable pub boot : InputsView → Result BootSoFar Cause
+boot given = boot_with no_extra given
+
+-- the boot with a profile and early claims, and what is reported of it
+abbrev pub whole_boot_with : ExtraView → InputsView → Result BootedView Cause
+whole_boot_with extra given = boot_with extra given >>= λ made. Ok (finish_boot_by extra.profile given made)
+
+-- the boot, and what is reported of it
 abbrev pub whole_boot : InputsView → Result BootedView Cause
 whole_boot given = boot given >>= λ made. Ok (finish_boot given made)
 

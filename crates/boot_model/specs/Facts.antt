@@ -1,4 +1,4 @@
--- The facts of the inputs of a boot: there is at most one proof of each.
+-- The facts about a boot's inputs are propositions: each has at most one proof.
 use Rattle.std.specs.Prelude.{IfSome, List, [], ◌∷◌, Option, Some, None}
 use Rattle.std.specs.List.{All}
 use Rattle.std.specs.Coded.{×_prop, Unit-prop, le_prop}
@@ -23,7 +23,7 @@ pub EntriesFit-prop : (entries : List Entry) → IsProp (EntriesFit entries)
 EntriesFit-prop [] = Unit-prop
 EntriesFit-prop (e ∷ es) = ×_prop le_prop (EntriesFit-prop es)
 
--- the fact about the entries of the firmware's own map, if there is one
+-- if there is an EFI map, the fact about its entries (`EntriesFit`) has at most one proof
 pub efi_ends-prop : (efi : Option EfiMap) → IsProp (IfSome efi (λ map. EntriesFit map.entries.items))
 efi_ends-prop None = Unit-prop
 efi_ends-prop (Some map) = EntriesFit-prop map.entries.items
@@ -39,7 +39,7 @@ pub HaveTypes-prop : (edits : List Edit) → IsProp (HaveTypes edits)
 HaveTypes-prop [] = Unit-prop
 HaveTypes-prop (e ∷ es) = ×_prop (HasTypes-prop e) (HaveTypes-prop es)
 
--- the numbers in each line of the script lie within their bounds
+-- the numbers in each line of the early script lie within their bounds
 abbrev pub HaveBounds : List Line → Type 0
 HaveBounds lines = All (λ line. HasBounds line.act) lines
 
@@ -66,6 +66,13 @@ CanBeRun-prop acts.Sections = Prim.hlevel Unit-prop
 
 pub PlacesSectionsOnce-prop : (lines : List Line) → IsProp (PlacesSectionsOnce lines)
 PlacesSectionsOnce-prop lines = Prim.hlevel CanBeRun-prop
+
+-- no line places the sections
+abbrev pub HaveNoSections : List Line → Type 0
+HaveNoSections lines = All (λ line. CanBeRun line.act) lines
+
+pub HaveNoSections-prop : (lines : List Line) → IsProp (HaveNoSections lines)
+HaveNoSections-prop lines = Prim.hlevel CanBeRun-prop
 
 HasValidOrder-prop : (act : PageAct) → IsProp (HasValidOrder act)
 HasValidOrder-prop (pages.Pages id order node zone) = le_prop

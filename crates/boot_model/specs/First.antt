@@ -1,5 +1,5 @@
--- The first stage over memory, and what memory is after it, before it has nodes
--- (`e820__memblock_setup`).
+-- The stage that makes memory from the map, and what is true of memory after it, before nodes are
+-- assigned (`e820__memblock_setup`).
 use Rattle.std.specs.Prelude.{ℕ, ◌<◌, List}
 use Rattle.address_runs.specs.Edits.{IsEmptyFrom}
 use Rattle.memblock_model.specs.declared.item.Item.{Item}
@@ -10,12 +10,12 @@ use Rattle.stage_steps.specs.Steps.{StageStep, fold_steps}
 use Rattle.stage_steps.specs.Nodes.{IsConstantInFrames}
 use Rattle.stage_steps.specs.Requests.{make_change}
 
--- the items, one after another, each after the growth that it needs
+-- carries out the items one after another, each after the growth of a table that it needs
 unfoldable pub items_with_growths : List Item → StageStep RefusedGrowth (Unit {0})
 items_with_growths wanted = fold_steps (λ done i. make_change (change_writing_item i)) tt wanted
 
--- memory is whole frames, each with one label, below the limit of physical addresses; the limit of
--- allocations is above 0, and all memory lies below it
+-- Memory consists of whole frames, each with one label, below the limit of physical addresses. The
+-- limit of allocations is above 0, and all memory lies below it.
 pub record IsFirstMemory (reach : ℕ) (items : List Item) : Type 0 where
   pub frames : IsConstantInFrames (memory_of items)
   pub within : IsEmptyFrom reach (memory_of items)

@@ -1,3 +1,5 @@
+pub mod Profiles
+pub mod Added
 pub mod Boot
 pub mod Facts
 pub mod First

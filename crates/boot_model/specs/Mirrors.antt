@@ -1,10 +1,9 @@
--- Mirrored memory, as a boot is given it: ranges of whole frames, by their bytes or by their
--- frames.
+-- Mirrored memory in the inputs of a boot: ranges of whole frames, as bytes and as frames.
 use Rattle.std.specs.Prelude.{◌≡◌, ◌/◌, ◌%◌, ◌<◌}
 use Rattle.bm_base.specs.Range.{RangeView}
 use Rattle.early_memory.specs.EarlyInputs.{FrameRange}
 
--- the range is whole frames, at least one
+-- the range consists of whole frames, at least one
 pub record IsMirror (range : RangeView) : Type 0 where
   pub some : 0 < range.size
   pub at_frame : range.base % 4096 ≡ 0

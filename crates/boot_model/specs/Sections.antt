@@ -19,14 +19,14 @@ pub record SectionPlaces : Type 0 where
 abbrev pub no_sections : SectionPlaces
 no_sections = record { roots = record { table = 0; roots = [] }; placed = [] }
 
--- the given sections are placed: their roots, and then their maps and usage data
+-- places the given sections: first their roots, and then their usage data and maps
 abbrev pub place_sections : Width → List Section → StageStep StageCause SectionPlaces
 place_sections width sections = do
   table ← place_roots width sections
   placed ← place_maps sections
   return_value (record { roots = table; placed = placed })
 
--- the sections that have memory are placed, in their order
+-- places the sections that have memory, in the order of their numbers
 unfoldable pub place_present_sections : Width → StageStep StageCause SectionPlaces
 place_present_sections width = do
   sections ← read_items_allocating (λ items. present (memory_of items))

@@ -1,4 +1,4 @@
--- The values of a boot as its definition has them.
+-- What contracts see of the inputs and the results of a boot.
 use Rattle.std.specs.Prelude.{map, Vec}
 use Rattle.std.specs.Option.{option_map}
 use Rattle.std.specs.declared.alloc.Global.{Global}
@@ -14,11 +14,12 @@ use Rattle.page_alloc.specs.PagesView.{page_state_of}
 use Rattle.slit_zonelists.specs.SlitView.{slit_view}
 use Rattle.boot_model.specs.declared.booted.Booted.{Booted}
 use Rattle.boot_model.specs.declared.inputs.Inputs.{Inputs}
-use Rattle.boot_model.specs.Boot.{EfiMapView, InputsView, BootedView}
+use Rattle.boot_model.specs.Boot.{EfiMapView, ExtraView, InputsView, BootedView}
+use Rattle.boot_model.specs.declared.extra.Extra.{Extra}
 use Rattle.boot_model.specs.Mirrors.{frame_range_of}
 use Rattle.boot_model.specs.Sections.{SectionPlaces}
 
--- the entries and mirrored frames of the firmware's own map
+-- what contracts see of the EFI map: its entries and its mirrored frames
 abbrev pub efi_map_view : EfiMap → EfiMapView
 efi_map_view m = record { entries = m.entries.items; mirrors = map frame_range_of m.mirrors.items }
 
@@ -40,7 +41,11 @@ inputs_view i = record {
   efi = option_map efi_map_view i.efi;
 }
 
--- the places of the sections
+-- what contracts see of what a boot is given besides its inputs
+abbrev pub extra_view : Extra → ExtraView
+extra_view e = record { profile = e.profile; claims = e.claims.items }
+
+-- what contracts see of the places of the sections
 abbrev pub sections_view : Roots → Vec Placed Global → SectionPlaces
 sections_view roots placed = record { roots = roots_view roots; placed = placed.items }
 
@@ -55,6 +60,7 @@ booted_view b = record {
   nodes = nodes_view b.nodes;
   crash = b.crash;
   sections = sections_view b.roots b.placed;
+  claim_answers = b.claim_answers.items;
   answers = b.answers.items;
   spans = b.spans.items;
   free = node_of_free_frame b.buddy;

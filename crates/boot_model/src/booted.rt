@@ -1,4 +1,4 @@
-//! What a boot makes: one field for each stage, and what the reports need of the inputs.
+//! The results of a boot: one field for each stage, and the inputs that reports need.
 
 use bm_base::Width;
 use boot_journal::Journal;
@@ -29,7 +29,7 @@ pub struct Booted {
     pub journal: Journal,
     /// The bytes of memory that the boot wrote, with both of memblock's tables.
     pub store: Store,
-    /// The places of the two tables in these bytes, and the number of their records.
+    /// The addresses of memblock's two tables in `store`, and the number of their records.
     pub heads: Heads,
     /// The nodes, and whether the firmware's table of domains gave them.
     pub nodes: Nodes,
@@ -39,18 +39,21 @@ pub struct Booted {
     pub roots: Roots,
     /// The addresses of each section's map and usage data.
     pub placed: Vec<Placed>,
+    /// The outcome of each line of the early claims.
+    pub claim_answers: Vec<Answer>,
     /// The outcome of each line of the early script.
     pub answers: Vec<Answer>,
     /// What the memory of each node spans in each zone.
     pub spans: Vec<Span>,
     /// The frames that were handed over.
     pub buddy: Buddy,
-    /// For each node, the zones with memory, in the order in which its requests look at them.
+    /// For each node, the zones with memory, in the order in which an allocation for the node tries
+    /// them.
     pub lists: Lists,
     /// The outcome of each line of the page script.
     pub page_answers: Vec<PageAnswer>,
-    /// The free frames after the page script, and what its IDs hold. The script runs on a copy of
-    /// the frames that were handed over.
+    /// The free frames after the page script, and the frames that its IDs hold. The script runs on
+    /// a copy of the frames that were handed over.
     pub after: Pages,
 }
 

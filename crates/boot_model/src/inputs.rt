@@ -1,5 +1,5 @@
-//! The inputs of a boot: one field for each input file, and the place of the kernel. The facts
-//! about the fields are facts of the type, so a function that has inputs has these facts.
+//! The inputs of a boot: one field for each input file, and the place of the kernel. What is
+//! known of the fields is part of the type, so each function that gets an `Inputs` can use it.
 
 ghost use Rattle.std.specs.Prelude.{◌≡◌, ◌^◌, ◌<◌, IfSome, length, IsTrue};
 ghost use Rattle.std.specs.List.{All};
@@ -32,9 +32,8 @@ const LOWEST_KERNEL: u64 = 0x10_0000;
 /// end.
 const SMALLEST_KERNEL: u64 = 2 * FRAME_SIZE;
 
-/// Returns whether a kernel's image may lie at `range`, a range of addresses in bytes. It must
-/// begin at or above 1 MiB, and end at or below the limit of physical addresses. It must be whole
-/// frames, at least two of them.
+/// Tests whether a kernel's image may lie at `range`, in bytes. It must begin at or above 1 MiB,
+/// end at or below the limit of physical addresses, and consist of at least two whole frames.
 pub fn is_kernel(range: &Range, width: Width) -> bool
     ensures value { result ≡ is_kernel width range.now }
     ensures facts { IsTrue result → IsKernel width range.now }
@@ -67,16 +66,16 @@ pub struct Inputs {
     pub mirrors: Vec<Range>,
     /// Whether searches go from the lowest address up.
     pub upward: bool,
-    /// The lines of the early script, or none if there is no script. They are in their bounds and
-    /// place the sections at most once.
+    /// The lines of the early script, or none if there is no script. The numbers in each line are
+    /// within their bounds, and at most one line places the sections.
     pub lines: Vec<Line>,
     /// The lines of the page script, or none if there is no script. Their orders are at most 10.
     pub page_lines: Vec<PageLine>,
     /// The firmware's table of distances between domains, if there is one. The number of its cells
     /// is the square of the number of its localities.
     pub slit: Option<Slit>,
-    /// The firmware's own map of memory, if there is one. Each entry's address plus size is at
-    /// most 2^64 - 1. Its mirrored ranges are whole frames, at least one in each.
+    /// The EFI memory map, if there is one. Each entry's address plus size is at most 2^64 - 1. Its
+    /// mirrored ranges are whole frames, at least one in each.
     pub efi: Option<EfiMap>,
     ghost entries_end: { EntriesFit zero.entries.items } by { EntriesFit-prop zero.entries.items },
     ghost initrd_fits: { IfSome zero.initrd IsInitrd } by { Prim.hlevel props },

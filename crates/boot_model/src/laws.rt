@@ -16,13 +16,12 @@ ghost use Rattle.memblock_model.specs.Items.{limit_of, memory_of};
 ghost use Rattle.early_memory.specs.Memory.{memory_end};
 ghost use Rattle.boot_model.specs.declared.stop.Cause.TheVariants as causes;
 ghost use Rattle.boot_model.specs.Mirrors.{IsMirror};
-ghost use Rattle.boot_model.specs.Boot.{InputsView, BootSoFar, boot, claims, efi_entries, lies_in_memory, reach, types_in_reach};
+ghost use Rattle.boot_model.specs.Boot.{InputsView, BootSoFar, boot, boot_with, claims, efi_entries, lies_in_memory, no_extra, reach, types_in_reach, whole_boot, whole_boot_with};
 
 use bm_base::FRAME_SIZE;
 
-/// Law: the firmware's own map counts only if the command line asks for it (`add_efi_memmap`) and
-/// it has descriptors. Otherwise the claims, the typed ranges of the e820 table, are those of a
-/// boot without that map.
+/// Law: the EFI memory map counts only if the command line asks for it (`add_efi_memmap`) and it
+/// has descriptors. Otherwise the claims of the e820 table are those of a boot without that map.
 pub fn efi_map_counts_only_if_asked()
     ensures unasked { (given : InputsView) → given.options.add_efi ≡ false →
         claims given ≡ claims (record given { efi = None }) }
@@ -41,8 +40,8 @@ pub fn map_gives_types()
 {}
 
 /// Law: a frame below the limit of physical addresses is usable exactly if all its bytes lie in
-/// runs of RAM or of the kernel's own memory. The runs are those of the boot's map. There are 1 to
-/// 2^32 usable frames.
+/// runs of RAM or of the kernel's own memory in the boot's map. The number of usable frames is 1 to
+/// 2^32.
 pub fn map_gives_frames()
     ensures each { (given : InputsView) (made : BootSoFar) (frame : ℕ) → boot given ≡ Ok made →
         FRAME_SIZE * frame + FRAME_SIZE ≤ reach given → is_usable_frame (types_in_reach given) frame
@@ -68,9 +67,17 @@ pub fn no_ram_means_no_usable_frame()
         → usable_frames (types_in_reach given) ≡ 0 }
 {}
 
-/// Law: mirrored ranges of the firmware, and those of command words cut to whole frames, meet the
-/// conditions for inputs of a boot.
+/// Law: each mirrored range that the EFI map gives is whole frames, at least one. A range that
+/// the words of the command name is cut to whole frames. If any frame is left, the result is at
+/// least one whole frame too.
 pub fn mirrors_are_whole_frames()
     ensures cut { (range : RangeView) → IfSome (frames_within range) IsMirror }
     ensures firmware { (bytes : List ℕ) → IfOk (efi_of bytes) (λ map. All IsMirror map.mirrors) }
+{}
+
+/// Law: `boot` is the boot with `bootmem`'s own profile and without early claims. What is
+/// reported of it is also what is reported of that boot.
+pub fn boot_has_own_profile()
+    ensures made { (given : InputsView) → boot_with no_extra given ≡ boot given }
+    ensures report { (given : InputsView) → whole_boot_with no_extra given ≡ whole_boot given }
 {}

@@ -1,5 +1,5 @@
-//! Why a boot stops. The causes are a type of their own, without out of memory, since checking
-//! whether a map is accepted allocates nothing.
+//! Why a boot stops. [`Cause`] has every reason except out of memory. It is a type of its own,
+//! because the check whether a map is accepted allocates nothing and can only stop for a cause.
 
 ghost use Rattle.std.specs.Prelude.{◌≡◌};
 ghost use Rattle.boot_model.specs.Stop.{cause_of};

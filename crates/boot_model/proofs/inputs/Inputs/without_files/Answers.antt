@@ -1,4 +1,4 @@
--- No range is mirrored at first.
+-- The list of mirrored ranges is empty.
 use Rattle.std.proofs.lemmas.List.Elements.{All-nil}
 use Rattle.boot_model.specs.Mirrors.{IsMirror}
 use Rattle.boot_model.proofs.inputs.Inputs.without_files.Goals as goal

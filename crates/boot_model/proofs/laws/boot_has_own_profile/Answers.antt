@@ -1,0 +1,7 @@
+use Rattle.std.proofs.Common.{refl}
+use Rattle.boot_model.specs.Boot.{boot}
+use Rattle.boot_model.proofs.laws.boot_has_own_profile.Goals as goal
+
+pub returns : goal.returns
+unfolding boot
+returns c = record { made = λ given. refl; report = λ given. refl }
