@@ -1,5 +1,4 @@
--- Owners and the claims that the journal has for them; the frames that are touched, and those that
--- aren't.
+-- Each owned byte has its claim in the journal. Each frame is touched or untouched, and never both.
 use Rattle.std.proofs.Common.{◌≡◌, ◌⊎◌, ℕ, ◌+◌, ◌*◌, ◌<◌, ◌≤◌, Bool, true, false, Option, Some, None, is_none, List, [], ◌∷◌, fold, refl, sym, ◌∙◌, ap, inl, inr, arith}
 use Rattle.std.specs.List.{list_any}
 use Rattle.std.proofs.lemmas.Bool.Decides.{nat_tests}
@@ -14,12 +13,12 @@ use Rattle.memblock_model.specs.declared.item.Item.{Item}
 use Rattle.memblock_model.specs.declared.item.Item.TheVariants as item
 use Rattle.conservation.specs.RecordedClaims.{decides_owner, IsRecorded, IsTouched, IsUntouched}
 
--- where an owner comes from: it was there before the items and none of them decides, or one of
--- them is the claim
+-- where the byte's owner comes from: it owned the byte before the items and none of them decides,
+-- or one of them claims the byte
 abbrev pub ComesFrom : Owners → List Item → ℕ → Owner → Type 0
 ComesFrom f items x who = ((f x ≡ Some who) × (list_any (λ i. decides_owner i x) items ≡ false)) ⊎ IsRecorded items x who
 
--- the owner that the first item gives to the byte, if no later item decides
+-- the owner that the first item leaves the byte with, if no later item decides
 first : (f : Owners) (i : Item) (items : List Item) (x : ℕ) (who : Owner) → owners_after f i x ≡ Some who
     → (list_any (λ j. decides_owner j x) items ≡ false) → ComesFrom f (i ∷ items) x who
 first f (item.Claim range owner) items x who has none =
@@ -59,14 +58,14 @@ comes_from f (i ∷ items) x who has = elim (comes_from (owners_after f i) items
       })
 ]
 
--- each owner has its claim in the journal
+-- if a byte has an owner, the journal has the claim
 pub owner_recorded : (items : List Item) (x : ℕ) (who : Owner) → owner_of items x ≡ Some who → IsRecorded items x who
 owner_recorded items x who has = elim (comes_from no_owners items x who has) as (λ _. IsRecorded items x who) [
   | inl early ↦ absurd (cc (early.0))
   | inr known ↦ known
 ]
 
--- a byte between the ends of a frame is one of the frame's
+-- an address between the ends of a frame is one of the frame's bytes
 pub frame_covers : (frame x : ℕ) → 4096 * frame ≤ x → x < 4096 * frame + 4096 → covers (bytes_of_frame frame) x ≡ true
 frame_covers frame x above below = grind (arith, nat_tests)
 
@@ -82,7 +81,7 @@ some_is : {A : Type 0} (o : Option A) → is_none o ≡ false → (a : A) × (o 
 some_is None is = absurd (cc is)
 some_is (Some a) is = (a, refl)
 
--- a frame is untouched or touched
+-- each frame is touched or untouched
 pub touched_or_not : (items : List Item) (frame : ℕ) → IsTouched items frame ⊎ IsUntouched items frame
 touched_or_not items frame =
     let bare : ℕ → Bool = λ x. is_none (owner_of items x) in
@@ -102,6 +101,6 @@ touched_or_not items frame =
           }))
     ]
 
--- a frame is never both
+-- no frame is both touched and untouched
 pub touched_apart : (items : List Item) (frame : ℕ) → IsTouched items frame → IsUntouched items frame → ⊥
 touched_apart items frame touched bare = absurd (cc (sym touched.owned ∙ bare touched.byte touched.inside))

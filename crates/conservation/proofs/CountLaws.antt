@@ -14,35 +14,35 @@ use Rattle.buddy_blocks.proofs.PickLaws.{ascend_behind}
 use Rattle.memblock_frames.proofs.TakeLaws.{both_tests, tests_both}
 use Rattle.conservation.specs.Headline.{has_frame, count_blocks_with, block_with_buddy}
 
--- the frames of an aligned block are those of its set
+-- a frame of an aligned block is in the block's set of frames
 pub in_block : (b : Block) (frame : ℕ) → b.first % 2 ^ b.order ≡ 0 → has_frame b frame ≡ true → IsInBlock b frame
 in_block b frame aligned inside =
     let ends = tests_both b.first frame (b.first + 2 ^ b.order) inside in
     in_set (2 ^ b.order) b.first frame (omega (arith, ends.0)) (omega (arith, ends.1, aligned))
 
--- the frames of a set are those from its first one on
+-- the frames of a set are consecutive, from the first frame on
 in_range : (order first frame : ℕ) → IsInSet order first frame
     → (nat_le (first - first % 2 ^ order) frame && nat_lt frame (first - first % 2 ^ order + 2 ^ order)) ≡ true
 in_range order first frame same =
     both_tests (first - first % 2 ^ order) frame (first - first % 2 ^ order + 2 ^ order) (set_from (2 ^ order) first frame same)
     (set_until (2 ^ order) first frame (pow_pos order) same)
 
--- the frames of the set of twice as many are those of a block and its buddy
+-- a frame of the set of twice the size is in the block or in its buddy
 pub in_buddies : (b : Block) (frame : ℕ) → IsInSet (b.order + 1) b.first frame → has_frame (block_with_buddy b) frame ≡ true
 in_buddies b frame same = in_range (b.order + 1) b.first frame same
 
--- one more block counts as one if it passes the test, else not at all
+-- adding a block to a list adds one to the count if the block passes the test, else nothing
 counted : (p : Block → Bool) (c : Block) (cs : List Block) (passes : Bool) → p c ≡ passes
     → count_by p (c ∷ cs) ≡ cond passes 1 0 + count_by p cs
 counted p c cs passes is = sum_by-cons (λ (d : Block). cond (p d) 1 0) c cs ∙ ap (λ t. cond t 1 0 + count_by p cs) is
 
--- blocks of which none passes the test
+-- if no block of a list passes the test, the count is 0
 none_counted : (p : Block → Bool) (bs : List Block) → ((b : Block) → ListsBlock bs b → p b ≡ false) → count_by p bs ≡ 0
 none_counted p [] fails = refl
 none_counted p (c ∷ cs) fails =
     counted p c cs false (fails c (inl refl)) ∙ ap (λ n. 0 + n) (none_counted p cs (λ b listed. fails b (inr listed)))
 
--- blocks of which exactly one passes the test
+-- if exactly one block of an ascending list passes the test, the count is 1
 one_counted : (p : Block → Bool) (b : Block) (from : ℕ) (bs : List Block) → AscendFrom from bs → ListsBlock bs b → p b ≡ true
     → ((c : Block) → ListsBlock bs c → p c ≡ true → c ≡ b) → count_by p bs ≡ 1
 one_counted p b from [] ascend listed holds only = absurd listed

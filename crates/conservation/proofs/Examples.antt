@@ -23,8 +23,8 @@ use Rattle.conservation.specs.Headline.{AllTouchedOrInOneBlock, BlocksAreMaximal
 use Rattle.conservation.specs.FramePlacesAfterPages.{AllInOneBlockOrHeld, NoOtherInABlockOrHeld}
 use Rattle.conservation.proofs.CountLaws.{no_block_with, one_block_with}
 
--- this and the next two: a byte of frame 4 and one of frame 5 are claimed, and the claim of frame
--- 4 is then freed
+-- this and the next two: a byte of frame 4 and a byte of frame 5 are claimed, and then the claim of
+-- frame 4 is freed
 abbrev byte_of_four : RangeView
 byte_of_four = record { base = 0x4FFF; size = 1 }
 
@@ -65,8 +65,7 @@ one = record { order = 0; first = 4; node = 0; zone = zone.Dma }
 has_examples : (has_frame two 5 ≡ false) × (has_frame two 6 ≡ true) × (has_frame two 7 ≡ true) × (has_frame two 8 ≡ false)
 has_examples = (refl, refl, refl, refl)
 
--- frame 7 is in one of the blocks and frame 5 in none; the frames of a block that is listed twice
--- are in two
+-- frame 7 is in one of the blocks, and frame 5 in none; a block that is listed twice counts twice
 with_examples : (count_blocks_with (one ∷ (two ∷ [])) 7 ≡ 1) × (count_blocks_with (one ∷ (two ∷ [])) 5 ≡ 0)
     × (count_blocks_with (two ∷ (two ∷ [])) 6 ≡ 2)
 with_examples = (refl, refl, refl)
@@ -76,8 +75,8 @@ buddy_examples : (block_with_buddy two ≡ record { order = 2; first = 4; node =
     × (block_with_buddy one ≡ record { order = 1; first = 4; node = 0; zone = zone.Dma })
 buddy_examples = (refl, refl)
 
--- this and the next: a block whose first frame isn't a multiple of its number of frames isn't
--- whole, nor is a block of order 11
+-- this and the next: a block isn't whole if its first frame isn't a multiple of its number of
+-- frames, or if its order is 11
 odd_example : (given : InputsView) (items : List Item) → IsWhole given items (record { order = 1; first = 5; node = 0; zone = zone.Dma })
     → ⊥
 odd_example given items whole = let wrong : 1 ≡ 0 = whole.aligned in absurd (omega (arith, wrong))
@@ -86,8 +85,8 @@ great_example : (given : InputsView) (items : List Item) → IsWhole given items
     → ⊥
 great_example given items whole = let wrong : 11 ≤ 10 = whole.small in absurd (omega (arith, wrong))
 
--- this and the next: a block of the greatest order is maximal, and so is one whose buddy is
--- touched
+-- this and the next: a block of the greatest order is maximal, and so is a block with a touched
+-- frame in its buddy
 greatest_example : (given : InputsView) (items : List Item)
     → IsMaximal given items (record { order = 10; first = 0; node = 0; zone = zone.Dma })
 greatest_example given items less = absurd (omega (arith, less))
@@ -111,7 +110,7 @@ reserved_by_runs usable = let wrong : false ≡ true = usable.1 0x2000 refl in c
 out_of_reach : (map : List (RunOf ℕ)) → IsUsableByMap (2 ^ 46) map 17179869184 → ⊥
 out_of_reach map usable = let low = usable.0 in absurd (omega (arith, low))
 
--- a boot that reports these items and these free frames, whatever else it reports
+-- the results of a boot, with these items and these free frames put in
 abbrev telling : BootedView → List Item → Frames → BootedView
 telling told items free = record told { items = items; free = free }
 
@@ -153,13 +152,13 @@ five_listed node = listed_complete (five node) (five_block node) (five_alone nod
   whole = λ less good. (let none : None ≡ Some node = (good 4 refl).0 in cc none);
 })
 
--- frame 5 as a block of another node than its memory's is refused
+-- frame 5 isn't a whole block if the block's node isn't that of its memory
 other_node : (given : InputsView) (told : BootedView) → BlocksAreWhole given (telling told pair_of_node_one (five 0)) → ⊥
 other_node given told whole =
     let same : Some 1 ≡ Some 0 = ((whole (five_block 0) (five_listed 0)).frames 5 refl).node 0x5000 refl in
     cc same
 
--- the two frames are free for the set of frame 5 and its buddy
+-- frames 4 and 5 are free for the block of frame 5 with its buddy
 pair_free : (given : InputsView) (frame : ℕ) → 4 ≤ frame → frame < 6 → IsUsable given frame → zone_of frame ≡ zone.Dma
     → IsFreeFor given pair_of_node_one (block_with_buddy (five_block 1)) frame
 pair_free given frame above below usable low = record {
@@ -170,7 +169,7 @@ pair_free given frame above below usable low = record {
   zone = low;
 }
 
--- frame 5 as a block by itself is refused, since its buddy is free too
+-- frame 5 alone isn't a maximal block, since its buddy is free too
 half_alone : (given : InputsView) (told : BootedView) → IsUsable given 4 → IsUsable given 5
     → BlocksAreMaximal given (telling told pair_of_node_one (five 1)) → ⊥
 half_alone given told four_usable five_usable maximal =
@@ -184,18 +183,18 @@ half_alone given told four_usable five_usable maximal =
           rw is (pair_free given 5 (omega arith) (omega arith) five_usable refl))
     ])
 
--- a boot that reports these frames as handed over, and this state after the page script
+-- the results of a boot, with these frames as handed over and this state after the page script
 abbrev paged : BootedView → Frames → PageState → BootedView
 paged told free after = record told { free = free; after = after }
 
--- a frame that was handed over and is afterwards in no block and not held is refused
+-- a frame that was handed over can't be in no block and not held
 lost_page : (told : BootedView) → AllInOneBlockOrHeld (paged told (five 1) (first_page_state (λ frame. None))) → ⊥
 lost_page told all = elim (all 5 1 refl) as (λ _. ⊥) [
   | inl in_block ↦ cc ((in_block.0.is.good 5 in_block.0.has).0)
   | inr held ↦ cc (held.0.holds.is)
 ]
 
--- a frame of a block that wasn't handed over is refused
+-- a frame that wasn't handed over can't be in a block
 page_from_nowhere : (told : BootedView) → NoOtherInABlockOrHeld (paged told (λ frame. None) (first_page_state (five 1))) → ⊥
 page_from_nowhere told none =
     (none 5 refl).0 (five_block 1) (listed_sound (five 1) (five_block 1) (five_listed 1)) refl

@@ -16,7 +16,7 @@ use Rattle.memblock_model.specs.Tables.{reserved_labels, without_owner}
 use Rattle.memblock_model.specs.declared.owner.Owner.{Owner}
 use Rattle.stage_steps.specs.Nodes.{IsMemoryWithNodes}
 use Rattle.memblock_frames.specs.Frames.{free_node_in, valid_node, node_of_frame, node_of_label}
-use Rattle.memblock_frames.specs.declared.frames.TheConstants.{MAX_NODES}
+use Rattle.bm_base.specs.declared.zone.TheConstants.{MAX_NODES}
 use Rattle.buddy_blocks.specs.declared.run.TheConstants.{MAX_FRAMES}
 use Rattle.buddy_blocks.specs.declared.block.Block.{Block}
 use Rattle.buddy_blocks.specs.Frames.{Frames}
@@ -28,22 +28,23 @@ use Rattle.conservation.specs.RecordedClaims.{IsUntouched}
 use Rattle.conservation.specs.Headline.{IsFreeFor, IsUsable}
 use Rattle.conservation.proofs.ClaimedLaws.{covers_frame, frame_covers}
 
--- what is known of a report: the bytes of memory are those of the usable frames, and each has a
--- node
+-- What is known of the results of a boot. The bytes of memory are those of the usable frames, and
+-- all bytes of a frame have one label with a node. The free frames are those that are handed over,
+-- and the page script ran on them.
 pub record HasUsableMemory (given : InputsView) (t : BootedView) : Type 0 where
   pub memory : (x : ℕ) → is_some (memory_of t.items x) ≡ is_usable_frame (types_in_reach given) (x / 4096)
   pub noded : IsMemoryWithNodes (reach given) (memory_of t.items)
   pub free : t.free ≡ handover_frames t.items
   pub after : t.after ≡ page_state_after t.lists (first_page_state t.free) given.page_lines
 
--- each byte of a frame has the frame's number
+-- each byte of a frame, divided by the frame size, gives the frame's number
 number : (frame x : ℕ) → covers (bytes_of_frame frame) x ≡ true → x / 4096 ≡ frame
 number frame x inside = let ends = covers_frame frame x inside in omega (arith, ends.0, ends.1)
 
 first_byte : (frame : ℕ) → covers (bytes_of_frame frame) (4096 * frame) ≡ true
 first_byte frame = frame_covers frame (4096 * frame) (omega arith) (omega arith)
 
--- a test and the value under it
+-- if a guarded value is there, the test passed and the value was there
 if_some : (b : Bool) (o : Option ℕ) (n : ℕ) → (if b then o else None) ≡ Some n → (b ≡ true) × (o ≡ Some n)
 if_some true o n is = (refl, is)
 if_some false o n is = absurd (cc is)
@@ -56,7 +57,7 @@ some_label : (o : Option LabelView) → is_some o ≡ true → (label : LabelVie
 some_label None is = absurd (cc is)
 some_label (Some label) is = (label, refl)
 
--- a frame alone, as a block of the node
+-- the block of order 0 that has only this frame
 abbrev pub alone : ℕ → ℕ → Block
 alone frame node = record { order = 0; first = frame; node = node; zone = zone_of frame }
 
@@ -70,7 +71,7 @@ module _ (given : InputsView) (t : BootedView) (known : HasUsableMemory given t)
   same_labels : (frame x : ℕ) → covers (bytes_of_frame frame) x ≡ true → memory_of t.items x ≡ memory_of t.items (4096 * frame)
   same_labels frame x inside = known.noded.frames x ∙ ap (λ k. memory_of t.items (4096 * k)) (number frame x inside)
 
-  -- the reported node of a byte is that of its tag
+  -- the node that memory has for a byte is the node of the byte's tag
   same_node : (x : ℕ) (o : Option LabelView) → memory_of t.items x ≡ o → node_of_label o ≡ node_of_tag (tag_for o)
   same_node x None is = refl
   same_node x (Some label) is =
@@ -124,7 +125,7 @@ module _ (given : InputsView) (t : BootedView) (known : HasUsableMemory given t)
         }),
       )
 
-  -- no frame at or above the greatest number that a list of frames may have is reported as free
+  -- no frame from `MAX_FRAMES` on is reported as free
   pub told_below : IsEmptyFrom MAX_FRAMES t.free
   unfolding free_node_in
   told_below frame far =

@@ -3,7 +3,7 @@ use Rattle.std.proofs.Common.{◌≡◌, ℕ, Option, Some, None, Ok, refl, subs
 use Rattle.address_runs.specs.Edits.{IsEmptyFrom}
 use Rattle.buddy_blocks.specs.declared.run.TheConstants.{MAX_FRAMES}
 use Rattle.buddy_blocks.proofs.BlockLaws.{listed_sound}
-use Rattle.boot_model.specs.Boot.{InputsView, BootedView, whole_boot}
+use Rattle.boot_model.specs.Boot.{ExtraView, InputsView, BootedView, whole_boot_with}
 use Rattle.boot_model.proofs.MemoryLaws.{booted_memory_is_usable}
 use Rattle.boot_model.proofs.NodedLaws.{noded_told}
 use Rattle.conservation.specs.RecordedClaims.{IsTouched}
@@ -13,19 +13,19 @@ use Rattle.conservation.proofs.CountLaws.{in_block, in_buddies, no_block_with, o
 use Rattle.conservation.proofs.ToldLaws.{is_told_of}
 use Rattle.conservation.proofs.FreeLaws.{HasUsableMemory, alone, free_frame_is_reported, free_of_some, told_below, reported_frame_is_free}
 
-pub is_told : (given : InputsView) (t : BootedView) → whole_boot given ≡ Ok t → HasUsableMemory given t
-is_told given t ends =
-    let of = is_told_of given t ends in
+pub is_told : (extra : ExtraView) (given : InputsView) (t : BootedView) → whole_boot_with extra given ≡ Ok t → HasUsableMemory given t
+is_told extra given t ends =
+    let of = is_told_of extra given t ends in
     subst (λ (u : BootedView). HasUsableMemory given u) of.tells (record {
-      memory = λ x. booted_memory_is_usable given of.made x of.boots;
-      noded = noded_told given of.made of.boots;
+      memory = λ x. booted_memory_is_usable extra given of.made x of.boots;
+      noded = noded_told extra given of.made of.boots;
       free = refl;
       after = refl;
     })
 
-module _ (given : InputsView) (t : BootedView) (ends : whole_boot given ≡ Ok t) where
+module _ (extra : ExtraView) (given : InputsView) (t : BootedView) (ends : whole_boot_with extra given ≡ Ok t) where
   known : HasUsableMemory given t
-  known = is_told given t ends
+  known = is_told extra given t ends
 
   pub below : IsEmptyFrom MAX_FRAMES t.free
   below = told_below given t known

@@ -1,10 +1,10 @@
--- Usable frames, by the map that a boot reports.
+-- The map that a boot reports determines which frames are usable.
 use Rattle.std.proofs.Common.{◌≡◌, ◌↔◌, ℕ, ◌+◌, ◌*◌, ◌≤◌, Bool, Ok, sym, ◌∙◌, subst, arith}
 use Rattle.std.proofs.lemmas.Bool.Decides.{nat_tests}
 use Rattle.bm_base.specs.Frames.{bytes_of_frame}
 use Rattle.bm_base.proofs.EachLaws.{each_in-all, each_in-each}
 use Rattle.e820_model.specs.Map.{kinds}
-use Rattle.boot_model.specs.Boot.{InputsView, BootedView, claims, lies_in_memory, reach, booted_address_limit, whole_boot, types_in_reach}
+use Rattle.boot_model.specs.Boot.{ExtraView, InputsView, BootedView, claims, lies_in_memory, reach, booted_address_limit, whole_boot_with, types_in_reach}
 use Rattle.e820_model.proofs.UsableLaws.{memory_reached, is_usable_frame-each}
 use Rattle.boot_model.proofs.BootLaws.{usable_lies}
 use Rattle.conservation.specs.ByMap.{IsUsableByMap}
@@ -20,20 +20,20 @@ in_reach given frame usable =
     let both = sym (memory_reached (reach given) (kinds (claims given)) x) ∙ last in
     grind (arith, nat_tests, both)
 
-pub usable_mapped : (given : InputsView) (t : BootedView) (frame : ℕ) → whole_boot given ≡ Ok t
+pub usable_mapped : (extra : ExtraView) (given : InputsView) (t : BootedView) (frame : ℕ) → whole_boot_with extra given ≡ Ok t
     → (IsUsable given frame ↔ IsUsableByMap (booted_address_limit t) t.map frame)
-usable_mapped given t frame ends =
-    let of = is_told_of given t ends in
+usable_mapped extra given t frame ends =
+    let of = is_told_of extra given t ends in
     let lies : ℕ → Bool = lies_in_memory of.made.map in
     subst (λ (u : BootedView). IsUsable given frame ↔ IsUsableByMap (booted_address_limit u) u.map frame) of.tells (
       λ usable.
           (let low = in_reach given frame usable in
-          let each = sym (usable_lies given of.made frame of.boots low) ∙ usable in (
+          let each = sym (usable_lies extra given of.made frame of.boots low) ∙ usable in (
             low,
             λ x inside. (let ends = covers_frame frame x inside in
                 each_in-each (bytes_of_frame frame) lies each x ends.0 ends.1),
           )),
       λ mapped.
-          usable_lies given of.made frame of.boots mapped.0
+          usable_lies extra given of.made frame of.boots mapped.0
           ∙ each_in-all (bytes_of_frame frame) lies (λ x above below. mapped.1 x (frame_covers frame x above below)),
     )

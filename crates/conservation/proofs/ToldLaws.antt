@@ -1,19 +1,24 @@
--- The report of a boot that isn't stopped is that of what it made.
+-- The results of a boot that isn't stopped are the report of what it made (`finish_boot`).
 use Rattle.std.proofs.Common.{◌≡◌, Result, Ok, Err, refl}
 use Rattle.bm_base.specs.ResultSteps.{◌>>=◌}
 use Rattle.boot_model.specs.declared.stop.Cause.{Cause}
-use Rattle.boot_model.specs.Boot.{InputsView, BootSoFar, BootedView, boot, finish_boot, whole_boot}
+use Rattle.boot_model.specs.Boot.{ExtraView, InputsView, BootSoFar, BootedView, boot, boot_with, finish_boot_by, no_extra, whole_boot, whole_boot_with}
 
--- what the boot made, and that this is its report
-pub record IsReportOfBoot (given : InputsView) (t : BootedView) : Type 0 where
+-- the boot made `made`, and `t` is the report of that
+pub record IsReportOfBoot (extra : ExtraView) (given : InputsView) (t : BootedView) : Type 0 where
   pub made : BootSoFar
-  pub boots : boot given ≡ Ok made
-  pub tells : finish_boot given made ≡ t
+  pub boots : boot_with extra given ≡ Ok made
+  pub tells : finish_boot_by extra.profile given made ≡ t
 
-told_of : (given : InputsView) (answer : Result BootSoFar Cause) (t : BootedView) → boot given ≡ answer
-    → (answer >>= λ made. Ok (finish_boot given made)) ≡ Ok t → IsReportOfBoot given t
-told_of given (Ok made) t is ends = record { made = made; boots = is; tells = cc ends }
-told_of given (Err cause) t is ends = absurd (cc ends)
+told_of : (extra : ExtraView) (given : InputsView) (answer : Result BootSoFar Cause) (t : BootedView) → boot_with extra given ≡ answer
+    → (answer >>= λ made. Ok (finish_boot_by extra.profile given made)) ≡ Ok t → IsReportOfBoot extra given t
+told_of extra given (Ok made) t is ends = record { made = made; boots = is; tells = cc ends }
+told_of extra given (Err cause) t is ends = absurd (cc ends)
 
-pub is_told_of : (given : InputsView) (t : BootedView) → whole_boot given ≡ Ok t → IsReportOfBoot given t
-is_told_of given t ends = told_of given (boot given) t refl ends
+pub is_told_of : (extra : ExtraView) (given : InputsView) (t : BootedView) → whole_boot_with extra given ≡ Ok t → IsReportOfBoot extra given t
+is_told_of extra given t ends = told_of extra given (boot_with extra given) t refl ends
+
+-- what holds of each boot's report by its profile and early claims holds of `bootmem`'s own
+pub own_told : (t : BootedView) (given : InputsView) → whole_boot given ≡ Ok t → whole_boot_with no_extra given ≡ Ok t
+unfolding boot
+own_told t given ends = ends

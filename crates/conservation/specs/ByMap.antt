@@ -1,4 +1,4 @@
--- Usable frames, by the map that a boot reports.
+-- Which frames are usable, judged by the map that a boot reports.
 use Rattle.std.specs.Prelude.{◌≡◌, ℕ, ◌+◌, ◌*◌, ◌≤◌, true, List}
 use Rattle.bm_base.specs.Frames.{bytes_of_frame}
 use Rattle.bm_base.specs.Range.{covers}

@@ -1,5 +1,5 @@
--- The place of each frame that was handed over, after the page script, and that no other frame has
--- come in.
+-- Where the frames are after the page script: each frame that was handed over is in exactly one
+-- block, or exactly one ID of the script holds it. No other frame is in a block or held.
 use Rattle.std.specs.Prelude.{◌≡◌, ℕ, Some, None}
 use Rattle.page_alloc.specs.FramePlaces.{IsInNoBlockNorHeld, IsInOneBlockOrHeld}
 use Rattle.boot_model.specs.Boot.{BootedView}

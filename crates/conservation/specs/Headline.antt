@@ -1,8 +1,8 @@
--- What a boot that isn't stopped makes of each frame (`memblock_free_all`). A usable frame is
+-- Where each frame is after a boot that isn't stopped (`memblock_free_all`). A usable frame is
 -- touched by a claim or is in exactly one block of the buddy lists, and no other frame is in a
--- block. Each block is as great as it can be (`__free_one_page`). The blocks are those of the
--- frames that the boot reports as free (`blocks_of`). These facts are over the map, the owners and
--- the nodes of memory only, and not over the stages of the boot.
+-- block. Each block is as large as possible (`__free_one_page`). The blocks are those of the frames
+-- that the boot reports as free (`blocks_of`). These facts depend only on the map, the owners and
+-- the nodes of memory, and not on the stages of the boot.
 use Rattle.std.specs.Prelude.{◌≡◌, ◌⊎◌, ℕ, ◌+◌, ◌-◌, ◌%◌, ◌^◌, ◌<◌, ◌≤◌, Bool, true, ◌&&◌, nat_le, nat_lt, Some, List, count_by}
 use Rattle.bm_base.specs.Range.{covers}
 use Rattle.bm_base.specs.Frames.{bytes_of_frame}
@@ -26,7 +26,7 @@ IsUsable given frame = is_usable_frame (types_in_reach given) frame ≡ true
 abbrev pub has_frame : Block → ℕ → Bool
 has_frame b frame = nat_le b.first frame && nat_lt frame (b.first + 2 ^ b.order)
 
--- the number of the blocks that have the frame
+-- the number of blocks of the list that have the frame
 abbrev pub count_blocks_with : List Block → ℕ → ℕ
 count_blocks_with blocks frame = count_by (λ b. has_frame b frame) blocks
 
@@ -34,7 +34,8 @@ count_blocks_with blocks frame = count_by (λ b. has_frame b frame) blocks
 abbrev pub booted_blocks : BootedView → List Block
 booted_blocks told = blocks_of told.free
 
--- a usable frame in which no byte is claimed, with memory of the block's node, in the block's zone
+-- a usable frame of the block's zone, in which no byte is claimed and every byte is memory of the
+-- block's node
 pub record IsFreeFor (given : InputsView) (items : List Item) (b : Block) (frame : ℕ) : Type 0 where
   pub usable : IsUsable given frame
   pub untouched : IsUntouched items frame
@@ -45,19 +46,20 @@ pub record IsFreeFor (given : InputsView) (items : List Item) (b : Block) (frame
 abbrev pub AreAllFree : InputsView → List Item → Block → Type 0
 AreAllFree given items b = (frame : ℕ) → has_frame b frame ≡ true → IsFreeFor given items b frame
 
--- the frames of the block and of its buddy: the set of twice as many frames that has the block's
--- (`__find_buddy_pfn`)
+-- the block that has the frames of `b` and of its buddy: twice as many frames, aligned to their
+-- number (`__find_buddy_pfn`)
 abbrev pub block_with_buddy : Block → Block
 block_with_buddy b = record b { order = b.order + 1; first = b.first - b.first % 2 ^ (b.order + 1) }
 
--- the block has an order that the lists have and begins at a multiple of its number of frames; all
--- its frames are free for it, so it lies in one node and one zone
+-- The block has an order that the buddy lists have, and begins at a multiple of its number of
+-- frames. All its frames are free for it, so it lies in one node and one zone.
 pub record IsWhole (given : InputsView) (items : List Item) (b : Block) : Type 0 where
   pub small : b.order ≤ MAX_ORDER
   pub aligned : b.first % 2 ^ b.order ≡ 0
   pub frames : AreAllFree given items b
 
--- if the block's order is below the greatest, not all frames of it and its buddy are free for it
+-- if the block's order is below the greatest, some frame of the block and its buddy isn't free for
+-- the block
 abbrev pub IsMaximal : InputsView → List Item → Block → Type 0
 IsMaximal given items b = b.order < MAX_ORDER → ¬ AreAllFree given items (block_with_buddy b)
 
@@ -82,6 +84,6 @@ NoOtherInABlock given told =
 abbrev pub BlocksAreWhole : InputsView → BootedView → Type 0
 BlocksAreWhole given told = (b : Block) → ListsBlock (booted_blocks told) b → IsWhole given told.items b
 
--- each block is as great as it can be
+-- each block is as large as possible
 abbrev pub BlocksAreMaximal : InputsView → BootedView → Type 0
 BlocksAreMaximal given told = (b : Block) → ListsBlock (booted_blocks told) b → IsMaximal given told.items b

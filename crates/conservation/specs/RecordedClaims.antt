@@ -9,14 +9,13 @@ use Rattle.memblock_model.specs.declared.owner.Owner.{Owner}
 use Rattle.memblock_model.specs.declared.item.Item.{Item}
 use Rattle.memblock_model.specs.declared.item.Item.TheVariants as item
 
--- whether the item decides who owns the byte: it claims or frees a range with the byte
+-- whether the item decides who owns the byte: it claims or frees a range that has the byte
 abbrev pub decides_owner : Item → ℕ → Bool
 decides_owner (item.Claim range who) x = covers range x
 decides_owner (item.Free range) x = covers range x
 decides_owner i x = false
 
--- the journal has a claim of the byte for the owner, and no later item claims the byte again or
--- frees it
+-- the journal claims the byte for the owner, and no later item claims the byte again or frees it
 pub record IsRecorded (items : List Item) (x : ℕ) (who : Owner) : Type 0 where
   pub before : List Item
   pub range : RangeView

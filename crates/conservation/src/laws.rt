@@ -1,52 +1,72 @@
-//! The four facts of each boot that isn't stopped, and how the map that it reports gives the usable
-//! frames. They are proved for the definition of the boot, without calling a stage. So they hold
-//! for any boot that returns what the definition says.
+//! The four facts of each boot that isn't stopped, and two more: where frames are after the page
+//! script, and which frames are usable by the reported map. They are proved for the definition of
+//! the boot, without calling a stage. They therefore hold for any boot that returns what the
+//! definition says.
 
 ghost use Rattle.std.specs.Prelude.{◌≡◌, ◌↔◌, ℕ, Ok};
 ghost use Rattle.page_alloc.specs.Pages.{HaveValidOrders};
-ghost use Rattle.boot_model.specs.Boot.{InputsView, BootedView, booted_address_limit, whole_boot};
+ghost use Rattle.boot_model.specs.Boot.{ExtraView, InputsView, BootedView, booted_address_limit, whole_boot, whole_boot_with};
 ghost use Rattle.conservation.specs.Headline.{AllTouchedOrInOneBlock, BlocksAreMaximal, BlocksAreWhole, IsUsable, NoOtherInABlock};
 ghost use Rattle.conservation.specs.ByMap.{IsUsableByMap};
 ghost use Rattle.conservation.specs.FramePlacesAfterPages.{AllInOneBlockOrHeld, NoOtherInABlockOrHeld};
 
-/// Law: each usable frame is either touched by a claim or in a block, and never both. If it is
-/// touched, the claim has a recorded owner, and if not, it is in exactly one block.
+/// Law: each usable frame is either touched by a claim or in a block, and never both. If a claim
+/// touches the frame, the journal records the claim with its owner. Otherwise the frame is in
+/// exactly one block.
 pub fn usable_frames_are_touched_or_in_one_block()
-    ensures { (given : InputsView) (told : BootedView) → whole_boot given ≡ Ok told
+    ensures own { (given : InputsView) (told : BootedView) → whole_boot given ≡ Ok told
         → AllTouchedOrInOneBlock given told }
+    ensures by_profile { (extra : ExtraView) (given : InputsView) (told : BootedView) →
+        whole_boot_with extra given ≡ Ok told → AllTouchedOrInOneBlock given told }
 {}
 
 /// Law: each frame of a block is usable, and no claim touches it.
 pub fn no_other_frame_is_in_a_block()
-    ensures { (given : InputsView) (told : BootedView) → whole_boot given ≡ Ok told
+    ensures own { (given : InputsView) (told : BootedView) → whole_boot given ≡ Ok told
         → NoOtherInABlock given told }
+    ensures by_profile { (extra : ExtraView) (given : InputsView) (told : BootedView) →
+        whole_boot_with extra given ≡ Ok told → NoOtherInABlock given told }
 {}
 
 /// Law: each block has an order of at most 10, begins at a multiple of its number of frames, and
 /// lies in one node and one zone.
 pub fn blocks_are_whole()
-    ensures { (given : InputsView) (told : BootedView) → whole_boot given ≡ Ok told
+    ensures own { (given : InputsView) (told : BootedView) → whole_boot given ≡ Ok told
         → BlocksAreWhole given told }
+    ensures by_profile { (extra : ExtraView) (given : InputsView) (told : BootedView) →
+        whole_boot_with extra given ≡ Ok told → BlocksAreWhole given told }
 {}
 
-/// Law: each block is as large as possible. For an order below 10, the block and its buddy together
-/// couldn't be a block too.
+/// Law: each block is as large as possible. A block of an order below 10 and its buddy together
+/// can't form a block.
 pub fn blocks_are_maximal()
-    ensures { (given : InputsView) (told : BootedView) → whole_boot given ≡ Ok told
+    ensures own { (given : InputsView) (told : BootedView) → whole_boot given ≡ Ok told
         → BlocksAreMaximal given told }
+    ensures by_profile { (extra : ExtraView) (given : InputsView) (told : BootedView) →
+        whole_boot_with extra given ≡ Ok told → BlocksAreMaximal given told }
 {}
 
 /// Law: after the page script each frame that was handed over is in exactly one block, or held by
-/// exactly one ID, and not both. No other frame is in a block or held.
+/// exactly one ID of the script, and not both. No other frame is in a block or held.
 pub fn handed_frames_stay_in_one_block_or_held()
     ensures each { (given : InputsView) (told : BootedView) → whole_boot given ≡ Ok told
         → HaveValidOrders given.page_lines → AllInOneBlockOrHeld told }
     ensures others { (given : InputsView) (told : BootedView) → whole_boot given ≡ Ok told
         → HaveValidOrders given.page_lines → NoOtherInABlockOrHeld told }
+    ensures each_by_profile { (extra : ExtraView) (given : InputsView) (told : BootedView) →
+        whole_boot_with extra given ≡ Ok told
+        → HaveValidOrders given.page_lines → AllInOneBlockOrHeld told }
+    ensures others_by_profile { (extra : ExtraView) (given : InputsView) (told : BootedView) →
+        whole_boot_with extra given ≡ Ok told
+        → HaveValidOrders given.page_lines → NoOtherInABlockOrHeld told }
 {}
 
 /// Law: the map that a boot reports determines which frames are usable.
 pub fn map_determines_usable_frames()
-    ensures { (given : InputsView) (told : BootedView) (frame : ℕ) → whole_boot given ≡ Ok told →
+    ensures own { (given : InputsView) (told : BootedView) (frame : ℕ) → whole_boot given ≡ Ok
+        told →
+        (IsUsable given frame ↔ IsUsableByMap (booted_address_limit told) told.map frame) }
+    ensures by_profile { (extra : ExtraView) (given : InputsView) (told : BootedView) (frame : ℕ) →
+        whole_boot_with extra given ≡ Ok told →
         (IsUsable given frame ↔ IsUsableByMap (booted_address_limit told) told.map frame) }
 {}

@@ -1,5 +1,7 @@
+use Rattle.boot_model.specs.Boot.{no_extra}
 use Rattle.conservation.proofs.HeadlineLaws.{blocks_maximal}
+use Rattle.conservation.proofs.ToldLaws.{own_told}
 use Rattle.conservation.proofs.laws.blocks_are_maximal.Goals as goal
 
 pub returns : goal.returns
-returns c = blocks_maximal
+returns c = record { own = λ given t ends. blocks_maximal no_extra given t (own_told t given ends); by_profile = blocks_maximal }

@@ -1,5 +1,7 @@
+use Rattle.boot_model.specs.Boot.{no_extra}
 use Rattle.conservation.proofs.HeadlineLaws.{blocks_whole}
+use Rattle.conservation.proofs.ToldLaws.{own_told}
 use Rattle.conservation.proofs.laws.blocks_are_whole.Goals as goal
 
 pub returns : goal.returns
-returns c = blocks_whole
+returns c = record { own = λ given t ends. blocks_whole no_extra given t (own_told t given ends); by_profile = blocks_whole }

@@ -1,5 +1,10 @@
+use Rattle.boot_model.specs.Boot.{no_extra}
 use Rattle.conservation.proofs.MapLaws.{usable_mapped}
+use Rattle.conservation.proofs.ToldLaws.{own_told}
 use Rattle.conservation.proofs.laws.map_determines_usable_frames.Goals as goal
 
 pub returns : goal.returns
-returns c = usable_mapped
+returns c = record {
+  own = λ given t frame ends. usable_mapped no_extra given t frame (own_told t given ends);
+  by_profile = usable_mapped;
+}
