@@ -16,6 +16,7 @@ holds-on fills old new kernel follows holds =
     subst At (sym kernel)
     (holds-call old.kernel old.journal.items new.journal.items fills (byte_of old.tables.store) (byte_of new.tables.store) holds follows)
 
--- the bytes hold after any memblock that `old` goes on to
+-- the bytes still have the values that the items and the fills give them, in any memblock that
+-- continues `old`
 pub holds-behind : (fills : List Fill) (old new : MemblockView) → ContinuesMemblock old new → HasBytesOfHistory fills old → HasBytesOfHistory fills new
 holds-behind fills old new goes holds = holds-on fills old new goes.kernel goes.bytes holds

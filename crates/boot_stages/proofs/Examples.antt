@@ -1,4 +1,4 @@
--- The boot's answer for small answers of the table, and the parts of a small memory.
+-- What the boot makes of small results of the e820 table, and the parts of a small memory.
 use Rattle.std.proofs.Common.{◌≡◌, inr, ⊎_elim, ℕ, true, List, [], ◌∷◌, None, Err, refl, arith}
 use Rattle.bm_base.specs.Range.{RangeView}
 use Rattle.address_runs.specs.Runs.{RunOf}
@@ -15,15 +15,14 @@ use Rattle.boot_stages.specs.Parts.{items_before_memory, limit_items, items_for_
 abbrev one_run : List (RunOf ℕ)
 one_run = record { base = 0x1000; size = 0x1000; value = 1 } ∷ []
 
--- this and the next: a kernel's image, and the values that the first items are made of, for
--- `parts`
+-- this and the next: a kernel's image, and the values from which `parts` computes the first items
 abbrev image : RangeView
 image = record { base = 0x1000000; size = 0x2000000 }
 
 abbrev early : EarlyInputs
 early = record { limit = 0x2000; kernel = image; initrd = None; mirrors = record { first = 1; count = 2 } ∷ []; upward = true }
 
--- the items of the parts, if frames 1 and 2 are mirrored and searches go upward
+-- the items of each part, if frames 1 and 2 are mirrored and searches go upward
 parts : (items_before_memory early ≡ item.Claim image owner.Kernel ∷ item.Claim (record { base = 0; size = 0x10000 }) owner.Low64K
     ∷ item.Limit 0x100000 ∷ item.Upward true ∷ [])
     × (items_for_memory_of_map early one_run ≡ item.Mem (record { base = 0x1000; size = 0x1000 }) ∷ item.Trim
@@ -31,12 +30,12 @@ parts : (items_before_memory early ≡ item.Claim image owner.Kernel ∷ item.Cl
     × (limit_items 0x4000 ≡ item.Limit 0x4000 ∷ item.Claim (record { base = 0; size = 0x100000 }) owner.Low1M ∷ [])
 parts = (refl, refl, refl)
 
--- this program may be out of memory before a first item
+-- the program may run out of memory before the first item
 wanting_first : EndsAsStage {A = Unit {0}} (items_with_growths (item.Trim ∷ [])) refusal_for (Err refusal.Memory) [] []
 unfolding items_with_growths
 wanting_first = inr (refl, record { count = 0; short = omega arith; stands = refl })
 
--- it isn't out of memory if there are no items
+-- if there are no items, the program can't run out of memory
 never_for_nothing : (old new : List Item) → EndsAsStage {A = Unit {0}} (items_with_growths []) refusal_for (Err refusal.Memory) old new → ⊥
 unfolding items_with_growths
 never_for_nothing old new ends = ⊎_elim (λ told. cc told.1) (λ cut. omega (arith, cut.1.short)) ends

@@ -1,4 +1,4 @@
--- What both tables say of frames at the end of a boot.
+-- What the bytes of both tables say of frames at the end of a boot.
 use Rattle.std.proofs.Common.{◌≡◌, ◌∙◌, ℕ, ◌*◌, ◌/◌, ◌^◌, List, refl, ap, sym, arith}
 use Rattle.address_runs.specs.Runs.{RunOf, value_at}
 use Rattle.address_runs.specs.Edits.{IsEmptyFrom}
@@ -32,12 +32,15 @@ use Rattle.numa_nodes.specs.Assignment.{nodes_view}
 use Rattle.early_script.specs.LiveView.{LiveView}
 use Rattle.growth_model.specs.Bytes.{Fill, table_from_items}
 use Rattle.zone_spans.specs.declared.span.Span.{Span}
-use Rattle.boot_model.specs.Boot.{InputsView, handover_frames, heads_of, spans_of_memory, finish_boot}
+use Rattle.boot_model.specs.Boot.{InputsView, handover_frames, heads_of, spans_by_rule, spans_of_memory, finish_boot_by}
+use Rattle.boot_model.specs.declared.extra.Profile.{Profile}
+use Rattle.zone_spans.specs.Hull.{spans_by}
+use Rattle.zone_spans.specs.declared.rule.ZoneRule.{ZoneRule}
 use Rattle.boot_model.specs.View.{sections_view}
 use Rattle.boot_stages.specs.declared.later.LaterResults.{LaterResults}
 use Rattle.boot_stages.specs.Boots.{made_after_stages}
 
--- two tables with the records of the items lie in the bytes, at the places of the heads
+-- two tables with the records that the items give lie in the bytes, at the places of the heads
 pub record Stand (items : List Item) (store : List ExtentView) (memory reserved : Head) : Type 0 where
   pub first : TableView
   pub second : TableView
@@ -63,13 +66,17 @@ module _ {items : List Item} {store : List ExtentView} {memory reserved : Head} 
   pub reserved-records : HasRecords store reserved (2 ^ 64)
   reserved-records = rw s.second_head (stands_ascending s.second store s.second_stands)
 
-  pub spans-told : spans_of (node_of_frame (value_at (records_of_head store memory))) ≡ spans_of_memory items
-  spans-told =
-      let nodes : node_of_frame (value_at (records_of_head store memory)) ≡ node_of_frame (memory_of items) = λ i frame.
+  nodes-told : node_of_frame (value_at (records_of_head store memory)) ≡ node_of_frame (memory_of items)
+  nodes-told = λ i frame.
       (ap (λ (h : Head). node_of_frame (value_at (records_of_head store h)) frame) s.first_head
       ∙ stands_node s.first store frame s.first_stands
-      ∙ ap (λ (f : Labels). node_of_frame f frame) s.first_says) i in
-      ap spans_of nodes
+      ∙ ap (λ (f : Labels). node_of_frame f frame) s.first_says) i
+
+  pub spans-told : spans_of (node_of_frame (value_at (records_of_head store memory))) ≡ spans_of_memory items
+  spans-told = ap spans_of nodes-told
+
+  pub rule-told : (rule : ZoneRule) → spans_by rule (node_of_frame (value_at (records_of_head store memory))) ≡ spans_by_rule rule items
+  rule-told rule = ap (spans_by rule) nodes-told
 
   pub free-told : (frame : ℕ)
       → free_node_in (value_at (records_of_head store memory)) (value_at (records_of_head store reserved)) frame ≡ handover_frames items
@@ -78,7 +85,7 @@ module _ {items : List Item} {store : List ExtentView} {memory reserved : Head} 
       rw (s.first_head, s.second_head) (stands_free s.first s.second store frame s.first_stands s.second_stands
       ∙ rw (s.first_says, s.second_says) refl)
 
--- the tables of a memblock stand in its bytes
+-- memblock's own tables lie in its bytes
 pub stand-by : (m : MemblockView) (store : List ExtentView) (heads : Heads)
     → heads ≡ record { memory = head_of m.tables.memory; reserved = head_of m.tables.reserved }
     → m.tables.memory ≡ table_from_items which.Memory m.kernel m.journal.items
@@ -100,14 +107,13 @@ stand-by m store heads finish_boot first second first_stands second_stands noded
   noded = noded;
 }
 
--- the report of what the boot made is that of what was handed over, and of what it made after the
--- handover
-pub finish_boot-by : (given : InputsView) (map : List (RunOf ℕ)) (m : MemblockView) (later : LaterResults) (ids : LiveView) (fills : List Fill)
+-- the results of the boot, from what the boot made and from what the handover reads
+pub finish_boot-by : (profile : Profile) (given : InputsView) (map : List (RunOf ℕ)) (m : MemblockView) (later : LaterResults) (ids : LiveView) (fills : List Fill)
     (items : List Item)
-    (heads : Heads) (spans : List Span) (frames : Frames) (lists : ZoneListsView) (answers : List PageAnswer) (after : PageState)
+    (heads : Heads) (spans with_memory : List Span) (frames : Frames) (lists : ZoneListsView) (answers : List PageAnswer) (after : PageState)
     → m.kernel ≡ given.kernel → items ≡ m.journal.items → heads ≡ heads_of m.kernel m.journal.items
-    → spans ≡ spans_of_memory m.journal.items
-    → frames ≡ handover_frames m.journal.items → lists ≡ zonelists_from_slit given.slit (nodes_view later.nodes).domains spans
+    → spans ≡ spans_by_rule profile.zones m.journal.items → with_memory ≡ spans_of_memory m.journal.items
+    → frames ≡ handover_frames m.journal.items → lists ≡ zonelists_from_slit given.slit (nodes_view later.nodes).domains with_memory
     → answers ≡ page_answers_of lists (first_page_state frames) given.page_lines
     → after ≡ page_state_after lists (first_page_state frames) given.page_lines
     → record {
@@ -119,18 +125,19 @@ pub finish_boot-by : (given : InputsView) (map : List (RunOf ℕ)) (m : Memblock
       nodes = nodes_view later.nodes;
       crash = later.crash;
       sections = sections_view later.roots later.placed;
+      claim_answers = later.claim_answers.items;
       answers = later.answers.items;
       spans = spans;
       free = frames;
       lists = lists;
       page_answers = answers;
       after = after;
-    } ≡ finish_boot given (made_after_stages given map m later ids fills)
-finish_boot-by given map m later ids fills items heads spans frames lists answers after kernel same head_is span_is frame_is list_is told_is
-    after_is =
+    } ≡ finish_boot_by profile given (made_after_stages given map m later ids fills)
+finish_boot-by profile given map m later ids fills items heads spans with_memory frames lists answers after kernel same head_is span_is
+    memory_is frame_is list_is told_is after_is =
     cc
 
--- the tables of a memblock are those of its items
+-- memblock's tables have the records that its items give
 pub tables-kept : (w : Which) (kernel : RangeView) (items : List Item) (t : TablesView) (aim : AllocSettings)
     → TablesMatchItems kernel items t aim
     → table_in w t ≡ table_from_items w kernel items

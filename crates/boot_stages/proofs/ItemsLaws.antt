@@ -1,4 +1,4 @@
--- Items that are carried out in parts: how the whole ends, from how its parts end.
+-- Items that are carried out in parts: how the whole list ends, from how its parts end.
 use Rattle.std.proofs.Common.{◌≡◌, ◌<◌, length, Option, Some, None, List, [], ◌∷◌, ◌++◌, Result, Ok, Err, refl, sym, ◌∙◌, ap, subst}
 use Rattle.std.proofs.lemmas.List.{append-nil, append_assoc}
 use Rattle.std.specs.Prelude.{OnOk}
@@ -23,7 +23,7 @@ use Rattle.stage_steps.proofs.RequestLaws.{ends-change}
 use Rattle.boot_model.specs.First.{items_with_growths}
 use Rattle.boot_model.proofs.CarriedLaws.{carried_said}
 
--- a sequence of steps in two parts is the steps of the first and then those of the second
+-- carrying out a list in two parts is carrying out the first part, and then the second
 module _ {E S X : Type 0} (f : S → X → StageStep E S) where
   second_part : (before steps : List (List Item)) (answer : Result S E) (items : List Item) (ys : List X)
       → continue_if_ok {A = Unit {0}} before (Ok tt) (λ u.
@@ -50,7 +50,7 @@ module _ {E S X : Type 0} (f : S → X → StageStep E S) where
   turn-append s (x ∷ xs) ys items =
       first_part (f s x items).steps (f s x items).answer items xs ys (λ t mid. turn-append t xs ys mid)
 
--- if the first part was carried out and the second ends so, the whole ends so
+-- if the first part was carried out, the whole ends as the second part does
 pub carries-second : (r : Result (Unit {0}) Refusal) (is js old mid new : List Item)
     → EndsAsStage {A = Unit {0}} (items_with_growths is) refusal_for (Ok tt) old mid
     → EndsAsStage (items_with_growths js) refusal_for r mid new
@@ -61,7 +61,7 @@ carries-second r is js old mid new first rest =
     (λ i items. sym (turn-append (λ done one. make_change (change_writing_item one)) tt is js items) i)
     (ends-second tt r refusal_for old mid new (items_with_growths is) (λ done. items_with_growths js) first rest)
 
--- a `?` that returns the error of the first part ends the whole
+-- if `?` returns the error of the first part, the whole ends with that error
 pub carries-exit : (e : Refusal) (r : Result (Unit {0}) Refusal) (is js old new : List Item) → r ≡ Err e
     → EndsAsStage {A = Unit {0}} (items_with_growths is) refusal_for (Err e) old new
     → EndsAsStage (items_with_growths (is ++ js)) refusal_for r old new
@@ -71,12 +71,12 @@ carries-exit e r is js old new exits first =
     (λ i items. sym (turn-append (λ done one. make_change (change_writing_item one)) tt is js items) i)
     (ends-first e refusal_for old new (items_with_growths is) (λ done. items_with_growths js) first))
 
--- no items at all
+-- an empty list of items ends at once
 pub carries-nothing : (items : List Item) → EndsAsStage {A = Unit {0}} (items_with_growths []) refusal_for (Ok tt) items items
 unfolding items_with_growths
 carries-nothing items = (refl, refl)
 
--- one item ends as its change does
+-- a list of one item ends as the item's change does
 pub carries-change : (r : Result (Unit {0}) Refusal) (i : Item) (old new : List Item) → EndsAsChange r old new (change_writing_item i)
     → EndsAsStage (items_with_growths (i ∷ [])) refusal_for r old new
 unfolding items_with_growths
@@ -87,18 +87,18 @@ carries-change (Err e) i old new ends =
     ends-first e refusal_for old new (make_change (change_writing_item i)) (λ u.
     items_with_growths []) (ends-change (Err e) old new (change_writing_item i) ends)
 
--- none of the steps that are still to come has been made
+-- a stage with steps to come, none of which was made, stopped before one of its steps
 pub split_once-none : (old new : List Item) (steps : List (List Item)) → new ≡ old → 0 < length steps → StopsBeforeStep old new steps
 split_once-none old new steps stays some = record { count = 0; short = some; stands = stays ∙ sym (append-nil old) }
 
--- this program was out of memory before the first item
+-- the stage ends as out of memory before its first item
 pub carries-wanting : (r : Result (Unit {0}) Refusal) (i : Item) (js old new : List Item) → r ≡ Err refusal.Memory
     → 0 < length (change_writing_item i old).steps → new ≡ old → EndsAsStage (items_with_growths (i ∷ js)) refusal_for r old new
 carries-wanting r i js old new exits some stays =
     carries-exit refusal.Memory r (i ∷ []) js old new exits
     (carries-change (Err refusal.Memory) i old new (split_once-none old new (change_writing_item i old).steps stays some))
 
--- the first item was carried out, and the rest ends so
+-- if the first item was carried out, the whole ends as the rest does
 pub change_writing_item-second : (r : Result (Unit {0}) Refusal) (i : Item) (js old mid new : List Item)
     → EndsAsChange {T = Unit {0}} (Ok tt) old mid (change_writing_item i) → EndsAsStage (items_with_growths js) refusal_for r mid new
     → EndsAsStage (items_with_growths (i ∷ js)) refusal_for r old new
@@ -108,12 +108,12 @@ pub change_writing_item-exit : (e : Refusal) (r : Result (Unit {0}) Refusal) (i 
     → EndsAsChange {T = Unit {0}} (Err e) old new (change_writing_item i) → EndsAsStage (items_with_growths (i ∷ js)) refusal_for r old new
 change_writing_item-exit e r i js old new exits ends = carries-exit e r (i ∷ []) js old new exits (carries-change (Err e) i old new ends)
 
--- if all items were carried out, they are `carry_out_items` on the old ones
+-- if the stage succeeds, the new items are `carry_out_items` of the old ones
 pub carried-by : (is old new : List Item) → EndsAsStage {A = Unit {0}} (items_with_growths is) refusal_for (Ok tt) old new
     → carry_out_items is old ≡ Ok new
 carried-by is old new ends = carried_said is old ∙ rw (ends.0, ends.1) refl
 
--- some of the items were carried out, and as the rest ends, so does the whole
+-- some of the items were carried out, so however the rest `left` ends, the whole ends in that way
 pub record Leaves (all left old here : List Item) : Type 0 where
   pub ends : (r : Result (Unit {0}) Refusal) (new : List Item) → EndsAsStage (items_with_growths left) refusal_for r here new
       → EndsAsStage (items_with_growths all) refusal_for r old new
@@ -127,12 +127,12 @@ leaves-next all is js left old here new same first before = record {
   ends = λ r last rest. before.ends r last (rw same (carries-second r is js here new last first rest));
 }
 
--- what always holds, holds if the result is `Ok`
+-- a fact that holds anyway holds if the result is `Ok`
 pub on_ok : (r : Result (Unit {0}) Refusal) (P : Type 0) → P → OnOk r P
 on_ok (Ok x) P holds = holds
 on_ok (Err e) P holds = tt
 
--- something has happened after a claim
+-- after an item, something has happened to memory
 last_begun : (items : List Item) (i : Item) → HasFirstItem (items ++ i ∷ [])
 last_begun [] i = tt
 last_begun (j ∷ is) i = tt

@@ -1,3 +1,4 @@
+mod AddedLaws
 mod Examples
 pub mod BytesLaws
 pub mod ExitLaws

@@ -1,4 +1,4 @@
--- How the boot ends, from the table's answer for its map.
+-- How the boot ends, from what the e820 table returns for its map.
 use Rattle.std.proofs.Common.{◌≡◌, ◌≢◌, ℕ, Bool, true, false, nat_lt, if◌then◌else◌, List, length, Option, Some, None, Result, Ok, Err, Vec, Global, refl, subst, ap, ◌∙◌}
 use Rattle.std.specs.Prelude.{IfOk}
 use Rattle.address_runs.specs.Runs.{RunOf, value_at, IsRunsOf}
@@ -17,18 +17,18 @@ use Rattle.e820_sanitise.specs.Stop.{judge_frames}
 use Rattle.boot_model.specs.declared.stop.Cause.{Cause}
 use Rattle.boot_model.specs.declared.stop.Stop.{Stop}
 use Rattle.boot_model.specs.declared.stop.Stop.TheVariants as stops
-use Rattle.boot_model.specs.Boot.{InputsView, BootSoFar, added_entries, begin_boot, begin_with_map, boot, claims, usable_frames_stage, later_stages, judge_map, reach, BootedView, finish_boot, whole_boot, types_in_reach, made_or_stop}
+use Rattle.boot_model.specs.Boot.{ExtraView, InputsView, BootSoFar, added_entries, begin_boot, begin_with_map, boot_with, claims, usable_frames_stage, later_stages, judge_map, reach, BootedView, finish_boot_by, whole_boot_with, types_in_reach, made_or_stop}
 use Rattle.boot_model.specs.Stages.{run_each_stage}
 use Rattle.boot_model.specs.Stop.{stop_of}
 use Rattle.boot_stages.proofs.StagesLaws.{stopped}
 use Rattle.boot_stages.specs.Boots.{DecidesMapStages, TableMapResult, accept_map, map_or_stop}
 
--- a last step that changes nothing
+-- a result followed by a step that changes nothing is that result
 answered : {A E : Type 0} (said : Result A E) → (said >>= λ x. Ok x) ≡ said
 answered (Ok x) = refl
 answered (Err e) = refl
 
--- whether the map is `full` gives its number of runs or the map itself
+-- if the table returned a map, the map wasn't full, and is the one that the table has
 told_room : (full : Bool) (runs : ℕ) (map items : List (RunOf ℕ)) → (if full then Err (faults.MapFull runs) else Ok map) ≡ Ok items
     → (full ≡ false) × (map ≡ items)
 told_room true runs map items is = absurd (cc)
@@ -54,7 +54,7 @@ decided given (Err (faults.MapFull runs)) answers =
     rw (known.0, known.1) refl
 decided given (Err faults.Memory) answers = tt
 
--- the map as the stages get it
+-- the state in which the stages get the map
 abbrev pub made_of : InputsView → Vec (RunOf ℕ) Global → BootSoFar
 made_of given runs = begin_with_map runs.items given.options
 
@@ -68,7 +68,8 @@ judged_same given None runs (Err stop) answers = λ other. absurd (cc (answers o
 judged_same given (Some reason) runs (Ok map) answers = absurd (cc)
 judged_same given (Some reason) runs (Err stop) answers = λ other. cc (answers other)
 
--- the table's answer, judged, ends the first stages
+-- what the table returned, accepted or refused by the boot, is how the stages that accept the map
+-- end
 pub map_answers : (given : InputsView) (answer : TableMapResult) → Answers faults.Memory (λ runs. runs.items) answer
     (map_if_room (map_of (claims given)))
     → IfOk answer (λ runs. IsRunsOf (kinds (claims given)) runs.items) → (result : Result (Vec (RunOf ℕ) Global) Stop)
@@ -85,35 +86,37 @@ map_answers given (Err (faults.MapFull runs)) maps are (Err stop) answers =
 map_answers given (Err faults.Memory) maps are (Ok map) answers = absurd (cc)
 map_answers given (Err faults.Memory) maps are (Err stop) answers = λ other. absurd (other (cc (answers other)))
 
--- a value is unchanged if the result's error is replaced
+-- replacing the error of a result leaves its value as it is
 pub ok_without_error_change : {A E F : Type 0} (f : E → F) (said : Result A E) (a : A) → map_error f said ≡ Ok a → said ≡ Ok a
 ok_without_error_change f (Ok b) a is = let same : b ≡ a = cc in ap (λ (x : _). Ok x) same
 ok_without_error_change f (Err e) a is = absurd (cc)
 
--- a stop of the boot is a stop of its report
-pub boot_stop_is_reported : {X : Type 0} (view : X → BootedView) (given : InputsView) (answer : Result X Stop) (stop : Stop) → answer ≡ Err stop
-    → (stop ≢ stops.Memory → map_error stop_of (boot given) ≡ Err stop)
-    → Answers stops.Memory view answer (map_error stop_of (whole_boot given))
-boot_stop_is_reported view given answer stop is stops_so =
-    rw is (λ other. stopped (boot given) (λ made. Ok (finish_boot given made)) stop (stops_so other))
+-- a stop of the boot is a stop of the boot with its report
+pub boot_stop_is_reported : {X : Type 0} (view : X → BootedView) (extra : ExtraView) (given : InputsView) (answer : Result X Stop) (stop : Stop) → answer ≡ Err stop
+    → (stop ≢ stops.Memory → map_error stop_of (boot_with extra given) ≡ Err stop)
+    → Answers stops.Memory view answer (map_error stop_of (whole_boot_with extra given))
+boot_stop_is_reported view extra given answer stop is stops_so =
+    rw is (λ other. stopped (boot_with extra given) (λ made. Ok (finish_boot_by extra.profile given made)) stop (stops_so other))
 
-pub boot_stops : (given : InputsView) (stop : Stop) → Answers stops.Memory (made_of given) (Err stop) (map_error stop_of (judge_map given))
-    → stop ≢ stops.Memory → map_error stop_of (boot given) ≡ Err stop
-unfolding boot
-boot_stops given stop answers other = stopped (judge_map given) (λ made. run_each_stage (later_stages given) made) stop (answers other)
+pub boot_stops : (extra : ExtraView) (given : InputsView) (stop : Stop) → Answers stops.Memory (made_of given) (Err stop) (map_error stop_of (judge_map given))
+    → stop ≢ stops.Memory → map_error stop_of (boot_with extra given) ≡ Err stop
+unfolding boot_with
+boot_stops extra given stop answers other = stopped (judge_map given) (λ made. run_each_stage (later_stages extra given) made) stop (answers other)
 
--- if the boot goes on with the map, the stages after it remain
-pub boot_is_later_stages : (given : InputsView) (made : BootSoFar) → map_error stop_of (judge_map given) ≡ Ok made
-    → boot given ≡ run_each_stage (later_stages given) made
-unfolding boot
-boot_is_later_stages given made judged =
+-- if the boot goes on with the map, only the stages after it remain
+pub boot_is_later_stages : (extra : ExtraView) (given : InputsView) (made : BootSoFar) → map_error stop_of (judge_map given) ≡ Ok made
+    → boot_with extra given ≡ run_each_stage (later_stages extra given) made
+unfolding boot_with
+boot_is_later_stages extra given made judged =
     ap (λ (said : Result BootSoFar Cause). said >>= λ m.
-    run_each_stage (later_stages given) m) (ok_without_error_change stop_of (judge_map given) made judged)
+    run_each_stage (later_stages extra given) m) (ok_without_error_change stop_of (judge_map given) made judged)
 
-pub boot_told : (given : InputsView) (made : BootSoFar) → boot given ≡ Ok made → whole_boot given ≡ Ok (finish_boot given made)
-boot_told given made comes = ap (λ (said : Result BootSoFar Cause). said >>= λ m. Ok (finish_boot given m)) comes
+pub boot_told : (extra : ExtraView) (given : InputsView) (made : BootSoFar) → boot_with extra given ≡ Ok made
+    → whole_boot_with extra given ≡ Ok (finish_boot_by extra.profile given made)
+boot_told extra given made comes =
+    ap (λ (said : Result BootSoFar Cause). said >>= λ m. Ok (finish_boot_by extra.profile given m)) comes
 
--- the claims of a finished table are those of the boot's map
+-- the claims of the finished table are those of the boot's map
 pub claims-told : (given : InputsView) (c : Claims) (entries extension : List Entry) (edits : List Edit) (more : List Entry)
     → c ≡ final_claims entries extension edits more
     → entries ≡ given.entries → extension ≡ given.extension → edits ≡ given.options.edits → more ≡ added_entries given → claims given ≡ c

@@ -1,4 +1,5 @@
--- The items of a run by its type, the end of memory by its table, and the items in their parts.
+-- The items of a run by its type, the end of memory by the memory table, and the items in three
+-- parts.
 use Rattle.std.proofs.Common.{◌≡◌, ◌≢◌, ℕ, ◌+◌, ◌^◌, ◌<◌, ◌≤◌, true, false, Some, List, [], ◌∷◌, ◌++◌, length, get_or, drop, map, Ok, refl, sym, ◌∙◌, ap, subst, arith}
 use Rattle.std.specs.List.{All}
 use Rattle.std.proofs.lemmas.Bool.Decides.{nat_tests}
@@ -28,7 +29,7 @@ use Rattle.boot_model.specs.Mirrors.{IsMirror, frame_range_of}
 use Rattle.boot_model.proofs.MirrorLaws.{mirror-frames}
 use Rattle.boot_stages.specs.Parts.{items_before_memory, limit_items, items_for_memory_of_map}
 
--- the items of a run that firmware keeps for a driver: one claim
+-- a run that firmware sets aside for a driver gives one item: a claim
 pub soft_run : (limit : ℕ) (r : RunOf ℕ) → r.value ≡ 0xEFFFFFFF → items_of_run limit r ≡ item.Claim (range_of_run r) owner.Soft ∷ []
 soft_run limit r is = grind (arith, nat_tests)
 
@@ -54,7 +55,7 @@ end_at {X} (r ∷ rs) n d long =
     let same : length rs ≡ n = omega arith in
     end_last 0 r rs d ∙ ap (λ (k : ℕ). run_end (get_or (r ∷ rs) k d)) same
 
--- the three parts of the items are all of them
+-- the three parts together are all items before nodes are known
 pub in_parts : (e : EarlyInputs) (map : List (RunOf ℕ))
     → items_before_memory e ++ (items_for_memory_of_map e map ++ limit_items (memory_end e.limit (value_at map))) ≡ early_items e map
 in_parts e map =
@@ -63,8 +64,8 @@ in_parts e map =
     ∙ ap (λ (t : List Item). early_claims e.kernel e.initrd ++ (item.Limit ISA_END_ADDRESS ∷ (direction_items e.upward ++ t)))
     (append_assoc (items_of_map e.limit map) (item.Trim ∷ mirror_items e.mirrors) last)
 
--- after the first two parts memory is the usable frames, mirrored as asked, so its table gives its
--- end
+-- after the first two parts, memory is the usable frames, mirrored as the inputs say, so the memory
+-- table ends where memory ends
 pub mapped : (e : EarlyInputs) (map : List (RunOf ℕ)) (items : List Item) → AreRuns map
     → carry_out_items (items_before_memory e ++ items_for_memory_of_map e map) [] ≡ Ok items
     → memory_of items ≡ mirrored_memory e.mirrors (usable_memory e.limit (value_at map))
@@ -87,7 +88,7 @@ table_end e map items runs ends within =
       each = λ x. are.each x ∙ ap (λ (f : Labels). f x) memory;
     })
 
--- the items of mirrored ranges, for a list in two parts
+-- the items of two lists of mirrored ranges are those of the first, and then those of the second
 pub mirrors-append : (first rest : List FrameRange) → mirror_items (first ++ rest) ≡ mirror_items first ++ mirror_items rest
 mirrors-append [] rest = refl
 mirrors-append (r ∷ rs) rest = ap (λ (is : List Item). item.Mirror (bytes_of_frames r) ∷ is) (mirrors-append rs rest)
@@ -101,7 +102,7 @@ mirrors_next rs i r low is whole =
     ∙ ap (λ (s : RangeView). item.Mirror (bytes_of_frames (frame_range_of s)) ∷ rest) (sym is)
     ∙ ap (λ (s : RangeView). item.Mirror s ∷ rest) (mirror-frames r here)
 
--- the items of the rest of a map begin with those of its first run
+-- the items of the rest of a map begin with the items of its first run
 pub map_next : (limit : ℕ) (rs : List (RunOf ℕ)) (i : ℕ) (r : RunOf ℕ) → i < length rs → r ≡ get_or rs i r
     → items_of_map limit (drop i rs) ≡ items_of_run limit r ++ items_of_map limit (drop (i + 1) rs)
 map_next limit rs i r low is =

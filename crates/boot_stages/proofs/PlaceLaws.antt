@@ -17,14 +17,14 @@ use Rattle.section_maps.specs.Maps.{place_maps}
 use Rattle.boot_model.specs.Sections.{SectionPlaces, place_present_sections, place_sections}
 use Rattle.boot_model.specs.View.{sections_view}
 
--- the places as contracts see them
+-- the places of the sections, as contracts see them
 abbrev pub places_view : Result (Roots × Vec Placed Global) StageStop → Result SectionPlaces StageStop
 places_view r = view_of_result (λ places. sections_view places.0 places.1) r
 
 abbrev placed_of : RootsView → List Placed → SectionPlaces
 placed_of table placed = record { roots = table; placed = placed }
 
--- the section maps, once the roots are placed
+-- the rest of the stage once the roots are placed: the section maps
 abbrev behind_roots : List Section → RootsView → StageStep StageCause SectionPlaces
 behind_roots sections table = place_maps sections >>= λ placed. return_value (placed_of table placed)
 
@@ -32,7 +32,7 @@ abbrev sections_in : List Item → List Section
 sections_in items = present (memory_of items)
 
 module _ (width : Width) where
-  -- the stage of all sections ends as that of the sections in memory
+  -- placing the sections that have memory ends as placing exactly this list of sections does
   from_present : (r : Result SectionPlaces StageStop) (old new : List Item) (sections : List Section) → sections ≡ sections_in old
       → EndsAsStage (place_sections width sections) error_of_stage_cause r old new → EndsAsStage (place_present_sections width) error_of_stage_cause r old new
   unfolding place_present_sections
@@ -41,7 +41,7 @@ module _ (width : Width) where
       (ends-listed sections_in error_of_stage_cause old)
       (subst (λ (ss : List Section). EndsAsStage (place_sections width ss) error_of_stage_cause r old new) is ends)
 
-  -- this program is out of memory for the list of the sections
+  -- the program runs out of memory for the list of the sections
   pub places-wanting : (r : Result (Roots × Vec Placed Global) StageStop) (old : List Item) → r ≡ Err stage.Memory
       → EndsAsStage (place_present_sections width) error_of_stage_cause (places_view r) old old
   unfolding place_present_sections

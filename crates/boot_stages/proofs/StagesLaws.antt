@@ -1,4 +1,5 @@
--- Calls that each end as their stage's definition says make the sequence of these stages.
+-- Calls that each end as their stage's definition says end together as the sequence of these
+-- stages.
 use Rattle.std.proofs.Common.{◌≡◌, ◌≢◌, ⊎_elim, ℕ, ◌≤◌, List, [], ◌∷◌, ◌++◌, Option, Some, None, Result, Ok, Err, refl, ◌∙◌, sym, ap, arith}
 use Rattle.std.specs.Prelude.{IfErr, IsErrAnd}
 use Rattle.std.proofs.lemmas.Result.{err_from_is_err_and}
@@ -19,13 +20,13 @@ use Rattle.early_script.specs.Lines.{ScriptSoFar as Script, MatchesScriptSoFar, 
 use Rattle.boot_model.specs.declared.stop.Cause.{Cause}
 use Rattle.boot_model.specs.declared.stop.Stop.{Stop}
 use Rattle.boot_model.specs.declared.stop.Stop.TheVariants as stops
-use Rattle.boot_model.specs.Boot.{InputsView, BootSoFar, Stage, begin_with_map, with_script_state, stage_of_steps, script_stage}
+use Rattle.boot_model.specs.Boot.{InputsView, BootSoFar, Stage, begin_with_map, claims_stage, claims_state, with_claims_state, with_script_state, stage_of_steps, script_stage}
 use Rattle.boot_model.specs.Stages.{run_each_stage}
 use Rattle.boot_model.specs.Stop.{stop_of_error, stop_of}
 use Rattle.boot_stages.specs.Boots.{HasBytesOfHistory, made_after_lines}
 use Rattle.boot_stages.proofs.BytesLaws.{holds-behind}
 
--- memory with nodes within one limit has them within every greater limit
+-- memory whose nodes lie below one limit has them below every greater limit
 pub noded-within : (near far : ℕ) (f : Labels) → IsMemoryWithNodes near f → near ≤ far → IsMemoryWithNodes far f
 noded-within near far f noded low = record {
   frames = noded.frames;
@@ -33,13 +34,13 @@ noded-within near far f noded low = record {
   within = λ x past. noded.within x (omega (arith, past, low));
 }
 
--- a stop in the first stages is a stop of the whole sequence
+-- a stop in the first stages stops the whole sequence
 pub stopped : {A : Type 0} (said : Result BootSoFar Cause) (later : BootSoFar → Result A Cause) (stop : Stop)
     → map_error stop_of said ≡ Err stop → map_error stop_of (said >>= later) ≡ Err stop
 stopped (Ok made) later stop is = absurd (cc)
 stopped (Err cause) later stop is = cc
 
--- a sequence of stages in two parts
+-- a sequence in two parts ends as its first part followed by its second
 further : (said : Result BootSoFar Cause) (first rest all : BootSoFar → Result BootSoFar Cause)
     → ((next : BootSoFar) → all next ≡ (first next >>= rest)) → (said >>= all) ≡ ((said >>= first) >>= rest)
 further (Ok next) first rest all each = each next
@@ -65,8 +66,8 @@ module _ {E F A : Type 0} (cause : E → Cause) (put : A → BootSoFar → BootS
       (λ stopped. rw stopped.1 (ap (λ (s : Stop). Err s) (sym (told (Some stopped.0) stopped.2))))
       (λ cut. absurd (other (told None cut.0))) ends
 
--- What is known where the stages `stages` have run. The value `base` has what they made, except
--- for memblock, the live IDs and the answers.
+-- What is known once `stages` have run: they end with `base`, except for memblock and for the live
+-- IDs, fills and answers of the early script.
 pub record Row (given : InputsView) (map : List (RunOf ℕ)) (stages : List Stage) (base : BootSoFar) (m : MemblockView) (ids : LiveView)
     (answers : List Answer) : Type 0 where
   pub fills : List Fill
@@ -93,7 +94,7 @@ module _ {given : InputsView} {map : List (RunOf ℕ)} {stages : List Stage} {ba
       ∙ ap (λ (said : Result BootSoFar Cause). said >>= λ n. run_each_stage (s ∷ []) n) row.come
       ∙ ap (λ (said : Result BootSoFar Cause). said >>= λ n. Ok n) goes
 
-  -- a further stage over memblock has run
+  -- one more stage over memblock has run
   pub row-next : (s : Stage) (later : BootSoFar) (n : MemblockView)
       → ((fills : List Fill) → s (made_after_lines base m ids fills answers) ≡ Ok (made_after_lines later n ids fills answers))
       → ContinuesMemblock m n → Row given map (stages ++ s ∷ []) later n ids answers
@@ -104,7 +105,7 @@ module _ {given : InputsView} {map : List (RunOf ℕ)} {stages : List Stage} {ba
     holds = holds-behind row.fills m n goes_on row.holds;
   }
 
-  -- the lines of a script have run
+  -- lines of the early script have run
   reached_is : (s : Script) (later : LiveView) (n : MemblockView) (told : List Answer) → MatchesScriptSoFar s later n told
       → with_script_state (made_after_lines base m ids row.fills answers) s ≡ made_after_lines base n later s.fills told
   reached_is s later n told reached = cc (reached.state, reached.answers_are)
@@ -123,7 +124,27 @@ module _ {given : InputsView} {map : List (RunOf ℕ)} {stages : List Stage} {ba
         holds = reached.holds;
       }
 
-  -- a stage that stops stops the boot
+  -- the lines of early claims have run
+  claimed_is : (s : Script) (later : LiveView) (n : MemblockView) (told : List Answer) → MatchesScriptSoFar s later n told
+      → with_claims_state (made_after_lines base m ids row.fills answers) s
+      ≡ made_after_lines (record base { claim_answers = told }) n later s.fills answers
+  claimed_is s later n told reached = cc (reached.state, reached.answers_are)
+
+  pub row-claims : (lines : List Line) (later : LiveView) (n : MemblockView) (told : List Answer) → n.kernel ≡ m.kernel
+      → MatchesScriptSoFar (script_after_lines (script_so_far ids m row.fills base.claim_answers) lines) later n told
+      → Row given map (stages ++ claims_stage given.kernel lines ∷ []) (record base { claim_answers = told }) n later answers
+  row-claims lines later n told same reached =
+      let s : Script = script_after_lines (script_so_far ids m row.fills base.claim_answers) lines in
+      record {
+        fills = s.fills;
+        come = one-more (claims_stage given.kernel lines) (made_after_lines (record base { claim_answers = told }) n later s.fills answers)
+            (ap (λ (k : RangeView). claims_stage k lines (made_after_lines base m ids row.fills answers)) (sym row.kernel)
+            ∙ ap (λ (made : BootSoFar). Ok made) (claimed_is s later n told reached));
+        kernel = same ∙ row.kernel;
+        holds = reached.holds;
+      }
+
+  -- if a stage stops, the boot stops
   pub row-stops : (s : Stage) (rest : List Stage) (stop : Stop)
       → map_error stop_of (s (made_after_lines base m ids row.fills answers)) ≡ Err stop
       → map_error stop_of (run_each_stage (stages ++ s ∷ rest) (begin_with_map map given.options)) ≡ Err stop
@@ -132,7 +153,7 @@ module _ {given : InputsView} {map : List (RunOf ℕ)} {stages : List Stage} {ba
       ∙ ap (λ (said : Result BootSoFar Cause). said >>= λ n. run_each_stage (s ∷ rest) n) row.come)
       ∙ stopped (s (made_after_lines base m ids row.fills answers)) (λ n. run_each_stage rest n) stop stops_so
 
--- the error that a `?` returns satisfies what is known of the error
+-- what is known of a result's error holds for the error that `?` returns
 pub stops-so : {T : Type 0} (r : Result T Stop) (Told P : Stop → Type 0) → IsErrAnd r Told → ((stop : Stop) → Told stop → P stop)
     → IfErr r P
 stops-so r Told P is each = let p = err_from_is_err_and r is in rw p.1 (each p.0 p.2)

@@ -1,7 +1,7 @@
-//! Runs the stages after the map in their order: memory, nodes, the crash area, and the early
-//! script. The sections are placed at the script's `sections` line, or after all its lines. Each
-//! stage is one call over memblock that ends as its definition says (`EndsAsStage`). Its error is
-//! turned into the boot's error here.
+//! Runs the stages after the map in their order: memory, early claims, nodes, the crash area, and
+//! the early script. The sections are placed at the script's `sections` line, or after all its
+//! lines. Each stage is one call on memblock that ends as its definition says (`EndsAsStage`). If
+//! the call returns an error, this module returns the stop of the boot for that error.
 
 ghost use Rattle.std.specs.Prelude.{◌≡◌, ◌^◌, [], Ok, IfOk, IfErr};
 ghost use Rattle.address_runs.specs.Runs.{AreRuns};
@@ -13,13 +13,14 @@ ghost use Rattle.stage_steps.specs.Nodes.{IsMemoryWithNodes};
 ghost use Rattle.memblock_grow.specs.Continues.{ContinuesMemblock};
 ghost use Rattle.boot_model.specs.Boot.{begin_with_map, judge_map};
 ghost use Rattle.boot_model.specs.Sections.{place_present_sections};
-ghost use Rattle.boot_model.specs.View.{inputs_view, sections_view};
+ghost use Rattle.boot_model.specs.View.{extra_view, inputs_view, sections_view};
 ghost use Rattle.boot_stages.specs.Boots.{StagesEndWith, StagesStopWith, HasBytesOfHistory};
 
+use crate::added::added_bytes;
 use crate::memory::make_memory;
 use bm_base::Width;
-use boot_model::{Inputs, Stop};
-use crash_kernel::{Crash, reserve};
+use boot_model::{Extra, Inputs, Stop};
+use crash_kernel::{Crash, reserve_by};
 use e820_sanitise::Run;
 use early_script::{Answer, Live, run_script_lines, split_at_sections};
 use memblock_grow::Memblock;
@@ -40,6 +41,8 @@ pub struct LaterResults {
     pub roots: Roots,
     /// The addresses of each section's map and usage data.
     pub placed: Vec<Placed>,
+    /// The outcome of each line of the early claims.
+    pub claim_answers: Vec<Answer>,
     /// The outcome of each line of the early script.
     pub answers: Vec<Answer>,
 }
@@ -74,6 +77,7 @@ fn place_sections(
 pub fn run_stages(
     alloc: Global,
     memblock: &mut Memblock,
+    extra: &Extra,
     inputs: &Inputs,
     map: &[Run],
 ) -> Result<LaterResults, Stop>
@@ -84,18 +88,22 @@ pub fn run_stages(
     requires judged { judge_map (inputs_view inputs.now)
         ≡ Ok (begin_with_map map.now (inputs_view inputs.now).options) }
     ensures run { IfOk result (λ later.
-        StagesEndWith (inputs_view inputs.now) map.now memblock.new later) }
-    ensures stopped { IfErr result (λ stop. StagesStopWith (inputs_view inputs.now) map.now stop) }
+        StagesEndWith (extra_view extra.now) (inputs_view inputs.now) map.now memblock.new later) }
+    ensures stopped { IfErr result (λ stop.
+        StagesStopWith (extra_view extra.now) (inputs_view inputs.now) map.now stop) }
 {
     make_memory(memblock, inputs, map)?;
+    let mut live = Live::new(alloc);
+    let mut claim_answers = Vec::new(alloc);
+    run_script_lines(&mut live, memblock, &extra.claims, &mut claim_answers)?;
     let nodes = assign(
         alloc,
         memblock,
         inputs.srat.as_ref(),
         inputs.options.numa_off,
     )?;
-    let crash = reserve(memblock, &inputs.options.crash)?;
-    let mut live = Live::new(alloc);
+    let added = added_bytes(map, inputs.reach());
+    let crash = reserve_by(memblock, extra.profile.crash, added, &inputs.options.crash)?;
     let mut answers = Vec::new(alloc);
     let (before, behind) = split_at_sections(&inputs.lines);
     run_script_lines(&mut live, memblock, before, &mut answers)?;
@@ -106,6 +114,7 @@ pub fn run_stages(
         crash,
         roots,
         placed,
+        claim_answers,
         answers,
     })
 }

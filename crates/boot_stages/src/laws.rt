@@ -1,6 +1,6 @@
-//! The law about the boot's first stages. The contract of `boot` alone allows out of memory in
-//! place of any stop. This law adds that the table's answer for its map already decides a stop at
-//! the map.
+//! The law about the stages that accept the map. The contract of `boot` allows out of memory
+//! instead of any stop. By this law, what the e820 table returns when it is asked for its map
+//! already decides whether the boot stops because of the map.
 
 ghost use Rattle.e820_model.specs.Map.{map_of};
 ghost use Rattle.bm_base.specs.Answers.{Answers};
@@ -9,10 +9,10 @@ ghost use Rattle.e820_sanitise.specs.Room.{map_if_room};
 ghost use Rattle.boot_model.specs.Boot.{InputsView, claims};
 ghost use Rattle.boot_stages.specs.Boots.{DecidesMapStages, TableMapResult};
 
-/// Law: the result of the e820 table for its map decides how the boot's first stages end. If it is
-/// a map, they continue if the number of the map's usable frames is accepted. If the map has too
-/// many runs, the boot stops with their number. If the table is out of memory, the law makes no
-/// claim.
+/// Law: what the e820 table returns when it is asked for its map decides how the boot's first
+/// stages end. If the table returns a map, the boot goes on exactly if the map's number of usable
+/// frames is accepted. If the map has too many runs, the boot stops with the number of runs. If
+/// the table runs out of memory, the law says nothing.
 pub fn table_result_decides_map_stages()
     ensures { (given : InputsView) (answer : TableMapResult) →
         Answers faults.Memory (λ runs. runs.items) answer (map_if_room (map_of (claims given))) →

@@ -1,20 +1,22 @@
 //! Runs the whole boot, stage by stage: from the inputs to the free frames and the data of the
 //! reports (`setup_arch` up to `mem_init`).
 //!
-//! [`boot`] follows the definition `boot` in `specs/Boot.antt` of `boot_model`. Each call here
+//! [`boot_with`] follows the definition `boot_with` in `specs/Boot.antt` of `boot_model`, and
+//! [`boot`] is the same with `bootmem`'s own profile and without early claims. Each call here
 //! carries out a stage of that definition or a part of one, and its contract says so:
 //!
 //! - `src/map.rt`: The zero page's entries, the extension's entries, and the options' edits with
-//!   the firmware's own entries go into one table of claims. The table is settled after each of the
+//!   the entries of the EFI map go into one table of claims. The table is settled after each of the
 //!   three. Then the BIOS range is trimmed, and the finished map is accepted or stops the boot.
 //! - `src/memory.rt`: The first claims are made, the map's runs become memory in whole frames,
 //!   mirrored memory is marked, and the first MiB is claimed. Each step is one call of memblock.
-//! - `src/later.rt`: Nodes, the crash area, the early script and the sections follow. Each is one
-//!   call over memblock.
+//! - `src/later.rt`: Early claims, nodes, the crash area, the early script and the sections follow.
+//!   Each of these stages is one call on memblock.
 //! - `src/handover.rt`: memblock's bytes become the free frames of the page allocator. The page
 //!   script runs on a copy of them.
 //!
-//! A table that must grow and finds no place stops the boot.
+//! If a table of memblock must grow and finds no place, the boot stops, except in a line of a
+//! script other than `sections`: such a line is refused, and the boot goes on.
 //!
 //! The layer above may rest on this: the result of [`boot`] is that of the definition, or the
 //! program is out of memory. The law [`table_result_decides_map_stages`] says that the table's
@@ -23,6 +25,7 @@
 //! below.
 #![tactic(auto)]
 
+mod added;
 mod handover;
 mod later;
 mod laws;
@@ -31,4 +34,4 @@ mod memory;
 mod stages;
 
 pub use laws::table_result_decides_map_stages;
-pub use stages::boot;
+pub use stages::{boot, boot_with};

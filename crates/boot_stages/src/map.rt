@@ -19,9 +19,10 @@ use e820_sanitise::{MapFault, Run, Table, judge_frames};
 use e820_table::Entry;
 use std::alloc::Global;
 
-/// Returns the table of the finished map: the zero page's entries, the extension's entries, the
-/// options' edits, and the entries `added` after the edits. Each part is settled, and the BIOS
-/// range is trimmed (`trim_bios_range`).
+/// Returns the table of the finished map. The zero page's entries go into it first, then the
+/// extension's entries, and then the options' edits with the entries `added` after them. The table
+/// is settled after each of these three steps. Last, the BIOS range is trimmed
+/// (`trim_bios_range`).
 ///
 /// # Errors
 ///
@@ -48,8 +49,8 @@ pub fn finished_table(
     Ok(table)
 }
 
-/// Returns the entries of the firmware's own map if there is one and the command line asks for
-/// them; else none (`add_efi_memmap`).
+/// Returns the entries of the EFI memory map, if there is one and the command line asks for them
+/// (`add_efi_memmap`); else none.
 pub fn added_entries(inputs: &Inputs) -> &[Entry]
     ensures value { result.now ≡ added_entries (inputs_view inputs.now) }
     ensures space { EntriesFit result.now }
@@ -69,7 +70,7 @@ fn append_and_sanitise(table: &mut Table, entries: &[Entry]) -> Result<(), Memor
     table.settle()
 }
 
-/// Applies the edits, appends the entries `added` (`do_add_efi_memmap`), and sanitises the table
+/// Applies the edits, appends the entries `added` (`do_add_efi_memmap`), and settles the table
 /// (`e820__finish_early_params`).
 fn edit_and_sanitise(table: &mut Table, edits: &[Edit], added: &[Entry]) -> Result<(), Memory>
     requires types { HaveTypes edits.now }
@@ -83,15 +84,15 @@ fn edit_and_sanitise(table: &mut Table, edits: &[Edit], added: &[Entry]) -> Resu
     append_and_sanitise(table, added)
 }
 
-/// Returns the map if it has 1 to 2^32 usable frames below the address `reach`. `answer` is the
-/// table's result for its map. Allocates nothing.
+/// Returns the map if it has 1 to 2^32 usable frames below the address `reach`. `answer` is what
+/// the e820 table returned when it was asked for its map. Allocates nothing.
 ///
 /// # Errors
 ///
 /// - `MapFull`: the map has too many runs
 /// - `NoRam`: no frame below `reach` is usable
 /// - `TooMuchRam`: more than 2^32 frames below `reach` are usable
-/// - `Memory`: exactly if the table's answer was `Memory`
+/// - `Memory`: exactly if `answer` is this error
 pub fn accept_map(answer: Result<Vec<Run>, MapFault>, reach: u64) -> Result<Vec<Run>, Stop>
     requires { IfOk answer (λ runs. AreRuns runs.items) }
     ensures answers { Answers Stop.Memory (λ runs. runs.items) result (accept_map reach answer) }

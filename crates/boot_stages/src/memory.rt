@@ -1,6 +1,7 @@
-//! Makes memory from the map: the first claims, the runs of memory, mirrored memory, and the first
-//! MiB. Each call carries out a part of the definition's list of items (`early_items`), in its
-//! order. memblock may grow its tables between the items.
+//! Makes memory from the map: makes the first claims, adds the runs that are memory, marks
+//! mirrored memory, and claims the first MiB. Each call carries out a part of the definition's
+//! list of items (`early_items`), in the order of that list. memblock may grow its tables between
+//! two items.
 
 ghost use Rattle.std.specs.Prelude.{◌≡◌, ◌-◌, ◌+◌, ◌<◌, [], min, map, IfSome, OnOk};
 ghost use Rattle.std.specs.List.{All};
@@ -28,7 +29,7 @@ use memblock_grow::{Memblock, no_items_no_change};
 use memblock_model::Which;
 use memblock_ranges::Tables;
 
-/// Returns the range of the addresses from 0 to below `at`.
+/// Returns the range from address 0 up to `at`, which isn't included.
 fn range_below_address(at: u64) -> Range
     ensures { result ≡ range_up_to at }
 {
@@ -93,7 +94,7 @@ fn below_limit(range: Range, reach: u64) -> Range
     }
 }
 
-/// Claims or adds each run of the map, as `add_run` does.
+/// Claims or adds each run of the map, as `add_run` does for one run.
 fn add_map(memblock: &mut Memblock, map: &[Run], reach: u64) -> Result<(), Refusal>
     requires runs { AreRuns map.now }
     requires begun { HasFirstItem memblock.old.journal.items }
@@ -109,7 +110,8 @@ fn add_map(memblock: &mut Memblock, map: &[Run], reach: u64) -> Result<(), Refus
     Ok(())
 }
 
-/// Returns the end of the last record of memory, or 0 if there is none (`memblock_end_of_DRAM`).
+/// Returns the end of the last record in the memory table, or 0 if the table is empty
+/// (`memblock_end_of_DRAM`).
 fn end_of_memory(tables: &Tables) -> u64
     ensures { result ≡ end_of_last_run tables.now.memory.records }
 {
@@ -156,8 +158,10 @@ fn claim_before_memory(memblock: &mut Memblock, inputs: &Inputs) -> Result<(), R
 ///
 /// # Errors
 ///
-/// - `NoGapForTable`: memblock's table must grow and finds no place. The ranges before stay marked.
-/// - `Memory`: the program ran out of memory. The ranges before stay marked.
+/// The ranges before the one at which the call fails stay marked.
+///
+/// - `NoGapForTable`: memblock's table must grow and finds no place.
+/// - `Memory`: the program ran out of memory.
 fn add_mirrors(memblock: &mut Memblock, mirrors: &[Range]) -> Result<(), Refusal>
     requires whole { All IsMirror mirrors.now }
     requires begun { HasFirstItem memblock.old.journal.items }
@@ -174,8 +178,8 @@ fn add_mirrors(memblock: &mut Memblock, mirrors: &[Range]) -> Result<(), Refusal
     Ok(())
 }
 
-/// Marks the ranges that the command words name as mirrored, and then those of the firmware's own
-/// map.
+/// Marks ranges as mirrored: first those that the words of `bootmem`'s command line give
+/// (`--mirror`), then those of the EFI memory map.
 fn mirror_memory(memblock: &mut Memblock, inputs: &Inputs) -> Result<(), Refusal>
     requires { HasFirstItem memblock.old.journal.items }
     ensures ends { EndsAsStage (items_with_growths

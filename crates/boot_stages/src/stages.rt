@@ -1,11 +1,11 @@
-//! The whole boot: the stages in their order. Each stage is proved elsewhere. Here they are proved
-//! to be, one after another, what the definition says. So the facts of `conservation` hold for the
-//! result.
+//! The whole boot: calls the stages in their order. Each stage's contract is proved in its own
+//! crate. The proof here shows that the calls together are the boot of the definition, so the facts
+//! of `conservation` hold for the result.
 
 ghost use Rattle.std.specs.Prelude.{◌≡◌, ℕ, Ok, IfOk};
 ghost use Rattle.address_runs.specs.Runs.{AreRuns};
-ghost use Rattle.boot_model.specs.Boot.{BootSoFar, begin_with_map, boot, judge_map, whole_boot};
-ghost use Rattle.boot_model.specs.View.{booted_view, inputs_view};
+ghost use Rattle.boot_model.specs.Boot.{BootSoFar, begin_with_map, boot, boot_with, judge_map, whole_boot, whole_boot_with};
+ghost use Rattle.boot_model.specs.View.{booted_view, extra_view, inputs_view};
 ghost use Rattle.conservation.specs.Headline.{AllTouchedOrInOneBlock, BlocksAreMaximal, BlocksAreWhole, NoOtherInABlock};
 ghost use Rattle.conservation.specs.FramePlacesAfterPages.{AllInOneBlockOrHeld, NoOtherInABlockOrHeld};
 ghost use Rattle.bm_base.specs.Answers.{Answers};
@@ -19,7 +19,7 @@ ghost use Rattle.boot_stages.specs.Boots.{IsFreeByStore, IsStoredTable};
 use crate::handover::hand_over_memory;
 use crate::later::run_stages;
 use crate::map::{accept_map, added_entries, finished_table};
-use boot_model::{Booted, Inputs, Stop};
+use boot_model::{Booted, Extra, Inputs, Profile, Stop};
 use e820_sanitise::Run;
 use memblock_grow::Memblock;
 use std::alloc::Global;
@@ -51,7 +51,8 @@ use std::alloc::Global;
 /// - a table must grow and finds no place, or the boot finds no place for something that it can't
 ///   do without
 ///
-/// Out of memory may come in place of each of these, and of success.
+/// The program may run out of memory in any case: instead of each of these stops, and instead of
+/// success.
 pub fn boot(alloc: Global, inputs: Inputs) -> Result<Booted, Stop>
     ensures boots { Answers Stop.Memory booted_view result
         (map_error stop_of (whole_boot (inputs_view inputs))) }
@@ -76,10 +77,45 @@ pub fn boot(alloc: Global, inputs: Inputs) -> Result<Booted, Stop>
     ensures paged { IfOk result (λ booted. AllInOneBlockOrHeld (booted_view booted)) }
     ensures none_paged { IfOk result (λ booted. NoOtherInABlockOrHeld (booted_view booted)) }
 {
+    let extra = Extra::without_claims(alloc, Profile::own());
+    boot_with(alloc, &extra, inputs)
+}
+
+/// Runs the boot with the profile and the early claims of `extra`, and returns all that it made.
+/// The steps are those of [`boot`], with two differences. Between steps 2 and 3, before memory gets
+/// its nodes, the lines of early claims run. The crash area and the spans of zones follow the rules
+/// of the profile.
+///
+/// # Errors
+///
+/// Those of [`boot`].
+pub fn boot_with(alloc: Global, extra: &Extra, inputs: Inputs) -> Result<Booted, Stop>
+    ensures boots { Answers Stop.Memory booted_view result
+        (map_error stop_of (whole_boot_with (extra_view extra.now) (inputs_view inputs))) }
+    ensures bytes { IfOk result (λ booted. (made : BootSoFar)
+        → boot_with (extra_view extra.now) (inputs_view inputs) ≡ Ok made → (x : ℕ) →
+        byte_of booted.store x ≡ byte_from_history inputs.kernel made.items made.fills x) }
+    ensures runs { IfOk result (λ booted. AreRuns booted.map.items) }
+    ensures memory { IfOk result (λ booted.
+        IsStoredTable which.Memory booted.journal.items booted.store booted.heads.memory) }
+    ensures reserved { IfOk result (λ booted.
+        IsStoredTable which.Reserved booted.journal.items booted.store booted.heads.reserved) }
+    ensures spelled { IfOk result (λ booted. IsFreeByStore booted.store booted.heads booted.buddy) }
+    ensures each { IfOk result (λ booted.
+        AllTouchedOrInOneBlock (inputs_view inputs) (booted_view booted)) }
+    ensures others { IfOk result (λ booted.
+        NoOtherInABlock (inputs_view inputs) (booted_view booted)) }
+    ensures whole { IfOk result (λ booted.
+        BlocksAreWhole (inputs_view inputs) (booted_view booted)) }
+    ensures maximal { IfOk result (λ booted.
+        BlocksAreMaximal (inputs_view inputs) (booted_view booted)) }
+    ensures paged { IfOk result (λ booted. AllInOneBlockOrHeld (booted_view booted)) }
+    ensures none_paged { IfOk result (λ booted. NoOtherInABlockOrHeld (booted_view booted)) }
+{
     let map = accepted_map(alloc, &inputs)?;
     let mut memblock = Memblock::new(alloc, inputs.kernel)?;
-    let later = run_stages(alloc, &mut memblock, &inputs, &map)?;
-    Ok(hand_over_memory(alloc, memblock, inputs, map, later)?)
+    let later = run_stages(alloc, &mut memblock, extra, &inputs, &map)?;
+    Ok(hand_over_memory(alloc, memblock, extra.profile, inputs, map, later)?)
 }
 
 /// Returns the map of the finished e820 table if the boot goes on with it ([`accept_map`]).

@@ -14,7 +14,7 @@ use Rattle.page_alloc.specs.PagesView.{page_state_of}
 use Rattle.page_alloc.specs.Pages.{first_page_state}
 use Rattle.boot_model.specs.View.{inputs_view}
 use Rattle.memblock_frames.proofs.RecordLaws.{records_higher}
-use Rattle.boot_stages.proofs.HandoverLaws.{Stand, free-told, memory-records, memory-whole, reserved-records, spans-told, stand-by, finish_boot-by}
+use Rattle.boot_stages.proofs.HandoverLaws.{Stand, free-told, memory-records, memory-whole, reserved-records, rule-told, spans-told, stand-by, finish_boot-by}
 use Rattle.boot_stages.proofs.handover.hand_over_memory.Goals as goal
 use Rattle.boot_stages.proofs.handover.hand_over_memory.Goals.{After-into_parts-store}
 
@@ -33,6 +33,14 @@ spans-requires-clause-memory c =
 pub spans-requires-clause-whole : goal.spans-requires-clause-whole
 spans-requires-clause-whole c = memory-whole (stood (goal.at.spans-requires-clause-whole c).After-into_parts-store)
 
+pub spans_by-requires-clause-memory : goal.spans_by-requires-clause-memory
+spans_by-requires-clause-memory c =
+    records_higher c.into_parts-store.result.0 c.into_parts-store.result.1.memory _ _ (omega arith)
+    (memory-records (stood (goal.at.spans_by-requires-clause-memory c).After-into_parts-store))
+
+pub spans_by-requires-clause-whole : goal.spans_by-requires-clause-whole
+spans_by-requires-clause-whole c = memory-whole (stood (goal.at.spans_by-requires-clause-whole c).After-into_parts-store)
+
 pub hand_over-requires-clause-memory : goal.hand_over-requires-clause-memory
 hand_over-requires-clause-memory c = memory-records (stood (goal.at.hand_over-requires-clause-memory c).After-into_parts-store)
 
@@ -50,8 +58,9 @@ returns-clause-told c = λ ids fills. (
     let reserved = c.requires.tables which.Reserved in
     let begins : page_state_of c.new-after.result ≡ first_page_state (node_of_free_frame c.in_ok-buddy.buddy) =
     c.new-after.ensures ∙ ap (λ (rs : List (RunOf ℕ)). first_page_state (value_at rs)) c.in_ok-copy.ensures in
-    finish_boot-by (inputs_view c.args.inputs) c.args.map.items c.args.memblock c.args.later ids fills _ _ _ _ _ _ _ c.requires.kernel
-    (ap (λ (j : JournalView). j.items) c.into_parts-store.ensures.journal) (cc) (c.in_ok-spans.ensures ∙ spans-told stands)
+    finish_boot-by c.args.profile (inputs_view c.args.inputs) c.args.map.items c.args.memblock c.args.later ids fills _ _ _ _ _ _ _ _ c.requires.kernel
+    (ap (λ (j : JournalView). j.items) c.into_parts-store.ensures.journal) (cc)
+    (c.in_ok-spans.ensures ∙ rule-told stands c.args.profile.zones) (c.in_ok-with_memory.ensures ∙ spans-told stands)
     (λ i frame. (c.in_ok-buddy.ensures frame ∙ free-told stands frame) i)
     (rw (c.as_ref.ensures.value, c.deref.ensures.value, c.deref-2.ensures.value) at c.in_ok-lists.ensures)
     (rw (begins, c.deref-3.ensures.value) at c.in_ok-page_answers.ensures.answers)
@@ -67,7 +76,8 @@ returns-clause-reserved c =
       records = ap (λ (j : JournalView). records_of which.Reserved j.items) (sym c.into_parts-store.ensures.journal);
     }
 
--- One of the inputs' facts is named wherever the inputs are dropped. The others are found.
+-- The prover needs one of the facts of the inputs by name where the inputs are dropped. It finds
+-- the others.
 pub invariant_of-inputs-clause-entries_end : goal.invariant_of-inputs-clause-entries_end
 invariant_of-inputs-clause-entries_end c = c.args.inputs.entries_end
 
@@ -76,6 +86,9 @@ invariant_of-inputs-in_err-buddy-clause-entries_end c = c.args.inputs.entries_en
 
 pub invariant_of-inputs-in_err-lists-clause-entries_end : goal.invariant_of-inputs-in_err-lists-clause-entries_end
 invariant_of-inputs-in_err-lists-clause-entries_end c = c.args.inputs.entries_end
+
+pub invariant_of-inputs-in_err-page_answers-clause-entries_end : goal.invariant_of-inputs-in_err-page_answers-clause-entries_end
+invariant_of-inputs-in_err-page_answers-clause-entries_end c = c.args.inputs.entries_end
 
 pub invariant_of-inputs-2-clause-entries_end : goal.invariant_of-inputs-2-clause-entries_end
 invariant_of-inputs-2-clause-entries_end c = c.args.inputs.entries_end

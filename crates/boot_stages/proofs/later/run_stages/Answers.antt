@@ -13,37 +13,39 @@ use Rattle.early_script.specs.Lines.{lines_before_sections, lines_after_sections
 use Rattle.numa_nodes.specs.declared.stage.Nodes.{Nodes}
 use Rattle.numa_nodes.specs.Assignment.{assign_nodes, nodes_view}
 use Rattle.crash_kernel.specs.declared.crash.Crash.{Crash}
-use Rattle.crash_kernel.specs.Reservation.{reserve_crash_area}
-use Rattle.boot_model.specs.Boot.{InputsView, BootSoFar, begin_with_map, early_inputs, crash_area_stage, memory_stage, nodes_stage, sections_stage, later_stages, made_with_crash_area, made_with_nodes, made_with_sections, reach, script_stage}
+use Rattle.boot_model.specs.Boot.{ExtraView, InputsView, BootSoFar, begin_with_map, claims_stage, early_inputs, crash_area_stage, memory_stage, nodes_stage, sections_stage, later_stages, made_with_crash_area, made_with_nodes, made_with_sections, reach, reserve_for_map, script_stage}
 use Rattle.boot_model.specs.First.{items_with_growths}
 use Rattle.boot_model.specs.Sections.{place_present_sections}
 use Rattle.boot_model.specs.Stop.{cause_of_growth, cause_of_stage}
-use Rattle.boot_model.specs.View.{inputs_view, sections_view}
+use Rattle.boot_model.specs.View.{extra_view, inputs_view, sections_view}
 use Rattle.boot_model.proofs.MemoryLaws.{crash_labels, lines_labels}
-use Rattle.boot_model.proofs.NodedLaws.{first_known, later_memory_has_nodes}
+use Rattle.boot_model.proofs.NodedLaws.{claimed_known, later_memory_has_nodes}
 use Rattle.boot_model.proofs.ReachLaws.{reach-small}
 use Rattle.boot_stages.specs.Boots.{StagesStopWith, made_after_lines}
 use Rattle.boot_stages.proofs.ItemsLaws.{carried-by}
-use Rattle.boot_stages.proofs.StagesLaws.{Row, noded-within, row-first, row-lines, row-next, row-stops, steps-on, steps-stop, stops-so}
+use Rattle.boot_stages.proofs.StagesLaws.{Row, noded-within, row-claims, row-first, row-lines, row-next, row-stops, steps-on, steps-stop, stops-so}
 use Rattle.boot_stages.proofs.later.run_stages.Goals as goal
-use Rattle.boot_stages.proofs.later.run_stages.Goals.{In_ok-crash, In_ok-make_memory, In_ok-nodes, In_ok-roots, In_ok-run_script_lines}
+use Rattle.boot_stages.proofs.later.run_stages.Goals.{In_ok-crash, In_ok-make_memory, In_ok-nodes, In_ok-roots, In_ok-run_script_lines, In_ok-run_script_lines-2}
 
 -- what is known after the first `n` stages
-abbrev Behind : InputsView → List (RunOf ℕ) → ℕ → BootSoFar → MemblockView → LiveView → List Answer → Type 0
-Behind given map n base m ids answers = Row given map (take n (later_stages given)) base m ids answers
+abbrev Behind : ExtraView → InputsView → List (RunOf ℕ) → ℕ → BootSoFar → MemblockView → LiveView → List Answer → Type 0
+Behind extra given map n base m ids answers = Row given map (take n (later_stages extra given)) base m ids answers
 
--- this and the next two: what the boot made with the map alone, with nodes too, and with the crash
--- area too
+-- this and the next three: what the boot made with the map alone, with the answers of early claims
+-- too, with nodes too, and with the crash area too
 abbrev with_map : InputsView → List (RunOf ℕ) → BootSoFar
 with_map given map = begin_with_map map given.options
 
-abbrev with_nodes : InputsView → List (RunOf ℕ) → Nodes → BootSoFar
-with_nodes given map nodes = made_with_nodes (nodes_view nodes) (with_map given map)
+abbrev with_claims : InputsView → List (RunOf ℕ) → List Answer → BootSoFar
+with_claims given map told = record (with_map given map) { claim_answers = told }
 
-abbrev with_crash : InputsView → List (RunOf ℕ) → Nodes → Crash → BootSoFar
-with_crash given map nodes area = made_with_crash_area area (with_nodes given map nodes)
+abbrev with_nodes : InputsView → List (RunOf ℕ) → List Answer → Nodes → BootSoFar
+with_nodes given map told nodes = made_with_nodes (nodes_view nodes) (with_claims given map told)
 
-row1 : (c : In_ok-make_memory) → Behind (inputs_view c.args.inputs.now) c.args.map.now 1
+abbrev with_crash : InputsView → List (RunOf ℕ) → List Answer → Nodes → Crash → BootSoFar
+with_crash given map told nodes area = made_with_crash_area area (with_nodes given map told nodes)
+
+row1 : (c : In_ok-make_memory) → Behind (extra_view c.args.extra.now) (inputs_view c.args.inputs.now) c.args.map.now 1
     (with_map (inputs_view c.args.inputs.now) c.args.map.now) c.make_memory.new.memblock [] []
 row1 c =
     let given : InputsView = inputs_view c.args.inputs.now in
@@ -53,133 +55,164 @@ row1 c =
     next) refusal_for (items_with_growths (early_items (early_inputs given) c.args.map.now)) _ _ tt
     c.in_ok-make_memory.ensures.ends) c.in_ok-make_memory.ensures.goes_on
 
-row2 : (c : In_ok-nodes) → Behind (inputs_view c.args.inputs.now) c.args.map.now 1
+row2 : (c : In_ok-run_script_lines) → Behind (extra_view c.args.extra.now) (inputs_view c.args.inputs.now) c.args.map.now 1
     (with_map (inputs_view c.args.inputs.now) c.args.map.now) c.make_memory.new.memblock [] []
-    → Behind (inputs_view c.args.inputs.now) c.args.map.now 2
-    (with_nodes (inputs_view c.args.inputs.now) c.args.map.now c.in_ok-nodes.nodes) c.assign.new.memblock [] []
+    → Behind (extra_view c.args.extra.now) (inputs_view c.args.inputs.now) c.args.map.now 2
+    (with_claims (inputs_view c.args.inputs.now) c.args.map.now c.run_script_lines.new.answers.items) c.run_script_lines.new.mb
+    c.run_script_lines.new.live []
 row2 c row =
-    let given : InputsView = inputs_view c.args.inputs.now in
-    row-next row (nodes_stage given) _ _
-    (λ fills. steps-on cause_of_stage made_with_nodes error_of_stage_cause (assign_nodes given.domains given.options.numa_off)
-    (made_after_lines (with_map given c.args.map.now) c.make_memory.new.memblock [] fills []) _ (nodes_view c.in_ok-nodes.nodes)
-    (rw c.as_ref.ensures.value at c.in_ok-nodes.ensures.ends)) c.in_ok-nodes.ensures.goes_on
+    row-claims row (extra_view c.args.extra.now).claims _ _ _ c.in_ok-run_script_lines.ensures.kernel
+    ((rw (c.new-live.ensures, c.new-claim_answers.ensures.items, c.deref.ensures.value) at c.in_ok-run_script_lines.ensures.ok) row.fills
+    row.holds)
 
-row3 : (c : In_ok-crash) → Behind (inputs_view c.args.inputs.now) c.args.map.now 2
-    (with_nodes (inputs_view c.args.inputs.now) c.args.map.now c.in_ok-nodes.nodes) c.assign.new.memblock [] []
-    → Behind (inputs_view c.args.inputs.now) c.args.map.now 3
-    (with_crash (inputs_view c.args.inputs.now) c.args.map.now c.in_ok-nodes.nodes c.in_ok-crash.crash) c.reserve.new.memblock [] []
+row3 : (c : In_ok-nodes) → Behind (extra_view c.args.extra.now) (inputs_view c.args.inputs.now) c.args.map.now 2
+    (with_claims (inputs_view c.args.inputs.now) c.args.map.now c.run_script_lines.new.answers.items) c.run_script_lines.new.mb
+    c.run_script_lines.new.live []
+    → Behind (extra_view c.args.extra.now) (inputs_view c.args.inputs.now) c.args.map.now 3
+    (with_nodes (inputs_view c.args.inputs.now) c.args.map.now c.run_script_lines.new.answers.items c.in_ok-nodes.nodes)
+    c.assign.new.memblock c.run_script_lines.new.live []
 row3 c row =
     let given : InputsView = inputs_view c.args.inputs.now in
-    row-next row (crash_area_stage given) _ _
-    (λ fills. steps-on cause_of_growth made_with_crash_area refusal_for (reserve_crash_area given.options.crash)
-    (made_after_lines (with_nodes given c.args.map.now c.in_ok-nodes.nodes) c.assign.new.memblock [] fills []) _ c.in_ok-crash.crash
-    c.in_ok-crash.ensures.ends) c.in_ok-crash.ensures.goes_on
+    let told = c.run_script_lines.new.answers.items in
+    row-next row (nodes_stage given) _ _
+    (λ fills. steps-on cause_of_stage made_with_nodes error_of_stage_cause (assign_nodes given.domains given.options.numa_off)
+    (made_after_lines (with_claims given c.args.map.now told) c.run_script_lines.new.mb c.run_script_lines.new.live fills []) _
+    (nodes_view c.in_ok-nodes.nodes) (rw c.as_ref.ensures.value at c.in_ok-nodes.ensures.ends)) c.in_ok-nodes.ensures.goes_on
 
-row4 : (c : In_ok-run_script_lines) → Behind (inputs_view c.args.inputs.now) c.args.map.now 3
-    (with_crash (inputs_view c.args.inputs.now) c.args.map.now c.in_ok-nodes.nodes c.in_ok-crash.crash) c.reserve.new.memblock [] []
-    → Behind (inputs_view c.args.inputs.now) c.args.map.now 4
-    (with_crash (inputs_view c.args.inputs.now) c.args.map.now c.in_ok-nodes.nodes c.in_ok-crash.crash) c.run_script_lines.new.mb
-    c.run_script_lines.new.live c.run_script_lines.new.answers.items
+row4 : (c : In_ok-crash) → Behind (extra_view c.args.extra.now) (inputs_view c.args.inputs.now) c.args.map.now 3
+    (with_nodes (inputs_view c.args.inputs.now) c.args.map.now c.run_script_lines.new.answers.items c.in_ok-nodes.nodes)
+    c.assign.new.memblock c.run_script_lines.new.live []
+    → Behind (extra_view c.args.extra.now) (inputs_view c.args.inputs.now) c.args.map.now 4
+    (with_crash (inputs_view c.args.inputs.now) c.args.map.now c.run_script_lines.new.answers.items c.in_ok-nodes.nodes c.in_ok-crash.crash)
+    c.reserve_by.new.memblock c.run_script_lines.new.live []
 row4 c row =
     let given : InputsView = inputs_view c.args.inputs.now in
-    let lines = c.split_at_sections.ensures.before ∙ ap lines_before_sections c.deref.ensures.value in
-    row-lines row (lines_before_sections given.lines) _ _ _ c.in_ok-run_script_lines.ensures.kernel
-    ((rw (c.new-live.ensures, c.new-answers.ensures.items, lines) at c.in_ok-run_script_lines.ensures.ok) row.fills row.holds)
+    let profile = c.args.extra.now.profile in
+    let told = c.run_script_lines.new.answers.items in
+    row-next row (crash_area_stage profile given) _ _
+    (λ fills. steps-on cause_of_growth made_with_crash_area refusal_for (reserve_for_map profile given c.args.map.now)
+    (made_after_lines (with_nodes given c.args.map.now told c.in_ok-nodes.nodes) c.assign.new.memblock c.run_script_lines.new.live fills [])
+    _ c.in_ok-crash.crash
+    (rw (c.added_bytes-added.ensures.sum, c.reach.ensures) at c.in_ok-crash.ensures.ends)) c.in_ok-crash.ensures.goes_on
 
-row5 : (c : In_ok-roots) → Behind (inputs_view c.args.inputs.now) c.args.map.now 4
-    (with_crash (inputs_view c.args.inputs.now) c.args.map.now c.in_ok-nodes.nodes c.in_ok-crash.crash) c.run_script_lines.new.mb
-    c.run_script_lines.new.live c.run_script_lines.new.answers.items
-    → Behind (inputs_view c.args.inputs.now) c.args.map.now 5
-    (made_with_sections (sections_view c.in_ok-roots.roots c.in_ok-roots.placed)
-    (with_crash (inputs_view c.args.inputs.now) c.args.map.now c.in_ok-nodes.nodes c.in_ok-crash.crash)) c.place_sections.new.memblock
-    c.run_script_lines.new.live c.run_script_lines.new.answers.items
+row5 : (c : In_ok-run_script_lines-2) → Behind (extra_view c.args.extra.now) (inputs_view c.args.inputs.now) c.args.map.now 4
+    (with_crash (inputs_view c.args.inputs.now) c.args.map.now c.run_script_lines.new.answers.items c.in_ok-nodes.nodes c.in_ok-crash.crash)
+    c.reserve_by.new.memblock c.run_script_lines.new.live []
+    → Behind (extra_view c.args.extra.now) (inputs_view c.args.inputs.now) c.args.map.now 5
+    (with_crash (inputs_view c.args.inputs.now) c.args.map.now c.run_script_lines.new.answers.items c.in_ok-nodes.nodes c.in_ok-crash.crash)
+    c.run_script_lines-2.new.mb c.run_script_lines-2.new.live c.run_script_lines-2.new.answers.items
 row5 c row =
+    let given : InputsView = inputs_view c.args.inputs.now in
+    let lines = c.split_at_sections.ensures.before ∙ ap lines_before_sections c.deref-2.ensures.value in
+    row-lines row (lines_before_sections given.lines) _ _ _ c.in_ok-run_script_lines-2.ensures.kernel
+    ((rw (c.new-answers.ensures.items, lines) at c.in_ok-run_script_lines-2.ensures.ok) row.fills row.holds)
+
+row6 : (c : In_ok-roots) → Behind (extra_view c.args.extra.now) (inputs_view c.args.inputs.now) c.args.map.now 5
+    (with_crash (inputs_view c.args.inputs.now) c.args.map.now c.run_script_lines.new.answers.items c.in_ok-nodes.nodes c.in_ok-crash.crash)
+    c.run_script_lines-2.new.mb c.run_script_lines-2.new.live c.run_script_lines-2.new.answers.items
+    → Behind (extra_view c.args.extra.now) (inputs_view c.args.inputs.now) c.args.map.now 6
+    (made_with_sections (sections_view c.in_ok-roots.roots c.in_ok-roots.placed)
+    (with_crash (inputs_view c.args.inputs.now) c.args.map.now c.run_script_lines.new.answers.items c.in_ok-nodes.nodes
+    c.in_ok-crash.crash)) c.place_sections.new.memblock c.run_script_lines-2.new.live c.run_script_lines-2.new.answers.items
+row6 c row =
     let given : InputsView = inputs_view c.args.inputs.now in
     row-next row (sections_stage given) _ _
     (λ fills. steps-on cause_of_stage made_with_sections error_of_stage_cause (place_present_sections given.width)
     (made_after_lines
-    (with_crash given c.args.map.now c.in_ok-nodes.nodes c.in_ok-crash.crash) c.run_script_lines.new.mb c.run_script_lines.new.live fills
-    c.run_script_lines.new.answers.items) _ (sections_view c.in_ok-roots.roots c.in_ok-roots.placed) c.in_ok-roots.ensures.ends)
+    (with_crash given c.args.map.now c.run_script_lines.new.answers.items c.in_ok-nodes.nodes c.in_ok-crash.crash)
+    c.run_script_lines-2.new.mb c.run_script_lines-2.new.live fills
+    c.run_script_lines-2.new.answers.items) _ (sections_view c.in_ok-roots.roots c.in_ok-roots.placed) c.in_ok-roots.ensures.ends)
     c.in_ok-roots.ensures.goes_on
 
 pub returns-clause-run : goal.returns-clause-run
 returns-clause-run c =
     let given : InputsView = inputs_view c.args.inputs.now in
     let at = goal.at.returns-clause-run c in
-    let row = row5 at.In_ok-roots
-    (row4 at.In_ok-run_script_lines (row3 at.In_ok-crash (row2 at.In_ok-nodes (row1 at.In_ok-make_memory)))) in
-    let lines = c.split_at_sections.ensures.behind ∙ ap lines_after_sections c.deref.ensures.value in
-    let last = row-lines row (lines_after_sections given.lines) _ _ _ c.in_ok-run_script_lines-2.ensures.kernel
-    ((rw lines at c.in_ok-run_script_lines-2.ensures.ok) row.fills row.holds) in
-    record { ids = c.run_script_lines-2.new.live; fills = last.fills; come = last.come; kernel = last.kernel; holds = last.holds }
+    let row = row6 at.In_ok-roots (row5 at.In_ok-run_script_lines-2 (row4 at.In_ok-crash (row3 at.In_ok-nodes
+    (row2 at.In_ok-run_script_lines (row1 at.In_ok-make_memory))))) in
+    let lines = c.split_at_sections.ensures.behind ∙ ap lines_after_sections c.deref-2.ensures.value in
+    let last = row-lines row (lines_after_sections given.lines) _ _ _ c.in_ok-run_script_lines-3.ensures.kernel
+    ((rw lines at c.in_ok-run_script_lines-3.ensures.ok) row.fills row.holds) in
+    record { ids = c.run_script_lines-3.new.live; fills = last.fills; come = last.come; kernel = last.kernel; holds = last.holds }
 
--- the stops
+-- the goals for stops
 pub returns-in_err-make_memory-clause-stopped : goal.returns-in_err-make_memory-clause-stopped
 returns-in_err-make_memory-clause-stopped c =
+    let extra : ExtraView = extra_view c.args.extra.now in
     let given : InputsView = inputs_view c.args.inputs.now in
     let map : List (RunOf ℕ) = c.args.map.now in
-    stops-so _ _ (StagesStopWith given map) c.from_residual.ensures.1 (λ stop told other.
+    stops-so _ _ (StagesStopWith extra given map) c.from_residual.ensures.1 (λ stop told other.
     row-stops (row-first given map c.args.memblock.now c.requires.first c.requires.kernel c.requires.bytes) (memory_stage given)
-    (drop 1 (later_stages given)) stop (steps-stop cause_of_growth (λ done next. next) refusal_for
+    (drop 1 (later_stages extra given)) stop (steps-stop cause_of_growth (λ done next. next) refusal_for
     (items_with_growths (early_items (early_inputs given) map)) _ _ _ stop c.in_err-make_memory.ensures.ends told other))
 
 pub returns-in_err-nodes-clause-stopped : goal.returns-in_err-nodes-clause-stopped
 returns-in_err-nodes-clause-stopped c =
+    let extra : ExtraView = extra_view c.args.extra.now in
     let given : InputsView = inputs_view c.args.inputs.now in
-    stops-so _ _ (StagesStopWith given c.args.map.now) c.from_residual-in_err-nodes.ensures.1 (λ stop told other.
-    row-stops (row1 (goal.at.returns-in_err-nodes-clause-stopped c).In_ok-make_memory) (nodes_stage given)
-    (drop 2 (later_stages given)) stop
+    let at = goal.at.returns-in_err-nodes-clause-stopped c in
+    stops-so _ _ (StagesStopWith extra given c.args.map.now) c.from_residual-in_err-nodes.ensures.1 (λ stop told other.
+    row-stops (row2 at.In_ok-run_script_lines (row1 at.In_ok-make_memory)) (nodes_stage given) (drop 3 (later_stages extra given)) stop
     (steps-stop cause_of_stage made_with_nodes error_of_stage_cause (assign_nodes given.domains given.options.numa_off)
-    (made_after_lines (with_map given c.args.map.now) c.make_memory.new.memblock [] _ []) _ _ stop
-    (rw c.as_ref.ensures.value at c.in_err-nodes.ensures.ends) told other))
+    (made_after_lines (with_claims given c.args.map.now c.run_script_lines.new.answers.items) c.run_script_lines.new.mb
+    c.run_script_lines.new.live _ []) _ _ stop (rw c.as_ref.ensures.value at c.in_err-nodes.ensures.ends) told other))
 
 pub returns-in_err-crash-clause-stopped : goal.returns-in_err-crash-clause-stopped
 returns-in_err-crash-clause-stopped c =
+    let extra : ExtraView = extra_view c.args.extra.now in
     let given : InputsView = inputs_view c.args.inputs.now in
     let at = goal.at.returns-in_err-crash-clause-stopped c in
-    stops-so _ _ (StagesStopWith given c.args.map.now) c.from_residual-in_err-crash.ensures.1 (λ stop told other.
-    row-stops (row2 at.In_ok-nodes (row1 at.In_ok-make_memory)) (crash_area_stage given) (drop 3 (later_stages given)) stop
-    (steps-stop cause_of_growth made_with_crash_area refusal_for (reserve_crash_area given.options.crash)
-    (made_after_lines (with_nodes given c.args.map.now c.in_ok-nodes.nodes) c.assign.new.memblock [] _ []) _ _ stop
-    c.in_err-crash.ensures.ends told other))
+    stops-so _ _ (StagesStopWith extra given c.args.map.now) c.from_residual-in_err-crash.ensures.1 (λ stop told other.
+    row-stops (row3 at.In_ok-nodes (row2 at.In_ok-run_script_lines (row1 at.In_ok-make_memory)))
+    (crash_area_stage extra.profile given) (drop 4 (later_stages extra given)) stop
+    (steps-stop cause_of_growth made_with_crash_area refusal_for (reserve_for_map extra.profile given c.args.map.now)
+    (made_after_lines (with_nodes given c.args.map.now c.run_script_lines.new.answers.items c.in_ok-nodes.nodes) c.assign.new.memblock
+    c.run_script_lines.new.live _ []) _ _ stop
+    (rw (c.added_bytes-added.ensures.sum, c.reach.ensures) at c.in_err-crash.ensures.ends) told other))
 
 pub returns-in_err-roots-clause-stopped : goal.returns-in_err-roots-clause-stopped
 returns-in_err-roots-clause-stopped c =
+    let extra : ExtraView = extra_view c.args.extra.now in
     let given : InputsView = inputs_view c.args.inputs.now in
     let at = goal.at.returns-in_err-roots-clause-stopped c in
-    stops-so _ _ (StagesStopWith given c.args.map.now) c.from_residual-in_err-roots.ensures.1 (λ stop told other.
-    row-stops (row4 at.In_ok-run_script_lines (row3 at.In_ok-crash (row2 at.In_ok-nodes (row1 at.In_ok-make_memory))))
+    stops-so _ _ (StagesStopWith extra given c.args.map.now) c.from_residual-in_err-roots.ensures.1 (λ stop told other.
+    row-stops (row5 at.In_ok-run_script_lines-2 (row4 at.In_ok-crash (row3 at.In_ok-nodes
+    (row2 at.In_ok-run_script_lines (row1 at.In_ok-make_memory)))))
     (sections_stage given)
-    (drop 5 (later_stages given)) stop
+    (drop 6 (later_stages extra given)) stop
     (steps-stop cause_of_stage made_with_sections error_of_stage_cause (place_present_sections given.width)
     (made_after_lines
-    (with_crash given c.args.map.now c.in_ok-nodes.nodes c.in_ok-crash.crash) c.run_script_lines.new.mb c.run_script_lines.new.live _
-    c.run_script_lines.new.answers.items) _ _ stop c.in_err-roots.ensures.ends told other))
+    (with_crash given c.args.map.now c.run_script_lines.new.answers.items c.in_ok-nodes.nodes c.in_ok-crash.crash)
+    c.run_script_lines-2.new.mb c.run_script_lines-2.new.live _
+    c.run_script_lines-2.new.answers.items) _ _ stop c.in_err-roots.ensures.ends told other))
 
--- what the calls require
+-- the goals for what the calls require
 pub assign-requires-clause-limit : goal.assign-requires-clause-limit
 assign-requires-clause-limit c =
     let given : InputsView = inputs_view c.args.inputs.now in
-    let items : List Item = c.make_memory.new.memblock.journal.items in
-    let carried : carry_out_items (early_items (early_inputs given) c.args.map.now) [] ≡ Ok items =
-    rw c.requires.first at (carried-by (early_items (early_inputs given) c.args.map.now) _ items c.in_ok-make_memory.ensures.ends) in
-    (first_known given (with_map given c.args.map.now) items c.requires.judged carried).some
+    let at = goal.at.assign-requires-clause-limit c in
+    let row = row2 at.In_ok-run_script_lines (row1 at.In_ok-make_memory) in
+    (claimed_known given (extra_view c.args.extra.now).claims (with_map given c.args.map.now) _ c.requires.judged row.come).some
 
-pub reserve-requires : goal.reserve-requires
-reserve-requires c =
+pub reserve_by-requires : goal.reserve_by-requires
+reserve_by-requires c =
     let given : InputsView = inputs_view c.args.inputs.now in
     record {
-      begun = ends-begun (Ok (nodes_view c.in_ok-nodes.nodes)) error_of_stage_cause c.make_memory.new.memblock.journal.items _
-          (assign_nodes given.domains given.options.numa_off) c.in_ok-make_memory.ensures.begun
+      begun = ends-begun (Ok (nodes_view c.in_ok-nodes.nodes)) error_of_stage_cause c.run_script_lines.new.mb.journal.items _
+          (assign_nodes given.domains given.options.numa_off) c.in_ok-run_script_lines.ensures.begun
           (rw c.as_ref.ensures.value at c.in_ok-nodes.ensures.ends);
+      in_reach = c.added_bytes-added.ensures.in_reach;
     }
 
 pub place_sections-requires-clause-noded : goal.place_sections-requires-clause-noded
 place_sections-requires-clause-noded c =
+    let extra : ExtraView = extra_view c.args.extra.now in
     let given : InputsView = inputs_view c.args.inputs.now in
     let at = goal.at.place_sections-requires-clause-noded c in
-    let row = row4 at.In_ok-run_script_lines (row3 at.In_ok-crash (row2 at.In_ok-nodes (row1 at.In_ok-make_memory))) in
+    let row = row5 at.In_ok-run_script_lines-2 (row4 at.In_ok-crash (row3 at.In_ok-nodes
+    (row2 at.In_ok-run_script_lines (row1 at.In_ok-make_memory)))) in
     noded-within (reach given) (2 ^ 52) _
-    (later_memory_has_nodes given (with_map given c.args.map.now) _
-    (crash_area_stage given ∷ script_stage given.kernel (lines_before_sections given.lines) ∷ [])
-    c.requires.judged (crash_labels given, (lines_labels given.kernel (lines_before_sections given.lines), tt)) row.come) (reach-small given)
+    (later_memory_has_nodes given extra.claims (with_map given c.args.map.now) _
+    (crash_area_stage extra.profile given ∷ script_stage given.kernel (lines_before_sections given.lines) ∷ [])
+    c.requires.judged (crash_labels extra.profile given, (lines_labels given.kernel (lines_before_sections given.lines), tt)) row.come)
+    (reach-small given)

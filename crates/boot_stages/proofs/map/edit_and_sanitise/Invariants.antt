@@ -1,4 +1,5 @@
--- The edits that remain make of the table's claims what all the edits make of the claims at first.
+-- Applying the remaining edits to the table's claims gives the same as applying all edits to the
+-- claims at the start.
 use Rattle.std.proofs.Common.{◌≡◌, drop}
 use Rattle.e820_model.specs.Claims.{HaveTypes, after_edits}
 use Rattle.e820_model.specs.Map.{claims_of}

@@ -1,4 +1,4 @@
--- Each call's equation for the claims, one after another.
+-- Chains the equations that the calls give for the table's claims.
 use Rattle.std.proofs.Common.{◌≡◌, ◌∙◌, ap}
 use Rattle.e820_model.specs.Claims.{zero_page_claims, after_bios_trim, with_extension, with_options}
 use Rattle.e820_model.specs.Map.{claims_of}

@@ -1,4 +1,4 @@
--- Each run's items are the first of the remaining ones.
+-- The items of a run are the first of the remaining items.
 use Rattle.std.proofs.Common.{Ok, arith}
 use Rattle.std.proofs.lemmas.List.{at_drop_all}
 use Rattle.memblock_grow.proofs.GoingLaws.{goes-then}

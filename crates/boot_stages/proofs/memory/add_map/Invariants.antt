@@ -1,5 +1,5 @@
--- Of the map's items those before this run were carried out. The rest are those of the remaining
--- runs.
+-- The items of all runs before this one were carried out. The items that remain are those of the
+-- remaining runs.
 use Rattle.std.proofs.Common.{drop}
 use Rattle.address_runs.specs.Runs.{AreRuns}
 use Rattle.growth_model.specs.Tables.{HasFirstItem}

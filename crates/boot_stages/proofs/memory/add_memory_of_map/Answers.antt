@@ -1,4 +1,5 @@
--- The runs of the map, a trim, and the mirrors: the items before an error were carried out.
+-- The runs of the map, a trim, and the mirrored ranges, in this order. If a call fails, the items
+-- before it were carried out.
 use Rattle.std.proofs.Common.{◌∷◌, refl, ap, arith}
 use Rattle.memblock_model.specs.declared.item.Item.TheVariants as item
 use Rattle.memblock_grow.specs.MemblockView.{MemblockView}
@@ -13,7 +14,7 @@ use Rattle.boot_stages.proofs.ExitLaws.{exit}
 use Rattle.boot_stages.proofs.memory.add_memory_of_map.Goals as goal
 use Rattle.boot_stages.proofs.memory.add_memory_of_map.Goals.{After-trim}
 
--- memblock went on after the trim
+-- memblock continues after the trim
 trimmed : (c : After-trim) → ContinuesMemblock c.args.memblock.now c.trim.new.self
 trimmed c =
     goes-then _ _ _ c.in_ok-add_map.ensures.goes_on c.trim.ensures.goes_on

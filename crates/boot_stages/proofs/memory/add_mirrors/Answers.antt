@@ -1,4 +1,4 @@
--- Each range's item is the first of the remaining ones.
+-- The item of a range is the first of the remaining items.
 use Rattle.std.proofs.Common.{List, ◌∷◌, [], Ok, map, arith}
 use Rattle.std.proofs.lemmas.List.{at_drop_all}
 use Rattle.bm_base.specs.Range.{RangeView}

@@ -1,4 +1,4 @@
--- Of the mirrors' items those before this one were carried out. The rest are those of the
+-- The items of all ranges before this one were carried out. The items that remain are those of the
 -- remaining ranges.
 use Rattle.std.proofs.Common.{drop, map}
 use Rattle.growth_model.specs.Tables.{HasFirstItem}

@@ -1,4 +1,5 @@
--- The claims, the limit and the direction: the items before an error were carried out.
+-- The claims, the limit and the direction in their order. If a call fails, the items before it were
+-- carried out.
 use Rattle.std.proofs.Common.{◌∷◌, refl, ap, arith}
 use Rattle.memblock_model.specs.declared.item.Item.TheVariants as item
 use Rattle.early_memory.specs.declared.low.TheConstants.{ISA_END_ADDRESS}
@@ -14,7 +15,7 @@ use Rattle.boot_stages.proofs.ExitLaws.{exit}
 use Rattle.boot_stages.proofs.memory.claim_before_memory.Goals as goal
 use Rattle.boot_stages.proofs.memory.claim_before_memory.Goals.{After-set_limit}
 
--- memblock went on after the limit
+-- memblock continues after the limit was set
 limited : (c : After-set_limit) → ContinuesMemblock c.args.memblock.now c.set_limit.new.self
 limited c =
     goes-then _ _ _ c.in_ok-claim_early.ensures.goes_on

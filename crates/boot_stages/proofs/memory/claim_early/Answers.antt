@@ -1,4 +1,4 @@
--- Each claim is one item. Something has happened after the first.
+-- Each claim is one item. After the first one, something has happened to memory.
 use Rattle.std.proofs.Common.{Ok, refl}
 use Rattle.memblock_model.specs.declared.owner.Owner.TheVariants as owner
 use Rattle.memblock_model.specs.declared.item.Item.TheVariants as item
@@ -12,7 +12,7 @@ use Rattle.boot_stages.proofs.ExitLaws.{exit}
 use Rattle.boot_stages.proofs.memory.claim_early.Goals as goal
 use Rattle.boot_stages.proofs.memory.claim_early.Goals.{After-claim-2, In_ok-claim-2}
 
--- memblock went on after the second claim, and something has happened
+-- memblock continues after the second claim, and something has happened to memory
 claimed_both : (c : After-claim-2) → ContinuesMemblock c.args.memblock.now c.claim-2.new.self
 claimed_both c =
     goes-then _ c.claim.new.self _ c.claim.ensures.goes_on

@@ -1,4 +1,4 @@
--- The last record, read from its table.
+-- The last record of the memory table ends where memory ends.
 use Rattle.std.proofs.Common.{◌≡◌, ◌+◌, ◌-◌, List, length, get_or, ap, sym, ◌∙◌, arith}
 use Rattle.address_runs.specs.Runs.{RunOf, run_end}
 use Rattle.memblock_model.specs.Labels.{LabelView, plain_label}

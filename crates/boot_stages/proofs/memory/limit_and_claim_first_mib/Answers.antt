@@ -1,4 +1,4 @@
--- A limit, and then a claim.
+-- Two items: the limit, and then the claim of the first MiB.
 use Rattle.std.proofs.Common.{[], ◌∷◌, refl, ap, arith}
 use Rattle.memblock_model.specs.declared.owner.Owner.TheVariants as owner
 use Rattle.memblock_model.specs.declared.item.Item.TheVariants as item

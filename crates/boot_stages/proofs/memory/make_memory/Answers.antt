@@ -1,4 +1,5 @@
--- Three parts of items: after the second the memory table gives the limit of the third.
+-- The three parts of the items. After the second part, the memory table gives the limit that the
+-- third part sets.
 use Rattle.std.proofs.Common.{◌≡◌, [], ◌++◌, Ok, ap, sym, ◌∙◌}
 use Rattle.address_runs.specs.Runs.{value_at}
 use Rattle.memblock_ranges.specs.Tables.{TableView}

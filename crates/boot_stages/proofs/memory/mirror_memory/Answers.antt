@@ -1,4 +1,4 @@
--- The mirrors of the command words, and then those of the firmware's map if there is one.
+-- The mirrored ranges of the command words, and then those of the EFI map if there is one.
 use Rattle.std.proofs.Common.{◌++◌, List, Result, Ok, map, sym, subst}
 use Rattle.memblock_model.specs.declared.item.Item.{Item}
 use Rattle.growth_model.specs.declared.refusal.Refusal.{Refusal}
@@ -16,7 +16,7 @@ use Rattle.boot_stages.proofs.ExitLaws.{exit}
 use Rattle.boot_stages.proofs.MemoryLaws.{mirrors-append}
 use Rattle.boot_stages.proofs.memory.mirror_memory.Goals as goal
 
--- the items of two lists of mirrors, the first of which was carried out
+-- two lists of mirrored ranges, the first of which was carried out
 both : (r : Result (Unit {0}) Refusal) (words efi : List FrameRange) (old mid new : List Item)
     → EndsAsStage {A = Unit {0}} (items_with_growths (mirror_items words)) refusal_for (Ok tt) old mid
     → EndsAsStage (items_with_growths (mirror_items efi)) refusal_for r mid new

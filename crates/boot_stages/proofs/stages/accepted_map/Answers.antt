@@ -1,4 +1,4 @@
--- The table's answer, judged, decides the first stages.
+-- What the e820 table returns, accepted or refused by the boot, decides how the first stages end.
 use Rattle.boot_model.specs.Boot.{InputsView}
 use Rattle.boot_model.specs.View.{inputs_view}
 use Rattle.boot_stages.proofs.MapLaws.{claims-told, map_answers}

@@ -1,0 +1,35 @@
+//! Counts the bytes of the map that become memory.
+
+ghost use Rattle.std.specs.Prelude.{◌≡◌, ◌^◌, ◌≤◌};
+ghost use Rattle.address_runs.specs.Runs.{AreRuns};
+ghost use Rattle.boot_model.specs.Added.{added_by_run, added_bytes};
+
+use e820_sanitise::{Run, is_memory};
+
+/// Returns the number of bytes of RAM and of the kernel's own memory that the map has below
+/// `reach`, the limit of physical addresses. The bytes of partial frames are included
+/// (`memblock_phys_mem_size`).
+pub fn added_bytes(map: &[Run], reach: u64) -> u64
+    requires runs { AreRuns map.now }
+    requires reach { reach ≤ 2 ^ 52 }
+    ensures sum { result ≡ added_bytes reach map.now }
+    ensures in_reach { result ≤ 2 ^ 52 }
+{
+    let mut added = 0;
+    for run in map {
+        added += added_by_run(run, reach);
+    }
+    added
+}
+
+/// If the run is RAM or the kernel's own memory, returns the number of its bytes below `reach`;
+/// else returns 0.
+fn added_by_run(run: &Run, reach: u64) -> u64
+    ensures { result ≡ added_by_run reach run.now }
+{
+    if is_memory(run.kind) {
+        run.range.end().min(reach).saturating_sub(run.range.base)
+    } else {
+        0
+    }
+}
