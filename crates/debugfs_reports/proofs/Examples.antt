@@ -15,8 +15,8 @@ use Rattle.slit_zonelists.specs.Lists.{ZoneListsView, zonelists_from_slit}
 use Rattle.boot_model.specs.Boot.{BootedView, no_nodes}
 use Rattle.boot_model.specs.Sections.{no_sections}
 use Rattle.debugfs_reports.specs.declared.report.Report.TheVariants as reports
-use Rattle.debugfs_reports.specs.Report.{TableRecords, report_named, report_text, render}
-use Rattle.debugfs_reports.specs.ReportList.{are_reports, report_names_in, reports_in, report_list_text}
+use Rattle.debugfs_reports.specs.Report.{TableRecords, report_named, report_text, reports_with_claims, render}
+use Rattle.debugfs_reports.specs.ReportList.{are_names_of, are_reports, report_names_in, reports_in, reports_named_in, report_list_text}
 
 reserved : RunOf ℕ
 reserved = record { base = 0x7FE0000; size = 0x20000; value = 2 }
@@ -27,11 +27,11 @@ heads = record {
   reserved = record { place = 0x2FFF000; room = 128; count = 0 };
 }
 
--- no frame is free
+-- free frames: none
 abbrev no_frames : Frames
 no_frames frame = None
 
--- no table of distances, and no zones
+-- zone lists: no table of distances, and no zones
 abbrev no_lists : ZoneListsView
 no_lists = zonelists_from_slit None [] []
 
@@ -45,6 +45,7 @@ nothing = record {
   nodes = no_nodes;
   crash = crash.Nothing;
   sections = no_sections;
+  claim_answers = [];
   answers = [];
   spans = [];
   free = no_frames;
@@ -58,10 +59,12 @@ made = record nothing {
   map = reserved ∷ [];
   options = record { edits = edits.Clear ∷ []; crash = no_crash; numa_off = true; add_efi = false };
   crash = crash.InUse;
+  claim_answers = record { line = 1; outcome = outcomes.Taken } ∷ [];
   answers = record { line = 2; outcome = outcomes.NoGap } ∷ [];
 }
 
--- tables that no journal item gives: each is shown from the records at its own head
+-- records at the heads that no journal item gives: the report of each table shows those at its own
+-- head
 abbrev page_at : ℕ → RunOf LabelView
 page_at base = record { base = base; size = 0x1000; value = plain_label }
 
@@ -74,7 +77,7 @@ table_examples : (render reports.Memory made standing
 unfolding made nothing reserved digits
 table_examples = (refl, refl)
 
--- a list has one name more than commas; a name may occur twice; no report has an empty name
+-- a list has one name more than it has commas; a name may occur twice; no report has the empty name
 list_examples : (report_names_in (codes "map,,map") ≡ codes "map" ∷ [] ∷ codes "map" ∷ [])
     × (report_names_in [] ≡ [] ∷ [])
     × (are_reports (codes "map,options,map") ≡ true)
@@ -85,8 +88,14 @@ list_examples : (report_names_in (codes "map,,map") ≡ codes "map" ∷ [] ∷ c
     × (reports_in (codes "maps") ≡ [])
 list_examples = (refl, refl, refl, refl, refl, refl, refl, refl)
 
--- a single report has no line with its name; if there are two, each has one, even a report without
--- lines
+-- `claims` is a report only of a program with early claims
+claims_examples : (are_reports (codes "map,claims") ≡ false)
+    × (are_names_of reports_with_claims (codes "map,claims") ≡ true)
+    × (reports_in (codes "claims,map") ≡ reports.Map ∷ [])
+    × (reports_named_in reports_with_claims (codes "claims,map") ≡ reports.Claims ∷ reports.Map ∷ [])
+claims_examples = (refl, refl, refl, refl)
+
+-- a single report has no title; if there are two, each has a title, even a report without lines
 part_examples : (report_list_text (reports.Options ∷ []) made ≡ codes "clear\nnuma off\n")
     × (report_list_text (reports.Map ∷ reports.Options ∷ []) made
     ≡ codes "== map\n0x0000000007fe0000..0x0000000007ffffff 2 reserved\n== options\nclear\nnuma off\n")
@@ -106,6 +115,7 @@ name_examples = (refl, refl, refl, refl, refl)
 text_examples : (report_text reports.Map made ≡ codes "0x0000000007fe0000..0x0000000007ffffff 2 reserved\n")
     × (report_text reports.Options made ≡ codes "clear\nnuma off\n")
     × (report_text reports.Script made ≡ codes "2: no gap\n")
+    × (report_text reports.Claims made ≡ codes "1: taken\n")
     × (report_text reports.Crash made ≡ codes "crash in use\n")
     × (report_text reports.Nodes made ≡ codes "numa absent\nuncovered 0\n")
     × (report_text reports.Sections made ≡ codes "roots 0x0000000000000000\n")
@@ -113,4 +123,4 @@ text_examples : (report_text reports.Map made ≡ codes "0x0000000007fe0000..0x0
     × (report_text reports.Tables made
     ≡ codes "memory place 0x0000000002ffe000 room 128 records 0\nreserved place 0x0000000002fff000 room 128 records 0\n")
 unfolding made nothing reserved digits
-text_examples = (refl, refl, refl, refl, refl, refl, refl, refl)
+text_examples = (refl, refl, refl, refl, refl, refl, refl, refl, refl)

@@ -1,8 +1,7 @@
--- Lemmas on what is left of a list.
+-- A measure for loops over the names of a list.
 use Rattle.std.proofs.Common.{ℕ, ◌+◌, List, Option, Some, None, length}
 
--- a measure of what is left: 0 after the last name, else one more than the number of bytes that
--- are left
+-- 0 after the last name, else one more than the number of bytes that are left
 abbrev pub left : Option (List ℕ) → ℕ
 left None = 0
 left (Some text) = length text + 1

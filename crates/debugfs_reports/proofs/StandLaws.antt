@@ -1,4 +1,5 @@
--- Lemmas: the reports of tables that are stored in the bytes show the records of these tables.
+-- Lemmas: if memblock's tables are stored in the bytes, the reports of tables show the records of
+-- these tables.
 use Rattle.std.proofs.Common.{◌≡◌, ℕ, Bool, List, [], ◌∷◌, nat_lt, length, refl, arith}
 use Rattle.std.specs.List.{flat_map}
 use Rattle.memblock_ranges.specs.Tables.{IsInStore, TableView, head_of}
@@ -12,7 +13,7 @@ use Rattle.debugfs_reports.specs.Report.{TableRecords, render}
 use Rattle.debugfs_reports.specs.ReportList.{render_list, render_part}
 use Rattle.debugfs_reports.specs.TableHeads.{HeadsHaveRecords, records_at_heads}
 
--- both tables are stored where the heads of the boot point
+-- `memory` and `reserved` are stored in the bytes of the boot, at the places that its heads give
 pub record HaveTables (b : Booted) (memory reserved : TableView) : Type 0 where
   pub memory_stands : IsInStore memory b.store
   pub memory_told : b.heads.memory ≡ head_of memory
@@ -25,7 +26,7 @@ tables_stand b memory reserved have = record {
   reserved = rw have.reserved_told (stands_ascending reserved b.store have.reserved_stands);
 }
 
--- records with the same lines have the same reports
+-- records that print the same lines give the same report
 text_alike : (report : Report) (told : BootedView) (these those : TableRecords) → records_text these.memory ≡ records_text those.memory
     → records_text these.reserved ≡ records_text those.reserved → render report told these ≡ render report told those
 text_alike report told these those memory reserved = grind (arith, memory, reserved)

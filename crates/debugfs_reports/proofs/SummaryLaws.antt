@@ -1,5 +1,5 @@
--- Lemmas on the frames of the listed blocks: their number fits, since there are at most 2^40
--- blocks of at most 2^10 frames; and it is that of the rows.
+-- Lemmas on the number of frames in the blocks. There are at most 2^40 blocks of at most 2^10
+-- frames, so the number fits in 64 bits. The rows of blocks have the same number of frames.
 use Rattle.std.proofs.Common.{◌≡◌, ◌∙◌, ℕ, zero, suc, ◌+◌, ◌*◌, ◌^◌, ◌<◌, ◌≤◌, List, [], ◌∷◌, ◌++◌, get_or, length, drop, drop-cons, refl, add-one, lt_of_not-le, arith}
 use Rattle.std.proofs.Math.Nat.{suc-mul}
 use Rattle.std.proofs.Math.Pow.{pow_mono}
@@ -33,7 +33,7 @@ row_frames o x n (suc k) z =
     let total = sum_by-cons (λ (c : Block). 2 ^ c.order) b (row_from o (x + 2 ^ o) n z k) in
     omega (arith, rest, total, suc-mul k (2 ^ o))
 
--- the rows that are left are one row and the others
+-- the remaining rows are the row at index i and the rows after it
 pub row_left : (rs : List BlockRow) (i : ℕ) (d : BlockRow) → i < length rs
     → (total_frames_of_blocks (blocks_of_rows (drop i rs))
     ≡ (get_or rs i d).count * 2 ^ (get_or rs i d).order + total_frames_of_blocks (blocks_of_rows (drop (i + 1) rs)))
@@ -47,7 +47,7 @@ row_left rs i d within =
       rows_left rs i d within,
     )
 
--- the counts so far, with those of the rows that are left, are the totals
+-- the counts so far, and those of the remaining rows, are together the totals
 pub record Counted (rs : List BlockRow) (i free blocks : ℕ) : Type 0 where
   pub all_frames : free + total_frames_of_blocks (blocks_of_rows (drop i rs)) ≡ total_frames_of_blocks (blocks_of_rows rs)
   pub all_blocks : blocks + length (blocks_of_rows (drop i rs)) ≡ length (blocks_of_rows rs)
@@ -64,7 +64,7 @@ pub counted_few : (rs : List BlockRow) (i free blocks : ℕ) (f : Frames) → bl
 counted_few rs i free blocks f is so_far =
     (omega (arith, listed_frames f, rw is at so_far.all_frames), omega (arith, listed_few f, rw is at so_far.all_blocks))
 
--- if the product of a number above 0 and a power of two is below 2^64, so is the power
+-- if a number above 0 times a power of two is below 2^64, the exponent is below 64
 pub shift_small : (k o : ℕ) → 0 < k → k * 2 ^ o < 2 ^ 64 → o < 64
 shift_small zero o some small = absurd (omega (arith, some))
 shift_small (suc k) o some small = lt_of_not-le (λ above.

@@ -1,5 +1,5 @@
 -- All reports, and the name and the text of each.
-use Rattle.std.specs.Prelude.{ℕ, List, [], ◌∷◌, codes, Option, find}
+use Rattle.std.specs.Prelude.{ℕ, List, [], ◌∷◌, ◌++◌, codes, Option, find}
 use Rattle.std.specs.Str.{bytes_eq}
 use Rattle.address_runs.specs.Runs.{RunOf}
 use Rattle.boot_model.specs.Boot.{BootedView}
@@ -46,19 +46,24 @@ report_name reports.Pages = codes "pages"
 report_name reports.Pagesinfo = codes "pagesinfo"
 report_name reports.Zonelists = codes "zonelists"
 report_name reports.Summary = codes "summary"
+report_name reports.Claims = codes "claims"
 
--- all reports; each name is that of one of these
+-- all reports of `bootmem`
 abbrev pub all_reports : List Report
 all_reports =
     reports.Map ∷ reports.Options ∷ reports.Nodes ∷ reports.Memory ∷ reports.Reserved ∷ reports.Owners ∷ reports.Journal ∷ reports.Crash
     ∷ reports.Sections ∷ reports.Zones ∷ reports.Script ∷ reports.Tables ∷ reports.Buddyinfo ∷ reports.Blocks
     ∷ reports.Pages ∷ reports.Pagesinfo ∷ reports.Zonelists ∷ reports.Summary ∷ []
 
--- the first of these reports that has the name
+-- the reports of a program with early claims: those of `bootmem`, and the outcomes of the claims
+abbrev pub reports_with_claims : List Report
+reports_with_claims = all_reports ++ reports.Claims ∷ []
+
+-- the first report of the list that has this name
 abbrev pub first_report_named : List Report → List ℕ → Option Report
 first_report_named reports name = find (λ report. bytes_eq name (report_name report)) reports
 
--- the report with this name, if there is one
+-- the report of `bootmem` with this name, if there is one
 abbrev pub report_named : List ℕ → Option Report
 report_named name = first_report_named all_reports name
 
@@ -67,8 +72,8 @@ pub record TableRecords : Type 0 where
   pub memory : List (RunOf LabelView)
   pub reserved : List (RunOf LabelView)
 
--- the text of a report, from what contracts see of a boot and from the records at the heads of its
--- tables
+-- the text of a report, made from what contracts see of a boot and from the records at the heads of
+-- memblock's tables
 abbrev pub render : Report → BootedView → TableRecords → List ℕ
 render reports.Map told records = map_text told.map
 render reports.Options told records = options_text told.options
@@ -88,6 +93,7 @@ render reports.Pages told records = pages_text told.page_answers
 render reports.Pagesinfo told records = buddyinfo_text told.after.frames told.spans
 render reports.Zonelists told records = zonelists_text told.lists
 render reports.Summary told records = summary_text (summary_of told)
+render reports.Claims told records = script_text told.claim_answers
 
 -- the records that the boot's journal gives for both tables
 abbrev pub journal_records : BootedView → TableRecords

@@ -1,25 +1,33 @@
--- Lists of reports: how one is written, and its whole text.
+-- Lists of reports: the names in a list, and the text of a whole list.
 use Rattle.std.specs.Prelude.{ℕ, Bool, is_some, nat_lt, if◌then◌else◌, List, [], ◌++◌, codes, length}
 use Rattle.std.specs.List.{filter_map, flat_map, list_all}
 use Rattle.text_words.specs.declared.separators.Separators.TheVariants.{Byte}
 use Rattle.text_words.specs.Parts.{parts_in}
 use Rattle.boot_model.specs.Boot.{BootedView}
 use Rattle.debugfs_reports.specs.declared.report.Report.{Report}
-use Rattle.debugfs_reports.specs.Report.{TableRecords, report_name, journal_records, report_named, render}
+use Rattle.debugfs_reports.specs.Report.{TableRecords, all_reports, report_name, journal_records, first_report_named, render}
 
 -- the names in a list, with commas between them; the empty text is one empty name
 abbrev pub report_names_in : List ℕ → List (List ℕ)
 report_names_in list = parts_in (Byte 44) list
 
--- each name is that of a report
+-- each name is that of one of the known reports
+abbrev pub are_names_of : List Report → List ℕ → Bool
+are_names_of known list = list_all (λ name. is_some (first_report_named known name)) (report_names_in list)
+
+-- the known reports with these names, in the order of the list
+abbrev pub reports_named_in : List Report → List ℕ → List Report
+reports_named_in known list = filter_map (first_report_named known) (report_names_in list)
+
+-- each name is that of a report of `bootmem`
 abbrev pub are_reports : List ℕ → Bool
-are_reports list = list_all (λ name. is_some (report_named name)) (report_names_in list)
+are_reports list = are_names_of all_reports list
 
--- the reports with these names, in the order of the list
+-- the reports of `bootmem` with these names, in the order of the list
 abbrev pub reports_in : List ℕ → List Report
-reports_in list = filter_map report_named (report_names_in list)
+reports_in list = reports_named_in all_reports list
 
--- the line before a report, if it is one of several
+-- the title line `== NAME` of a report, if it is one of several; else nothing
 abbrev pub report_title : Bool → Report → List ℕ
 report_title several report = if several then codes "== " ++ report_name report ++ codes "\n" else []
 
@@ -28,7 +36,7 @@ report_title several report = if several then codes "== " ++ report_name report 
 abbrev pub render_part : Bool → BootedView → TableRecords → Report → List ℕ
 render_part several told records report = report_title several report ++ render report told records
 
--- the part of a report in the whole text, for the records that the journal gives
+-- the part of a report in the whole text, for the records that the boot's journal gives
 abbrev pub report_part : Bool → BootedView → Report → List ℕ
 report_part several told report = render_part several told (journal_records told) report
 

@@ -10,7 +10,7 @@ use Rattle.report_stages.specs.declared.summary.Fullness.{Fullness}
 use Rattle.report_stages.specs.declared.summary.Summary.{Summary}
 use Rattle.boot_model.specs.Boot.{BootedView, booted_address_limit}
 
--- the number of frames in these blocks; a block has 2^order
+-- the number of frames in these blocks; a block has 2^order frames
 abbrev pub total_frames_of_blocks : List Block → ℕ
 total_frames_of_blocks blocks = sum_by (λ b. 2 ^ b.order) blocks
 
@@ -18,8 +18,9 @@ total_frames_of_blocks blocks = sum_by (λ b. 2 ^ b.order) blocks
 abbrev pub fullness_of : Head → Fullness
 fullness_of head = record { records = head.count; room = head.room }
 
--- the totals. Usable are the frames of the map that the kernel can address
--- (`e820__memblock_setup`), free those that the page allocator gets (`memblock_free_all`).
+-- The totals of a boot. The usable frames are the frames of the map that the kernel can address
+-- (`e820__memblock_setup`). The free frames are those that the page allocator gets
+-- (`memblock_free_all`).
 abbrev pub summary_of : BootedView → Summary
 summary_of told = record {
   runs = length told.map;

@@ -4,25 +4,33 @@ ghost use Rattle.std.specs.Prelude.{◌≡◌, IfOk, length, map, nat_lt};
 ghost use Rattle.std.specs.List.{flat_map};
 ghost use Rattle.bm_base.specs.PutsText.{PutsText};
 ghost use Rattle.boot_model.specs.View.{booted_view};
-ghost use Rattle.debugfs_reports.specs.ReportList.{are_reports, reports_in, render_list, render_part, report_title};
+ghost use Rattle.debugfs_reports.specs.ReportList.{are_names_of, are_reports, reports_in, reports_named_in, render_list, render_part, report_title};
 ghost use Rattle.debugfs_reports.specs.TableHeads.{HeadsHaveRecords, records_at_heads};
 ghost use Rattle.address_runs.specs.Ascend.{Ascend};
 
-use crate::report::{Report, put_report, report_named};
+use crate::report::{REPORTS, Report, first_report_named, put_report};
 use bm_base::{Memory, put_text};
 use boot_model::Booted;
 use std::alloc::Global;
 use text_words::{Separators, next_part};
 
-/// Tests whether each name in the list is that of a report. The empty list is one empty name,
-/// which no report has.
+/// Tests whether each name in the list is that of a report of `bootmem`. The empty list is one
+/// empty name, which no report has.
 pub fn are_reports(list: &[u8]) -> bool
     ensures { result ≡ are_reports list.now }
+{
+    are_names_of(&REPORTS, list)
+}
+
+/// Tests whether each name in the list is that of one of the known reports. The empty list is one
+/// empty name, which no report has.
+pub fn are_names_of(known: &[Report], list: &[u8]) -> bool
+    ensures { result ≡ are_names_of known.now list.now }
 {
     let mut rest = Some(list);
     while let Some(text) = rest {
         let (name, behind) = next_part(text, Separators::Byte(b','));
-        if report_named(name).is_none() {
+        if first_report_named(known, name).is_none() {
             return false;
         }
         rest = behind;
@@ -30,7 +38,7 @@ pub fn are_reports(list: &[u8]) -> bool
     true
 }
 
-/// Returns the reports in the list, in its order. Skips names that no report has.
+/// Returns the reports of `bootmem` in the list, in its order. Skips names that none has.
 ///
 /// # Errors
 ///
@@ -38,11 +46,22 @@ pub fn are_reports(list: &[u8]) -> bool
 pub fn reports_in(alloc: Global, list: &[u8]) -> Result<Vec<Report>, Memory>
     ensures { IfOk result (λ reports. reports.items ≡ reports_in list.now) }
 {
+    reports_named_in(alloc, &REPORTS, list)
+}
+
+/// Returns the known reports in the list, in its order. Skips names that none of them has.
+///
+/// # Errors
+///
+/// - `Memory`: the program ran out of memory.
+pub fn reports_named_in(alloc: Global, known: &[Report], list: &[u8]) -> Result<Vec<Report>, Memory>
+    ensures { IfOk result (λ reports. reports.items ≡ reports_named_in known.now list.now) }
+{
     let mut reports = Vec::new(alloc);
     let mut rest = Some(list);
     while let Some(text) = rest {
         let (name, behind) = next_part(text, Separators::Byte(b','));
-        if let Some(report) = report_named(name) {
+        if let Some(report) = first_report_named(known, name) {
             reports.push(report)?;
         }
         rest = behind;
@@ -77,8 +96,8 @@ pub fn render_all(
     Ok(texts)
 }
 
-/// Returns the part of a report in the text of a list: its title if there are several, and its
-/// text.
+/// Returns the part of one report in the text of a list of reports: its title line if the list has
+/// several reports, and then its text.
 fn render_part(
     alloc: Global,
     report: Report,

@@ -1,10 +1,10 @@
-//! The reports, their names and their texts. All three are in one file, since a name is accepted
-//! before the boot, and its text is made after it: each name that is accepted needs a text.
+//! The reports, their names and their texts. All three are in one file: a name is accepted before
+//! the boot and the text is made after it, so each accepted name must have a text.
 
 ghost use Rattle.std.specs.Prelude.{◌≡◌, ◌++◌, IfOk, OnOk};
 ghost use Rattle.std.specs.Str.{bytes_eq};
 ghost use Rattle.boot_model.specs.View.{booted_view};
-ghost use Rattle.debugfs_reports.specs.Report.{report_name, report_named, report_text, render};
+ghost use Rattle.debugfs_reports.specs.Report.{first_report_named, report_name, report_named, report_text, render};
 ghost use Rattle.debugfs_reports.specs.TableHeads.{HeadsHaveRecords, records_at_heads};
 ghost use Rattle.address_runs.specs.Ascend.{Ascend};
 
@@ -57,6 +57,8 @@ pub enum Report {
     Zonelists,
     /// The totals at the end of the boot.
     Summary,
+    /// The outcome of each line of the early claims. `bootmem` doesn't have this report.
+    Claims,
 }
 
 impl Report {
@@ -83,12 +85,13 @@ impl Report {
             Report::Pagesinfo => "pagesinfo",
             Report::Zonelists => "zonelists",
             Report::Summary => "summary",
+            Report::Claims => "claims",
         }
     }
 }
 
-/// All reports.
-const REPORTS: [Report; 18] = [
+/// All reports of `bootmem`.
+pub const REPORTS: [Report; 18] = [
     Report::Map,
     Report::Options,
     Report::Nodes,
@@ -109,6 +112,29 @@ const REPORTS: [Report; 18] = [
     Report::Summary,
 ];
 
+/// The reports of a program with early claims: those of `bootmem`, and the outcomes of the claims.
+pub const REPORTS_WITH_CLAIMS: [Report; 19] = [
+    Report::Map,
+    Report::Options,
+    Report::Nodes,
+    Report::Memory,
+    Report::Reserved,
+    Report::Owners,
+    Report::Journal,
+    Report::Crash,
+    Report::Sections,
+    Report::Zones,
+    Report::Script,
+    Report::Tables,
+    Report::Buddyinfo,
+    Report::Blocks,
+    Report::Pages,
+    Report::Pagesinfo,
+    Report::Zonelists,
+    Report::Summary,
+    Report::Claims,
+];
+
 /// Tests whether this is the name of the report.
 fn report_has_name(report: Report, name: &[u8]) -> bool
     ensures { result ≡ bytes_eq name.now (report_name report) }
@@ -116,11 +142,19 @@ fn report_has_name(report: Report, name: &[u8]) -> bool
     name == report.name().as_bytes()
 }
 
-/// Returns the report with this name, or `None` if no report has it. Allocates nothing.
+/// Returns the report of `bootmem` with this name, or `None` if none has it. Allocates nothing.
 pub fn report_named(name: &[u8]) -> Option<Report>
     ensures { result ≡ report_named name.now }
 {
-    let mut rest: &[Report] = &REPORTS;
+    first_report_named(&REPORTS, name)
+}
+
+/// Returns the first of these reports that has the name, or `None` if none has it. Allocates
+/// nothing.
+pub fn first_report_named(reports: &[Report], name: &[u8]) -> Option<Report>
+    ensures { result ≡ first_report_named reports.now name.now }
+{
+    let mut rest = reports;
     while let [report, others @ ..] = rest {
         if report_has_name(*report, name) {
             return Some(*report);
@@ -178,6 +212,7 @@ pub fn put_report(text: &mut Vec<u8>, report: Report, booted: &Booted) -> Result
         Report::Pagesinfo => put_buddyinfo(text, &booted.spans, booted.after.buddy()),
         Report::Zonelists => put_zonelists(text, &booted.lists),
         Report::Summary => put_booted_summary(text, booted),
+        Report::Claims => put_script(text, &booted.claim_answers),
     }
 }
 

@@ -18,8 +18,8 @@ use Rattle.report_memory.specs.OwnersText.{owner_text, owners_text}
 use Rattle.report_memory.specs.RecordsText.{records_text, region_line}
 use Rattle.report_memory.specs.TablesText.{tables_text}
 
--- elements are numbered one by one; a range of one byte, and an empty one; an index has at least
--- four columns
+-- elements are numbered from the first index on; a range of one byte, and an empty one; an index
+-- has at least four columns
 line_examples : (indexed_lines (λ n x. decimal n ++ x) 8 (codes "a" ∷ codes "b" ∷ codes "c" ∷ []) ≡ codes "8a9b10c")
     × (range_text (record { base = 0x1000; size = 1 }) ≡ codes "0x0000000000001000..0x0000000000001000")
     × (range_text (record { base = 0; size = 0 }) ≡ codes "0x0000000000000000..0x0000000000000000")
@@ -27,7 +27,7 @@ line_examples : (indexed_lines (λ n x. decimal n ++ x) 8 (codes "a" ∷ codes "
 unfolding digits
 line_examples = (refl, refl, refl, refl, refl, refl)
 
--- the map
+-- this and the following: the report `map`
 ram_at_1M : RunOf ℕ
 ram_at_1M = record { base = 0x100000; size = 0x7EE0000; value = 1 }
 
@@ -42,7 +42,8 @@ map_examples : (map_text (ram_at_1M ∷ reserved_behind ∷ [])
 unfolding ram_at_1M reserved_behind digits
 map_examples = (refl, refl, refl, refl)
 
--- the options; those of the crash area are `crashkernel=1G-2G:64M,2G-:128M@16M`
+-- this and the following: the report `options`; the crash area is that of
+-- `crashkernel=1G-2G:64M,2G-:128M@16M`
 first_MiB : RangeView
 first_MiB = record { base = 0; size = 0x100000 }
 
@@ -78,7 +79,7 @@ option_examples : options_text (record {
 unfolding first_MiB digits
 option_examples = refl
 
--- owners
+-- this and the following: the report `owners`
 low : RunOf Owner
 low = record { base = 0; size = 0x100000; value = owner.Low1M }
 
@@ -94,7 +95,7 @@ owner_examples : (owner_text (owner.Table which.Reserved) ≡ codes "table-reser
 unfolding low of_kernel digits
 owner_examples = (refl, refl, refl, refl, refl)
 
--- the journal
+-- items of the report `journal`
 item_examples : (item_text (item.Mem first_MiB) ≡ codes "mem 0x0000000000000000..0x00000000000fffff")
     × (item_text item.Trim ≡ codes "trim")
     × (item_text (item.Node first_MiB 3) ≡ codes "node 3 0x0000000000000000..0x00000000000fffff")
@@ -109,7 +110,8 @@ item_examples : (item_text (item.Mem first_MiB) ≡ codes "mem 0x000000000000000
 unfolding first_MiB digits
 item_examples = (refl, refl, refl, refl, refl, refl, refl, refl, refl, refl, refl)
 
--- records, without their nodes; the last byte of a record is 2^64 - 1
+-- this and the following: the reports of records, which don't print nodes; a record may end at byte
+-- 2^64 - 1
 of_node_1 : RunOf LabelView
 of_node_1 = record { base = 0x1000; size = 0x9E000; value = with_node (Some 1) plain_label }
 
@@ -123,7 +125,7 @@ record_examples : (region_line 1 (record { base = 0x1000; size = 0xFFFFFFFFFFFFF
 unfolding of_node_1 of_no_node digits
 record_examples = (refl, refl)
 
--- the heads
+-- the report `tables`
 table_lines : tables_text (record {
   memory = record { place = 0x9D000; room = 256; count = 129 };
   reserved = record { place = 0x2FFF000; room = 128; count = 2 };

@@ -14,7 +14,7 @@ use Rattle.report_memory.specs.Lines.{indexed_lines}
 use Rattle.report_memory.specs.RecordsText.{record_line, records_text, region_line}
 use Rattle.report_memory.proofs.LineLaws.{lines_at}
 
--- the line of the next record is the next line
+-- the line of the record at index i is the first of the lines that are left
 pub next_line : (store : List ExtentView) (head : Head) (i : ℕ) (region : Region) → i < head.count
     → region ≡ decode_region (bytes_at (byte_of store) (head.place + 24 * i) 24)
     → indexed_lines record_line i (drop i (records_of_head store head))

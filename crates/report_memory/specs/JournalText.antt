@@ -11,7 +11,7 @@ use Rattle.report_memory.specs.OwnersText.{owner_text, memblock_table_name}
 abbrev pub on_off_text : Bool → List ℕ
 on_off_text on = if on then codes "on" else codes "off"
 
--- an item: its name and its values
+-- the text of an item: the name of its memblock call, and its values
 abbrev pub item_text : Item → List ℕ
 item_text (item.Mem range) = codes "mem " ++ range_text range
 item_text item.Trim = codes "trim"

@@ -1,15 +1,16 @@
--- The parts of reports: lines, and what they consist of.
+-- The parts of reports: lists of lines, ranges, and the index at the start of a line.
 use Rattle.std.specs.Prelude.{ℕ, ◌+◌, ◌-◌, List, [], ◌∷◌, ◌++◌, codes}
 use Rattle.bm_base.specs.Range.{RangeView, end_of}
 use Rattle.bm_base.specs.Text.{hex_text, padded_decimal}
 
--- the line of each element with its index; the first has the index n
+-- the text of a list: a line for each element, in order. `line` gives the line of an element from
+-- its index and the element. The first index is n.
 abbrev pub indexed_lines : {X : Type 0} → (ℕ → X → List ℕ) → ℕ → List X → List ℕ
 indexed_lines line n [] = []
 indexed_lines line n (x ∷ xs) = line n x ++ indexed_lines line (n + 1) xs
 
--- a range: the addresses of its first and its last byte, each as `0x` and sixteen digits. If the
--- range is empty, the second is one below the first, or 0 if the first is 0
+-- the text of a range: the addresses of its first and its last byte, each as `0x` and sixteen
+-- digits. For an empty range the second address is one below the first, or 0 if the first is 0.
 abbrev pub range_text : RangeView → List ℕ
 range_text r = hex_text r.base ++ codes ".." ++ hex_text (end_of r - 1)
 

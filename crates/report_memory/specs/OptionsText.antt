@@ -14,7 +14,7 @@ use Rattle.report_memory.specs.Lines.{indexed_lines, range_text}
 abbrev pub kind_text : ℕ → List ℕ
 kind_text kind = decimal kind ++ codes " "
 
--- an edit: what it does, its types, and its range
+-- the text of an edit: what the edit does, its types, and its range
 abbrev pub edit_text : Edit → List ℕ
 edit_text (edits.Add range kind) = codes "add " ++ kind_text kind ++ range_text range
 edit_text (edits.Remove range kind) = codes "remove " ++ kind_text kind ++ range_text range
@@ -26,18 +26,19 @@ edit_text edits.Clear = codes "clear"
 abbrev pub edit_line : ℕ → Edit → List ℕ
 edit_line n edit = edit_text edit ++ codes "\n"
 
--- the end of a range of `crashkernel=`, or `-` if it has none
+-- the text of the end of a range of total memory in `crashkernel=`, in bytes; `-` if the range has
+-- no end
 abbrev pub crash_end_text : Option ℕ → List ℕ
 crash_end_text None = codes "-"
 crash_end_text (Some end) = hex_text end
 
--- a range of `crashkernel=RANGE:SIZE,..`: its start and its end in total memory, and the size of
--- the crash area for a machine with so much memory; all in bytes
+-- the text of one range of `crashkernel=RANGE:SIZE,..`: START, END and SIZE in bytes. A machine
+-- whose total memory is at least START and below END gets a crash area of SIZE.
 unfoldable pub crash_range_text : CrashRange → List ℕ
 crash_range_text range = hex_text range.start ++ codes " " ++ crash_end_text range.end ++ codes " " ++ hex_text range.size
 
--- the line of such a range, with the base address of the area, which is 0 if the kernel chooses the
--- place; the index isn't printed
+-- the line of a range of `crashkernel=RANGE:SIZE,..[@BASE]`, with the base address of the area,
+-- which is 0 if the kernel chooses the place; the index isn't printed
 abbrev pub crash_range_line : ℕ → ℕ → CrashRange → List ℕ
 crash_range_line base n range = codes "crash range " ++ crash_range_text range ++ codes " base " ++ hex_text base ++ codes "\n"
 
@@ -45,12 +46,12 @@ abbrev pub plain_lines : Option CrashPlainView → List ℕ
 plain_lines None = []
 plain_lines (Some plain) = indexed_lines (crash_range_line plain.base) 0 plain.ranges
 
--- a line with this word and the size, if there is a size
+-- a line with `word` and the size in bytes, or nothing if there is no size
 abbrev pub crash_size_line : List ℕ → Option ℕ → List ℕ
 crash_size_line word None = []
 crash_size_line word (Some size) = word ++ hex_text size ++ codes "\n"
 
--- the requested crash area, form by form
+-- the lines of the requested crash area, for each form of the option that the command line has
 abbrev pub crash_lines : CrashOptionView → List ℕ
 crash_lines crash =
     plain_lines crash.plain ++ crash_size_line (codes "crash high ") crash.high ++ crash_size_line (codes "crash low ") crash.low

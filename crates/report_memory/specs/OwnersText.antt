@@ -12,7 +12,8 @@ abbrev pub memblock_table_name : Which → List ℕ
 memblock_table_name which.Memory = codes "memory"
 memblock_table_name which.Reserved = codes "reserved"
 
--- the name of an owner, and its number if it has one: of the node, the root, the section or the ID
+-- the name of an owner, and the number of a numbered owner: that of its node, section root or
+-- section, or its ID in a script
 abbrev pub owner_text : Owner → List ℕ
 owner_text owner.Kernel = codes "kernel"
 owner_text owner.Low64K = codes "low-64k"

@@ -11,8 +11,8 @@ use Rattle.report_memory.specs.Lines.{index_text, indexed_lines, range_text}
 abbrev pub extent_line : ℕ → RangeView → List ℕ
 extent_line n r = index_text n ++ range_text r ++ codes "\n"
 
--- the line of a record: its index and its range, without its flags and its node; and that of a
--- record as it is read from bytes
+-- the line of a record: its index and its range, without its flags and its node. `record_line`
+-- takes a record of the definitions, and `region_line` one that was read from a table's bytes.
 abbrev pub record_line : ℕ → RunOf LabelView → List ℕ
 record_line n r = extent_line n (range_of_run r)
 

@@ -1,12 +1,12 @@
 //! Writes the journal: what happened to memory, item by item. [`put_item`] writes an item without
-//! its number, since the report of nodes has some items in the same words.
+//! its number, since the report `nodes` prints some of the items without numbers.
 
 ghost use Rattle.std.specs.Prelude.{◌+◌, ◌^◌, ◌<◌};
 ghost use Rattle.bm_base.specs.PutsText.{PutsText};
 ghost use Rattle.report_memory.specs.JournalText.{item_line, item_text, journal_text};
 
 use crate::lines::put_indexed_lines;
-use crate::owners::{put_owner, memblock_table_name};
+use crate::owners::{memblock_table_name, put_owner};
 use crate::ranges::{put_range, put_word_range};
 use bm_base::{Memory, Range, put_dec, put_hex, put_text};
 use boot_journal::{Item, Journal, Owner, Which};
@@ -72,7 +72,7 @@ fn put_claim(text: &mut Vec<u8>, range: &Range, owner: Owner) -> Result<(), Memo
     put_range(text, range)
 }
 
-/// Appends whether searches go upward from now on.
+/// Appends the direction of searches from this item on: `on` if they go upward.
 fn put_upward(text: &mut Vec<u8>, on: bool) -> Result<(), Memory>
     ensures { PutsText text.old text.new result (item_text (Item.Upward on)) }
 {

@@ -3,8 +3,8 @@
 //!
 //! Each report consists of three things: the definition of a line in `specs/`, which can be
 //! compared with the documentation of the formats; the function that writes this line; and one call
-//! of [`put_indexed_lines`]. That function takes the one for a line, and is proved once for all
-//! lists. Each `put_` function appends the text of one report:
+//! of [`put_indexed_lines`]. This call takes the function that writes a line; it is proved once for
+//! all lists. Each `put_` function appends the text of one report:
 //!
 //! - [`put_map`]: the runs of the map
 //! - [`put_options`]: the options of the command line
@@ -35,7 +35,7 @@ pub use journal::{put_item, put_journal};
 pub use lines::put_indexed_lines;
 pub use map::put_map;
 pub use options::put_options;
-pub use owners::{put_owners, memblock_table_name};
+pub use owners::{memblock_table_name, put_owners};
 pub use ranges::put_word_range;
 pub use records::put_records;
 pub use tables::put_tables;

@@ -38,7 +38,7 @@ fn put_edit_line(text: &mut Vec<u8>, index: u64, edit: &Edit) -> Result<(), Memo
     put_text(text, b"\n")
 }
 
-/// Appends an edit: what it does, its types, and its range.
+/// Appends the text of an edit: what the edit does, its types, and its range.
 fn put_edit(text: &mut Vec<u8>, edit: &Edit) -> Result<(), Memory>
     ensures { PutsText text.old text.new result (edit_text edit.now) }
 {

@@ -10,8 +10,8 @@ use crate::ranges::{put_index, put_range};
 use bm_base::{Memory, put_dec, put_text};
 use boot_journal::{Journal, Owner, OwnerRun, Which};
 
-/// Appends which owner has which bytes at the end of the journal: a line for each run of bytes with
-/// one owner.
+/// Appends a line for each run of bytes with one owner: its index, its range and its owner. The
+/// owners are those after the last item of the journal.
 ///
 /// # Errors
 ///
@@ -62,7 +62,8 @@ pub fn put_owner(text: &mut Vec<u8>, owner: Owner) -> Result<(), Memory>
     }
 }
 
-/// Appends a word and a number.
+/// Appends `word`, which names a kind of owner, and the owner's number: that of its node, section
+/// root or section, or its ID in a script.
 fn put_numbered_owner(text: &mut Vec<u8>, word: &[u8], number: u32) -> Result<(), Memory>
     ensures { PutsText text.old text.new result (word.now ++ decimal number) }
 {

@@ -1,5 +1,5 @@
-//! Writes ranges and indices, which are the same in every report, also those of other crates. A
-//! range is stored as base and size, and written as its first and its last byte.
+//! Writes ranges and indices. Their format is the same in every report, also in those of other
+//! crates. A range is stored as base and size, and written as its first and its last byte.
 
 ghost use Rattle.std.specs.Prelude.{◌++◌};
 ghost use Rattle.bm_base.specs.PutsText.{PutsText};

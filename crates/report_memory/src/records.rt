@@ -1,6 +1,5 @@
-//! Writes the records of a table, as its bytes have them. There is no list of records that
-//! `put_indexed_lines` could take: each record is read from the store when its line is written. So
-//! the report shows what is in memory.
+//! Writes the records of a table of memblock. Each record is read from the table's bytes in the
+//! store when its line is written, so the report shows what memory really contains.
 
 ghost use Rattle.std.specs.Prelude.{◌+◌, ◌^◌, ◌<◌, ◌≤◌};
 ghost use Rattle.bm_base.specs.PutsText.{PutsText};
@@ -13,8 +12,8 @@ use bm_base::{Memory, put_hex, put_text};
 use memblock_ranges::{Head, Region, region_at};
 use phys_store::Store;
 
-/// Appends a line for each record of the table at this head. The bytes at the head must be an
-/// ascending list of records; their flags and nodes may be any.
+/// Appends a line for each record of the table whose head is `head`. The bytes of the table must be
+/// an ascending list of records. The flags and the node of a record may have any value.
 ///
 /// # Errors
 ///

@@ -1,5 +1,6 @@
-//! Writes the two heads: where each table is, and how full. A table that grows moves and doubles
-//! its room. Its records don't show that, so the heads have a report of their own.
+//! Writes the heads of both tables: where each table is, and how full it is. A table that grows
+//! moves and doubles its room. Its records don't show that, so the heads have a report of their
+//! own.
 
 ghost use Rattle.bm_base.specs.PutsText.{PutsText};
 ghost use Rattle.report_memory.specs.TablesText.{table_line, tables_text};

@@ -1,4 +1,4 @@
--- Lemmas on the lines of a batch: their digits, and how these are replaced.
+-- Lemmas on the lines of a batch: the digits of their addresses, and how these are replaced.
 use Rattle.std.proofs.Common.{◌≡◌, ℕ, zero, suc, ◌+◌, ◌-◌, ◌*◌, ◌/◌, ◌%◌, ◌^◌, ◌<◌, ◌≤◌, false, List, [], ◌∷◌, ◌++◌, length, drop, set, codes, refl, sym, ap, ◌∙◌, append_assoc, append-nil, arith, add-zero, zero-add, suc-add, add-mul}
 use Rattle.std.proofs.Math.Nat.{suc-mul, pow-suc, mul_assoc}
 use Rattle.std.proofs.lemmas.List.{take_at, drop_at, drop-set, length-append}
@@ -12,10 +12,10 @@ use Rattle.buddy_blocks.specs.declared.block.BlockRow.{BlockRow}
 use Rattle.buddy_blocks.specs.Rows.{row_from}
 use Rattle.report_stages.specs.BlocksText.{AreAlignedBlocks, block_line, row_text}
 use Rattle.report_stages.specs.Batches.{FillBatches, first_batch, last_digits, batch_line_end, batch_lines_from, batch_line, batch_text}
-use Rattle.report_stages.specs.ZonesText.{zone_name}
 use Rattle.report_stages.proofs.RowLaws.{lines, lines_append, lines_first, row_low, row_parts}
+use Rattle.bm_base.specs.Zones.{zone_name}
 
--- the digits of a number in two parts; the lower part has m digits
+-- the hexadecimal digits of a number in two parts, the lower of which has m digits
 hex_parts : (m k q r : ℕ) (rest : List ℕ) → r < 16 ^ m → prepend_hex_digits (m + k) (q * 16 ^ m + r) rest ≡ prepend_hex_digits k q (prepend_hex_digits m r rest)
 unfolding prepend_hex_digits
 hex_parts zero k q r rest small = let is : q * 16 ^ 0 + r ≡ q = omega (arith, small) in rw (zero-add, is) refl
@@ -38,7 +38,7 @@ unfolding prepend_hex_digits
 hex_length zero n rest = omega arith
 hex_length (suc k) n rest = let h = hex_length k (n / 16) (digit_glyph false (n % 16) ∷ rest) in omega (arith, h)
 
--- the last eight digits of a number
+-- a number below 2^32 is its own last eight digits
 last_is : (q : ℕ) → q < 2 ^ 32 → last_digits q ≡ prepend_hex_digits 8 q []
 last_is q small =
     let here : 0 * 16 ^ 8 + q ≡ q = omega arith in
@@ -47,7 +47,7 @@ last_is q small =
     let zeros : drop 10 (codes "0x" ++ prepend_hex_digits 8 0 (prepend_hex_digits 8 q [])) ≡ prepend_hex_digits 8 q [] = unfold prepend_hex_digits in refl in
     ap (λ t. drop 10 t) (sym (hex_sixteen q (omega (arith, small))) ∙ ap (λ t. codes "0x" ++ t) parts) ∙ zeros
 
--- one more digit, from the last to the first, and all of them
+-- this and the next: writing one more digit, from the last to the first, and all eight digits
 pub digit_step : (text : List ℕ) (i left : ℕ) → i < 8 → length text ≡ 8
     → prepend_hex_digits (8 - (i + 1)) (left / 16) (drop (8 - (i + 1)) (set text (7 - i) (digit_glyph false (left % 16))))
     ≡ prepend_hex_digits (8 - i) left (drop (8 - i) text)
@@ -65,7 +65,7 @@ digits_end text i left n end small digits =
     let none : prepend_hex_digits 0 left text ≡ text = unfold prepend_hex_digits in refl in
     sym none ∙ rw end at digits ∙ sym (last_is n small)
 
--- an address by its higher and lower digits
+-- the digits of an address are its first eight and its last eight
 address_is : (q r : ℕ) → q < 2 ^ 32 → r < 2 ^ 32 → hex_text (q * 2 ^ 32 + r) ≡ codes "0x" ++ (last_digits q ++ last_digits r)
 address_is q r high low =
     sym (hex_sixteen (q * 2 ^ 32 + r) (omega (arith, high, low)))
@@ -91,7 +91,7 @@ line_is q j n z high low =
     ap (λ t. (before ++ t) ++ codes "\n") (ap hex_text place ∙ address_is q r high (omega (arith, low)))
     ∙ around before (codes "0x") (last_digits q) (last_digits r) (codes "\n")
 
--- a batch is the lines of its blocks
+-- the text of a batch is the lines of its blocks
 pub batch_lines : (k j q n : ℕ) (z : Zone) → q < 2 ^ 32 → j + k ≤ 1024
     → batch_lines_from (front_of n z) (last_digits q) j k ≡ lines (row_from 10 (q * 2 ^ 20 + j * 1024) n z k)
 unfolding batch_lines_from row_from
@@ -108,7 +108,7 @@ pub batch_none : (j : ℕ) (front digits : List ℕ) → batch_lines_from front 
 unfolding batch_lines_from
 batch_none j front digits = refl
 
--- one more line
+-- the lines of k + 1 blocks are those of k blocks and one more line
 batch_more : (k j : ℕ) (front digits : List ℕ)
     → batch_lines_from front digits j (k + 1) ≡ batch_lines_from front digits j k ++ batch_line front digits (j + k)
 unfolding batch_lines_from
@@ -127,7 +127,7 @@ batch_length (suc k) j front digits eight few =
     let rest = batch_length k (j + 1) front digits eight (omega (arith, few)) in
     simp length-append (omega (arith, low, rest, suc-mul k (length front + 17), eight))
 
--- the digits of one line are replaced
+-- replacing the first eight digits in line i moves the boundary between new and old lines past it
 pub batch_put : (front new old : List ℕ) (i line : ℕ) (xs : List ℕ) → i < 1024 → line ≡ length front + 17 → length new ≡ 8 → length old ≡ 8
     → xs ≡ batch_lines_from front new 0 i ++ batch_lines_from front old i (1024 - i)
     → put_mid ((i + 1) * line - 17) 8 xs new ≡ batch_lines_from front new 0 (i + 1) ++ batch_lines_from front old (i + 1) (1024 - (i + 1))
@@ -142,7 +142,7 @@ batch_put front new old i line xs below long eight eight_too is =
     rw (parts, take_at (done ++ front) (old ++ rest) _ size, drop_at (done ++ front) (old ++ rest) _ size, drop_at old rest 8 eight_too)
     (rw (batch_more i 0 front new, zero-add) (simp append_assoc))
 
--- the same step in the terms of the code
+-- replacing the digits of line i, as the code does it
 pub renumber_one_line : (front new old held : List ℕ) (i size : ℕ) (xs : List ℕ) → i < 1024 → size ≡ length (batch_lines_from front old 0 1024)
     → length new ≡ 8 → length old ≡ 8 → held ≡ new → xs ≡ batch_lines_from front new 0 i ++ batch_lines_from front old i (1024 - i)
     → put_mid ((i + 1) * (size / 1024) - 9 - 8) ((i + 1) * (size / 1024) - 9 - ((i + 1) * (size / 1024) - 9 - 8)) xs held
@@ -155,13 +155,13 @@ renumber_one_line front new old held i size xs below all eight eight_too same is
     let width : (i + 1) * (size / 1024) - 9 - ((i + 1) * (size / 1024) - 9 - 8) ≡ 8 = omega (arith, product, line) in
     rw (width, place, same) (batch_put front new old i (size / 1024) xs below line eight eight_too is)
 
--- the length of a batch
+-- the length of a batch's text
 pub batch_size : (front digits text : List ℕ) → length digits ≡ 8 → text ≡ batch_text front digits
     → (length text % 1024 ≡ 0) × (17408 ≤ length text)
 batch_size front digits text eight is =
     let size = rw (← is) at (batch_length 1024 0 front digits eight (omega arith)) in (omega (arith, size), omega (arith, size))
 
--- the batch of the first blocks of a row
+-- the first batch of a row is the text of a batch
 pub batch_of : (row : BlockRow) → FillBatches row
     → batch_text (front_of row.node row.zone) (last_digits (row.first / 2 ^ 20)) ≡ first_batch row
 batch_of row fill =
@@ -173,13 +173,14 @@ pub batch_size_of : (row : BlockRow) (text : List ℕ) → FillBatches row → t
 batch_size_of row text fill is =
     batch_size (front_of row.node row.zone) _ text (last_length (row.first / 2 ^ 20) (omega arith)) (is ∙ sym (batch_of row fill))
 
--- these blocks are aligned and below the limit
+-- the first 1,024 blocks of the row are aligned and below the limit
 pub batch_placed : (row : BlockRow) → FillBatches row → 0 < row.count
     → AreAlignedBlocks (row_from row.order row.first row.node row.zone 1024)
 batch_placed row fill some =
     rw fill.order (row_low 1024 row.first row.node row.zone (omega arith) (omega arith))
 
--- the row after a batch, its own batch, and the lines of that
+-- this and the next two: the rest of the row after its first batch, the first batch of that rest,
+-- and the lines of both
 pub rest_fill : (row : BlockRow) → FillBatches row → 0 < row.count
     → FillBatches (record row { first = row.first + 1048576; count = row.count - 1024 })
 rest_fill row fill some = record { order = fill.order; first = omega arith; count = omega arith; end = omega arith }

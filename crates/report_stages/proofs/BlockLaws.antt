@@ -23,7 +23,7 @@ abbrev MayBeInBounds : Option Block → Type 0
 MayBeInBounds None = Unit {0}
 MayBeInBounds (Some b) = InBounds b
 
--- one more block, if there is one
+-- adding a block, if there is one, keeps the list within its bounds
 led_in_bounds : (x : ℕ) (o : Option Block) (bs : List Block) → MayBeInBounds o → AreInBounds bs → AreInBounds (prepend_block_at x o bs)
 led_in_bounds x None bs one rest = rest
 led_in_bounds x (Some b) bs one rest = cond_both (b.first == x) (b ∷ bs) bs AreInBounds (λ here. (one, rest)) (λ other. rest)

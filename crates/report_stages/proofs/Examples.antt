@@ -25,7 +25,7 @@ use Rattle.report_stages.specs.SectionsText.{sections_text}
 use Rattle.report_stages.specs.SummaryText.{summary_text}
 use Rattle.report_stages.specs.ZonesText.{buddyinfo_line, block_counts_text, frames_in_zone, zone_line}
 
--- the early script; lines have their number in the script, not in the report
+-- the report `script`; a line has its number in the script, not in the report
 script_examples : (outcome_text outcomes.Done ≡ codes "done")
     × (outcome_text outcomes.NoGap ≡ codes "no gap")
     × (outcome_text (outcomes.NoGapForTable which.Reserved 128) ≡ codes "no gap for table reserved room 128")
@@ -40,7 +40,7 @@ script_examples : (outcome_text outcomes.Done ≡ codes "done")
 unfolding digits encode_with
 script_examples = (refl, refl, refl, refl, refl, refl, refl, refl, refl, refl)
 
--- the page script
+-- the report `pages`
 page_examples : (page_outcome_text page.Done ≡ codes "done")
     × (page_outcome_text page.NoBlock ≡ codes "no block")
     × (page_outcome_text page.Taken ≡ codes "taken")
@@ -50,18 +50,18 @@ page_examples : (page_outcome_text page.Done ≡ codes "done")
 unfolding digits
 page_examples = (refl, refl, refl, refl, refl)
 
--- the zone lists
+-- the report `zonelists`
 list_examples : (slit_use_line uses.Used ≡ codes "slit used\n") × (slit_use_line uses.Absent ≡ codes "slit absent\n")
     × (slit_use_line uses.NoSrat ≡ codes "slit no srat\n") × (slit_use_line (uses.NotValid 1 12) ≡ codes "slit not valid 1 12\n")
     × (list_zone_text (record { node = 12; zone = zone.Dma32 }) ≡ codes " 12/DMA32")
 unfolding digits
 list_examples = (refl, refl, refl, refl, refl)
 
--- the nodes
+-- this and the following: the report `nodes`
 first_MiB : RangeView
 first_MiB = record { base = 0; size = 0x100000 }
 
--- items that give no node have no line
+-- an item that gives no node has no line
 node_examples : (srat_use_line why.Off ≡ codes "numa off\n")
     × (srat_use_line why.NoBlocks ≡ codes "numa no blocks\n")
     × (srat_use_line why.TooManyDomains ≡ codes "numa too many domains\n")
@@ -77,7 +77,7 @@ node_examples : (srat_use_line why.Off ≡ codes "numa off\n")
 unfolding digits first_MiB
 node_examples = (refl, refl, refl, refl, refl, refl, refl, refl)
 
--- the crash area
+-- this and the following: the report `crash`
 above_4G : RangeView
 above_4G = record { base = 0x100000000; size = 0x20000000 }
 
@@ -93,7 +93,7 @@ crash_examples : (crash_text crash.Nothing ≡ codes "crash none\n")
 unfolding low_part digits above_4G
 crash_examples = (refl, refl, refl, refl, refl)
 
--- the sections
+-- this and the following: the report `sections`
 low_section : Placed
 low_section = record { section = 0; node = 1; map = 0x7A00000; usage = 0x7FDAFC0 }
 
@@ -103,7 +103,7 @@ section_examples : (sections_text (record { table = 0x7FDC000; roots = record { 
 unfolding digits low_section
 section_examples = (refl, refl)
 
--- the blocks and the zones
+-- this and the following: the reports of blocks and zones
 one_frame : Block
 one_frame = record { order = 0; first = 1; node = 0; zone = zone.Dma }
 
@@ -126,7 +126,7 @@ zone_examples : (indexed_lines block_line 0 (two_frames ∷ far_block ∷ [])
 unfolding two_frames far_block digits one_frame frames_in_zone low_span buddyinfo_line block_counts_text
 zone_examples = (refl, refl, refl, refl)
 
--- the summary
+-- the report `summary`
 summary_examples : summary_text (record {
   runs = 3;
   usable = 32639;

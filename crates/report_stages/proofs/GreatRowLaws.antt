@@ -1,4 +1,4 @@
--- Lemmas on a long row in three parts; the middle one consists of batches.
+-- Lemmas on a long row cut into three parts, of which the middle one consists of batches.
 use Rattle.std.proofs.Common.{◌≡◌, ℕ, ◌+◌, ◌-◌, ◌*◌, ◌/◌, ◌%◌, ◌^◌, ◌<◌, ◌≤◌, List, ◌++◌, ap, ◌∙◌, append_assoc, Result, Ok, Err, arith}
 use Rattle.std.specs.Prelude.{OnOk}
 use Rattle.bm_base.specs.declared.memory.Memory.{Memory}
@@ -16,7 +16,7 @@ before x = (1048576 - x % 1048576) % 1048576 / 1024
 before_is : (x : ℕ) → x % 1024 ≡ 0 → (before x < 1024) × ((x + before x * 1024) % 1048576 ≡ 0)
 before_is x aligned = (omega arith, omega (arith, aligned))
 
--- the middle part, with b blocks before it and e blocks after it
+-- the row has b blocks, then blocks that fill batches, and then e blocks
 pub record InParts (row : BlockRow) (b e : ℕ) : Type 0 where
   pub few : b + e < row.count
   pub end : row.first + row.count * 1024 ≤ 2 ^ 40
@@ -58,7 +58,7 @@ great_parts row great many placed =
     in_parts row b ((row.count - b) / 1024 * 1024) ((row.count - b) % 1024) great (omega (arith, many, few)) (omega (arith, many, few))
     (omega arith) (omega (arith, many, few)) front.1 (row_end row.count row.first row.node row.zone here (omega (arith, many))) placed
 
--- the text of the three parts, one after another
+-- if the calls append the lines of the three parts, they append the lines of the row
 pub parts_put : (row : BlockRow) (b e : ℕ) (answer : Result (Unit {0}) Memory) (old first second third : List ℕ) → InParts row b e
     → first ≡ old ++ row_text (part row 0 b)
     → second ≡ first ++ row_text (part row b (row.count - b - e))

@@ -22,7 +22,7 @@ pub none_below : (node : ℕ) (z : Zone) (bs : List Block) → frames_below node
 none_below node z [] = refl
 none_below node z (b ∷ bs) = grind (arith, nat_tests, none_below node z bs)
 
--- one more order, of one block and of all
+-- this and the next: counting one more order, for one block and for a list
 one_more : (a c : Bool) (o m : ℕ)
     → cond ((a && c) && nat_lt o (m + 1)) (2 ^ o) 0 ≡ cond ((a && c) && nat_lt o m) (2 ^ o) 0 + cond (a && ((o == m) && c)) 1 0 * 2 ^ m
 one_more a c o m = grind (arith, nat_tests)
@@ -37,7 +37,7 @@ next_order node z m (b ∷ bs) =
     sum_by-cons (λ (c : Block). cond (is_block_of node z m c) 1 0) b bs in
     rw count (omega (arith, one, rest))
 
--- all orders are those up to 10
+-- the frames of all blocks are those of the orders below 11
 all_below : (node : ℕ) (z : Zone) (bs : List Block) → AreInBounds bs
     → frames_below node z 11 bs ≡ sum_by (λ (b : Block). 2 ^ b.order) (filter (is_block_in_zone node z) bs)
 all_below node z [] all = refl
@@ -46,14 +46,14 @@ all_below node z (b ∷ bs) all =
     let total = sum_by-cons (λ (c : Block). 2 ^ c.order) b (filter (is_block_in_zone node z) bs) in
     grind (arith, nat_tests, low, total, all_below node z bs all.1)
 
--- no block has more than 1,024 frames
+-- a list has at most 1,024 frames for each block
 few_below : (node : ℕ) (z : Zone) (m : ℕ) (bs : List Block) → AreInBounds bs → frames_below node z m bs ≤ 1024 * length bs
 few_below node z m [] all = omega arith
 few_below node z m (b ∷ bs) all =
     let power : 2 ^ b.order ≤ 2 ^ 10 = pow_mono all.0.order in
     grind (arith, power, few_below node z m bs all.1)
 
--- the same for the listed blocks
+-- counting one more order, for the blocks of the free frames
 pub next_count : (f : Frames) (node : ℕ) (z : Zone) (m : ℕ)
     → frames_below node z (m + 1) (blocks_of f) ≡ frames_below node z m (blocks_of f) + count_blocks f node z m * 2 ^ m
 unfolding count_blocks
@@ -77,7 +77,7 @@ next_frames f node z m frames count so_far is =
     let few = counted_few f node z (m + 1) in
     rw is (omega (arith, next, few, so_far))
 
--- the numbers of blocks, order by order
+-- the counts from an order on are the count of that order and those of the greater orders
 pub next_number : (f : Frames) (node : ℕ) (z : Zone) (order count : ℕ) → order < 11 → count ≡ count_blocks f node z order
     → flat_map (block_count_text (blocks_of f) node z) (range_with_len order (11 - order))
     ≡ (padded_decimal 6 count ++ codes " ")

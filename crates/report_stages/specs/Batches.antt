@@ -1,6 +1,6 @@
--- A batch is the lines of the 1,024 blocks of the largest order in 4 GiB, at a multiple of 4 GiB.
--- The last eight digits of their addresses are the same in each batch. The eight digits before
--- them are the same in each line of one batch.
+-- A batch is the lines of the 1,024 blocks of the largest order in 4 GiB, from a multiple of 4 GiB
+-- on. In the sixteen digits of their addresses, the last eight are the same in every batch, and the
+-- first eight are the same in each line of one batch.
 use Rattle.std.specs.Prelude.{◌≡◌, ℕ, zero, suc, ◌+◌, ◌*◌, ◌%◌, ◌^◌, ◌≤◌, List, [], ◌++◌, drop, codes}
 use Rattle.bm_base.specs.Text.{hex_text}
 use Rattle.buddy_blocks.specs.declared.block.BlockRow.{BlockRow}
@@ -14,25 +14,27 @@ use Rattle.report_stages.specs.BlocksText.{block_line}
 abbrev pub last_digits : ℕ → List ℕ
 last_digits n = drop 10 (hex_text n)
 
--- the end of the line of block j of a batch: the last eight digits of its address, and the newline
+-- the end of the line of block j of a batch: the last eight digits of the block's address, and the
+-- newline
 abbrev pub batch_line_end : ℕ → List ℕ
 batch_line_end j = last_digits (j * 2 ^ 22) ++ codes "\n"
 
--- the line of that block, from the text before the address's digits and its higher digits
+-- the line of block j of a batch: `front` is the text before the address's digits, and `digits` are
+-- the first eight digits
 abbrev pub batch_line : List ℕ → List ℕ → ℕ → List ℕ
 batch_line front digits j = front ++ (digits ++ batch_line_end j)
 
--- n lines from that of block j on
+-- the lines of n blocks of a batch, from block j on
 unfoldable pub batch_lines_from : List ℕ → List ℕ → ℕ → ℕ → List ℕ
 batch_lines_from front digits j zero = []
 batch_lines_from front digits j (suc n) = batch_line front digits j ++ batch_lines_from front digits (j + 1) n
 
--- a whole batch
+-- all lines of a batch
 abbrev pub batch_text : List ℕ → List ℕ → List ℕ
 batch_text front digits = batch_lines_from front digits 0 1024
 
--- the blocks of the row are of the largest order, begin and end at multiples of 4 GiB, and all
--- their frames are below `MAX_FRAMES`
+-- the row consists of blocks of the largest order, begins and ends at multiples of 4 GiB, and has
+-- only frames below `MAX_FRAMES`
 pub record FillBatches (row : BlockRow) : Type 0 where
   pub order : row.order ≡ MAX_ORDER
   pub first : row.first % 2 ^ 20 ≡ 0

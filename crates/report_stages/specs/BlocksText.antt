@@ -10,7 +10,7 @@ use Rattle.buddy_blocks.specs.Frames.{Frames}
 use Rattle.buddy_blocks.specs.BlockList.{blocks_of}
 use Rattle.buddy_blocks.specs.Rows.{blocks_of_row}
 use Rattle.report_memory.specs.Lines.{indexed_lines}
-use Rattle.report_stages.specs.ZonesText.{zone_name}
+use Rattle.bm_base.specs.Zones.{zone_name}
 
 -- the line of a block: its node, its zone, its order, and the address of its first byte; the index
 -- isn't printed
@@ -19,11 +19,11 @@ block_line n b =
     codes "node " ++ decimal b.node ++ codes " zone " ++ zone_name b.zone ++ codes " order " ++ decimal b.order ++ codes " "
     ++ hex_text (bytes_of_frame b.first).base ++ codes "\n"
 
--- all blocks of these free frames, in ascending order
+-- a line for each block of the free frames, in ascending order
 abbrev pub blocks_text : Frames → List ℕ
 blocks_text f = indexed_lines block_line 0 (blocks_of f)
 
--- the lines of a row
+-- a line for each block of a row
 abbrev pub row_text : BlockRow → List ℕ
 row_text row = indexed_lines block_line 0 (blocks_of_row row)
 

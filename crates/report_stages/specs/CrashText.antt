@@ -5,7 +5,7 @@ use Rattle.crash_kernel.specs.declared.crash.Crash.{Crash}
 use Rattle.crash_kernel.specs.declared.crash.Crash.TheVariants as crash
 use Rattle.report_memory.specs.Lines.{range_text}
 
--- the line of the low part, if there is one
+-- the line of the crash area's low part; nothing if there is none
 abbrev pub crash_low_line : Option RangeView → List ℕ
 crash_low_line None = []
 crash_low_line (Some low) = codes "crash low " ++ range_text low ++ codes "\n"

@@ -1,5 +1,5 @@
--- Whether distances are used, and the zone list of each node, as lines. The words are this
--- project's own.
+-- Whether the distances of the SLIT are used, and the zone list of each node, as lines. The words
+-- are this project's own.
 use Rattle.std.specs.Prelude.{ℕ, List, ◌++◌, codes, decimal}
 use Rattle.std.specs.List.{flat_map}
 use Rattle.slit_zonelists.specs.declared.order.ListZone.{ListZone}
@@ -7,9 +7,9 @@ use Rattle.slit_zonelists.specs.declared.uses.SlitUse.{SlitUse}
 use Rattle.slit_zonelists.specs.declared.uses.SlitUse.TheVariants as uses
 use Rattle.slit_zonelists.specs.Lists.{ZoneListsView, nodes_with_zones, slit_use_of, zone_list_of}
 use Rattle.report_memory.specs.Lines.{indexed_lines}
-use Rattle.report_stages.specs.ZonesText.{zone_name}
+use Rattle.bm_base.specs.Zones.{zone_name}
 
--- whether the distances of the SLIT are used, and the reason if they aren't
+-- the text that says whether the distances of the SLIT are used, and if not, why
 abbrev pub slit_use_text : SlitUse → List ℕ
 slit_use_text uses.Used = codes "used"
 slit_use_text uses.Absent = codes "absent"
@@ -19,7 +19,7 @@ slit_use_text (uses.NotValid row column) = codes "not valid " ++ decimal row ++ 
 abbrev pub slit_use_line : SlitUse → List ℕ
 slit_use_line used = codes "slit " ++ slit_use_text used ++ codes "\n"
 
--- an entry of a list: its node and its zone
+-- the text of an entry of a zone list: its node and its zone
 abbrev pub list_zone_text : ListZone → List ℕ
 list_zone_text z = codes " " ++ decimal z.node ++ codes "/" ++ zone_name z.zone
 
@@ -27,6 +27,6 @@ list_zone_text z = codes " " ++ decimal z.node ++ codes "/" ++ zone_name z.zone
 abbrev pub zonelist_line : ZoneListsView → ℕ → ℕ → List ℕ
 zonelist_line k n node = codes "Node " ++ decimal node ++ codes ":" ++ flat_map list_zone_text (zone_list_of k node) ++ codes "\n"
 
--- whether the SLIT is used, and a line for each node that has memory
+-- the report: whether the SLIT is used, and a line for each node that has memory
 abbrev pub zonelists_text : ZoneListsView → List ℕ
 zonelists_text k = slit_use_line (slit_use_of k) ++ indexed_lines (zonelist_line k) 0 (nodes_with_zones k.zones)

@@ -9,8 +9,8 @@ use Rattle.srat_nodes.specs.declared.reasons.Why.TheVariants as why
 use Rattle.numa_nodes.specs.Assignment.{NodesView}
 use Rattle.report_memory.specs.Lines.{indexed_lines, range_text}
 
--- whether the SRAT is used, and the reason if it isn't: with the numbers of blocks that overlap,
--- or of frames that aren't covered
+-- the text that says whether the SRAT is used, and if not, why. If two blocks overlap, the text
+-- has their indices; if frames aren't covered, it has the number of these frames.
 abbrev pub srat_use_text : Why → List ℕ
 srat_use_text why.Used = codes "used"
 srat_use_text why.Off = codes "off"
@@ -28,7 +28,7 @@ srat_use_line reason = codes "numa " ++ srat_use_text reason ++ codes "\n"
 abbrev pub domain_line : ℕ → ℕ → List ℕ
 domain_line node domain = codes "domain " ++ decimal domain ++ codes " node " ++ decimal node ++ codes "\n"
 
--- the number of frames that no block covers
+-- the line with the number of frames that no block covers
 abbrev pub uncovered_line : ℕ → List ℕ
 uncovered_line frames = codes "uncovered " ++ decimal frames ++ codes "\n"
 
@@ -37,8 +37,8 @@ abbrev pub node_line : ℕ → Item → List ℕ
 node_line n (item.Node range node) = codes "node " ++ decimal node ++ codes " " ++ range_text range ++ codes "\n"
 node_line n other = []
 
--- the nodes of a boot, and the ranges that got them by its journal. If the SRAT isn't used, there
--- are no domains.
+-- the text of the report: the nodes of a boot, and the ranges to which its journal gives a node.
+-- If the SRAT isn't used, there are no domains.
 abbrev pub nodes_text : NodesView → List Item → List ℕ
 nodes_text nodes items =
     srat_use_line nodes.why ++ indexed_lines domain_line 0 nodes.domains ++ uncovered_line nodes.uncovered

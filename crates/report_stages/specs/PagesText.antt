@@ -6,7 +6,7 @@ use Rattle.page_alloc.specs.declared.outcome.PageOutcome.{PageOutcome}
 use Rattle.page_alloc.specs.declared.outcome.PageOutcome.TheVariants as outcomes
 use Rattle.report_memory.specs.Lines.{indexed_lines}
 
--- the outcome of a line
+-- the text of the outcome of a line
 abbrev pub page_outcome_text : PageOutcome → List ℕ
 page_outcome_text (outcomes.At address) = codes "at " ++ hex_text address
 page_outcome_text outcomes.Done = codes "done"

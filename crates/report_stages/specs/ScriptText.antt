@@ -8,7 +8,7 @@ use Rattle.early_script.specs.declared.outcome.Outcome.TheVariants as outcomes
 use Rattle.report_memory.specs.Lines.{indexed_lines}
 use Rattle.report_memory.specs.OwnersText.{memblock_table_name}
 
--- the outcome of a line; bytes are written as two lower-case hexadecimal digits each
+-- the text of the outcome of a line; each byte is written as two lower-case hexadecimal digits
 abbrev pub outcome_text : Outcome → List ℕ
 outcome_text (outcomes.At address) = codes "at " ++ hex_text address
 outcome_text outcomes.Done = codes "done"

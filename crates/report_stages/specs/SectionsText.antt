@@ -22,7 +22,7 @@ section_line n s =
     codes "section " ++ decimal s.section ++ codes " node " ++ decimal s.node ++ codes " map " ++ hex_text s.map ++ codes " usage "
     ++ hex_text s.usage ++ codes "\n"
 
--- the table and the roots, and then the sections
+-- a line for the table of roots, and one for each root
 abbrev pub roots_text : RootsView → List ℕ
 roots_text roots = roots_line roots.table ++ indexed_lines root_line 0 roots.roots
 

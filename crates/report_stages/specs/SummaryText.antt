@@ -10,7 +10,7 @@ use Rattle.report_stages.specs.declared.summary.Summary.{Summary}
 abbrev pub number_line : List ℕ → ℕ → List ℕ
 number_line word n = word ++ decimal n ++ codes "\n"
 
--- the line of a table: its records, and the number of records that it has room for
+-- the line of a table: the number of its records, and the number that it has room for
 abbrev pub fullness_line : Which → Fullness → List ℕ
 fullness_line w full = memblock_table_name w ++ codes " records " ++ decimal full.records ++ codes " room " ++ decimal full.room ++ codes "\n"
 

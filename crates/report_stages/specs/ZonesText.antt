@@ -11,44 +11,39 @@ use Rattle.buddy_blocks.specs.Frames.{Frames}
 use Rattle.buddy_blocks.specs.BlockList.{blocks_of, is_block_of, is_same_zone}
 use Rattle.zone_spans.specs.declared.span.Span.{Span}
 use Rattle.report_memory.specs.Lines.{indexed_lines}
-
--- the name of a zone (`zone_names`)
-abbrev pub zone_name : Zone → List ℕ
-zone_name zone.Dma = codes "DMA"
-zone_name zone.Dma32 = codes "DMA32"
-zone_name zone.Normal = codes "Normal"
+use Rattle.bm_base.specs.Zones.{zone_name}
 
 -- the name, right-aligned in eight columns (`%8s`)
 abbrev pub padded_zone : Zone → List ℕ
 padded_zone z = replicate (8 - length (zone_name z)) 32 ++ zone_name z
 
--- the block is on the node and in the zone
+-- whether the block lies on the node and in the zone
 abbrev pub is_block_in_zone : ℕ → Zone → Block → Bool
 is_block_in_zone node z b = (b.node == node) && is_same_zone b.zone z
 
--- the number of frames in those of the blocks that are on the node and in the zone; a block has
--- 2^order frames
+-- the number of frames in those blocks of the list that lie on the node and in the zone; a block
+-- has 2^order frames
 unfoldable pub frames_in_zone : ℕ → Zone → List Block → ℕ
 frames_in_zone node z blocks = sum_by (λ b. 2 ^ b.order) (filter (is_block_in_zone node z) blocks)
 
--- the line of a span: its first frame, the one after its last, the number of its frames, and how
--- many of them are in free blocks; the index isn't printed
+-- the line of a span: its first frame, the frame after its last, the number of its frames, and the
+-- number of these in free blocks; the index isn't printed
 abbrev pub zone_line : List Block → ℕ → Span → List ℕ
 zone_line blocks n s =
     codes "Node " ++ decimal s.node ++ codes ", zone " ++ zone_name s.zone ++ codes " start " ++ decimal s.start ++ codes " end "
     ++ decimal s.end ++ codes " present " ++ decimal s.present ++ codes " free " ++ decimal (frames_in_zone s.node s.zone blocks)
     ++ codes "\n"
 
--- the lines of the spans, for these free frames
+-- a line for each span, with the free frames `f`
 abbrev pub zones_text : Frames → List Span → List ℕ
 zones_text f spans = indexed_lines (zone_line (blocks_of f)) 0 spans
 
--- how many of the blocks are on the node, in the zone and of the order, right-aligned in six
--- columns, and a space (`%6lu `)
+-- the number of blocks on the node, in the zone and of the order, right-aligned in six columns, and
+-- a space (`%6lu `)
 abbrev pub block_count_text : List Block → ℕ → Zone → ℕ → List ℕ
 block_count_text blocks node z order = padded_decimal 6 (count_by (is_block_of node z order) blocks) ++ codes " "
 
--- the numbers of blocks of the node and the zone, by order from 0 to 10
+-- the number of blocks of each order from 0 to 10 on the node and in the zone
 unfoldable pub block_counts_text : List Block → ℕ → Zone → List ℕ
 block_counts_text blocks node z = flat_map (block_count_text blocks node z) (range_with_len 0 (MAX_ORDER + 1))
 

@@ -1,9 +1,10 @@
 //! Writes the lines of long rows of blocks, in batches.
 //!
-//! A row of blocks of the largest order may have millions of them, and their lines differ only in
-//! the address. A batch is the lines of the 1,024 blocks in 4 GiB; from one batch to the next only
-//! eight digits of each line change. So the lines of the first 4 GiB are written one by one. For
-//! each further 4 GiB they are copied, with these digits replaced.
+//! A row is a sequence of consecutive blocks of the same order, node and zone. A row of blocks of
+//! the largest order may have millions of lines, which differ only in the address. A batch is the
+//! lines of the 1,024 blocks in 4 GiB; from one batch to the next only eight digits of each line
+//! change. The lines of the first 4 GiB are written one by one. For each following 4 GiB these
+//! lines are copied, with the eight digits replaced.
 
 ghost use Rattle.std.specs.Prelude.{◌≡◌, ℕ, List, ◌*◌, ◌%◌, ◌^◌, ◌<◌, ◌≤◌, ◌++◌, IfOk, OnOk, false, length};
 ghost use Rattle.std.specs.Fmt.{digit_glyph};
@@ -64,8 +65,8 @@ fn first_batch(alloc: Global, row: &BlockRow) -> Result<Vec<u8>, Memory>
     Ok(lines)
 }
 
-/// Overwrites the addresses in the lines of a batch. Its blocks are then those from address `number
-/// * 2^32` on.
+/// Overwrites the addresses in the lines of a batch. Afterwards the lines are those of the blocks
+/// from address `number * 2^32` on.
 fn overwrite_batch_addresses(batch: &mut Vec<u8>, number: u64)
     requires small { number < 2 ^ 32 }
     requires whole { length batch.old.items % 1024 ≡ 0 }
@@ -76,7 +77,7 @@ fn overwrite_batch_addresses(batch: &mut Vec<u8>, number: u64)
     replace_batch_digits(batch, &last_digits(number));
 }
 
-/// Overwrites the eight higher digits of the address in each line of a batch.
+/// Overwrites the first eight of the sixteen digits of the address in each line of a batch.
 fn replace_batch_digits(batch: &mut [u8], digits: &[u8; 8])
     requires whole { length batch.old % 1024 ≡ 0 }
     requires long { 17 * 1024 ≤ length batch.old }
@@ -90,7 +91,7 @@ fn replace_batch_digits(batch: &mut [u8], digits: &[u8; 8])
     }
 }
 
-/// Returns the eight hexadecimal digits of a number below 2^32.
+/// Returns `number`, which must be below 2^32, as eight hexadecimal digits.
 fn last_digits(number: u64) -> [u8; 8]
     requires { number < 2 ^ 32 }
     ensures { result ≡ last_digits number }

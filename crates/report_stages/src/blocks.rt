@@ -1,7 +1,8 @@
 //! Writes the free blocks: where each is, and how large.
 //!
-//! There may be millions of them, nearly all of the largest order and next to each other. The room
-//! for the whole text is allocated once. The lines of long rows are written in batches
+//! There may be millions of blocks, nearly all of the largest order and next to each other. The
+//! room for the whole text is allocated once. A row is a sequence of consecutive blocks of the
+//! same order, node and zone. The lines of long rows are written in batches
 //! ([`put_row_in_batches`]). The other lines, and those at the ends of long rows, are written one
 //! by one.
 
@@ -88,7 +89,7 @@ fn put_max_order_row(text: &mut Vec<u8>, row: &BlockRow) -> Result<(), Memory>
     put_each_block(text, &part_of_row(row, row.count - after, after))
 }
 
-/// Returns the part of the row that has `count` blocks and begins after its first `skipped` blocks.
+/// Returns a part of the row: leaves out the first `skipped` blocks, and takes the next `count`.
 /// The order of the row must be `MAX_ORDER`.
 fn part_of_row(row: &BlockRow, skipped: u64, count: u64) -> BlockRow
     requires { row.now.first + skipped * 1024 ≤ MAX_FRAMES }

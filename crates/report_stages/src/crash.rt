@@ -8,8 +8,8 @@ use bm_base::{Memory, Range, put_text};
 use crash_kernel::Crash;
 use report_memory::put_word_range;
 
-/// Appends where the crash area is, or why there is none. A second line has its part below 4 GiB,
-/// if there is one.
+/// Appends where the crash area is, or why there is none. A second line has the area's low part,
+/// which is a further area below 4 GiB, if there is one.
 ///
 /// # Errors
 ///
@@ -30,7 +30,7 @@ pub fn put_crash(text: &mut Vec<u8>, crash: &Crash) -> Result<(), Memory>
     }
 }
 
-/// Appends the line for the area's part below 4 GiB, if there is one.
+/// Appends the line for the area's low part, if there is one.
 fn put_crash_low_line(text: &mut Vec<u8>, low: &Option<Range>) -> Result<(), Memory>
     ensures { PutsText text.old text.new result (crash_low_line low.now) }
 {

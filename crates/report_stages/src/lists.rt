@@ -27,7 +27,8 @@ pub fn put_zonelists(text: &mut Vec<u8>, lists: &Lists) -> Result<(), Memory>
     put_zonelist_lines(text, &nodes, lists)
 }
 
-/// Appends a line for each of these nodes. Also allocates the list of each node, one at a time.
+/// Appends a line for each of the `nodes`. Besides the text it allocates the list of each node, one
+/// at a time.
 fn put_zonelist_lines(text: &mut Vec<u8>, nodes: &[u32], lists: &Lists) -> Result<(), Memory>
     ensures { OnOk result
         (text.new.items ≡ text.old.items ++ indexed_lines (zonelist_line lists.now) 0 nodes.now) }
@@ -61,7 +62,8 @@ fn put_slit_use(text: &mut Vec<u8>, used: SlitUse) -> Result<(), Memory>
     }
 }
 
-/// Appends the line for a node: its number, and the zones of its list. Also allocates that list.
+/// Appends the line for a node: its number, and the zones of its list. Besides the text it
+/// allocates that list.
 fn put_zonelist_line(
     text: &mut Vec<u8>,
     index: u64,

@@ -1,6 +1,6 @@
 //! Writes the nodes: why the SRAT is or isn't used, and which memory is on which node. The ranges
-//! are the `Node` items of the journal, in its own words (`put_item`), since the result of the
-//! stage doesn't have them.
+//! of a node are taken from the journal's `Node` items, since the result of the stage doesn't have
+//! them. Such an item has the same text as in the report `journal` (`put_item`).
 
 ghost use Rattle.bm_base.specs.PutsText.{PutsText};
 ghost use Rattle.numa_nodes.specs.Assignment.{nodes_view};
@@ -38,7 +38,8 @@ fn put_srat_use_line(text: &mut Vec<u8>, why: &Why) -> Result<(), Memory>
     put_text(text, b"\n")
 }
 
-/// Appends the reason, with its numbers.
+/// Appends why the SRAT is or isn't used. If blocks overlap, their two numbers follow; if frames
+/// aren't covered, the number of these frames.
 fn put_srat_use(text: &mut Vec<u8>, why: &Why) -> Result<(), Memory>
     ensures { PutsText text.old text.new result (srat_use_text why.now) }
 {

@@ -10,9 +10,9 @@ use crate::words::{put_word_dec, put_word_hex};
 use bm_base::{Memory, put_dec, put_text};
 use early_script::{Answer, Outcome};
 use memblock_model::Which;
-use report_memory::{put_indexed_lines, memblock_table_name};
+use report_memory::{memblock_table_name, put_indexed_lines};
 
-/// The largest number of bytes that a line of the script prints.
+/// The largest number of bytes of memory that one line of the script reads and reports.
 const MOST_PEEKED_BYTES: usize = 64;
 
 /// Appends the outcomes of the early script: a line for each of its lines, in their order.
@@ -67,8 +67,8 @@ fn put_refused_growth(text: &mut Vec<u8>, which: Which, room: u64) -> Result<(),
     put_word_dec(text, b" room ", room)
 }
 
-/// Appends bytes as two lower-case hexadecimal digits each. There are at most `MOST_PEEKED_BYTES`
-/// of them.
+/// Appends each of the bytes as two lower-case hexadecimal digits. There are at most
+/// `MOST_PEEKED_BYTES` bytes.
 fn put_bytes(text: &mut Vec<u8>, bytes: &[u8]) -> Result<(), Memory>
     requires { length bytes.now ≤ MOST_PEEKED_BYTES }
     ensures { PutsText text.old text.new result (encode_lower bytes.now) }

@@ -1,13 +1,15 @@
-//! Writes the zones: the range of frames of each node and zone, and the number of free blocks.
-//! Both reports have a line for each span. They count in the free frames (`Buddy::count`), without
-//! a list of blocks.
+//! Writes the reports `zones` and `buddyinfo`. Both have a line for each span: the range of frames
+//! of one node in one zone. `zones` prints the range and its number of free frames, `buddyinfo`
+//! the number of free blocks of each order. Both count with `Buddy::count`, without a list of
+//! blocks.
 
 ghost use Rattle.std.specs.Prelude.{◌≡◌, ◌++◌, codes, decimal};
 ghost use Rattle.bm_base.specs.PutsText.{PutsText};
 ghost use Rattle.bm_base.specs.Text.{padded_decimal};
 ghost use Rattle.buddy_blocks.specs.BlockList.{blocks_of};
 ghost use Rattle.buddy_handover.specs.BuddyView.{node_of_free_frame};
-ghost use Rattle.report_stages.specs.ZonesText.{buddyinfo_line, buddyinfo_text, block_counts_text, frames_in_zone, padded_zone, zone_line, zone_name, zones_text};
+ghost use Rattle.report_stages.specs.ZonesText.{buddyinfo_line, buddyinfo_text, block_counts_text, frames_in_zone, padded_zone, zone_line, zones_text};
+ghost use Rattle.bm_base.specs.Zones.{zone_name};
 
 use crate::words::put_word_dec;
 use bm_base::{Memory, Zone, put_dec, put_text};
@@ -92,7 +94,8 @@ fn put_buddyinfo_line(
     put_text(text, b"\n")
 }
 
-/// Appends the number of a node, and the word before the name of a zone.
+/// Appends `Node `, the number of the node, and `, zone `: the start of a line before the name of
+/// the zone.
 fn put_node_before_zone(text: &mut Vec<u8>, node: u32) -> Result<(), Memory>
     ensures { PutsText text.old text.new result (codes "Node " ++ decimal node ++ codes ", zone ") }
 {

@@ -1,4 +1,4 @@
--- one more part
+-- the goals for appending one more part
 use Rattle.std.proofs.Common.{arith}
 use Rattle.std.proofs.lemmas.Grind.{common_steps}
 use Rattle.debugfs_reports.proofs.list.render_all.Goals as goal

@@ -1,4 +1,5 @@
--- The texts so far are those of the reports so far; joined together, they are their whole text.
+-- The texts so far are those of the reports so far. Joined together, they are the whole text of
+-- these reports.
 use Rattle.std.proofs.Common.{◌≡◌, map, take}
 use Rattle.std.specs.List.{flat_map}
 use Rattle.boot_model.specs.View.{booted_view}

@@ -1,4 +1,4 @@
--- A row that has a block is of an order below 64.
+-- A row that has a block has an order below 64.
 use Rattle.std.proofs.Common.{arith}
 use Rattle.debugfs_reports.proofs.SummaryLaws.{shift_small}
 use Rattle.debugfs_reports.proofs.summary.frames_in_row.Goals as goal

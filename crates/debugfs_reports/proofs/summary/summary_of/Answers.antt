@@ -1,5 +1,5 @@
--- The blocks of the rows are those of the free frames, so the frames of one more row fit; after
--- the last row all are counted.
+-- The blocks of the rows are those of the free frames. So the frames of one more row fit in 64
+-- bits, and after the last row all frames are counted.
 use Rattle.std.proofs.Common.{arith}
 use Rattle.bm_base.specs.declared.zone.Zone.TheVariants as zone
 use Rattle.buddy_blocks.specs.declared.block.BlockRow.{BlockRow}
@@ -7,7 +7,7 @@ use Rattle.buddy_handover.specs.BuddyView.{node_of_free_frame}
 use Rattle.debugfs_reports.proofs.SummaryLaws.{counted_few, row_left, row_more}
 use Rattle.debugfs_reports.proofs.summary.summary_of.Goals as goal
 
--- a placeholder for a row after the last one
+-- any row, for an index past the last row
 abbrev no_row : BlockRow
 no_row = record { order = 0; first = 0; count = 0; node = 0; zone = zone.Dma }
 

@@ -1,4 +1,5 @@
--- The blocks so far, and those of the rows that are left, are all blocks, and so are their frames.
+-- The blocks so far and those of the remaining rows are together all blocks. The same is true of
+-- their frames.
 use Rattle.debugfs_reports.proofs.SummaryLaws.{Counted}
 use Rattle.debugfs_reports.proofs.summary.summary_of.Given as goal
 

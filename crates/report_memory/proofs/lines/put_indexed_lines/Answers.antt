@@ -1,4 +1,4 @@
--- The line of one more element, or the end of all.
+-- The call appends the line of the next element, or there is no element left.
 use Rattle.std.proofs.Common.{arith}
 use Rattle.std.proofs.lemmas.Result.{err_from_is_err_and}
 use Rattle.report_memory.proofs.LineLaws.{lines_at, lines_end}

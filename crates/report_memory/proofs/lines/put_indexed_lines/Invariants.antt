@@ -1,5 +1,5 @@
--- The text so far, and the lines of the elements that are left, are the whole text, for every
--- format of a line. If no call allocates other memory, the text has no less room than before.
+-- For any format of a line, the text so far and the lines of the elements that are left are
+-- together the whole text. If no call allocates other memory, the text's room doesn't shrink.
 use Rattle.std.proofs.Common.{◌≡◌, ℕ, ◌≤◌, List, ◌++◌, drop, vec_capacity}
 use Rattle.std.specs.Prelude.{OnOk}
 use Rattle.bm_base.specs.PutsText.{PutsText}

@@ -1,4 +1,4 @@
--- The parts of the line, one after another.
+-- The calls append the parts of the line one after another.
 use Rattle.std.proofs.Common.{◌++◌, codes, arith}
 use Rattle.std.proofs.lemmas.Grind.{common_steps}
 use Rattle.address_runs.specs.Runs.{range_of_run}

@@ -1,4 +1,4 @@
--- Each record isn't empty, and its line is the next one.
+-- No record is empty, and the line of a record is the next line of the report.
 use Rattle.std.proofs.Common.{arith}
 use Rattle.std.proofs.lemmas.Result.{err_from_is_err_and}
 use Rattle.memblock_ranges.specs.Tables.{records_of_head}

@@ -1,5 +1,5 @@
--- The text so far, and the lines of the records that are left, are the whole text; the text has no
--- less room than before.
+-- The text so far and the lines of the records that are left are together the whole text. The
+-- text's room doesn't shrink.
 use Rattle.std.proofs.Common.{◌≡◌, ◌≤◌, ◌++◌, drop, vec_capacity}
 use Rattle.memblock_ranges.specs.Tables.{records_of_head}
 use Rattle.report_memory.specs.Lines.{indexed_lines}

@@ -1,4 +1,4 @@
--- The parts of the line, one after another.
+-- The calls append the lines of both tables one after another.
 use Rattle.memblock_model.specs.declared.owner.Which.TheVariants as which
 use Rattle.report_memory.specs.TablesText.{table_line}
 use Rattle.report_memory.proofs.PutLaws.{goes_on}

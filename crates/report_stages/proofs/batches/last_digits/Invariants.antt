@@ -1,4 +1,4 @@
--- The digits so far are at the end, and those that are left are the digits of the quotient.
+-- The last digits are written already. The digits that are left to write are those of the quotient.
 use Rattle.std.proofs.Common.{◌≡◌, ◌-◌, length, drop, []}
 use Rattle.bm_base.proofs.TextLaws.{prepend_hex_digits}
 use Rattle.report_stages.proofs.batches.last_digits.Given as goal

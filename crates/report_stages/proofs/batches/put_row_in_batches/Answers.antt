@@ -1,4 +1,5 @@
--- The lines of another 4 GiB are written, and those in memory become the lines of the next.
+-- The call appends the lines of 4 GiB, and then turns the lines in memory into those of the next 4
+-- GiB.
 use Rattle.std.proofs.Common.{◌≡◌, ◌∙◌, ◌++◌, ap, arith}
 use Rattle.buddy_blocks.specs.declared.block.BlockRow.{BlockRow}
 use Rattle.report_memory.proofs.PutLaws.{text_end, text_more}

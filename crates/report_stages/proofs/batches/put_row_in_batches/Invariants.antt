@@ -1,5 +1,5 @@
--- The lines in memory are those of the next 4 GiB. The text so far, with the lines of the blocks
--- that are left, is the whole.
+-- The lines in memory are those of the next 4 GiB. The text so far, followed by the lines of the
+-- blocks that are left, is the whole text.
 use Rattle.std.proofs.Common.{◌≡◌, ◌++◌}
 use Rattle.report_stages.specs.BlocksText.{row_text}
 use Rattle.report_stages.specs.Batches.{FillBatches, first_batch}

@@ -1,4 +1,4 @@
--- The lines up to this one have the new digits, and the others still have the old ones.
+-- The lines before this one have the new digits, and the others still have the old ones.
 use Rattle.std.proofs.Common.{◌≡◌, ℕ, List, ◌-◌, ◌++◌, length}
 use Rattle.report_stages.specs.Batches.{batch_lines_from, batch_text}
 use Rattle.report_stages.proofs.batches.replace_batch_digits.Given as goal

@@ -1,4 +1,5 @@
--- The rows that are left are one row and the others, and the number of all their blocks fits.
+-- The blocks of the remaining rows are those of the next row and of the rows after it. Their number
+-- fits in 64 bits.
 use Rattle.std.proofs.Common.{arith}
 use Rattle.bm_base.specs.declared.zone.Zone.TheVariants as zone
 use Rattle.buddy_blocks.specs.declared.block.BlockRow.{BlockRow}

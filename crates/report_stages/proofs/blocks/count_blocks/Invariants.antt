@@ -1,4 +1,4 @@
--- The blocks so far, and those of the rows that are left, are all blocks.
+-- The blocks counted so far and those of the remaining rows are together all blocks.
 use Rattle.std.proofs.Common.{◌≡◌, ◌+◌, drop, length}
 use Rattle.buddy_blocks.specs.Rows.{blocks_of_rows}
 use Rattle.report_stages.proofs.blocks.count_blocks.Given as goal

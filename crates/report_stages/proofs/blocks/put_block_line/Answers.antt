@@ -1,11 +1,11 @@
--- The parts of the line, one after another.
+-- The calls append the parts of the line one after another.
 use Rattle.std.proofs.Common.{◌++◌, codes, decimal, arith}
 use Rattle.std.proofs.lemmas.Grind.{common_steps}
 use Rattle.bm_base.specs.Frames.{bytes_of_frame}
 use Rattle.bm_base.specs.Text.{hex_text}
 use Rattle.report_memory.proofs.PutLaws.{goes_on}
-use Rattle.report_stages.specs.ZonesText.{zone_name}
 use Rattle.report_stages.proofs.blocks.put_block_line.Goals as goal
+use Rattle.bm_base.specs.Zones.{zone_name}
 
 pub returns : goal.returns
 returns c =

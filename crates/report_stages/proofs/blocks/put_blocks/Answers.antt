@@ -1,4 +1,4 @@
--- The listed blocks are aligned and below the limit, and their number fits.
+-- The blocks of the free frames are aligned and below the limit, and their number fits in 64 bits.
 use Rattle.std.proofs.Common.{◌≡◌, ◌∙◌, ℕ, length, refl, arith}
 use Rattle.buddy_blocks.specs.BlockList.{blocks_of}
 use Rattle.buddy_handover.specs.BuddyView.{node_of_free_frame}

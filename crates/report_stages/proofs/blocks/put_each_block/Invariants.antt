@@ -1,5 +1,5 @@
--- The text so far, and the lines of the blocks that are left, are the lines of all blocks; the
--- text has no less room than before.
+-- The text so far, followed by the lines of the blocks that are left, is the lines of all blocks.
+-- The text's room doesn't shrink.
 use Rattle.std.proofs.Common.{◌≡◌, ◌≤◌, ◌++◌, vec_capacity}
 use Rattle.buddy_blocks.specs.Rows.{row_from, blocks_of_row}
 use Rattle.report_stages.specs.BlocksText.{AreAlignedBlocks}

@@ -1,4 +1,4 @@
--- The row in three parts.
+-- The row is cut into three parts, whose lines are appended one after another.
 use Rattle.std.proofs.Common.{arith}
 use Rattle.report_stages.specs.BlocksText.{row_text}
 use Rattle.report_memory.proofs.PutLaws.{puts_ok}

@@ -1,4 +1,4 @@
--- The text so far, and the lines of the rows that are left, are the lines of all rows.
+-- The text so far, followed by the lines of the rows that are left, is the lines of all rows.
 use Rattle.std.proofs.Common.{◌≡◌, ◌++◌, drop}
 use Rattle.buddy_blocks.specs.Rows.{blocks_of_rows}
 use Rattle.report_stages.proofs.RowLaws.{lines}

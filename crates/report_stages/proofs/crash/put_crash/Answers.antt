@@ -1,4 +1,4 @@
--- The line of the area, and that of its low part.
+-- The calls append the line of the area, and the line of its low part.
 use Rattle.std.proofs.Common.{◌++◌, codes, arith}
 use Rattle.std.proofs.lemmas.Grind.{common_steps}
 use Rattle.report_memory.specs.Lines.{range_text}

@@ -1,4 +1,4 @@
--- If memory runs out for an entry, the room was too small for all of them.
+-- If the program runs out of memory at an entry, the room was too small for all entries.
 use Rattle.std.proofs.Common.{◌≡◌, ℕ, ◌+◌, ◌<◌, ◌≤◌, List, ◌++◌, length, drop, get_or, refl, drop-cons, add-one}
 use Rattle.std.proofs.lemmas.Result.{err_from_is_err_and}
 use Rattle.std.specs.List.{flat_map}

@@ -1,4 +1,4 @@
--- The text is followed by the entries so far, and has no less room than before.
+-- The entries so far follow the old text. The text's room doesn't shrink.
 use Rattle.std.proofs.Common.{◌≡◌, ◌≤◌, ◌++◌, drop, vec_capacity}
 use Rattle.std.specs.List.{flat_map}
 use Rattle.report_stages.specs.ListsText.{list_zone_text}

@@ -1,4 +1,4 @@
--- The parts of the text, one after another.
+-- The calls append the parts of the text one after another.
 use Rattle.std.proofs.Common.{◌++◌, Ok, arith}
 use Rattle.std.proofs.lemmas.Grind.{common_steps}
 use Rattle.report_memory.specs.Lines.{indexed_lines}

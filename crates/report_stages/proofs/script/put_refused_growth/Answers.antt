@@ -1,4 +1,4 @@
--- The parts of the text, one after another.
+-- The calls append the parts of the text one after another.
 use Rattle.std.proofs.Common.{List, ℕ, ◌++◌, codes, decimal, sym, subst, append_assoc, arith}
 use Rattle.std.proofs.lemmas.Grind.{common_steps}
 use Rattle.bm_base.specs.PutsText.{PutsText}

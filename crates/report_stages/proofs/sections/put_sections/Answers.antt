@@ -1,4 +1,4 @@
--- The parts of the text, one after another.
+-- The calls append the parts of the text one after another.
 use Rattle.std.proofs.Common.{Ok}
 use Rattle.report_memory.specs.Lines.{indexed_lines}
 use Rattle.report_memory.proofs.PutLaws.{goes_on}

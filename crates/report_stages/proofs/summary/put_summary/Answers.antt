@@ -1,4 +1,4 @@
--- The lines, one after another.
+-- The calls append the lines one after another.
 use Rattle.std.proofs.Common.{◌++◌, codes, arith}
 use Rattle.std.proofs.lemmas.Grind.{common_steps}
 use Rattle.memblock_model.specs.declared.owner.Which.TheVariants as which

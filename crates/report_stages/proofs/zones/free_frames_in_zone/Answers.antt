@@ -1,4 +1,4 @@
--- One order after another.
+-- Each turn of the loop adds the frames of one more order.
 use Rattle.std.proofs.Common.{◌≡◌, ◌+◌, ◌∙◌, sym, arith}
 use Rattle.buddy_blocks.specs.BlockList.{blocks_of}
 use Rattle.buddy_handover.specs.BuddyView.{node_of_free_frame}

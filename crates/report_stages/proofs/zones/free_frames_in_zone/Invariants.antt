@@ -1,4 +1,4 @@
--- The frames in the blocks of the orders so far.
+-- The number so far is that of the frames in blocks of the orders so far.
 use Rattle.std.proofs.Common.{◌≡◌}
 use Rattle.buddy_handover.specs.BuddyView.{node_of_free_frame}
 use Rattle.buddy_blocks.specs.BlockList.{blocks_of}

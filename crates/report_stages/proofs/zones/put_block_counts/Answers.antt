@@ -1,4 +1,4 @@
--- One order after another.
+-- Each turn of the loop appends the count of one more order.
 use Rattle.std.proofs.Common.{arith}
 use Rattle.std.proofs.lemmas.Result.{err_from_is_err_and}
 use Rattle.buddy_handover.specs.BuddyView.{node_of_free_frame}

@@ -1,5 +1,5 @@
--- The text so far, and the numbers of the orders that are left, are those of all orders; the text
--- has no less room than before.
+-- The text so far, followed by the counts of the orders that are left, is the counts of all orders.
+-- The text's room doesn't shrink.
 use Rattle.std.proofs.Common.{◌≡◌, ◌≤◌, ◌-◌, ◌++◌, vec_capacity}
 use Rattle.std.specs.List.{flat_map, range_with_len}
 use Rattle.buddy_handover.specs.BuddyView.{node_of_free_frame}

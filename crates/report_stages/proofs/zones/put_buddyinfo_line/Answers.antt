@@ -1,4 +1,4 @@
--- The parts of the line, one after another.
+-- The calls append the parts of the line one after another.
 use Rattle.std.proofs.Common.{◌++◌, codes, decimal, arith}
 use Rattle.std.proofs.lemmas.Grind.{common_steps}
 use Rattle.buddy_handover.specs.BuddyView.{node_of_free_frame}

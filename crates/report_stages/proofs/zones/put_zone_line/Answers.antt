@@ -1,11 +1,12 @@
--- The parts of the line, one after another.
+-- The calls append the parts of the line one after another.
 use Rattle.std.proofs.Common.{◌++◌, codes, decimal, arith}
 use Rattle.std.proofs.lemmas.Grind.{common_steps}
 use Rattle.buddy_handover.specs.BuddyView.{node_of_free_frame}
 use Rattle.buddy_blocks.specs.BlockList.{blocks_of}
 use Rattle.report_memory.proofs.PutLaws.{goes_on}
-use Rattle.report_stages.specs.ZonesText.{frames_in_zone, zone_name}
+use Rattle.report_stages.specs.ZonesText.{frames_in_zone}
 use Rattle.report_stages.proofs.zones.put_zone_line.Goals as goal
+use Rattle.bm_base.specs.Zones.{zone_name}
 
 pub returns : goal.returns
 returns c =
