@@ -1,5 +1,5 @@
--- The command line: its own faults, those of words and the user map's. None of them is out of
--- memory.
+-- The faults of a command line: its own, those of its words, and those of a user map. None of them
+-- is out of memory.
 use Rattle.std.proofs.Common.{◌≢◌, ℕ, ◌+◌, Bool, List, [], ◌∷◌, Option, Result, Ok, codes, arith}
 use Rattle.std.specs.Prelude.{IsErrOf, if◌then◌else◌}
 use Rattle.std.specs.Option.{option_and_then, option_map}

@@ -12,7 +12,7 @@ use Rattle.boot_options.specs.declared.fault.OptionFault.TheVariants as options
 use Rattle.boot_options.specs.Options.{AddEfi, OptionsView, NumaOff, OfCrash, OfMap, WordMeaning, all_map_options, checked_line, options_of_words, crash_of, is_efi_added, last_exact, command_line_of, memmap_of, numa_of, meaning_of_map_option, name_value_of, options_of, option_words, meaning_or_fault, raw_line, word_meaning, word_meanings_from, check_user_map, options_with_user_map}
 use Rattle.boot_inputs.specs.WithoutEfi.{has_efi_word}
 
--- the word says something else
+-- the meaning of the word isn't `add_efi_memmap`
 abbrev IsNotEfiWord : WordMeaning → Type 0
 IsNotEfiWord (OfMap ps) = Unit {0}
 IsNotEfiWord (OfCrash form) = Unit {0}

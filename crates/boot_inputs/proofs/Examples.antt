@@ -1,4 +1,5 @@
--- Small files: what the definitions make of them, and how results compare with that.
+-- Small files, the inputs or faults that the definitions give for them, and the words of error
+-- lines.
 use Rattle.std.proofs.Common.{◌≡◌, ℕ, ◌+◌, ◌*◌, ◌-◌, true, false, if◌then◌else◌, List, [], ◌∷◌, ◌++◌, codes, Option, Some, None, Ok, Err, refl}
 use Rattle.std.specs.Prelude.{replicate}
 use Rattle.std.specs.Str.{bytes_eq}
@@ -24,6 +25,7 @@ use Rattle.efi_map.specs.Map.{descriptors_from}
 use Rattle.boot_inputs.specs.declared.fault.Fault.TheVariants as faults
 use Rattle.boot_inputs.specs.declared.input.Input.TheVariants as inputs
 use Rattle.program_end.specs.declared.failure.Reason.TheVariants as reasons
+use Rattle.boot_inputs.specs.Claims.{claims_limit, claims_or_fault}
 use Rattle.boot_inputs.specs.CommandLine.{command_line, command_line_diagnostic}
 use Rattle.boot_inputs.specs.Diagnostic.{Diagnostic}
 use Rattle.boot_inputs.specs.Extension.{extension_diagnostic, extension_file}
@@ -37,6 +39,7 @@ use Rattle.boot_inputs.specs.Reading.{are_read_later, are_in_reading_order}
 use Rattle.boot_inputs.specs.Script.{script_or_fault, script_diagnostic, script_file}
 use Rattle.boot_inputs.specs.Slit.{slit_or_fault, slit_diagnostic, slit_file}
 use Rattle.boot_inputs.specs.Srat.{srat_diagnostic, srat_file, srat_or_fault}
+use Rattle.boot_inputs.specs.WithClaims.{files_after_claims, files_before_claims, inputs_with_claims_of}
 use Rattle.boot_inputs.specs.WithoutEfi.{IsBeforeFiles, LacksDescriptors, LacksEfiWord, has_efi_word}
 use Rattle.boot_inputs.specs.ZeroPage.{zero_page, zero_page_diagnostic}
 
@@ -78,9 +81,9 @@ one_processor =
 abbrev processor_alone : SratView
 processor_alone = record { processors = 0x0C0D ∷ []; blocks = [] }
 
--- The files: a zero page, one that is too short and one that is too long; an extension, and one
--- without a header; a command line, and one with a fault; a table of domains; a script, and one
--- with a fault.
+-- The files that exist: a zero page, one that is too short and one that is too long; an extension,
+-- and one without a header; a command line, and one with a fault; a table of domains; a script, and
+-- one with a fault; and early claims.
 abbrev held : FileContents
 held name =
     if bytes_eq name (codes "zp") then Some (page 2 ram_and_reserved)
@@ -93,7 +96,8 @@ held name =
     else (if bytes_eq name (codes "srat") then Some one_processor
     else (if bytes_eq name (codes "free") then Some (codes "# one act\nfree 7\n")
     else (if bytes_eq name (codes "line") then Some (codes "free")
-    else None)))))))))
+    else (if bytes_eq name (codes "claims") then Some (codes "free 3")
+    else None))))))))))
 
 -- the names of a zero page, and of an extension and a command line if they are given
 abbrev naming : List ℕ → Option (List ℕ) → Option (List ℕ) → FileNames
@@ -102,7 +106,7 @@ naming page ext line inputs.Extension = ext
 naming page ext line inputs.CommandLine = line
 naming page ext line other = None
 
--- what bytes mean, or their fault
+-- what the bytes of a file give, or their fault
 lines_are_said : (script_or_fault [] ≡ Ok []) × (script_or_fault (codes "free") ≡ Err (faults.Script (script.BadLine 1)))
     × (page_script_or_fault [] ≡ Ok []) × (page_script_or_fault (codes "give x") ≡ Err (faults.Pages (pages.BadNumber 1)))
 lines_are_said = (refl, refl, refl, refl)
@@ -116,11 +120,11 @@ efi_gives : efi_map_in_frames (record { entries = []; mirrors = record { base = 
     ≡ record { entries = []; mirrors = record { first = 4; count = 1 } ∷ [] }
 efi_gives = refl
 
--- a reader's out of memory isn't a fault of bytes
+-- `Memory` isn't a fault of a file's contents
 of_bytes : HasErrorLine (faults.Srat srat.Short) × HasErrorLine faults.TooLong × (HasErrorLine (faults.Srat srat.Memory) → ⊥)
 of_bytes = (refl, refl, λ of. cc of)
 
--- this and the next four: what the lines of faults say
+-- this and the next four: the texts of error lines
 tables_told : (srat_diagnostic (srat.EntryLength 48) ≡ Some (Diagnostic.Offset (codes "entry length") 48))
     × (srat_diagnostic (srat.BlockTooFar 1048) ≡ Some (Diagnostic.Offset (codes "block too far") 1048))
     × (srat_diagnostic srat.Checksum ≡ Some (Diagnostic.Whole (codes "checksum"))) × (srat_diagnostic srat.Memory ≡ None)
@@ -141,6 +145,15 @@ words_told : (command_line_diagnostic (options.UserMapInvalid 12) ≡ Some (Diag
     × (command_line_diagnostic options.TooLong ≡ Some (Diagnostic.Whole (codes "line too long")))
 words_told = (refl, refl, refl, refl)
 
+-- a file of early claims has the lines of a script, except `sections`, whatever follows it; the
+-- lowest line with a fault is reported
+claims_are_said : (claims_or_fault [] ≡ Ok [])
+    × (claims_or_fault (codes "# sections\nfree 7") ≡ Ok (record { number = 2; act = acts.Free 7 } ∷ []))
+    × (claims_or_fault (codes "free 7\nsections\nfree") ≡ Err (faults.Script (script.BadLine 2)))
+    × (claims_or_fault (codes "sections 1") ≡ Err (faults.Script (script.BadLine 1)))
+    × (claims_or_fault (codes "free x\nsections") ≡ Err (faults.Script (script.BadNumber 1)))
+claims_are_said = (refl, refl, refl, refl, refl)
+
 lines_told : (script_diagnostic (script.ZeroSize 12) ≡ Some (Diagnostic.Line 12 (codes "zero size")))
     × (script_diagnostic (script.BadLine 1) ≡ Some (Diagnostic.Line 1 (codes "form")))
     × (pages_diagnostic (pages.BadNumber 2) ≡ Some (Diagnostic.Line 2 (codes "number"))) × (pages_diagnostic pages.Memory ≡ None)
@@ -152,10 +165,11 @@ faults_told : (diagnostic_of faults.TooLong ≡ Some (Diagnostic.Whole (codes "t
 faults_told = (refl, refl, refl)
 
 limits : (zero_page.limit ≡ 4096) × (extension_file.limit ≡ 16 + 20 * 3072) × (command_line.limit ≡ 4096) × (srat_file.limit ≡ 0x100000)
-    × (script_file.limit ≡ 0x100000) × (pages_file.limit ≡ 0x100000) × (slit_file.limit ≡ 0x100000) × (efi_file.limit ≡ 0x100000)
-limits = (refl, refl, refl, refl, refl, refl, refl, refl)
+    × (script_file.limit ≡ 0x100000) × (claims_limit ≡ 0x100000)
+    × (pages_file.limit ≡ 0x100000) × (slit_file.limit ≡ 0x100000) × (efi_file.limit ≡ 0x100000)
+limits = (refl, refl, refl, refl, refl, refl, refl, refl, refl)
 
--- the place of the kernel
+-- the range of the kernel's image
 abbrev image : RangeView
 image = record { base = 0x1000000; size = 0x2000000 }
 
@@ -163,7 +177,7 @@ image = record { base = 0x1000000; size = 0x2000000 }
 abbrev start : InputsView
 start = inputs_without_files Bits46 image
 
--- the step for one file: read, unread and too long
+-- the step for one file, if it can be read, can't be read, or is too long
 step_examples : (inputs_after_named_file held command_line start (codes "cmd")
     ≡ Ok (record start { options = record no_options { numa_off = true; add_efi = false } }))
     × (inputs_after_named_file held command_line start (codes "no") ≡ Err (reasons.Unread inputs.CommandLine))
@@ -176,7 +190,8 @@ with_script script inputs.ZeroPage = Some (codes "zp")
 with_script script inputs.Script = Some script
 with_script script other = None
 
--- Which bytes need memory: a zero page never does; an entry and a line with a request do.
+-- Which bytes need memory to be read: never those of a zero page, but an entry, and a line with a
+-- request.
 takes_examples : (zero_page.takes [] ≡ false) × (extension_file.takes one_entry ≡ true) × (command_line.takes (codes "quiet") ≡ false)
     × (script_file.takes (codes "# no act") ≡ false) × (script_file.takes (codes "free 7") ≡ true)
 unfolding entry_at
@@ -190,12 +205,14 @@ efi_take_examples : (efi_needs_memory header ≡ false) × (efi_needs_memory (he
 unfolding descriptors_from
 efi_take_examples = (refl, refl)
 
--- the files are in the order of their places
+-- the list of files is in the order of reading
 order_examples : (are_in_reading_order input_files ≡ true) × (are_in_reading_order (command_line ∷ extension_file ∷ []) ≡ false)
     × (are_read_later inputs.Srat (script_file ∷ []) ≡ true) × (are_read_later inputs.Srat (srat_file ∷ []) ≡ false)
-order_examples = (refl, refl, refl, refl)
+    × (files_before_claims ++ files_after_claims ≡ input_files) × (are_read_later inputs.Claims files_after_claims ≡ true)
+    × (are_read_later inputs.Claims (script_file ∷ []) ≡ false)
+order_examples = (refl, refl, refl, refl, refl, refl, refl)
 
--- a zero page, an extension and a command line give the inputs
+-- a zero page, an extension and a command line give their parts of the inputs
 all_inputs : inputs_of held (naming (codes "zp") (Some (codes "ext")) (Some (codes "cmd"))) start
     ≡ Ok (record start {
       entries = ram ∷ reserved ∷ [];
@@ -205,7 +222,7 @@ all_inputs : inputs_of held (naming (codes "zp") (Some (codes "ext")) (Some (cod
 unfolding entry_at initrd_of is_initrd_far
 all_inputs = refl
 
--- a script is given, or its fault is reported
+-- a script gives its lines, or its fault is reported
 scripts_are_given : (inputs_of held (with_script (codes "free")) start
     ≡ Ok (record start { entries = ram ∷ reserved ∷ []; lines = record { number = 2; act = acts.Free 7 } ∷ [] }))
     × (inputs_of held (with_script (codes "line")) start ≡ Err (reasons.Faulty inputs.Script (faults.Script (script.BadLine 1))))
@@ -220,7 +237,7 @@ with_both srat script inputs.Srat = Some srat
 with_both srat script inputs.Script = Some script
 with_both srat script other = None
 
--- the table and the script are both given
+-- a table and a script both give their parts of the inputs
 both_are_given : inputs_of held (with_both (codes "srat") (codes "free")) start
     ≡ Ok (record start {
       entries = ram ∷ reserved ∷ [];
@@ -230,13 +247,34 @@ both_are_given : inputs_of held (with_both (codes "srat") (codes "free")) start
 unfolding entry_at initrd_of is_initrd_far entry_offsets_from is_whole_entry srat_entry_at
 both_are_given = refl
 
--- of the faults of both, the table's is reported
+-- a zero page, a script and a file of early claims
+abbrev with_early : List ℕ → List ℕ → FileNames
+with_early script claims inputs.ZeroPage = Some (codes "zp")
+with_early script claims inputs.Script = Some script
+with_early script claims inputs.Claims = Some claims
+with_early script claims other = None
+
+-- the early claims are given apart from the inputs; of the faults of both, the script's is reported
+claims_are_given : (inputs_with_claims_of held (with_early (codes "free") (codes "claims")) start
+    ≡ Ok (record {
+      inputs = record start { entries = ram ∷ reserved ∷ []; lines = record { number = 2; act = acts.Free 7 } ∷ [] };
+      claims = record { number = 1; act = acts.Free 3 } ∷ [];
+    }))
+    × (inputs_with_claims_of held (with_early (codes "line") (codes "no")) start
+    ≡ Err (reasons.Faulty inputs.Script (faults.Script (script.BadLine 1))))
+    × (inputs_with_claims_of held (with_early (codes "free") (codes "line")) start
+    ≡ Err (reasons.Faulty inputs.Claims (faults.Script (script.BadLine 1))))
+    × (inputs_with_claims_of held (with_early (codes "free") (codes "no")) start ≡ Err (reasons.Unread inputs.Claims))
+unfolding entry_at initrd_of is_initrd_far
+claims_are_given = (refl, refl, refl, refl)
+
+-- if the table and the script both have a fault, the table's is reported
 srat_goes_before_the_script : inputs_of held (with_both (codes "bad") (codes "no")) start
     ≡ Err (reasons.Faulty inputs.Srat (faults.Srat srat.Short))
 unfolding entry_at is_initrd_far
 srat_goes_before_the_script = refl
 
--- of several files with a fault, the first is refused
+-- of several files with a fault, the first is reported
 first_refusals : (inputs_of held (naming (codes "short") (Some (codes "bad")) (Some (codes "on"))) start
     ≡ Err (reasons.Faulty inputs.ZeroPage (faults.ZeroPage zero.WrongLength)))
     × (inputs_of held (naming (codes "short") (Some (codes "no")) None) start
@@ -247,7 +285,7 @@ first_refusals : (inputs_of held (naming (codes "short") (Some (codes "bad")) (S
 unfolding entry_at is_initrd_far
 first_refusals = (refl, refl, refl, refl)
 
--- the word counts with any value and with none, only before `--`, and only by its whole name
+-- `add_efi_memmap` counts with any value and with none, but only before `--` and by its whole name
 efi_words : (has_efi_word (codes "quiet add_efi_memmap") ≡ true) × (has_efi_word (codes "add_efi_memmap=0") ≡ true)
     × (has_efi_word (codes "quiet -- add_efi_memmap") ≡ false) × (has_efi_word (codes "add_efi") ≡ false)
 efi_words = (refl, refl, refl, refl)
@@ -270,7 +308,8 @@ lack_examples = (refl, refl, λ lacks. cc lacks)
 before_files : IsBeforeFiles start × (IsBeforeFiles (put_efi (record { entries = []; mirrors = [] }) start) → ⊥)
 before_files = (record { options = refl; efi = refl }, λ is. cc (is.efi))
 
--- the inputs' words
+-- the word for each input file
 word_examples : (input_word inputs.ZeroPage ≡ codes "zeropage") × (input_word inputs.CommandLine ≡ codes "cmdline")
-    × (input_word inputs.Pages ≡ codes "pages") × (input_word inputs.Slit ≡ codes "slit") × (input_word inputs.Efi ≡ codes "efi")
-word_examples = (refl, refl, refl, refl, refl)
+    × (input_word inputs.Claims ≡ codes "claims") × (input_word inputs.Pages ≡ codes "pages")
+    × (input_word inputs.Slit ≡ codes "slit") × (input_word inputs.Efi ≡ codes "efi")
+word_examples = (refl, refl, refl, refl, refl, refl)

@@ -1,3 +1,4 @@
+mod ClaimsLaws
 mod CommandLineLaws
 mod EfiWordLaws
 mod Examples
@@ -6,4 +7,5 @@ mod ReadingLaws
 mod ScriptLaws
 mod SratLaws
 mod WantLaws
+mod WithClaimsLaws
 mod WithoutEfiLaws

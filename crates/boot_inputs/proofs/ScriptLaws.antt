@@ -1,4 +1,4 @@
--- Scripts: a fault is one of a line. Out of memory is none.
+-- The faults of an early script: each is one of a line, and none is out of memory.
 use Rattle.std.proofs.Common.{ℕ, List, arith}
 use Rattle.std.specs.Prelude.{IsErrOf}
 use Rattle.page_alloc.specs.declared.reading.PageFault.TheVariants as pages

@@ -1,4 +1,5 @@
--- The SRAT: the faults of its header and of its entries. None of them is out of memory.
+-- The faults of an SRAT: those of its header, and those of its entries. None of them is out of
+-- memory.
 use Rattle.std.proofs.Common.{◌≢◌, ℕ, List, [], ◌∷◌, Option, Some, arith}
 use Rattle.std.specs.Prelude.{IsErrOf}
 use Rattle.std.specs.Option.{option_or}

@@ -1,5 +1,5 @@
--- Out of memory is never a fault of bytes: steps with other faults, and the refusals of a list of
--- files.
+-- Out of memory is never a fault of bytes: not in a sequence of steps with other faults, and not in
+-- the refusals of a list of files.
 use Rattle.std.proofs.Common.{◌≡◌, ◌≢◌, ℕ, List, [], ◌∷◌, Option, Result, Ok, Err, arith}
 use Rattle.std.specs.Prelude.{All, IfErr, IsErrOf}
 use Rattle.std.proofs.lemmas.List.Elements.{All-head, All-tail}
@@ -14,7 +14,7 @@ use Rattle.boot_inputs.specs.File.{File}
 use Rattle.boot_inputs.specs.Inputs.{FileNames, inputs_after_file, inputs_after_files, input_files, inputs_of, inputs_after_optional_file}
 use Rattle.program_end.specs.Program.{FileContents}
 
--- neither a step nor the steps after it fail with the error `want`
+-- if neither a step nor the next one fails with `want`, the two together don't
 pub then_other : {A B E : Type 0} {want : E} (x : Result A E) {f : A → Result B E} → ¬ IsErrOf x want → ((a : A) → ¬ IsErrOf (f a) want)
     → ¬ IsErrOf (x >>= f) want
 then_other (Ok a) first rest = rest a
@@ -25,12 +25,12 @@ pub turned_other : {A E F : Type 0} (turn : E → F) (want : F) (x : Result A E)
 turned_other turn want (Ok a) other = λ is. cc is
 turned_other turn want (Err error) other = λ is. other error (cc is)
 
--- a refusal of one of several files is a fault of its bytes
-abbrev RefusedOfBytes : InputsReason → Type 0
+-- if the reason refuses a file for a fault, the fault is one of the file's bytes
+abbrev pub RefusedOfBytes : InputsReason → Type 0
 RefusedOfBytes (reasons.Faulty input fault) = HasErrorLine fault
 RefusedOfBytes other = Unit {0}
 
-then_if : {A B E : Type 0} (P : E → Type 0) (x : Result A E) (f : A → Result B E) → IfErr x P → ((a : A) → IfErr (f a) P)
+pub then_if : {A B E : Type 0} (P : E → Type 0) (x : Result A E) (f : A → Result B E) → IfErr x P → ((a : A) → IfErr (f a) P)
     → IfErr (x >>= f) P
 then_if P x f first rest = grind (arith, rest)
 
@@ -38,7 +38,7 @@ step_other : (held : FileContents) (file : File) (given : InputsView) (name : Op
     → IfErr (inputs_after_optional_file held file given name) RefusedOfBytes
 step_other held file given name says = grind arith
 
-given_other : (held : FileContents) (named : FileNames) (files : List File) → All FaultsHaveErrorLines files → (given : InputsView)
+pub given_other : (held : FileContents) (named : FileNames) (files : List File) → All FaultsHaveErrorLines files → (given : InputsView)
     → IfErr (inputs_after_files held named files given) RefusedOfBytes
 given_other held named [] say given = tt
 given_other held named (file ∷ files) say given =

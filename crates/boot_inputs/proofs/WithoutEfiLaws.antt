@@ -35,7 +35,7 @@ use Rattle.boot_model.proofs.StageLaws.{GoesBy, goes_by}
 use Rattle.boot_inputs.specs.WithoutEfi.{HasMapWithoutEfi, IsBeforeFiles, LacksDescriptors, LacksEfiWord, without_efi, without_efi_map}
 use Rattle.boot_inputs.proofs.EfiWordLaws.{options_not}
 
--- what a named and held file makes of the inputs before it
+-- `before` becomes `after` by what the file of these bytes says
 record Says (file : File) (bytes : Option (List ℕ)) (before after : InputsView) : Type 0 where
   pub read : List ℕ
   pub held : bytes ≡ Some read
@@ -60,7 +60,7 @@ step_says : (held : FileContents) (file : File) (before after : InputsView) (nam
 step_says held file before after None is = inl (cc is)
 step_says held file before after (Some name) is = inr (held_says file before after (held name) is)
 
--- the file leaves a part of the inputs as it is
+-- the file doesn't change this part of the inputs
 abbrev Keeps : {A : Type 0} → (InputsView → A) → File → Type 0
 Keeps part file = (bytes : List ℕ) (before after : InputsView) → file.says bytes before ≡ Ok after → part after ≡ part before
 
@@ -95,7 +95,7 @@ then_append : {A B C E : Type 0} (x : Result A E) (f : A → Result B E) (g : B 
 then_append (Ok a) f g both are = are a
 then_append (Err error) f g both are = refl
 
-inputs_after_files-append : (held : FileContents) (named : FileNames) (files others : List File) (begun : InputsView)
+pub inputs_after_files-append : (held : FileContents) (named : FileNames) (files others : List File) (begun : InputsView)
     → inputs_after_files held named (files ++ others) begun
     ≡ (inputs_after_files held named files begun >>= inputs_after_files held named others)
 inputs_after_files-append held named [] others begun = refl
@@ -103,7 +103,7 @@ inputs_after_files-append held named (file ∷ files) others begun =
     then_append (inputs_after_file held named file begun) (inputs_after_files held named files) (inputs_after_files held named others)
     (inputs_after_files held named (files ++ others)) (inputs_after_files-append held named files others)
 
--- some files are read, and then the others
+-- reading a list of files in two parts is reading the first part, and then the second
 split : (held : FileContents) (named : FileNames) (files others : List File) (begun given : InputsView)
     → inputs_after_files held named (files ++ others) begun ≡ Ok given
     → GoesBy (inputs_after_files held named files begun) (inputs_after_files held named others) given
@@ -111,7 +111,7 @@ split held named files others begun given is =
     goes_by (inputs_after_files held named files begun) (inputs_after_files held named others) given
     (sym (inputs_after_files-append held named files others begun) ∙ is)
 
--- one file
+-- reading a list of one file is the step for that file
 last_step : (held : FileContents) (named : FileNames) (file : File) (before after : InputsView)
     → inputs_after_files held named (file ∷ []) before ≡ Ok after
     → inputs_after_file held named file before ≡ Ok after
@@ -120,7 +120,7 @@ last_step held named file before after is =
     let same : by.middle ≡ after = cc (by.rest) in
     by.first ∙ ap (λ (g : InputsView). Ok g) same
 
--- the options of the command line don't ask for the EFI map
+-- a command line without `add_efi_memmap` doesn't ask for the EFI memory map
 line_not : (before after : InputsView) (said : Result OptionsView OptionFault) → IfOk said (λ chosen. chosen.add_efi ≡ false)
     → with_value set_command_line before (map_error faults.CommandLine said) ≡ Ok after → after.options.add_efi ≡ false
 line_not before after (Ok chosen) not is =
@@ -164,14 +164,14 @@ entries_lack held named before after lacks none is = elim (step_says held efi_fi
       (rw said.held at lacks) said.says
 ]
 
--- the first part of the list of files
+-- the files before the command line
 abbrev until_line : List File
 until_line = zero_page ∷ extension_file ∷ []
 
 abbrev behind_line : List File
 behind_line = srat_file ∷ script_file ∷ pages_file ∷ slit_file ∷ []
 
--- what each file before the EFI map leaves as it is
+-- the files before the EFI memory map don't change these parts of the inputs
 start_keeps : {A : Type 0} (part : InputsView → A) → ((page : ZeroPageView) (g : InputsView) → part (set_zero_page page g) ≡ part g)
     → ((es : List Entry) (g : InputsView) → part (put_extension es g) ≡ part g) → AllKeep part until_line
 start_keeps part page extension = (
@@ -195,8 +195,8 @@ rest_keeps part domains lines pages distances = (
   ),
 )
 
--- the inputs before the EFI map: the files before it give no map, and the options are those of the
--- command line
+-- The inputs before the EFI memory map is read: they have no such map, and their options are those
+-- of the command line.
 record AreRead (held : FileContents) (named : FileNames) (begun given : InputsView) : Type 0 where
   before : InputsView
   first : inputs_after_files held named (until_line ++ (command_line ∷ behind_line)) begun ≡ Ok before
@@ -231,7 +231,7 @@ are_read held named begun given start is =
           lacks (ap (λ (p : OptionsView × Option EfiMapView). p.0.add_efi) early ∙ ap (λ (c : OptionsView). c.add_efi) start.options) line;
     }
 
--- a map that isn't there adds no entries
+-- without an EFI memory map no entries are added
 none_added : (asked : Bool) → (if asked then efi_entries None else []) ≡ []
 none_added true = refl
 none_added false = refl
@@ -240,7 +240,7 @@ no_entries_added : (asked : Bool) (entries : List Entry) → entries ≡ [] → 
 no_entries_added true entries none = none
 no_entries_added false entries none = refl
 
--- if no entries are added, the map is the one without the file
+-- if no entries are added, the boot's map is that of the inputs without the EFI file
 same_map : (held : FileContents) (named : FileNames) (begun given : InputsView) → AreRead held named begun given → added_entries given ≡ []
     → HasMapWithoutEfi held named begun given
 same_map held named begun given read none =

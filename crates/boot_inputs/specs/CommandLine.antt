@@ -15,12 +15,12 @@ use Rattle.boot_inputs.specs.File.{File, with_value}
 abbrev pub options_or_fault : List ℕ → Result OptionsView Fault
 options_or_fault bytes = map_error faults.CommandLine (options_of bytes)
 
--- reading the line needs memory: the line has an edit or a plain `crashkernel=`
+-- whether reading the line needs memory: it does if the line has an edit or a plain `crashkernel=`
 abbrev pub options_need_memory : Result OptionsView OptionFault → Bool
 options_need_memory (Ok chosen) = nat_lt 0 (length chosen.edits) || is_some chosen.crash.plain
 options_need_memory (Err fault) = false
 
--- the inputs with the options put in
+-- the inputs with these options
 abbrev pub set_command_line : OptionsView → InputsView → InputsView
 set_command_line chosen given = record given { options = chosen }
 
@@ -34,8 +34,8 @@ command_line = record {
   says = λ bytes given. with_value set_command_line given (options_or_fault bytes);
 }
 
--- the content of a fault's error line; None for `Memory`, which isn't a fault of the file's
--- contents
+-- what a fault's error line says after the word for the file; `None` for `Memory`, which isn't a
+-- fault of the file's contents
 abbrev pub command_line_diagnostic : OptionFault → Option Diagnostic
 command_line_diagnostic options.TooLong = Some (Diagnostic.Whole (codes "line too long"))
 command_line_diagnostic options.OpenQuote = Some (Diagnostic.Whole (codes "open quote"))

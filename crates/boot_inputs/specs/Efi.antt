@@ -12,7 +12,7 @@ use Rattle.boot_inputs.specs.declared.input.Input.TheVariants as inputs
 use Rattle.boot_inputs.specs.Diagnostic.{Diagnostic}
 use Rattle.boot_inputs.specs.File.{File, with_value}
 
--- the map as the boot has it: its entries, and its mirrors as frames
+-- the content of an EFI memory map as a boot has it: the entries, and the mirrored ranges as frames
 abbrev pub efi_map_in_frames : EfiContent → EfiMapView
 efi_map_in_frames m = record { entries = m.entries; mirrors = map frame_range_of m.mirrors }
 
@@ -20,11 +20,11 @@ efi_map_in_frames m = record { entries = m.entries; mirrors = map frame_range_of
 abbrev pub efi_or_fault : List ℕ → Result EfiContent Fault
 efi_or_fault bytes = map_error faults.Efi (efi_of bytes)
 
--- reading the file needs memory: it has a descriptor
+-- whether reading the file needs memory: it does if the file has a descriptor
 abbrev pub efi_needs_memory : List ℕ → Bool
 efi_needs_memory bytes = nat_lt 0 (length (descriptors_of bytes))
 
--- the inputs with the map put in
+-- the inputs with this EFI memory map
 abbrev pub put_efi : EfiContent → InputsView → InputsView
 put_efi m given = record given { efi = Some (efi_map_in_frames m) }
 
@@ -37,8 +37,8 @@ efi_file = record {
   says = λ bytes given. with_value put_efi given (efi_or_fault bytes);
 }
 
--- the content of a fault's error line; None for `Memory`, which isn't a fault of the file's
--- contents
+-- what a fault's error line says after the word for the file; `None` for `Memory`, which isn't a
+-- fault of the file's contents
 abbrev pub efi_diagnostic : EfiFault → Option Diagnostic
 efi_diagnostic efi.Header = Some (Diagnostic.Whole (codes "header"))
 efi_diagnostic efi.Length = Some (Diagnostic.Whole (codes "length"))

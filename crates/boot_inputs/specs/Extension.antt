@@ -16,7 +16,7 @@ use Rattle.boot_inputs.specs.File.{File, value_unless_fault, with_value}
 abbrev pub extension_or_fault : List ℕ → Result (List Entry) Fault
 extension_or_fault bytes = value_unless_fault (option_map faults.Extension (ext_fault bytes)) (ext_entries_of bytes)
 
--- the inputs with the entries put in
+-- the inputs with these entries as those of the extension
 abbrev pub put_extension : List Entry → InputsView → InputsView
 put_extension entries given = record given { extension = entries }
 
@@ -30,8 +30,8 @@ extension_file = record {
   says = λ bytes given. with_value put_extension given (extension_or_fault bytes);
 }
 
--- the content of a fault's error line; None for `Memory`, which isn't a fault of the file's
--- contents
+-- what a fault's error line says after the word for the file; `None` for `Memory`, which isn't a
+-- fault of the file's contents
 abbrev pub extension_diagnostic : ExtFault → Option Diagnostic
 extension_diagnostic (extension.EntryTooFar index) = Some (Diagnostic.Far (codes "entry") index)
 extension_diagnostic extension.ExtHeader = Some (Diagnostic.Whole (codes "header"))

@@ -1,4 +1,4 @@
--- The error lines of the files' faults.
+-- The error lines for faults of input files.
 use Rattle.std.specs.Prelude.{ℕ, List, codes, Option, Some, IfErr, IsSome}
 use Rattle.boot_model.specs.Boot.{InputsView}
 use Rattle.boot_inputs.specs.declared.fault.Fault.{Fault}
@@ -14,8 +14,8 @@ use Rattle.boot_inputs.specs.Slit.{slit_diagnostic}
 use Rattle.boot_inputs.specs.Srat.{srat_diagnostic}
 use Rattle.boot_inputs.specs.ZeroPage.{zero_page_diagnostic}
 
--- the content of the fault's error line. A file that is too long has the same line whichever file
--- it is; for any other fault the crate of its reader decides.
+-- What the fault's error line says after the word for the file. "Too long" is the same for every
+-- file; each other fault gets its text from the crate that reads the file.
 abbrev pub diagnostic_of : Fault → Option Diagnostic
 diagnostic_of faults.TooLong = Some (Diagnostic.Whole (codes "too long"))
 diagnostic_of (faults.ZeroPage fault) = Some (zero_page_diagnostic fault)
@@ -27,10 +27,11 @@ diagnostic_of (faults.Pages fault) = pages_diagnostic fault
 diagnostic_of (faults.Slit fault) = slit_diagnostic fault
 diagnostic_of (faults.Efi fault) = efi_diagnostic fault
 
--- the fault has an error line: it isn't the variant `Memory` of a reader's fault
+-- the fault has an error line: it isn't the variant `Memory` of a reader's faults
 abbrev pub HasErrorLine : Fault → Type 0
 HasErrorLine fault = IsSome (diagnostic_of fault)
 
--- whatever bytes the file has, and whatever the inputs before it are, its fault is never `Memory`
+-- the file's definition never gives `Memory` as a fault, whatever its bytes are and whatever was
+-- read before
 abbrev pub FaultsHaveErrorLines : File → Type 0
 FaultsHaveErrorLines file = (bytes : List ℕ) (given : InputsView) → IfErr (file.says bytes given) HasErrorLine

@@ -1,12 +1,12 @@
--- An input file as one value.
+-- The definition of an input file, as one value.
 use Rattle.std.specs.Prelude.{ℕ, Bool, List, Option, Some, None, Result, Ok, Err}
 use Rattle.boot_model.specs.Boot.{InputsView}
 use Rattle.boot_inputs.specs.declared.fault.Fault.{Fault}
 use Rattle.boot_inputs.specs.declared.input.Input.{Input}
 
--- an input file: which one it is (`input`), how many bytes it may have (`limit`), and whether
--- reading given bytes needs memory (`takes`). `says` gives the inputs after the file, from its
--- bytes and the inputs before it, or the first fault of the bytes.
+-- Which input the file is (`input`), how many bytes it may have (`limit`), and whether reading
+-- given bytes needs memory (`takes`). From the bytes and the inputs before the file, `says` gives
+-- the inputs after it, or the first fault of the bytes.
 pub record File : Type 0 where
   pub input : Input
   pub limit : ℕ

@@ -22,35 +22,44 @@ use Rattle.boot_inputs.specs.ZeroPage.{zero_page}
 abbrev pub FileNames : Type 0
 FileNames = Input → Option (List ℕ)
 
--- the bytes, or `TooLong` if there are more than `limit`
+-- `bytes`, or `TooLong` if there are more of them than `limit`
 abbrev pub within_limit : ℕ → List ℕ → Result (List ℕ) Fault
 within_limit limit bytes = if nat_lt limit (length bytes) then Err faults.TooLong else Ok bytes
 
--- the result of reading a file, with a fault reported as that of this input (`Faulty`)
+-- the result of reading the file of `input`; a fault is reported as `Faulty`, with the input
 abbrev pub answer_or_faulty_file : {A : Type 0} → Input → Result A Fault → Result A InputsReason
 answer_or_faulty_file input answer = map_error (reasons.Faulty input) answer
 
--- the result of the step on the file's bytes, or `Unread` if there is no such file (None)
+-- the result of the step on the file's bytes, or `Unread` if the file can't be fetched (`None`)
 abbrev pub step_or_unread_file : {A : Type 0} → Input → Option (List ℕ) → (List ℕ → Result A InputsReason) → Result A InputsReason
 step_or_unread_file input None step = Err (reasons.Unread input)
 step_or_unread_file input (Some bytes) step = step bytes
 
--- the inputs after the file of that name, from the inputs before it
-abbrev pub inputs_after_named_file : FileContents → File → InputsView → List ℕ → Result InputsView InputsReason
-inputs_after_named_file held file given name =
-    step_or_unread_file file.input (held name) (λ bytes.
-    answer_or_faulty_file file.input (within_limit file.limit bytes >>= λ read. file.says read given))
+-- the bytes of the file of that name, if there are at most `limit`
+abbrev pub bytes_of_named_file : FileContents → Input → ℕ → List ℕ → Result (List ℕ) InputsReason
+bytes_of_named_file held input limit name =
+    step_or_unread_file input (held name) (λ bytes. answer_or_faulty_file input (within_limit limit bytes))
 
--- the inputs after a file that may have a name; without a name they don't change
+-- the value that `read` gives for the bytes of the file of that name, if there are at most `limit`
+abbrev pub value_of_named_file : {A : Type 0} → FileContents → Input → ℕ → (List ℕ → Result A Fault) → List ℕ → Result A InputsReason
+value_of_named_file held input limit read name =
+    step_or_unread_file input (held name) (λ bytes. answer_or_faulty_file input (within_limit limit bytes >>= read))
+
+-- the inputs after the file with this name was read
+abbrev pub inputs_after_named_file : FileContents → File → InputsView → List ℕ → Result InputsView InputsReason
+inputs_after_named_file held file given name = value_of_named_file held file.input file.limit (λ read. file.says read given) name
+
+-- the inputs after a file was read, if it has a name; else the inputs as they were
 abbrev pub inputs_after_optional_file : FileContents → File → InputsView → Option (List ℕ) → Result InputsView InputsReason
 inputs_after_optional_file held file given None = Ok given
 inputs_after_optional_file held file given (Some name) = inputs_after_named_file held file given name
 
--- the inputs after a file, by the name that it has
+-- the inputs after a file was read, if the caller named it
 abbrev pub inputs_after_file : FileContents → FileNames → File → InputsView → Result InputsView InputsReason
 inputs_after_file held named file given = inputs_after_optional_file held file given (named file.input)
 
--- the inputs after reading the files one after another, up to the first that is refused
+-- the inputs after the files were read one after another, or the reason for the first file that is
+-- refused
 abbrev pub inputs_after_files : FileContents → FileNames → List File → InputsView → Result InputsView InputsReason
 inputs_after_files held named [] given = Ok given
 inputs_after_files held named (file ∷ files) given = inputs_after_file held named file given >>= inputs_after_files held named files
@@ -59,6 +68,6 @@ inputs_after_files held named (file ∷ files) given = inputs_after_file held na
 abbrev pub input_files : List File
 input_files = zero_page ∷ extension_file ∷ command_line ∷ srat_file ∷ script_file ∷ pages_file ∷ slit_file ∷ efi_file ∷ []
 
--- the inputs after all files, from those without any file
+-- the inputs after all input files, starting with the inputs `begun`
 abbrev pub inputs_of : FileContents → FileNames → InputsView → Result InputsView InputsReason
 inputs_of held named begun = inputs_after_files held named input_files begun

@@ -1,3 +1,5 @@
+pub mod Claims
+pub mod ClaimLines
 pub mod CommandLine
 pub mod Diagnostic
 pub mod Extension
@@ -12,5 +14,6 @@ pub mod Reason
 pub mod Script
 pub mod Slit
 pub mod Srat
+pub mod WithClaims
 pub mod WithoutEfi
 pub mod ZeroPage

@@ -1,4 +1,4 @@
--- The page script.
+-- The page script as an input file.
 use Rattle.std.specs.Prelude.{ℕ, Bool, false, nat_lt, List, length, codes, Option, Some, None, Result, Ok, Err}
 use Rattle.bm_base.specs.ResultSteps.{map_error}
 use Rattle.page_alloc.specs.declared.act.PageLine.{PageLine}
@@ -16,12 +16,12 @@ use Rattle.boot_inputs.specs.File.{File, with_value}
 abbrev pub page_script_or_fault : List ℕ → Result (List PageLine) Fault
 page_script_or_fault bytes = map_error faults.Pages (page_lines_of bytes)
 
--- reading the file needs memory: some line has a command
+-- whether reading the file needs memory: it does if some line has a command
 abbrev pub page_script_needs_memory : Result (List PageLine) PageFault → Bool
 page_script_needs_memory (Ok lines) = nat_lt 0 (length lines)
 page_script_needs_memory (Err fault) = false
 
--- the inputs with the lines put in
+-- the inputs with these lines as those of the page script
 abbrev pub set_page_script : List PageLine → InputsView → InputsView
 set_page_script lines given = record given { page_lines = lines }
 
@@ -34,8 +34,8 @@ pages_file = record {
   says = λ bytes given. with_value set_page_script given (page_script_or_fault bytes);
 }
 
--- the content of a fault's error line; None for `Memory`, which isn't a fault of the file's
--- contents
+-- what a fault's error line says after the word for the file; `None` for `Memory`, which isn't a
+-- fault of the file's contents
 abbrev pub pages_diagnostic : PageFault → Option Diagnostic
 pages_diagnostic (pages.BadLine line) = Some (Diagnostic.Line line (codes "form"))
 pages_diagnostic (pages.BadNumber line) = Some (Diagnostic.Line line (codes "number"))

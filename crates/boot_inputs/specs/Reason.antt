@@ -5,10 +5,11 @@ use Rattle.program_end.specs.declared.failure.Reason.{Reason as ReasonOf}
 use Rattle.boot_inputs.specs.declared.fault.Fault.{Fault}
 use Rattle.boot_inputs.specs.declared.input.Input.{Input}
 
--- a fault of the command line, an input file that is refused, or the cause for which the boot stops
+-- why there is no report: the program's command line is refused, an input file is refused, or the
+-- boot stops
 abbrev pub InputsReason : Type 0
 InputsReason = ReasonOf Input Fault Cause
 
--- such a reason, or out of memory
+-- why there are no inputs: an `InputsReason`, or out of memory
 abbrev pub NoInputs : Type 0
 NoInputs = NoResult InputsReason

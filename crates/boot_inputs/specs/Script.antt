@@ -1,4 +1,4 @@
--- The script of early allocations.
+-- The early script as an input file.
 use Rattle.std.specs.Prelude.{ℕ, Bool, false, nat_lt, List, length, codes, Option, Some, None, Result, Ok, Err}
 use Rattle.bm_base.specs.ResultSteps.{map_error}
 use Rattle.script_reader.specs.declared.act.Line.{Line}
@@ -16,16 +16,16 @@ use Rattle.boot_inputs.specs.File.{File, with_value}
 abbrev pub script_or_fault : List ℕ → Result (List Line) Fault
 script_or_fault bytes = map_error faults.Script (script_of bytes)
 
--- reading the file needs memory: some line has a command
+-- whether reading the file needs memory: it does if some line has a command
 abbrev pub script_needs_memory : Result (List Line) ScriptFault → Bool
 script_needs_memory (Ok lines) = nat_lt 0 (length lines)
 script_needs_memory (Err fault) = false
 
--- the inputs with the lines put in
+-- the inputs with these lines as those of the early script
 abbrev pub set_early_script : List Line → InputsView → InputsView
 set_early_script lines given = record given { lines = lines }
 
--- the input file with the script of early allocations: at most 1 MiB
+-- the input file with the early script: at most 1 MiB
 abbrev pub script_file : File
 script_file = record {
   input = inputs.Script;
@@ -34,8 +34,8 @@ script_file = record {
   says = λ bytes given. with_value set_early_script given (script_or_fault bytes);
 }
 
--- the content of a fault's error line; None for `Memory`, which isn't a fault of the file's
--- contents
+-- what a fault's error line says after the word for the file; `None` for `Memory`, which isn't a
+-- fault of the file's contents
 abbrev pub script_diagnostic : ScriptFault → Option Diagnostic
 script_diagnostic (script.BadLine line) = Some (Diagnostic.Line line (codes "form"))
 script_diagnostic (script.BadNumber line) = Some (Diagnostic.Line line (codes "number"))

@@ -16,12 +16,12 @@ use Rattle.boot_inputs.specs.File.{File, with_value}
 abbrev pub slit_or_fault : List ℕ → Result SlitView Fault
 slit_or_fault bytes = map_error faults.Slit (slit_of bytes)
 
--- reading the table needs memory: it has a domain
+-- whether reading the table needs memory: it does if the table has a domain
 abbrev pub slit_needs_memory : Result SlitView SlitFault → Bool
 slit_needs_memory (Ok m) = nat_lt 0 m.count
 slit_needs_memory (Err fault) = false
 
--- the inputs with the distances put in
+-- the inputs with these distances
 abbrev pub set_slit : SlitView → InputsView → InputsView
 set_slit m given = record given { slit = Some m }
 
@@ -34,8 +34,8 @@ slit_file = record {
   says = λ bytes given. with_value set_slit given (slit_or_fault bytes);
 }
 
--- the content of a fault's error line; None for `Memory`, which isn't a fault of the file's
--- contents
+-- what a fault's error line says after the word for the file; `None` for `Memory`, which isn't a
+-- fault of the file's contents
 abbrev pub slit_diagnostic : SlitFault → Option Diagnostic
 slit_diagnostic slit.Short = Some (Diagnostic.Whole (codes "short"))
 slit_diagnostic slit.Signature = Some (Diagnostic.Whole (codes "signature"))

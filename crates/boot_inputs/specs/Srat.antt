@@ -15,12 +15,12 @@ use Rattle.boot_inputs.specs.File.{File, with_value}
 abbrev pub srat_or_fault : List ℕ → Result SratView Fault
 srat_or_fault bytes = map_error faults.Srat (srat_of bytes)
 
--- reading the table needs memory: it has a processor or a range of memory
+-- whether reading the table needs memory: it does if the table has a processor or a range of memory
 abbrev pub srat_needs_memory : Result SratView SratFault → Bool
 srat_needs_memory (Ok table) = nat_lt 0 (length table.processors) || nat_lt 0 (length table.blocks)
 srat_needs_memory (Err fault) = false
 
--- the inputs with the table put in
+-- the inputs with this table of domains
 abbrev pub set_srat : SratView → InputsView → InputsView
 set_srat table given = record given { domains = Some table }
 
@@ -33,8 +33,8 @@ srat_file = record {
   says = λ bytes given. with_value set_srat given (srat_or_fault bytes);
 }
 
--- the content of a fault's error line; None for `Memory`, which isn't a fault of the file's
--- contents
+-- what a fault's error line says after the word for the file; `None` for `Memory`, which isn't a
+-- fault of the file's contents
 abbrev pub srat_diagnostic : SratFault → Option Diagnostic
 srat_diagnostic srat.Short = Some (Diagnostic.Whole (codes "short"))
 srat_diagnostic srat.Signature = Some (Diagnostic.Whole (codes "signature"))

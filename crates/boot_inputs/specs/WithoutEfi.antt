@@ -1,4 +1,5 @@
--- The inputs with the EFI memory map, compared with the same inputs without it.
+-- The inputs that the files give with the EFI memory map, compared with those that they give
+-- without it.
 use Rattle.std.specs.Prelude.{◌≡◌, ℕ, Bool, false, List, [], codes, None, Ok, IfSome}
 use Rattle.std.specs.Option.{option_and_then}
 use Rattle.std.specs.List.{list_any}
@@ -10,17 +11,17 @@ use Rattle.boot_inputs.specs.declared.input.Input.TheVariants as inputs
 use Rattle.boot_inputs.specs.Inputs.{FileNames, inputs_of}
 use Rattle.program_end.specs.Program.{FileContents}
 
--- the same names of files, without the name of the EFI memory map
+-- the names without that of the EFI memory map
 abbrev pub without_efi : FileNames → FileNames
 without_efi named inputs.Efi = None
 without_efi named input = named input
 
--- a word of the command line has the name `add_efi_memmap`, whatever its value
+-- whether a word of the command line has the name `add_efi_memmap`, with any value
 -- (`setup_add_efi_memmap`)
 abbrev pub has_efi_word : List ℕ → Bool
 has_efi_word bytes = list_any (λ word. bytes_eq (name_value_of word).0 (codes "add_efi_memmap")) (option_words (raw_line bytes))
 
--- no word of the command line has that name, or there is no command line
+-- no word of the command line has the name `add_efi_memmap`, or there is no command line
 abbrev pub LacksEfiWord : FileContents → FileNames → Type 0
 LacksEfiWord held named = IfSome (option_and_then held (named inputs.CommandLine)) (λ bytes. has_efi_word bytes ≡ false)
 
@@ -28,18 +29,18 @@ LacksEfiWord held named = IfSome (option_and_then held (named inputs.CommandLine
 abbrev pub LacksDescriptors : FileContents → FileNames → Type 0
 LacksDescriptors held named = IfSome (option_and_then held (named inputs.Efi)) (λ bytes. descriptors_of bytes ≡ [])
 
--- the inputs before any file is read: no option and no EFI memory map
+-- the inputs before any file is read have no options and no EFI memory map
 pub record IsBeforeFiles (begun : InputsView) : Type 0 where
   pub options : begun.options ≡ no_options
   pub efi : begun.efi ≡ None
 
--- the inputs without the EFI memory map; the rest is unchanged
+-- the inputs, with no EFI memory map
 abbrev pub without_efi_map : InputsView → InputsView
 without_efi_map given = record given { efi = None }
 
--- The inputs are also accepted without the EFI file, and differ only in its map. Each address has
--- the same claims with the file and without it. The boot gets the same map in both cases, or stops
--- for the same cause.
+-- Without the EFI file the other files are accepted too, and give the same inputs apart from its
+-- map. Each address has the same claims with the file and without it. The boot gets the same map in
+-- both cases, or stops for the same cause.
 pub record HasMapWithoutEfi (held : FileContents) (named : FileNames) (begun given : InputsView) : Type 0 where
   pub inputs : inputs_of held (without_efi named) begun ≡ Ok (without_efi_map given)
   pub claims : (x : ℕ) → claims given x ≡ claims (without_efi_map given) x

@@ -15,7 +15,7 @@ use Rattle.boot_inputs.specs.File.{File, value_unless_fault, with_value}
 abbrev pub zero_page_or_fault : List ℕ → Result ZeroPageView Fault
 zero_page_or_fault bytes = value_unless_fault (option_map faults.ZeroPage (zero_fault bytes)) (zero_page_of bytes)
 
--- the inputs with the page's entries and initrd put in
+-- the inputs with the entries and the initrd of this zero page
 abbrev pub set_zero_page : ZeroPageView → InputsView → InputsView
 set_zero_page page given = record given { entries = page.entries; initrd = page.initrd }
 
@@ -29,7 +29,7 @@ zero_page = record {
   says = λ bytes given. with_value set_zero_page given (zero_page_or_fault bytes);
 }
 
--- the content of a fault's error line
+-- what a fault's error line says after the word for the file
 abbrev pub zero_page_diagnostic : ZeroFault → Diagnostic
 zero_page_diagnostic zero.WrongLength = Diagnostic.Whole (codes "wrong length")
 zero_page_diagnostic zero.TooFew = Diagnostic.Whole (codes "too few entries")

@@ -1,4 +1,4 @@
-//! The command line of the kernel as an input. Only its options are kept.
+//! The command line of the kernel as an input. The boot gets its options, but not its text.
 
 ghost use Rattle.std.specs.Prelude.{◌≡◌, ◌≤◌, ℕ, IsErrOf, List};
 ghost use Rattle.std.specs.Option.{option_map};
@@ -48,8 +48,8 @@ pub fn exhaustion_is_no_line_fault()
     ensures { (bytes : List ℕ) → ¬ IsErrOf (options_of bytes) OptionFault.Memory }
 {}
 
-/// Returns the content of the fault's error line. Returns `None` only for `Memory`, which isn't a
-/// fault of the file's contents.
+/// Returns what the fault's error line says, after the word for the file. Returns `None` only for
+/// `Memory`, which isn't a fault of the file's contents.
 pub(crate) fn command_line_diagnostic(fault: OptionFault) -> Option<Diagnostic>
     ensures { option_map diagnostic_view result ≡ command_line_diagnostic fault }
 {

@@ -1,4 +1,4 @@
-//! The firmware's own map of memory as an input.
+//! The EFI memory map as an input.
 
 ghost use Rattle.std.specs.Prelude.{◌≡◌, ◌≤◌, ℕ, length, IsErrOf, List};
 ghost use Rattle.std.specs.Option.{option_map};
@@ -49,8 +49,8 @@ pub fn exhaustion_is_no_efi_fault()
     ensures { (bytes : List ℕ) → ¬ IsErrOf (efi_of bytes) EfiFault.Memory }
 {}
 
-/// Returns the content of the fault's error line. Returns `None` only for `Memory`, which isn't a
-/// fault of the file's contents.
+/// Returns what the fault's error line says, after the word for the file. Returns `None` only for
+/// `Memory`, which isn't a fault of the file's contents.
 pub(crate) fn efi_diagnostic(fault: EfiFault) -> Option<Diagnostic>
     ensures { option_map diagnostic_view result ≡ efi_diagnostic fault }
 {

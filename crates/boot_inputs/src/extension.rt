@@ -1,5 +1,6 @@
-//! The E820 extension as an input. The boot loader passes it apart from the zero page, whose
-//! entries it continues (`setup_data`). So it is a file of its own, with its own limit and faults.
+//! The E820 extension as an input. It continues the entries of the zero page, but the boot loader
+//! passes it separately (`setup_data`). It is therefore a file of its own, with its own limit and
+//! faults.
 
 ghost use Rattle.std.specs.Prelude.{◌≡◌, ◌≢◌, ◌≤◌, ℕ, length, List, Some};
 ghost use Rattle.std.specs.Option.{option_map};
@@ -51,8 +52,8 @@ pub fn exhaustion_is_no_ext_fault()
     ensures { (bytes : List ℕ) → ext_fault bytes ≢ Some ExtFault.Memory }
 {}
 
-/// Returns the content of the fault's error line. Returns `None` only for `Memory`, which isn't a
-/// fault of the file's contents.
+/// Returns what the fault's error line says, after the word for the file. Returns `None` only for
+/// `Memory`, which isn't a fault of the file's contents.
 pub(crate) fn extension_diagnostic(fault: ExtFault) -> Option<Diagnostic>
     ensures { option_map diagnostic_view result ≡ extension_diagnostic fault }
 {

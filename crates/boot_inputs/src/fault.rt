@@ -1,6 +1,6 @@
 //! What is wrong with the contents of an input file, in one type for all files. Each crate that
-//! reads a file has its own faults; [`Fault`] holds any of them. Out of memory is never a fault of
-//! a file's contents (`exhaustion_is_no_file_fault`). A [`Misread`] reports it separately.
+//! reads a file has its own type of faults; [`Fault`] holds any of them. Out of memory is never a
+//! fault of a file's contents (`exhaustion_is_no_file_fault`); [`Misread`] reports it separately.
 
 ghost use Rattle.std.specs.Prelude.{◌≡◌};
 ghost use Rattle.std.specs.Option.{option_map};
@@ -25,20 +25,20 @@ use script_reader::ScriptFault;
 use slit_zonelists::SlitFault;
 use srat_reader::SratFault;
 
-/// The reason why the program prints no report: a fault of its command line, an input file that
-/// can't be read or has a fault, or the cause for which the boot stopped.
+/// Why the program prints no report: its command line is refused, an input file can't be read or
+/// has a fault, or the boot stops.
 pub type InputsReason = program_end::Reason<Input, Fault, Cause>;
 
-/// The error if the inputs can't be read: a reason, or out of memory.
+/// Why there are no inputs: a reason, or out of memory.
 pub type NoInputs = program_end::NoResult<InputsReason>;
 
-/// The content of a fault's error line, after the word for the file.
+/// What a fault's error line says after the word for the file.
 #[derive(Clone, Copy, Debug, PartialEq, Eq)]
 pub enum Diagnostic {
     /// What is wrong with the whole file.
     Whole(&'static str),
-    /// An entry or a descriptor whose address plus size exceeds 2^64 - 1: what it is called, and
-    /// its index, from 0.
+    /// An entry or a descriptor whose address plus size exceeds 2^64 - 1: the word `entry` or
+    /// `descriptor`, and its index, from 0.
     Far(&'static str, u32),
     /// The number of a word of the command line, from 1, and the option that is malformed.
     Word(u32, &'static str),
@@ -73,8 +73,9 @@ pub enum Fault {
 }
 
 impl Fault {
-    /// Returns the content of the fault's error line. Returns `None` only for the variant `Memory`
-    /// of a reader's fault, which no file has (`exhaustion_is_no_file_fault`).
+    /// Returns what the fault's error line says, after the word for the file. Returns `None` only
+    /// for the variant `Memory` of a reader's fault, which no file has
+    /// (`exhaustion_is_no_file_fault`).
     pub fn diagnostic(self) -> Option<Diagnostic>
         ensures { option_map diagnostic_view result ≡ diagnostic_of self }
     {

@@ -1,12 +1,12 @@
-//! The step for one file: look up the name, fetch, read.
+//! Reads one input file in three steps: looks up its name, fetches it, and reads its bytes.
 
-ghost use Rattle.std.specs.Prelude.{◌≡◌, ℕ, ◌≤◌, List, length, Option, Some, IfErr, IfSome, IsNone, IsOk};
+ghost use Rattle.std.specs.Prelude.{◌≡◌, ℕ, ◌≤◌, List, length, Option, Some, IfErr, IfOk, IfSome, IsNone, IsOk};
 ghost use Rattle.boot_model.specs.View.{inputs_view};
 ghost use Rattle.program_end.specs.Causes.{IsErrorOfInput, IsFileError};
 ghost use Rattle.program_end.specs.Fetches.{Fetches};
 ghost use Rattle.boot_inputs.specs.Input.{input_place};
 ghost use Rattle.boot_inputs.specs.declared.input.Input.{Input as AnyInput};
-ghost use Rattle.boot_inputs.specs.Inputs.{inputs_after_file, inputs_after_named_file, answer_or_faulty_file};
+ghost use Rattle.boot_inputs.specs.Inputs.{answer_or_faulty_file, bytes_of_named_file, inputs_after_file, inputs_after_named_file};
 ghost use Rattle.std.specs.Option.{option_copied};
 
 use crate::fault::{Fault, InputsReason, Misread, NoInputs};
@@ -57,7 +57,7 @@ pub fn add_file<R: Reader, F: Files, N: Names>(
     }
 }
 
-/// Fetches the file of that name, reads it, and puts its value into the inputs.
+/// Fetches the file `name`, reads it, and puts its value into the inputs.
 ///
 /// # Errors
 ///
@@ -77,13 +77,38 @@ fn fetch<R: Reader, F: Files>(
     ensures kept { F.holds files.new ≡ F.holds files.old }
     ensures faults_stay { (any : List ℕ) → F.faults files.old any ≤ F.faults files.new any }
 {
-    match files.fetch(alloc, name, R::limit()) {
-        Ok(bytes) => read::<R>(alloc, &bytes, inputs),
-        Err(Fetch::Failed) => Err(NoInputs::Reason(InputsReason::Unread(R::input()))),
-        Err(Fetch::TooLong) => Err(NoInputs::Reason(InputsReason::Faulty(
-            R::input(),
-            Fault::TooLong,
-        ))),
+    let bytes = fetch_bytes(alloc, files, name, R::input(), R::limit())?;
+    read::<R>(alloc, &bytes, inputs)
+}
+
+/// Fetches the file of that name, up to `limit` bytes. An error names this input.
+///
+/// # Errors
+///
+/// - `Unread`: the file couldn't be fetched
+/// - `Faulty`: the file is longer than its limit
+/// - out of memory
+pub(crate) fn fetch_bytes<F: Files>(
+    alloc: Global,
+    files: &mut F,
+    name: &str,
+    input: Input,
+    limit: u64,
+) -> Result<Vec<u8>, NoInputs>
+    ensures fetches { IfSome (F.holds files.old) (λ held.
+        Fetches input_place (λ bytes. bytes.items) result
+        (bytes_of_named_file held input limit name.now)) }
+    ensures within { IfOk result (λ bytes. length bytes.items ≤ limit) }
+    ensures cause { IfErr result
+        (IsFileError (F.faults files.old) (F.faults files.new) (λ input. Some name.now)) }
+    ensures own { IfErr result (IsErrorOfInput input) }
+    ensures kept { F.holds files.new ≡ F.holds files.old }
+    ensures faults_stay { (any : List ℕ) → F.faults files.old any ≤ F.faults files.new any }
+{
+    match files.fetch(alloc, name, limit) {
+        Ok(bytes) => Ok(bytes),
+        Err(Fetch::Failed) => Err(NoInputs::Reason(InputsReason::Unread(input))),
+        Err(Fetch::TooLong) => Err(NoInputs::Reason(InputsReason::Faulty(input, Fault::TooLong))),
         Err(Fetch::Memory) => Err(NoInputs::Memory),
     }
 }

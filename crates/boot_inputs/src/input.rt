@@ -16,11 +16,14 @@ pub enum Input {
     Srat,
     /// The script of early allocations.
     Script,
+    /// The early claims: a script that runs before memory gets its nodes. `bootmem` has no such
+    /// file.
+    Claims,
     /// The page script.
     Pages,
     /// The firmware's table of distances between domains (the ACPI table SLIT).
     Slit,
-    /// The firmware's own map of memory (UEFI, `GetMemoryMap`).
+    /// The EFI memory map (`GetMemoryMap`).
     Efi,
 }
 
@@ -35,6 +38,7 @@ impl Input {
             Input::CommandLine => "cmdline",
             Input::Srat => "srat",
             Input::Script => "script",
+            Input::Claims => "claims",
             Input::Pages => "pages",
             Input::Slit => "slit",
             Input::Efi => "efi",

@@ -1,5 +1,5 @@
-//! A list of input files as a type: a reader and the rest of the list. Facts about files that are
-//! read one after another are proved once, for any list.
+//! A list of input files as a type: a reader and the rest of the list. What is true after several
+//! files were read is proved once, for any list.
 
 ghost use Rattle.std.specs.Prelude.{◌≡◌, All, IsTrue, List, [], ◌∷◌};
 ghost use Rattle.boot_model.specs.View.{inputs_view};

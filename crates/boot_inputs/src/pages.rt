@@ -1,4 +1,4 @@
-//! The page script as an input: what the page allocator is asked for after the boot.
+//! The page script as an input: what is requested of the page allocator after the boot.
 
 ghost use Rattle.std.specs.Prelude.{◌≡◌, ◌≤◌, ℕ, IsErrOf, List};
 ghost use Rattle.std.specs.Option.{option_map};
@@ -48,8 +48,8 @@ pub fn exhaustion_is_no_page_script_fault()
     ensures { (bytes : List ℕ) → ¬ IsErrOf (page_lines_of bytes) PageFault.Memory }
 {}
 
-/// Returns the content of the fault's error line. Returns `None` only for `Memory`, which isn't a
-/// fault of the file's contents.
+/// Returns what the fault's error line says, after the word for the file. Returns `None` only for
+/// `Memory`, which isn't a fault of the file's contents.
 pub(crate) fn pages_diagnostic(fault: PageFault) -> Option<Diagnostic>
     ensures { option_map diagnostic_view result ≡ pages_diagnostic fault }
 {

@@ -19,7 +19,7 @@ pub trait Reader {
     // The file: which one it is, its limit, what its bytes mean, and which bytes need memory.
     ghost file: { File };
 
-    /// Returns the input that it reads.
+    /// Returns which input this reader reads.
     fn input() -> Input
         ensures { result ≡ file.input };
 
@@ -41,8 +41,8 @@ pub trait Reader {
         ensures memory { IsErrOf result misreads.Memory →
             IsTrue (file.takes bytes.now) × IsOk (file.says bytes.now (inputs_view inputs.old)) };
 
-    /// Law: "out of memory" is never a fault of this file's contents. So it doesn't matter what
-    /// the definition gives for it.
+    /// Law: "out of memory" is never a fault of this file's contents. The error line that the
+    /// definition gives for such a fault is therefore never printed.
     fn exhaustion_is_no_fault()
         ensures { FaultsHaveErrorLines file };
 }

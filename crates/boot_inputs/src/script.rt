@@ -1,6 +1,5 @@
-//! The script of early allocations as an input. The boot requires that a script places the
-//! sections at most once. That isn't in the contract of `read_script`; a law of
-//! `early_script` states it.
+//! The early script as an input. A boot requires that its script places the sections at most once.
+//! The contract of `read_script` doesn't say this; a law of `early_script` does.
 
 ghost use Rattle.std.specs.Prelude.{◌≡◌, ◌≤◌, ℕ, IsErrOf, List};
 ghost use Rattle.std.specs.Option.{option_map};
@@ -16,7 +15,7 @@ use early_script::scripts_place_sections_once;
 use script_reader::{ScriptFault, read_script};
 use std::alloc::Global;
 
-/// The reader of a script of early allocations.
+/// The reader of an early script.
 pub struct Scripts;
 
 impl Reader for Scripts {
@@ -52,8 +51,8 @@ pub fn exhaustion_is_no_script_fault()
     ensures { (bytes : List ℕ) → ¬ IsErrOf (script_of bytes) ScriptFault.Memory }
 {}
 
-/// Returns the content of the fault's error line. Returns `None` only for `Memory`, which isn't a
-/// fault of the file's contents.
+/// Returns what the fault's error line says, after the word for the file. Returns `None` only for
+/// `Memory`, which isn't a fault of the file's contents.
 pub(crate) fn script_diagnostic(fault: ScriptFault) -> Option<Diagnostic>
     ensures { option_map diagnostic_view result ≡ script_diagnostic fault }
 {

@@ -48,8 +48,8 @@ pub fn exhaustion_is_no_slit_fault()
     ensures { (bytes : List ℕ) → ¬ IsErrOf (slit_of bytes) SlitFault.Memory }
 {}
 
-/// Returns the content of the fault's error line. Returns `None` only for `Memory`, which isn't a
-/// fault of the file's contents.
+/// Returns what the fault's error line says, after the word for the file. Returns `None` only for
+/// `Memory`, which isn't a fault of the file's contents.
 pub(crate) fn slit_diagnostic(fault: SlitFault) -> Option<Diagnostic>
     ensures { option_map diagnostic_view result ≡ slit_diagnostic fault }
 {

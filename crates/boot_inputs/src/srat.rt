@@ -1,5 +1,5 @@
 //! The firmware's table of domains as an input. A boot distinguishes a table without entries (`no
-//! blocks`) from no table at all (`absent`).
+//! blocks`) from a missing table (`absent`).
 
 ghost use Rattle.std.specs.Prelude.{◌≡◌, ◌≤◌, ℕ, length, IsErrOf, List};
 ghost use Rattle.std.specs.Option.{option_map};
@@ -49,8 +49,8 @@ pub fn exhaustion_is_no_srat_fault()
     ensures { (bytes : List ℕ) → ¬ IsErrOf (srat_of bytes) SratFault.Memory }
 {}
 
-/// Returns the content of the fault's error line. Returns `None` only for `Memory`, which isn't a
-/// fault of the file's contents.
+/// Returns what the fault's error line says, after the word for the file. Returns `None` only for
+/// `Memory`, which isn't a fault of the file's contents.
 pub(crate) fn srat_diagnostic(fault: SratFault) -> Option<Diagnostic>
     ensures { option_map diagnostic_view result ≡ srat_diagnostic fault }
 {

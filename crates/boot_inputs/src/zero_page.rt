@@ -1,5 +1,5 @@
 //! The zero page as an input. Its entries go into an array with room for all of them, so it is the
-//! only input that is read without memory.
+//! only input file that can be read without allocating.
 
 ghost use Rattle.std.specs.Prelude.{◌≡◌, ◌≤◌, length};
 ghost use Rattle.boot_inputs.specs.Diagnostic.{diagnostic_view};
@@ -39,7 +39,7 @@ impl Reader for ZeroPages {
     fn exhaustion_is_no_fault() {}
 }
 
-/// Returns the content of the fault's error line.
+/// Returns what the fault's error line says, after the word for the file.
 pub(crate) fn zero_page_diagnostic(fault: ZeroFault) -> Diagnostic
     ensures { diagnostic_view result ≡ zero_page_diagnostic fault }
 {

@@ -1,4 +1,5 @@
--- The mirrors of a map are whole frames. If the program is out of memory, the map has no fault.
+-- The mirrored ranges of an EFI memory map are whole frames. If the reader runs out of memory, the
+-- bytes have no fault.
 use Rattle.boot_inputs.proofs.efi.EfiMapsReader.read.Goals as goal
 
 pub invariant_of-inputs-clause-efi_mirrors_fit : goal.invariant_of-inputs-clause-efi_mirrors_fit

@@ -1,4 +1,4 @@
--- The first file is refused, or the rest are read after it.
+-- Either the first file is refused, or it is read and the rest after it.
 use Rattle.std.proofs.Common.{rules}
 use Rattle.boot_model.specs.View.{inputs_view}
 use Rattle.boot_inputs.proofs.ReadingLaws.{error_is, gone_on, stopped}
