@@ -1,4 +1,4 @@
--- The values of arguments that no word has: the default, if there is one.
+-- The values that `clap` finds for arguments that no word gives: the default, if there is one.
 use Rattle.std.proofs.Common.{◌≡◌, ℕ, ◌&&◌, ◌||◌, Bool, true, false, List, [], ◌∷◌, ◌++◌, Option, Some, None, codes, refl, ap, ◌∙◌, map, if◌then◌else◌, slice_get, arith, inl, inr}
 use Rattle.std.specs.Prelude.{fold}
 use Rattle.std.specs.List.{list_all, list_any}
@@ -23,7 +23,7 @@ abbrev pub has_some : List (List ℕ) → Bool
 has_some [] = false
 has_some (value ∷ values) = true
 
--- each row has a value
+-- whether each row has a value
 abbrev pub are_full : List Row → Bool
 are_full rows = list_all (λ row. has_some row.values) rows
 
@@ -34,12 +34,12 @@ some_value values none other = grind arith
 abbrev own_default : Rule → ArgValues
 own_default rule argument = if bytes_eq rule.id argument then slice_get rule.defaults 0 else None
 
--- the default of the argument, in the first of the rules that gives one
+-- the default of the argument, from the first rule that gives one
 abbrev default_by : List Rule → ArgValues
 default_by [] argument = None
 default_by (rule ∷ some) argument = option_or (own_default rule argument) (default_by some argument)
 
--- an added row gives the value of an argument that the rows before don't have
+-- adding a row for an argument without one gives that argument the row's value
 found_more : (rows : List Row) (row : Row) (argument value : List ℕ) → are_full rows ≡ true → slice_get row.values 0 ≡ Some value
     → arg_value_in (rows ++ row ∷ []) argument
     ≡ option_or (arg_value_in rows argument) (if bytes_eq row.id argument then Some value else None)
@@ -48,7 +48,7 @@ found_more (first ∷ rows) row argument value full is =
     let parts = both (has_some first.values) _ full in
     grind (arith, some_value first.values parts.0, found_more rows row argument value parts.1 is)
 
--- a row that is there keeps its value
+-- adding defaults doesn't change the value of an argument that already has a row
 stands_in : (rows : List Row) (argument : List ℕ) → are_full rows ≡ true → has_row argument rows ≡ true → (other : Option (List ℕ))
     → arg_value_in rows argument ≡ option_or (arg_value_in rows argument) other
 stands_in [] argument full some other = cc
@@ -117,7 +117,8 @@ value_with_defaults (rule ∷ some) rows argument full =
 abbrev nothing : Option (List ℕ)
 nothing = None
 
--- the rules are those of the options, then that of the name; only flags have a default
+-- the rules are those of the options and then that of the zero page's name; only flags have a
+-- default
 rules_are : rules ≡ map option_of options ++ name_rule ∷ []
 unfolding bootmem_command
 rules_are = refl
@@ -154,7 +155,7 @@ defaults_pass (rule ∷ some) rows none =
     rw (either_none (has_row rule.id rows || is_empty rule.defaults) (pass rule) (ap (first_or []) none))
     (defaults_pass some (with_default rows rule) (ap behind_first none))
 
--- an argument without a row has the value of one that no spelling has
+-- an argument without a row gets the value of an argument without a spelling
 pub as_unspelled : (argument : List ℕ) → default_by rules argument ≡ default_value argument
 as_unspelled argument = rw rules_are (unspelled_by options argument all_off)
 

@@ -1,4 +1,4 @@
--- Numbers of decimal digits, and the result of `parse` for them.
+-- The result of `parse` for texts of decimal digits.
 use Rattle.std.proofs.Common.{◌≡◌, ℕ, ◌<◌, ◌^◌, Bool, true, false, List, [], ◌∷◌, ◌&&◌, None, Err, refl, rules, sym, arith, if◌then◌else◌, Some}
 use Rattle.std.proofs.lemmas.Grind.{common_steps}
 use Rattle.std.specs.Str.Parse.{ParsesUnsigned, digits_value}
@@ -16,7 +16,8 @@ refused : (digits : Bool) (text : List ℕ) → is_entry_count (digits_value 10 
 refused false text beyond = refl
 refused true text beyond = rw beyond refl
 
--- decimal digits that `parse` refuses are an empty text, or a number of more than 32 bits
+-- `parse` refuses a text of decimal digits only if the text is empty or the number needs more than
+-- 32 bits
 pub not_parsed : (text : List ℕ) → ParsesUnsigned {E = Unit {0}} 32 10 text (Err (tt {0})) → are_digits text ≡ true
     → None ≡ entry_count_in text
 not_parsed [] parses digits = refl

@@ -1,6 +1,6 @@
 -- What the command knows of its arguments, and what is known of plain words. With these facts the
--- walk over spelled words is proved without unfolding the command. Each is computed once for all
--- options.
+-- walk over spelled words is proved without unfolding the command. Each fact is computed once for
+-- all options.
 use Rattle.std.proofs.Common.{◌≡◌, ℕ, ◌==◌, Bool, true, false, ◌&&◌, List, [], ◌∷◌, ◌++◌, codes, Option, Some, None, map, refl, ap, subst, arith, inl, inr}
 use Rattle.std.specs.List.{list_any}
 use Rattle.std.specs.Str.{bytes_eq}
@@ -32,7 +32,7 @@ name_rule = with_index 1 (filled (positional_rule zero_page))
 abbrev pub joined_word : List ℕ → List ℕ → List ℕ
 joined_word name value = option_word name ++ (codes "=" ++ value)
 
--- how an option's word is read, and which rule it finds
+-- how the command reads the option's word, and which rule it finds for it
 pub record Known (option : OptionRow) : Type 0 where
   pub not_end : bytes_eq (option_word option.0) (codes "--") ≡ false
   pub long_word : long_of (option_word option.0) ≡ Some (option.0, None)
@@ -43,7 +43,7 @@ pub record Known (option : OptionRow) : Type 0 where
   pub itself : bytes_eq option.0 option.0 ≡ true
   pub no_name : bytes_eq option.0 zero_page ≡ false
 
--- the fields of `Known` as one tuple, so that one computation gives all
+-- the fields of `Known` as one tuple, so that one computation gives all of them
 abbrev Looked : Type 0
 Looked =
     Bool × Option (List ℕ × Option (List ℕ)) × (List ℕ → Bool) × (List ℕ → Option (List ℕ × Option (List ℕ))) × Option Rule × Option Rule
@@ -89,17 +89,17 @@ all_looked : map look_of_option options ≡ map expected_look options
 unfolding bootmem_command
 all_looked = refl
 
--- the first of a list
+-- the first element of a list, or `other` if the list is empty
 abbrev pub first_or : {X : Type 0} → X → List X → X
 first_or other [] = other
 first_or other (x ∷ xs) = x
 
--- the rest of a list
+-- a list without its first element
 abbrev pub behind_first : {X : Type 0} → List X → List X
 behind_first [] = []
 behind_first (x ∷ xs) = xs
 
--- an option of the table with this name and an action of this kind is known
+-- if the table has an option with this name and an action of this kind, the option is known
 known_in : (test : ArgAction → Bool) (action : ArgAction) → ((some : ArgAction) → test some ≡ true → some ≡ action)
     → (some : List OptionRow) (name : List ℕ) → map look_of_option some ≡ map expected_look some
     → list_any (λ option. test option.1 && bytes_eq option.0 name) some ≡ true → Known (name, action)

@@ -5,4 +5,5 @@ pub mod GrammarLaws
 pub mod KnownLaws
 pub mod MatchedLaws
 pub mod MirrorLaws
+pub mod ProgramLaws
 pub mod SpellingLaws

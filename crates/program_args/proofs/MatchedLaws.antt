@@ -1,4 +1,4 @@
--- The command takes words that are spelled by the grammar, and finds the value of each spelling.
+-- The command accepts words that follow the grammar, and finds the value of each spelling.
 use Rattle.std.proofs.Common.{◌≡◌, ℕ, true, false, List, [], ◌∷◌, refl, inl, ap, ◌∙◌, map, arith}
 use Rattle.std.specs.Prelude.{fold}
 use Rattle.clap.specs.Faults.{check_fault}

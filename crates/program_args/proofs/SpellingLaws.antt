@@ -1,5 +1,5 @@
--- The walk of `clap` over spelled words. Between two spellings at most one value is pending; the
--- next word settles it. At the end there is a row for each spelling.
+-- How `clap` walks over words that follow the grammar. Between two spellings at most one value is
+-- pending; the next word settles it. At the end there is a row for each spelling.
 use Rattle.std.proofs.Common.{◌≡◌, ℕ, Bool, true, false, ◌&&◌, List, [], ◌∷◌, ◌++◌, Some, None, refl, inl, inr, sym, ap, map, ◌∙◌, arith}
 use Rattle.std.specs.Prelude.{◌⊎◌, fold}
 use Rattle.std.specs.Str.{bytes_eq}
@@ -15,7 +15,7 @@ use Rattle.program_args.proofs.KnownLaws.{Known, Plain, flag_known, joined_word,
 
 -- ---- one word
 
--- the walk between two spellings
+-- the state of the walk between two spellings
 abbrev pub resting : ℕ → Held → Walk
 resting position h = record {
   held = h;
@@ -25,7 +25,7 @@ resting position h = record {
   stopped = None;
 }
 
--- the option's value is the next word; all words before are settled
+-- the state in which the next word is the option's value; all earlier words are settled
 abbrev waiting_for : ℕ → List ℕ → Held → Walk
 waiting_for position name h = record {
   held = record (settled rules h) { pending = Some (name, []) };
@@ -35,15 +35,15 @@ waiting_for position name h = record {
   stopped = None;
 }
 
--- the value is pending for its argument
+-- the values found so far, with this value pending for its argument
 abbrev with_value : List ℕ → List ℕ → Held → Held
 with_value argument value h = record (settled rules h) { pending = Some (argument, value ∷ []) }
 
--- after a flag nothing is pending
+-- the values found after a flag: nothing is pending
 abbrev pub with_flag : List ℕ → Held → Held
 with_flag name h = record h { rows = used (option_of (name, SetTrue)) [] (settled rules h).rows; pending = None }
 
--- after a value that follows `=` nothing is pending
+-- the values found after a value that follows `=`: nothing is pending
 abbrev with_joined : List ℕ → List ℕ → Held → Held
 with_joined name value h = record h { rows = used (option_of (name, Set)) (value ∷ []) (settled rules h).rows; pending = None }
 
@@ -70,7 +70,7 @@ module _ (position : ℕ) (h : Held) where
   unfolding walked
   flag_walks name k = rw (k.not_end, k.long_word, k.by_long) refl
 
-  -- no turn has a fault
+  -- no turn of the walk over an option finds a fault
   option_turn : (name : List ℕ) → Known (name, Set) → settle_fault rules false h ≡ []
       → turn_fault shape [] (resting position h) (option_word name) ≡ []
   option_turn name k settles = rw (k.not_end, k.long_word, k.by_long, once, settles) refl
@@ -106,12 +106,12 @@ row_of s = record {
   reading = reading_by name_rule;
 }
 
--- no spelling has this argument
+-- no spelling in the list has this argument
 abbrev pub IsNew : List ℕ → List Spelling → Type 0
 IsNew argument ss = first_spelled_value ss argument ≡ None
 
--- what is pending can be settled, and then each spelling so far has its row; while there is no
--- name, the walk is at the first position of names
+-- What is pending can be settled, and then each spelling so far has its row. Until the zero page's
+-- name is read, the walk is at the first position of names.
 pub record Stands (earlier : List Spelling) (position : ℕ) (h : Held) : Type 0 where
   pub rows : settled_rows rules h.pending h.rows ≡ map row_of earlier
   pub settles : settle_fault rules false h ≡ []
@@ -121,7 +121,7 @@ no_row : (argument : List ℕ) (earlier : List Spelling) → IsNew argument earl
 no_row argument [] new = refl
 no_row argument (s ∷ ss) new = grind (arith, no_row argument ss)
 
--- one more spelling at the end
+-- an argument that is new to a list of spellings is new to the list without its last one
 new_before : (argument : List ℕ) (ss : List Spelling) (s : Spelling) → IsNew argument (ss ++ s ∷ []) → IsNew argument ss
 new_before argument [] s none = refl
 new_before argument (first ∷ ss) s none = grind (arith, new_before argument ss s)
@@ -135,7 +135,7 @@ not_new : (ss : List Spelling) (name : List ℕ) → IsNew zero_page (ss ++ name
 not_new [] name none = cc
 not_new (first ∷ ss) name none = grind (arith, not_new ss name)
 
--- an argument without a row gets one at the end
+-- changing the row of an argument that has none adds the missing row at the end
 pub no_row_changed : (id : List ℕ) (change : Row → List Row) (missing rows : List Row) → has_row id rows ≡ false
     → at_row id change missing rows ≡ rows ++ missing
 no_row_changed id change missing [] none = refl
@@ -232,7 +232,7 @@ goes earlier (named name) position h is new stands =
 
 -- ---- from spelling to spelling
 
--- no argument has a spelling both before and after
+-- no argument has a spelling both in the first list and in the second
 abbrev pub Past : List Spelling → List Spelling → Type 0
 Past earlier later = (argument : List ℕ) → IsNew argument earlier ⊎ IsNew argument later
 

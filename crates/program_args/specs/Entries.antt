@@ -5,25 +5,26 @@ use Rattle.std.specs.List.{list_all}
 use Rattle.std.specs.Option.{option_map}
 use Rattle.std.specs.Str.Parse.{digits_value}
 
--- at least 2, as in a zero page, and at most 3000, a bound of this project that leaves room in the
--- kernel's table
+-- The number is at least 2, as in a zero page. It is at most 3000, a bound of this project that
+-- leaves room in the kernel's table.
 abbrev pub IsEntryCount : ℕ → Type 0
 IsEntryCount count = (2 ≤ count) × (count ≤ 3000)
 
--- `IsEntryCount` as a test
+-- tests `IsEntryCount`
 abbrev pub is_entry_count : ℕ → Bool
 is_entry_count count = nat_le 2 count && nat_le count 3000
 
--- all bytes are decimal digits; the empty text passes
+-- whether all bytes are decimal digits; true for the empty text
 abbrev pub are_digits : List ℕ → Bool
 are_digits text = list_all is_ascii_digit text
 
--- the number that the decimal digits give, if it is within these bounds
+-- the number that the decimal digits give, if it is 2 to 3000
 abbrev pub entry_count_in : List ℕ → Option ℕ
 entry_count_in text =
     if are_digits text && is_entry_count (digits_value 10 text) then Some (digits_value 10 text) else None
 
--- the number of entries: `Some None` without a value, `None` if the value is refused
+-- the number of entries of a made table: `Some None` if `--make` isn't given, `None` if its value
+-- is refused
 abbrev pub made_entry_count : Option (List ℕ) → Option (Option ℕ)
 made_entry_count None = Some None
 made_entry_count (Some text) = option_map (λ count. Some count) (entry_count_in text)

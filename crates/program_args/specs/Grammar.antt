@@ -1,12 +1,12 @@
 -- The words after the program's name as those of one command of `clap`. The port defines which
 -- words the command refuses (`fault_of`), and what it finds for each argument (`matches_of`).
-use Rattle.std.specs.Prelude.{ℕ, ◌==◌, Bool, true, false, List, [], ◌∷◌, Some, codes, fold, length}
+use Rattle.std.specs.Prelude.{ℕ, ◌==◌, Bool, true, false, List, [], ◌∷◌, ◌++◌, Some, codes, fold, length}
 use Rattle.clap.specs.Words.{App, Rule, fault_of, new_app, new_rule, with_rule}
 use Rattle.clap.specs.declared.builder.action.ArgAction.{ArgAction}
 use Rattle.clap.specs.declared.builder.action.ArgAction.TheVariants.{Set, SetTrue}
 
--- an option: its name and its action. With `Set` it has a value, `--NAME VALUE` or `--NAME=VALUE`;
--- with `SetTrue` it is a flag, `--NAME`.
+-- An option: its name and its action. With the action `Set` it takes a value, written `--NAME
+-- VALUE` or `--NAME=VALUE`. With `SetTrue` it is a flag, written `--NAME`.
 abbrev pub OptionRow : Type 0
 OptionRow = List ℕ × ArgAction
 
@@ -26,7 +26,7 @@ positional_rule name = record (new_rule name) { action = Some Set }
 abbrev pub with_positional : App → List ℕ → App
 with_positional command name = with_rule command (positional_rule name)
 
--- the options, in the order in which the command has them
+-- the options of `bootmem`, in the order in which its command has them
 abbrev pub options : List OptionRow
 options =
     (codes "la57", SetTrue)
@@ -44,27 +44,43 @@ options =
     ∷ (codes "make", Set)
     ∷ []
 
--- the option has a value
+-- the options of `bootmem61`: those of `bootmem`, and the file of early claims
+abbrev pub options61 : List OptionRow
+options61 = options ++ (codes "claims", Set) ∷ []
+
+-- whether an option with this action takes a value
 abbrev pub has_value : ArgAction → Bool
 has_value Set = true
 has_value _ = false
 
--- the option is a flag
+-- whether an option with this action is a flag
 abbrev pub is_flag_action : ArgAction → Bool
 is_flag_action SetTrue = true
 is_flag_action _ = false
 
--- a command without arguments, without `--help` and `--version`, whose words don't begin with the
--- program's name
-abbrev pub bare_app : App
-bare_app = record (new_app (codes "bootmem")) {
-  top = record (new_app (codes "bootmem")).top { no_binary_name = true; disable_help_flag = true; disable_version_flag = true };
+-- the command of the program with this name, without arguments, `--help` and `--version`; its words
+-- don't begin with the program's name
+abbrev pub bare_app : List ℕ → App
+bare_app name = record (new_app name) {
+  top = record (new_app name).top { no_binary_name = true; disable_help_flag = true; disable_version_flag = true };
 }
 
--- the program: its options and the name of the zero page, none of them mandatory
+-- a program as a command: its options and the name of the zero page, none of them mandatory
+abbrev pub program_command : List ℕ → List OptionRow → App
+program_command name options = with_positional (fold with_option (bare_app name) options) (codes "ZEROPAGE")
+
+-- the command of `bootmem`
 unfoldable pub bootmem_command : App
-bootmem_command = with_positional (fold with_option bare_app options) (codes "ZEROPAGE")
+bootmem_command = program_command (codes "bootmem") options
+
+-- the command of `bootmem61`
+unfoldable pub bootmem61_command : App
+bootmem61_command = program_command (codes "bootmem61") options61
 
 -- `clap` accepts the words for this command
+abbrev pub is_faultless_for : App → List (List ℕ) → Bool
+is_faultless_for command words = length (fault_of command words) == 0
+
+-- whether `clap` accepts the words for `bootmem`
 abbrev pub is_faultless : List (List ℕ) → Bool
-is_faultless words = length (fault_of bootmem_command words) == 0
+is_faultless words = is_faultless_for bootmem_command words

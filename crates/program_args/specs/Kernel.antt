@@ -6,7 +6,7 @@ use Rattle.bm_base.specs.declared.width.Width.{Width}
 use Rattle.boot_model.specs.Kernel.{is_kernel}
 use Rattle.program_args.specs.Range.{base_size_range}
 
--- the range without a value: 32 MiB from 16 MiB on (`CONFIG_PHYSICAL_START`)
+-- the range if `--kernel` isn't given: 32 MiB from 16 MiB on (`CONFIG_PHYSICAL_START`)
 abbrev pub default_kernel : RangeView
 default_kernel = record { base = 0x1000000; size = 0x2000000 }
 
@@ -18,7 +18,8 @@ image_if_allowed width image = if is_kernel width image then Some image else Non
 abbrev pub kernel_range_in : Width → List ℕ → Option RangeView
 kernel_range_in width text = base_size_range text >>= image_if_allowed width
 
--- the range of the image: the default without a value, `None` if the value is refused
+-- the range of the kernel's image: the default if `--kernel` isn't given, `None` if its value is
+-- refused
 abbrev pub kernel_range_of : Width → Option (List ℕ) → Option RangeView
 kernel_range_of width None = Some default_kernel
 kernel_range_of width (Some text) = kernel_range_in width text

@@ -4,6 +4,7 @@ pub mod Grammar
 pub mod Kernel
 pub mod Mirrors
 pub mod Range
+pub mod ReportNames
 pub mod Spelling
 pub mod View
 pub mod Args

@@ -5,11 +5,11 @@ use Rattle.bm_base.specs.OptionSteps.{◌>>=◌}
 use Rattle.text_words.specs.Parts.{split_once}
 use Rattle.boot_options.specs.MapOptions.{whole_size}
 
--- the range, if its base plus its size is at most 2^64 - 1
+-- the range, or `None` if its base plus its size exceeds 2^64 - 1
 abbrev pub range_if_in_space : RangeView → Option RangeView
 range_if_in_space range = if nat_lt (end_of range) (2 ^ 64) then Some range else None
 
--- the range that `BASE,SIZE` gives: two sizes with one comma between and nothing else
+-- the range that the text gives: two sizes with a comma between them, and nothing else
 abbrev pub base_size_range : List ℕ → Option RangeView
 base_size_range text = do
   halves ← split_once 44 text

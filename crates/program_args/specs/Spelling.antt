@@ -1,4 +1,5 @@
--- Spellings of a command line: options with values, flags and the name of the zero page.
+-- Spellings: the parts of a command line as a user writes them, for options with values, flags and
+-- the name of the zero page.
 use Rattle.std.specs.Prelude.{◌≡◌, ℕ, ◌==◌, Bool, true, not, ◌&&◌, if◌then◌else◌, List, [], ◌∷◌, ◌++◌, codes, Some, None}
 use Rattle.std.specs.List.{flat_map, list_any}
 use Rattle.std.specs.Option.{option_or}
@@ -6,8 +7,8 @@ use Rattle.std.specs.Str.{bytes_eq}
 use Rattle.program_args.specs.Grammar.{has_value, is_flag_action, options}
 use Rattle.program_args.specs.Args.{ArgValues}
 
--- `two_word_option` is an option with its value in the next word, `one_word_option` one with its
--- value after `=`, `flag` a flag, and `named` the name of the zero page
+-- `two_word_option`: an option whose value is the next word. `one_word_option`: an option whose
+-- value follows `=`. `flag`: a flag. `named`: the name of the zero page.
 pub data Spelling : Type 0 where
   two_word_option : List ℕ → List ℕ → Spelling
   one_word_option : List ℕ → List ℕ → Spelling
@@ -25,11 +26,11 @@ spelling_words (one_word_option name value) = (option_word name ++ (codes "=" ++
 spelling_words (flag name) = option_word name ∷ []
 spelling_words (named name) = name ∷ []
 
--- the words of spellings, in their order
+-- the words of a list of spellings, in order
 abbrev pub words_of_spellings : List Spelling → List (List ℕ)
 words_of_spellings ss = flat_map spelling_words ss
 
--- the argument of a spelling
+-- the name of the argument that a spelling gives a value to
 abbrev pub spelling_argument : Spelling → List ℕ
 spelling_argument (two_word_option name value) = name
 spelling_argument (one_word_option name value) = name
@@ -43,42 +44,42 @@ spelling_value (one_word_option name value) = value
 spelling_value (flag name) = codes "true"
 spelling_value (named name) = name
 
--- the value that the first spelling of the argument has, if there is one
+-- the value in the first spelling of the argument, if there is one
 abbrev pub first_spelled_value : List Spelling → ArgValues
 first_spelled_value [] argument = None
 first_spelled_value (s ∷ ss) argument =
     if bytes_eq (spelling_argument s) argument then Some (spelling_value s) else first_spelled_value ss argument
 
--- the name is that of an option with a value
+-- whether the name is that of an option with a value
 abbrev pub is_option : List ℕ → Bool
 is_option name = list_any (λ option. has_value option.1 && bytes_eq option.0 name) options
 
--- the name is that of a flag
+-- whether the name is that of a flag
 abbrev pub is_flag : List ℕ → Bool
 is_flag name = list_any (λ option. is_flag_action option.1 && bytes_eq option.0 name) options
 
--- the value of an argument that no spelling has: `false` for a flag, else none
+-- the value of an argument without a spelling: `false` for a flag, else none
 abbrev pub default_value : ArgValues
 default_value argument = if is_flag argument then Some (codes "false") else None
 
--- the value of each argument of a command line that is spelled so
+-- the value of each argument on a command line with these spellings
 abbrev pub spelled_values : List Spelling → ArgValues
 spelled_values ss argument = option_or (first_spelled_value ss argument) (default_value argument)
 
--- the word doesn't begin with a hyphen
+-- whether the word doesn't begin with a hyphen
 abbrev pub is_plain_word : List ℕ → Bool
 is_plain_word [] = true
 is_plain_word (b ∷ bs) = not (b == 45)
 
--- a spelling of a known option or flag. Neither the name nor a value in a word of its own begins
--- with a hyphen; after `=` any value may follow.
+-- The spelling is one of a known option or flag, or of the zero page's name. Neither the name nor a
+-- value in a word of its own begins with a hyphen; after `=` any value may follow.
 abbrev pub IsSpelling : Spelling → Type 0
 IsSpelling (two_word_option name value) = (is_option name ≡ true) × (is_plain_word value ≡ true)
 IsSpelling (one_word_option name value) = is_option name ≡ true
 IsSpelling (flag name) = is_flag name ≡ true
 IsSpelling (named name) = is_plain_word name ≡ true
 
--- each is a spelling, and no two have the same argument
+-- each element is a spelling, and no two have the same argument
 abbrev pub AreSpellings : List Spelling → Type 0
 AreSpellings [] = Unit {0}
 AreSpellings (s ∷ ss) = IsSpelling s × (first_spelled_value ss (spelling_argument s) ≡ None) × AreSpellings ss

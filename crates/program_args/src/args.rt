@@ -1,5 +1,5 @@
-//! What an accepted command line asks for. The type is in a file of its own, since its invariant
-//! keeps the bounds of the kernel's range, of mirrored ranges and of the number of entries.
+//! An accepted command line as a value. The type has a file of its own, since its invariant keeps
+//! the bounds of the kernel's range, of the mirrored ranges and of the number of entries.
 
 ghost use Rattle.std.specs.Prelude.{◌≡◌, IfSome};
 ghost use Rattle.std.specs.List.{All};
@@ -16,15 +16,16 @@ use boot_model::Inputs;
 use clap::ArgMatches;
 use std::alloc::Global;
 
-/// What an accepted command line asks for. The names of files and of reports stay in the words;
-/// the name of a file is looked up in the matches that `clap` found.
+/// What an accepted command line of `bootmem` or `bootmem61` asks for. File names and the list of
+/// reports aren't copied: they are parts of the words. A file name is looked up in the matches
+/// that `clap` found.
 #[derive(Debug, Drop)]
 pub struct BootmemArgs<'w> {
-    /// The values that were found for the arguments.
+    /// The values that `clap` found for the arguments.
     pub(crate) matches: ArgMatches<'w>,
     /// The reports: names, separated by commas.
     pub list: &'w str,
-    /// The width of addresses.
+    /// The width of physical addresses.
     pub(crate) width: Width,
     /// The mirrored memory: ranges of whole frames, in the order of the list.
     pub(crate) mirrors: Vec<Range>,
@@ -33,7 +34,7 @@ pub struct BootmemArgs<'w> {
     pub(crate) upward: bool,
     /// The range of the kernel's image.
     pub(crate) kernel: Range,
-    /// The number of entries of a made table, if one is made in place of a zero page.
+    /// The number of entries of the generated table (`--make`), if one replaces the zero page.
     pub made: Option<u32>,
     ghost kernel_fits: { IsKernel width kernel },
     ghost mirrors_fit: { All IsMirror mirrors.items },
@@ -43,10 +44,19 @@ pub struct BootmemArgs<'w> {
 impl BootmemArgs<'_> {
     ghost use Rattle.std.specs.Prelude.{◌≡◌, IfOk};
     ghost use Rattle.boot_model.specs.View.{inputs_view};
-    ghost use Rattle.program_args.specs.View.{bootmem_args_view};
+    ghost use Rattle.program_args.specs.View.{bootmem_args_view, program_args_view};
+    ghost use Rattle.std.specs.Option.{option_map};
 
-    /// Returns the inputs of the boot that the command line itself gives, to which each file adds.
-    /// Fails only if out of memory.
+    /// Returns the name of the file of early claims, if `--claims` gives one. Only `bootmem61` has
+    /// this option.
+    pub fn claims(&self) -> Option<&str>
+        ensures { option_map (λ name. name.now) result ≡ (program_args_view self.now).claims }
+    {
+        arg_value_in(&self.matches, "claims")
+    }
+
+    /// Returns the inputs of the boot that the command line itself gives, to which each file adds
+    /// its part. Fails only if out of memory.
     pub fn command_line_inputs(&self, alloc: Global) -> Result<Inputs, Memory>
         ensures { IfOk result (λ inputs. inputs_view inputs ≡ (bootmem_args_view self.now).begun) }
     {
@@ -63,11 +73,35 @@ impl<'w> Names for BootmemArgs<'w> {
     ghost named = { λ wanted. (bootmem_args_view wanted).named };
 
     fn of(&self, input: Input) -> Option<&str> {
+        if input == Input::Claims {
+            return None;
+        }
         arg_value_in(&self.matches, argument_of(input))
     }
 }
 
-/// Returns the name of the argument that gives the file of the input.
+/// The names of the files of `bootmem61`: those of `bootmem`, and that of the early claims.
+#[derive(Clone, Copy)]
+pub struct NamesWithClaims<'a, 'w> {
+    /// The accepted command line.
+    pub wanted: &'a BootmemArgs<'w>,
+}
+
+impl<'a, 'w> Names for NamesWithClaims<'a, 'w> {
+    ghost use Rattle.program_args.specs.Args.{named61};
+    ghost use Rattle.program_args.specs.View.{program_args_view};
+
+    ghost named = { λ names. named61 (program_args_view names.wanted.now) };
+
+    fn of(&self, input: Input) -> Option<&str> {
+        if input == Input::Claims {
+            return self.wanted.claims();
+        }
+        self.wanted.of(input)
+    }
+}
+
+/// Returns the name of the argument that gives the input's file.
 fn argument_of(input: Input) -> &'static str
     ensures { result.now ≡ argument_of input }
 {
@@ -77,6 +111,7 @@ fn argument_of(input: Input) -> &'static str
         Input::CommandLine => "cmdline",
         Input::Srat => "srat",
         Input::Script => "script",
+        Input::Claims => "claims",
         Input::Pages => "pages",
         Input::Slit => "slit",
         Input::Efi => "efi",

@@ -11,8 +11,8 @@ const FEWEST_ENTRIES: u32 = 2;
 /// The greatest number of entries of a made table.
 const MOST_ENTRIES: u32 = 3000;
 
-/// Returns the number of entries if `--make` has a value, which must be 2 to 3000. Returns
-/// `Some(None)` without the option, and `None` exactly if the value is refused.
+/// Returns the number of entries of a made table. Returns `Some(None)` if `--make` isn't given
+/// (`value` is `None`), and `None` exactly if its value isn't a number from 2 to 3000.
 pub fn made_entry_count(value: Option<&str>) -> Option<Option<u32>>
     ensures value { result ≡ made_entry_count (option_copied value.entry) }
     ensures facts { IfSome result (λ made. IfSome made IsEntryCount) }
@@ -41,7 +41,7 @@ fn entry_count_in(text: &str) -> Option<u32>
     }
 }
 
-/// Returns whether all bytes of the text are decimal digits; the empty text passes.
+/// Tests whether all bytes of the text are decimal digits. True for the empty text.
 fn are_digits(text: &str) -> bool
     ensures { result ≡ are_digits text.now }
 {

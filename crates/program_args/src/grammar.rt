@@ -1,12 +1,12 @@
-//! The program as a command of `clap`, and the matches that `clap` finds for it. All calls of
-//! `clap` are in this file. The other files see only the values of arguments, by the argument's
-//! name.
+//! The command line of each program as a command of `clap`, and the matches that `clap` finds. All
+//! calls of `clap` are in this file. The other files see only the values of arguments, by the
+//! argument's name.
 
-ghost use Rattle.std.specs.Prelude.{◌≡◌, ◌≢◌, IfOk, OnOk, IsErrOf, [], fold};
+ghost use Rattle.std.specs.Prelude.{◌≡◌, ◌≢◌, true, IfOk, OnOk, IsErrOf, [], fold};
 ghost use Rattle.std.specs.Option.{option_copied};
-ghost use Rattle.clap.specs.Words.{app_of, fault_of, first_of, found_of, matches_of, rows_of};
+ghost use Rattle.clap.specs.Words.{app_of, fault_of, first_of, found_of, is_simple, is_simple_and_free, matches_of, rows_of};
 ghost use Rattle.clap.specs.declared.error.kind.ErrorKind.TheVariants as error_kinds;
-ghost use Rattle.program_args.specs.Grammar.{bare_app, bootmem_command, with_option, with_positional};
+ghost use Rattle.program_args.specs.Grammar.{bare_app, bootmem61_command, bootmem_command, with_option, with_positional};
 ghost use Rattle.program_args.specs.Args.{is_flag_given, bytes_of_words, arg_value_in};
 ghost use Rattle.program_args.specs.declared.reader.ArgsError.TheVariants as errors;
 
@@ -16,7 +16,7 @@ use clap::error::ErrorKind;
 use clap::{Arg, ArgAction, ArgMatches, Command};
 use std::alloc::Global;
 
-/// The name and action of each option. With [`ArgAction::Set`] an option has a value, with
+/// The name and action of each option. With [`ArgAction::Set`] an option takes a value, with
 /// [`ArgAction::SetTrue`] it is a flag.
 const OPTIONS: [(&str, ArgAction); 13] = [
     ("la57", ArgAction::SetTrue),
@@ -34,28 +34,35 @@ const OPTIONS: [(&str, ArgAction); 13] = [
     ("make", ArgAction::Set),
 ];
 
-/// Returns the values that `clap` finds in the words, for each argument of the command.
+/// Returns the values that `clap` finds in the words, for each argument of the command. The port
+/// of `clap` defines these values for simple commands.
 ///
 /// # Errors
 ///
 /// - [`ArgsError::Usage`] if `clap` refuses the words.
 /// - [`ArgsError::Memory`] if this program is out of memory.
-pub fn match_words<'w>(alloc: Global, words: &'w [String]) -> Result<ArgMatches<'w>, ArgsError>
+pub fn match_words<'w>(
+    command: Command<'w>,
+    words: &'w [String],
+) -> Result<ArgMatches<'w>, ArgsError>
+    requires simple { is_simple (app_of command) ≡ true }
+    requires free { is_simple_and_free (app_of command) ≡ true }
     ensures matches { IfOk result (λ matches.
-        rows_of (found_of matches) ≡ matches_of bootmem_command (bytes_of_words words.entry.now)) }
-    ensures faultless { OnOk result (fault_of bootmem_command (bytes_of_words words.entry.now)
-        ≡ []) }
+        rows_of (found_of matches)
+        ≡ matches_of (app_of command.entry) (bytes_of_words words.entry.now)) }
+    ensures faultless { OnOk result
+        (fault_of (app_of command.entry) (bytes_of_words words.entry.now) ≡ []) }
     ensures refused { IsErrOf result ArgsError.Usage
-        → fault_of bootmem_command (bytes_of_words words.entry.now) ≢ [] }
+        → fault_of (app_of command.entry) (bytes_of_words words.entry.now) ≢ [] }
 {
-    let command = bootmem_command(alloc)?;
     match command.try_get_matches_from(words) {
         Ok(matches) => Ok(matches),
         Err(error) => Err(args_error_of_clap(error.kind())),
     }
 }
 
-/// Returns the error for an error of `clap`: out of memory, or refused words for any other kind.
+/// Returns the error of this crate for an error of `clap`: `Memory` if `clap` is out of memory,
+/// and `Usage` for any other kind.
 fn args_error_of_clap(kind: ErrorKind) -> ArgsError
     ensures { result ≡ errors.Usage → kind ≢ error_kinds.OutOfMemory }
 {
@@ -65,14 +72,15 @@ fn args_error_of_clap(kind: ErrorKind) -> ArgsError
     }
 }
 
-/// Returns the value that was found for an argument, if there is one.
+/// Returns the value that `clap` found for an argument, if there is one.
 pub fn arg_value_in<'w>(matches: &ArgMatches<'w>, name: &str) -> Option<&'w str>
     ensures { option_copied result ≡ first_of name.now (rows_of (found_of matches.now)) }
 {
     matches.get_str(name)
 }
 
-/// Returns whether the flag is among the words: `clap` finds `true` for it then, else `false`.
+/// Tests whether the flag is among the words. For such a flag `clap` finds the value `true`, for
+/// any other flag `false`.
 pub fn is_flag_given(matches: &ArgMatches<'_>, flag: &str) -> bool
     ensures { result ≡ is_flag_given (arg_value_in (rows_of (found_of matches.now))) flag.now }
 {
@@ -81,19 +89,29 @@ pub fn is_flag_given(matches: &ArgMatches<'_>, flag: &str) -> bool
 
 /// Returns the command line of `bootmem` for `clap`: its options and the name of the zero page.
 /// Fails only if out of memory.
-fn bootmem_command<'w>(alloc: Global) -> Result<Command<'w>, Memory>
+pub fn bootmem_command<'w>(alloc: Global) -> Result<Command<'w>, Memory>
     ensures { IfOk result (λ command. app_of command ≡ bootmem_command) }
 {
-    let command = with_options(alloc, bare_app(alloc), &OPTIONS)?;
+    let command = with_options(alloc, bare_app(alloc, "bootmem"), &OPTIONS)?;
     with_positional(alloc, command, "ZEROPAGE")
 }
 
-/// Returns the command without arguments. It has no `--help` and no `--version`, and its words
-/// don't begin with the program's name.
-fn bare_app<'w>(alloc: Global) -> Command<'w>
-    ensures { app_of result ≡ bare_app }
+/// Returns the command line of `bootmem61` for `clap`: that of `bootmem`, and the option for a file
+/// of early claims. Fails only if out of memory.
+pub fn bootmem61_command<'w>(alloc: Global) -> Result<Command<'w>, Memory>
+    ensures { IfOk result (λ command. app_of command ≡ bootmem61_command) }
 {
-    Command::new(alloc, "bootmem")
+    let command = with_options(alloc, bare_app(alloc, "bootmem61"), &OPTIONS)?;
+    let with_claims = with_option(alloc, command, "claims", ArgAction::Set)?;
+    with_positional(alloc, with_claims, "ZEROPAGE")
+}
+
+/// Returns the command of the program with this name, without arguments. It has no `--help` and no
+/// `--version`, and its words don't begin with the program's name.
+fn bare_app<'w>(alloc: Global, name: &'w str) -> Command<'w>
+    ensures { app_of result ≡ bare_app name.entry.now }
+{
+    Command::new(alloc, name)
         .no_binary_name(true)
         .disable_help_flag(true)
         .disable_version_flag(true)

@@ -1,5 +1,5 @@
-//! The range of the kernel's image, from the value of `--kernel`. A range in which no image may
-//! lie is refused here, so no stage of the boot has to stop for it.
+//! The range of the kernel's image, from the value of `--kernel`. A range in which no image may lie
+//! is refused here, so no stage of the boot has to check it.
 
 ghost use Rattle.std.specs.Prelude.{◌≡◌, IfSome};
 ghost use Rattle.std.specs.Option.{option_copied};
@@ -10,15 +10,16 @@ use crate::mirrors::base_size_range;
 use bm_base::{Range, Width};
 use boot_model::is_kernel;
 
-/// The range of the kernel's image without `--kernel`: 32 MiB from 16 MiB on
+/// The range of the kernel's image if `--kernel` isn't given: 32 MiB from 16 MiB on
 /// (`CONFIG_PHYSICAL_START`).
 const DEFAULT_KERNEL: Range = Range {
     base: 0x100_0000,
     size: 0x200_0000,
 };
 
-/// Returns the range of the kernel's image: the default if there is no value. It ends at or below
-/// the limit of the width. Returns `None` exactly if the value is refused.
+/// Returns the range of the kernel's image, or the default if `--kernel` isn't given (`value` is
+/// `None`). It ends at or below the limit of the width. Returns `None` exactly if the value is
+/// refused.
 pub fn kernel_range_of(value: Option<&str>, width: Width) -> Option<Range>
     ensures value { result ≡ kernel_range_of width (option_copied value.entry) }
     ensures facts { IfSome result (IsKernel width) }

@@ -1,5 +1,5 @@
-//! Mirrored memory, from the value of `--mirror`. Whole frames are mirrored, so each range is cut
-//! to the frames that lie whole in it. The list is checked before memory is allocated for its
+//! Mirrored memory, from the value of `--mirror`. Only whole frames are mirrored, so each range is
+//! cut to the whole frames that lie in it. The list is checked before memory is allocated for its
 //! ranges, so a refused list is never reported as out of memory.
 
 ghost use Rattle.std.specs.Prelude.{◌≡◌, IfOk, IfSome, IsErrOf, IsSome};
@@ -21,8 +21,8 @@ use text_words::{Separators, next_part, split_once};
 /// The greatest number of ranges in the list.
 const MOST_RANGES: usize = 64;
 
-/// Returns the mirrored ranges in the order of the list, each cut to whole frames. Ranges without
-/// a whole frame are left out. Without a value the result is empty.
+/// Returns the mirrored ranges in the order of the list, each cut to whole frames. Ranges without a
+/// whole frame are left out. Returns an empty list if `--mirror` isn't given (`value` is `None`).
 ///
 /// # Errors
 ///
@@ -44,7 +44,7 @@ pub fn mirrors_of_value(alloc: Global, value: Option<&str>) -> Result<Vec<Range>
     Ok(mirrors_in_list(alloc, list.as_bytes())?)
 }
 
-/// Returns whether the list has 1 to 64 ranges, separated by colons.
+/// Tests whether the list has 1 to 64 ranges, separated by colons.
 fn are_mirror_pieces(list: &[u8]) -> bool
     ensures { result ≡ are_mirror_pieces list.now }
 {
@@ -79,7 +79,7 @@ fn mirrors_in_list(alloc: Global, list: &[u8]) -> Result<Vec<Range>, Memory>
     Ok(mirrors)
 }
 
-/// Returns the whole frames of the piece's range, `None` if the piece isn't a range or its range
+/// Returns the whole frames in the piece's range, or `None` if the piece isn't a range or its range
 /// has no whole frame.
 fn piece_frames(piece: &[u8]) -> Option<Range>
     ensures value { result ≡ piece_frames piece.now }
@@ -89,9 +89,9 @@ fn piece_frames(piece: &[u8]) -> Option<Range>
     base_size_range(piece)?.whole_frames()
 }
 
-/// Returns the range that `BASE,SIZE` gives, in bytes. Both are sizes as on the kernel's command
-/// line, with one comma between and nothing else. Returns `None` exactly if the text has another
-/// form or BASE plus SIZE exceeds 2^64 - 1.
+/// Returns the range in bytes that `BASE,SIZE` gives. Both are sizes as on the kernel's command
+/// line, with one comma between them and nothing else. Returns `None` exactly if the text has
+/// another form, or if BASE plus SIZE exceeds 2^64 - 1.
 pub fn base_size_range(text: &[u8]) -> Option<Range>
     ensures { result ≡ base_size_range text.now }
 {

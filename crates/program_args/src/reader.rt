@@ -1,13 +1,13 @@
-//! Reads the command line. `clap` knows the options but not the meaning of their values. What the
-//! values mean is checked here, after `clap` has read the words.
+//! Reads the command line. `clap` splits the words into options and values. This file checks the
+//! values afterwards, since `clap` doesn't know their meaning.
 
-ghost use Rattle.std.specs.Prelude.{◌≡◌, IsErrOf, IsSome, ℕ, ◌+◌, ◌*◌, ◌/◌, ◌≤◌, ◌↔◌, List};
+ghost use Rattle.std.specs.Prelude.{◌≡◌, IsErrOf, IsSome, ℕ, ◌+◌, ◌*◌, ◌/◌, ◌≤◌, ◌↔◌, List, map, true};
 ghost use Rattle.std.specs.Option.{option_copied};
-ghost use Rattle.clap.specs.Words.{found_of, rows_of};
+ghost use Rattle.clap.specs.Words.{app_of, found_of, is_simple, is_simple_and_free, rows_of};
 ghost use Rattle.bm_base.specs.Answers.{Answers};
 ghost use Rattle.program_args.specs.Answers.{or_refused};
-ghost use Rattle.program_args.specs.View.{bootmem_args_view};
-ghost use Rattle.program_args.specs.Args.{read_args, args_from_values, has_one_source, report_list_in, bytes_of_words, arg_value_in, address_width_in};
+ghost use Rattle.program_args.specs.View.{bootmem_args_view, program_args_view};
+ghost use Rattle.program_args.specs.Args.{read_args, read_args61, args_of, args_by_values, args_from_values, bootmem61_args, has_one_source, report_list_in, bytes_of_words, arg_value_in, address_width_in};
 ghost use Rattle.bm_base.specs.Range.{RangeView, end_of};
 ghost use Rattle.bm_base.specs.Frames.{frames_within};
 ghost use Rattle.program_args.specs.Mirrors.{LiesInRange};
@@ -15,12 +15,14 @@ ghost use Rattle.program_args.specs.Spelling.{AreSpellings, Spelling, spelled_va
 
 use crate::args::BootmemArgs;
 use crate::entries::made_entry_count;
-use crate::grammar::{arg_value_in, is_flag_given, match_words};
+use crate::grammar::{
+    arg_value_in, bootmem_command, bootmem61_command, is_flag_given, match_words,
+};
 use crate::kernel::kernel_range_of;
 use crate::mirrors::mirrors_of_value;
+use crate::report_names::{REPORTS_OF_BOOTMEM61, are_report_names};
 use bm_base::{Memory, Width};
-use clap::ArgMatches;
-use debugfs_reports::are_reports;
+use clap::{ArgMatches, Command};
 use std::alloc::{AllocError, Global};
 
 /// Why reading the command line failed.
@@ -46,7 +48,7 @@ impl From<Memory> for ArgsError {
 /// The list of reports without `--report`.
 const DEFAULT_LIST: &str = "buddyinfo";
 
-/// Returns what the words after the program's name ask for.
+/// Returns what the words after the program's name ask `bootmem` for.
 ///
 /// The options with a value are `--mirror LIST`, `--cmdline F`, `--e820ext F`, `--srat F`,
 /// `--script F`, `--pages F`, `--slit F`, `--efi F`, `--kernel BASE,SIZE`, `--report LIST` and
@@ -62,11 +64,51 @@ pub fn read_args<'w>(alloc: Global, words: &'w [String]) -> Result<BootmemArgs<'
     ensures { Answers ArgsError.Memory bootmem_args_view result
         (or_refused (read_args (bytes_of_words words.entry.now))) }
 {
-    args_from_values(alloc, match_words(alloc, words)?)
+    let command = bootmem_command(alloc)?;
+    args_of(alloc, command, &[], words)
 }
 
-/// Returns whether the first entries have exactly one source: a made table, or a zero page, to
-/// which an extension may add.
+/// Returns what the words after the program's name ask `bootmem61` for.
+///
+/// The words are those of [`read_args`], and `--claims F` in addition, at most once. The list of
+/// reports may also have the name `claims`.
+///
+/// # Errors
+///
+/// - [`ArgsError::Usage`] exactly if the words aren't accepted, unless memory runs out first.
+/// - [`ArgsError::Memory`] if this program is out of memory, which may happen for any words.
+pub fn read_args61<'w>(alloc: Global, words: &'w [String]) -> Result<BootmemArgs<'w>, ArgsError>
+    ensures { Answers ArgsError.Memory program_args_view result
+        (or_refused (read_args61 (bytes_of_words words.entry.now))) }
+{
+    let command = bootmem61_command(alloc)?;
+    args_of(alloc, command, &REPORTS_OF_BOOTMEM61, words)
+}
+
+/// Returns what the words ask for, read as the words of `command`. `further` has the names of the
+/// reports that the program of this command has and `bootmem` doesn't.
+///
+/// # Errors
+///
+/// - [`ArgsError::Usage`] exactly if the words aren't accepted, unless memory runs out first.
+/// - [`ArgsError::Memory`] if this program is out of memory, which may happen for any words.
+fn args_of<'w>(
+    alloc: Global,
+    command: Command<'w>,
+    further: &[&str],
+    words: &'w [String],
+) -> Result<BootmemArgs<'w>, ArgsError>
+    requires simple { is_simple (app_of command) ≡ true }
+    requires free { is_simple_and_free (app_of command) ≡ true }
+    ensures { Answers ArgsError.Memory program_args_view result
+        (or_refused (args_of bootmem61_args (app_of command.entry)
+        (map (λ other. other.now) further.now) (bytes_of_words words.entry.now))) }
+{
+    args_by_values(alloc, match_words(command, words)?, further)
+}
+
+/// Tests whether the first entries have exactly one source: a made table, or a zero page, to which
+/// an extension may add.
 fn has_one_source(matches: &ArgMatches<'_>) -> bool
     ensures { result ≡ has_one_source (arg_value_in (rows_of (found_of matches.now))) }
 {
@@ -79,7 +121,7 @@ fn has_one_source(matches: &ArgMatches<'_>) -> bool
     }
 }
 
-/// Returns the width of addresses: 52 bits with the flag `--la57` (page tables of five levels),
+/// Returns the width of physical addresses: 52 bits with `--la57` (page tables of five levels),
 /// else 46.
 fn address_width_in(matches: &ArgMatches<'_>) -> Width
     ensures { result ≡ address_width_in (arg_value_in (rows_of (found_of matches.now))) }
@@ -91,21 +133,24 @@ fn address_width_in(matches: &ArgMatches<'_>) -> Width
     }
 }
 
-/// Returns what the values that `clap` found ask for.
+/// Checks the values that `clap` found, and returns what they ask for.
 ///
 /// # Errors
 ///
 /// - [`ArgsError::Usage`] exactly if a value is refused, or the first entries don't have one
 ///   source.
 /// - [`ArgsError::Memory`] if this program is out of memory; never if anything is refused.
-fn args_from_values<'w>(
+fn args_by_values<'w>(
     alloc: Global,
     matches: ArgMatches<'w>,
+    further: &[&str],
 ) -> Result<BootmemArgs<'w>, ArgsError>
-    ensures value { Answers ArgsError.Memory bootmem_args_view result
-        (or_refused (args_from_values (arg_value_in (rows_of (found_of matches.entry))))) }
+    ensures value { Answers ArgsError.Memory program_args_view result
+        (or_refused (args_by_values bootmem61_args (map (λ other. other.now) further.now)
+        (arg_value_in (rows_of (found_of matches.entry))))) }
     ensures memory { IsErrOf result ArgsError.Memory
-        → IsSome (args_from_values (arg_value_in (rows_of (found_of matches.entry)))) }
+        → IsSome (args_by_values bootmem61_args (map (λ other. other.now) further.now)
+        (arg_value_in (rows_of (found_of matches.entry)))) }
 {
     if !has_one_source(&matches) {
         return Err(ArgsError::Usage);
@@ -113,7 +158,7 @@ fn args_from_values<'w>(
     let made = made_entry_count(arg_value_in(&matches, "make")).ok_or(ArgsError::Usage)?;
     let width = address_width_in(&matches);
     let kernel = kernel_range_of(arg_value_in(&matches, "kernel"), width).ok_or(ArgsError::Usage)?;
-    let list = report_list_in(&matches).ok_or(ArgsError::Usage)?;
+    let list = report_list_in(&matches, further).ok_or(ArgsError::Usage)?;
     let mirrors = mirrors_of_value(alloc, arg_value_in(&matches, "mirror"))?;
     let upward = is_flag_given(&matches, "bottom-up");
     Ok(BootmemArgs {
@@ -127,23 +172,25 @@ fn args_from_values<'w>(
     })
 }
 
-/// Returns the list of requested reports, or `None` if a name in it is that of no report.
-fn report_list_in<'w>(matches: &ArgMatches<'w>) -> Option<&'w str>
+/// Returns the list of requested reports. Returns `None` if a name in it is neither one of
+/// `further` nor that of a report of `bootmem`.
+fn report_list_in<'w>(matches: &ArgMatches<'w>, further: &[&str]) -> Option<&'w str>
     ensures { option_copied result
-        ≡ report_list_in (arg_value_in (rows_of (found_of matches.now))) }
+        ≡ report_list_in (map (λ other. other.now) further.now)
+        (arg_value_in (rows_of (found_of matches.now))) }
 {
     let list = arg_value_in(matches, "report").unwrap_or(DEFAULT_LIST);
-    if are_reports(list.as_bytes()) {
+    if are_report_names(list.as_bytes(), further) {
         Some(list)
     } else {
         None
     }
 }
 
-/// Law: if the words follow the grammar, reading them has the same result as checking their values,
-/// be it success or an error. The grammar allows options with values, flags, and the name of the
-/// zero page, in any order, no argument twice. The value of an option is the next word or follows
-/// `=`. Neither the name nor a value that is the next word begins with a hyphen.
+/// Law: if the words follow the grammar, reading them has the same result, a value or an error, as
+/// checking the values that they spell. The grammar allows options with values, flags, and the name
+/// of the zero page, in any order, but no argument twice. The value of an option is the next word
+/// or follows `=`. Neither the name nor a value that is the next word begins with a hyphen.
 pub fn spelled_args_are_read()
     ensures { (spellings : List Spelling) → AreSpellings spellings
         → read_args (words_of_spellings spellings) ≡ args_from_values (spelled_values spellings) }

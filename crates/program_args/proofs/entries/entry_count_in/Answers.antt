@@ -1,4 +1,4 @@
--- Digits that `parse` refuses give no number of entries.
+-- Digits that `parse` refuses aren't a number from 2 to 3000.
 use Rattle.std.proofs.Common.{rules}
 use Rattle.program_args.proofs.EntryLaws.{not_parsed}
 use Rattle.program_args.proofs.entries.entry_count_in.Goals as goal

@@ -1,4 +1,4 @@
--- Adding the first remaining option and then the others adds all that remain.
+-- Adding the next option and then the others adds all that remain.
 use Rattle.std.proofs.Common.{◌≡◌, ◌∙◌, ℕ, ◌-◌, ◌≤◌, List, Bor, fold, get_or, length, take, drop, ap, arith}
 use Rattle.std.proofs.lemmas.List.{take_all}
 use Rattle.clap.specs.Words.{App, app_of}

@@ -1,4 +1,4 @@
--- The list is accepted exactly if the remaining pieces are, after the pieces so far.
+-- The list is accepted exactly if the remaining pieces are accepted after the pieces so far.
 use Rattle.std.proofs.Common.{◌≡◌, ◌≤◌}
 use Rattle.std.specs.Option.{option_map}
 use Rattle.text_words.specs.declared.separators.Separators.TheVariants.{Byte}

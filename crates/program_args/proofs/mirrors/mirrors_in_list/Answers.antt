@@ -1,4 +1,4 @@
--- The frames of the next piece come after those found so far; if no piece remains, all are found.
+-- The frames of the next piece follow those found so far. If no piece remains, all are found.
 use Rattle.std.proofs.Common.{◌∙◌, []}
 use Rattle.std.proofs.lemmas.List.Elements.{All-append, All-cons, All-nil}
 use Rattle.boot_model.specs.Mirrors.{IsMirror}
