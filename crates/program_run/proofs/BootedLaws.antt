@@ -1,11 +1,11 @@
--- How the end of a boot fits the outcome: a stop is the reason for no report, and the reports on
--- the boot are the text.
+-- How the end of a boot fits the outcome. A stop is the reason why there is no report; otherwise
+-- the reports on the boot are the text.
 use Rattle.std.proofs.Common.{◌≡◌, ◌≢◌, ℕ, List, Result, Ok, Err, arith}
-use Rattle.bm_base.specs.ResultSteps.{map_error}
+use Rattle.bm_base.specs.ResultSteps.{◌>>=◌, map_error}
 use Rattle.boot_model.specs.declared.stop.Cause.{Cause}
 use Rattle.boot_model.specs.declared.stop.Stop.{Stop}
 use Rattle.boot_model.specs.declared.stop.Stop.TheVariants as stops
-use Rattle.boot_model.specs.Boot.{InputsView, BootedView, whole_boot}
+use Rattle.boot_model.specs.Boot.{InputsView, BootedView, whole_boot, whole_boot_with}
 use Rattle.boot_model.specs.Stop.{stop_of}
 use Rattle.boot_model.specs.View.{booted_view}
 use Rattle.boot_model.specs.declared.booted.Booted.{Booted}
@@ -17,20 +17,32 @@ use Rattle.debugfs_reports.proofs.StandLaws.{HaveTables, tables_shown, tables_st
 use Rattle.memblock_model.specs.declared.owner.Which.TheVariants as which
 use Rattle.program_end.specs.Fetches.{FitsError}
 use Rattle.boot_inputs.specs.Input.{input_place}
-use Rattle.program_run.specs.Outcome.{reports_on_boot}
+use Rattle.boot_inputs.specs.Reason.{InputsReason}
+use Rattle.boot_inputs.specs.WithClaims.{InputsWithClaims}
+use Rattle.program_run.specs.Outcome.{linux_extra, value_or_stopped, reports_on_boot, reports_on_boot61}
 use Rattle.program_run.specs.Stops.{reason_by_stop}
 
--- a stop of the boot, other than for lack of memory, is the cause in the outcome
+-- the cause of a stop, other than out of memory, is the cause in the outcome
+stopped : {A : Type 0} (stop : Stop) (answer : Result A Cause) (next : A → Result (List ℕ) InputsReason)
+    → (stop ≢ stops.Memory → map_error stop_of answer ≡ Err stop) → FitsError input_place (reason_by_stop stop) (value_or_stopped answer >>= next)
+stopped stop answer next stops_so = grind arith
+
 pub boot_stopped : (stop : Stop) (given : InputsView) (reports : List Report)
     → (stop ≢ stops.Memory → map_error stop_of (whole_boot given) ≡ Err stop)
     → FitsError input_place (reason_by_stop stop) (reports_on_boot reports given)
-boot_stopped stop given reports stops_so = grind arith
+boot_stopped stop given reports stops_so = stopped stop (whole_boot given) (λ told. Ok (report_list_text reports told)) stops_so
+
+pub boot61_stopped : (stop : Stop) (given : InputsWithClaims) (reports : List Report)
+    → (stop ≢ stops.Memory → map_error stop_of (whole_boot_with (linux_extra given.claims) given.inputs) ≡ Err stop)
+    → FitsError input_place (reason_by_stop stop) (reports_on_boot61 reports given)
+boot61_stopped stop given reports stops_so =
+    stopped stop (whole_boot_with (linux_extra given.claims) given.inputs) (λ told. Ok (report_list_text reports told)) stops_so
 
 pub told_is : (answer : Result BootedView Cause) (told : BootedView) → map_error stop_of answer ≡ Ok told → answer ≡ Ok told
 told_is answer told is = grind arith
 
--- the tables in memory have the records that the boot's items give, so reports that read either
--- are equal
+-- the bytes of the tables have the records that the boot's items give, so a report is the same from
+-- either
 have_tables : (b : Booted) (memory : IsStoredTable which.Memory b.journal.items b.store b.heads.memory)
     (reserved : IsStoredTable which.Reserved b.journal.items b.store b.heads.reserved) → HaveTables b memory.table reserved.table
 have_tables b memory reserved = record {

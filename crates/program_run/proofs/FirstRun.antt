@@ -23,7 +23,7 @@ use Rattle.growth_model.specs.Requests.{carry_out_items}
 use Rattle.early_memory.specs.FirstItems.{early_items}
 use Rattle.early_memory.proofs.FewLaws.{NeedNone, few_from_nothing}
 use Rattle.bm_base.specs.ResultSteps.{◌>>=◌}
-use Rattle.boot_model.specs.Boot.{InputsView, BootSoFar, begin_with_map, inputs_without_files, boot, claims, early_inputs, memory_stage, judge_map, no_options, reach}
+use Rattle.boot_model.specs.Boot.{InputsView, BootSoFar, begin_with_map, inputs_without_files, boot, claims, no_extra, early_inputs, memory_stage, judge_map, no_options, reach}
 use Rattle.boot_model.proofs.BootLaws.{goes_on}
 use Rattle.boot_model.proofs.CarriedLaws.{memory_made_by}
 use Rattle.program_args.specs.Kernel.{default_kernel}
@@ -54,7 +54,7 @@ held name = if bytes_eq name (codes "zp") then Some page else None
 abbrev given : InputsView
 given = record (inputs_without_files Bits46 (record { base = 0x1000000; size = 0x2000000 })) { entries = ram ∷ reserved ∷ [] }
 
--- the type of each address; if both entries cover it, the greater type
+-- the type of each address: the greater one, if both entries cover it
 kind_at : ℕ → ℕ
 kind_at x = if nat_lt x 0x100000 then 0 else (if nat_lt x 0x7FE0000 then 1 else (if nat_lt x 0x8000000 then 2 else 0))
 
@@ -68,7 +68,7 @@ entries_give x = greatest_is (claims_of_entries given.entries x) (kind_at x) (sm
     (λ some. grind (arith, nat_tests))
     (λ k higher low. grind (arith, nat_tests))
 
--- each address is claimed for this type only
+-- each address has only claims of the type `kind_at`
 IsOnly : Claims → Type 0
 IsOnly c = (x k : ℕ) → c x k ≡ (nat_lt 0 k && k == kind_at x)
 
@@ -115,7 +115,7 @@ map_is =
     runs_of_function_are_equal (kinds (claims given)) _ _ (map_runs (claims given) none_above)
     (record { runs = are_runs; each = λ x. sym (kinds_are x) })
 
--- the RAM has 32,480 whole frames, all below the limit
+-- the RAM has 32,480 whole frames, all below the limit of physical addresses
 memory_is : (x : ℕ) → is_memory (types_below (reach given) (kinds (claims given)) x) ≡ (nat_le 0x100000 x && nat_lt x 0x7FE0000)
 memory_is x = memory_reached (reach given) (kinds (claims given)) x ∙ rw (kinds_are x) (grind (arith, nat_tests))
 
@@ -125,7 +125,7 @@ frames_are =
     ∙ count_same _ _ (2 ^ 52) (λ frame low. each_in-same (bytes_of_frame frame) _ _ (λ x from below. memory_is x))
     ∙ count_frames_between 0x100000 0x7FE0000 (2 ^ 52)
 
--- the items that the early boot writes, so few that no table grows
+-- the items that are written before nodes are known; they are few enough that no table grows
 abbrev wanted : List Item
 wanted = early_items (early_inputs given) runs
 
@@ -135,7 +135,7 @@ few_wanted = (omega arith, omega arith, (omega arith, omega arith, (omega arith,
 wanted_is_made : carry_out_items wanted [] ≡ Ok wanted
 wanted_is_made = few_from_nothing wanted few_wanted
 
--- the boot gets as far as memory
+-- the boot doesn't stop before memory is made
 memory_is_made : (judge_map given >>= memory_stage given) ≡ Ok (record (begin_with_map runs no_options) { items = wanted })
 memory_is_made = rw (map_is, frames_are) (memory_made_by given (begin_with_map runs no_options) wanted wanted_is_made)
 
@@ -157,10 +157,10 @@ asked = record {
 words_ask : read_args (codes "--report" ∷ codes "map" ∷ codes "zp" ∷ []) ≡ Some asked
 words_ask = accepted_as_given spellings are_spellings
 
--- if the later stages find their places, this text is written
+-- if the later stages don't stop, this text is written
 first_run : (made : BootSoFar) → boot given ≡ Ok made → bootmem_outcome (read_args (codes "--report" ∷ codes "map" ∷ codes "zp" ∷ [])) held
     ≡ Ok (codes "0x0000000000100000..0x0000000007fdffff 1 usable\n0x0000000007fe0000..0x0000000007ffffff 2 reserved\n")
-unfolding entry_at digits initrd_of is_initrd_far
+unfolding boot entry_at digits initrd_of is_initrd_far
 first_run made ends =
-    let map : made.map ≡ runs = (goes_on given made ends).map ∙ map_is in
+    let map : made.map ≡ runs = (goes_on no_extra given made ends).map ∙ map_is in
     ap (λ words. bootmem_outcome words held) words_ask ∙ rw (ends, map) refl

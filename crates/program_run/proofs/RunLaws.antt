@@ -1,52 +1,65 @@
--- An error of the inputs fits the outcome.
-use Rattle.std.proofs.Common.{◌≡◌, ◌≢◌, ℕ, List, Option, Some, None, Result, Ok, Err, arith}
+-- An error of reading the inputs is the one that the outcome has. The laws hold for each of the two
+-- programs.
+use Rattle.std.proofs.Common.{◌≡◌, ◌≢◌, ℕ, List, Option, Some, None, Result, Ok, Err, refl, arith}
 use Rattle.std.specs.Prelude.{IfSome, IsErrAnd, IsNone}
 use Rattle.bm_base.specs.ResultSteps.{◌>>=◌}
+use Rattle.boot_inputs.specs.declared.input.Input.{Input}
 use Rattle.boot_inputs.specs.Input.{input_place}
 use Rattle.boot_inputs.specs.Reason.{NoInputs, InputsReason}
-use Rattle.boot_model.specs.Boot.{InputsView}
-use Rattle.debugfs_reports.specs.declared.report.Report.{Report}
+use Rattle.boot_model.specs.declared.stop.Cause.{Cause}
 use Rattle.program_end.specs.Causes.{ErrorHasCause}
-use Rattle.program_end.specs.Fetches.{Fetches, FitsError}
-use Rattle.program_end.specs.Program.{FileContents}
+use Rattle.program_end.specs.Fetches.{Fetches, FitsError, accepted_or_usage}
+use Rattle.program_end.specs.Program.{FileContents, Program}
 use Rattle.program_args.specs.declared.reader.ArgsError.{ArgsError}
 use Rattle.program_args.specs.declared.reader.ArgsError.TheVariants as words
 use Rattle.program_args.specs.Answers.{or_refused}
-use Rattle.program_args.specs.Args.{BootmemArgsView}
-use Rattle.program_run.specs.Bootmem.{bootmem}
-use Rattle.program_run.specs.Outcome.{read_boot_inputs, bootmem_outcome, reports_on_boot}
+use Rattle.program_run.specs.Outcome.{value_or_stopped}
 use Rattle.program_run.specs.Stops.{reason_by_args_error}
 
--- if a file is read for the inputs, it is read for the outcome
-refused_after : (error : NoInputs) (said : Result InputsView InputsReason) (reports : List Report) → FitsError input_place error said
-    → FitsError input_place error (said >>= reports_on_boot reports)
-refused_after error said reports fits = grind arith
+-- the outcome after the boot, whose cause is the only reason that it may add
+boot_fits : {A T B : Type 0} (error : NoInputs) (given : A) (answer : Result T Cause) (text : T → B) (said : Result A InputsReason)
+    → said ≡ Ok given → FitsError input_place error said → FitsError input_place error (value_or_stopped answer >>= λ told. Ok (text told))
+boot_fits error given answer text said is fits = grind arith
 
-pub inputs_fit : (held : FileContents) (wanted : BootmemArgsView) (error : NoInputs)
-    → FitsError input_place error (read_boot_inputs held wanted)
-    → FitsError input_place error (bootmem_outcome (Some wanted) held)
-inputs_fit held wanted error fits = refused_after error (read_boot_inputs held wanted) wanted.reports fits
+-- a file that is reached when the inputs are read is reached by the outcome
+refused_after : {A T B : Type 0} (error : NoInputs) (said : Result A InputsReason) (boot : A → Result T Cause) (text : T → B)
+    → FitsError input_place error said → FitsError input_place error (said >>= λ given. value_or_stopped (boot given) >>= λ told. Ok (text told))
+refused_after error (Ok given) boot text fits = boot_fits error given (boot given) text (Ok given) refl fits
+refused_after error (Err reason) boot text fits = grind arith
 
-pub fetches_none : {X : Type 0} (view : X → List ℕ) (r : Result X NoInputs) (told : Option FileContents) (wanted : BootmemArgsView)
-    (error : NoInputs)
-    → IsErrAnd r (λ other. other ≡ error) → IfSome told (λ held. FitsError input_place error (read_boot_inputs held wanted))
-    → IfSome told (λ held. Fetches input_place view r (bootmem_outcome (Some wanted) held))
-fetches_none view r None wanted error is fits = tt
-fetches_none view r (Some held) wanted error is fits = grind (arith, inputs_fit held wanted error fits)
+fetches_after : {A T B X : Type 0} (view : X → B) (r : Result X NoInputs) (said : Result A InputsReason) (boot : A → Result T Cause)
+    (text : T → B) (error : NoInputs)
+    → IsErrAnd r (λ other. other ≡ error) → FitsError input_place error said
+    → Fetches input_place view r (said >>= λ given. value_or_stopped (boot given) >>= λ told. Ok (text told))
+fetches_after view (Err other) said boot text error is fits = rw is (refused_after error said boot text fits)
+fetches_after view (Ok value) said boot text error is fits = absurd is
 
--- a command line that was read is accepted
-pub are_accepted : (accepted : Option BootmemArgsView) (wanted : BootmemArgsView) → or_refused accepted ≡ Ok wanted → accepted ≡ Some wanted
+pub fetches_none : {A T B X : Type 0} (view : X → B) (r : Result X NoInputs) (told : Option FileContents)
+    (read : FileContents → Result A InputsReason) (boot : A → Result T Cause) (text : T → B) (error : NoInputs)
+    → IsErrAnd r (λ other. other ≡ error) → IfSome told (λ held. FitsError input_place error (read held))
+    → IfSome told (λ held. Fetches input_place view r (read held >>= λ given. value_or_stopped (boot given) >>= λ told. Ok (text told)))
+fetches_none view r None read boot text error is fits = tt
+fetches_none view r (Some held) read boot text error is fits = fetches_after view r (read held) boot text error is fits
+
+-- if reading the command line succeeds, the command line is accepted
+pub are_accepted : {W : Type 0} (accepted : Option W) (wanted : W) → or_refused accepted ≡ Ok wanted → accepted ≡ Some wanted
 are_accepted accepted wanted is = grind arith
 
-pub never_refused : (accepted : Option BootmemArgsView) (wanted : BootmemArgsView) → or_refused accepted ≡ Ok wanted → IsNone accepted → ⊥
+pub never_refused : {W : Type 0} (accepted : Option W) (wanted : W) → or_refused accepted ≡ Ok wanted → IsNone accepted → ⊥
 never_refused accepted wanted is none = grind arith
 
--- a command line that wasn't read is refused, or memory ran out
-pub words_cause : (before now : List ℕ → ℕ) (accepted : Option BootmemArgsView) (error : ArgsError)
-    → (error ≢ words.Memory → or_refused accepted ≡ Err error) → ErrorHasCause bootmem before now accepted (reason_by_args_error error)
-words_cause before now accepted error is = grind arith
+-- if reading the command line fails, the command line is refused or memory ran out
+pub words_cause : {W A : Type 0} (program : Program W Input A) (before now : List ℕ → ℕ) (accepted : Option W) (error : ArgsError)
+    → (error ≢ words.Memory → or_refused accepted ≡ Err error) → ErrorHasCause program before now accepted (reason_by_args_error error)
+words_cause program before now accepted error is = grind arith
 
-pub words_fit : (holds : Option FileContents) (accepted : Option BootmemArgsView) (error : ArgsError)
+fits_words : {W A : Type 0} (next : W → Result A InputsReason) (accepted : Option W) (error : ArgsError)
     → (error ≢ words.Memory → or_refused accepted ≡ Err error)
-    → IfSome holds (λ held. FitsError input_place (reason_by_args_error error) (bootmem_outcome accepted held))
-words_fit holds accepted error is = grind arith
+    → FitsError input_place (reason_by_args_error error) (accepted_or_usage accepted >>= next)
+fits_words next accepted error is = grind arith
+
+pub words_fit : {W A : Type 0} (next : FileContents → W → Result A InputsReason) (holds : Option FileContents) (accepted : Option W)
+    (error : ArgsError) → (error ≢ words.Memory → or_refused accepted ≡ Err error)
+    → IfSome holds (λ held. FitsError input_place (reason_by_args_error error) (accepted_or_usage accepted >>= next held))
+words_fit next None accepted error is = tt
+words_fit next (Some held) accepted error is = fits_words (next held) accepted error is

@@ -1,16 +1,25 @@
--- `bootmem` as a program over files: its result is the text of its reports, with status 0.
+-- `bootmem` and `bootmem61` as programs over files. With status 0 the result is the text of the
+-- requested reports.
 use Rattle.std.specs.Prelude.{ℕ, List}
 use Rattle.std.proofs.Common.{refl, inl}
 use Rattle.boot_inputs.specs.declared.input.Input.{Input}
 use Rattle.boot_inputs.specs.Input.{input_place}
+use Rattle.boot_inputs.specs.Inputs.{FileNames}
 use Rattle.program_end.specs.Program.{Program}
-use Rattle.program_args.specs.Args.{BootmemArgsView}
+use Rattle.program_args.specs.Args.{BootmemArgsView, ProgramArgsView, named61}
 
-abbrev pub bootmem : Program BootmemArgsView Input (List ℕ)
-bootmem = record {
+-- the program that prints reports on a boot; `named` gives the names of its files
+abbrev pub reports_program : {W : Type 0} → (W → FileNames) → Program W Input (List ℕ)
+reports_program named = record {
   place = input_place;
-  named = λ wanted. wanted.named;
+  named = named;
   text = λ text. text;
   status = λ text. 0;
   statuses = λ text. inl refl;
 }
+
+abbrev pub bootmem : Program BootmemArgsView Input (List ℕ)
+bootmem = reports_program (λ wanted. wanted.named)
+
+abbrev pub bootmem61 : Program ProgramArgsView Input (List ℕ)
+bootmem61 = reports_program named61

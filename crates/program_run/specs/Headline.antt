@@ -1,17 +1,18 @@
--- What status 0 promises if the files' contents and the bytes written so far are known.
+-- What status 0 promises, if it is known what the files contain and what was written before.
 use Rattle.std.specs.Prelude.{◌≡◌, ℕ, List, Option, Some, Ok}
 use Rattle.std.specs.Io.KnownBytes.{Appends}
 use Rattle.program_end.specs.Program.{FileContents}
-use Rattle.boot_model.specs.Boot.{InputsView, BootedView, whole_boot}
+use Rattle.boot_inputs.specs.WithClaims.{InputsWithClaims}
+use Rattle.boot_model.specs.Boot.{InputsView, BootedView, whole_boot, whole_boot_with}
 use Rattle.conservation.specs.Headline.{AllTouchedOrInOneBlock, BlocksAreMaximal, BlocksAreWhole, NoOtherInABlock}
 use Rattle.debugfs_reports.specs.ReportList.{report_list_text}
-use Rattle.program_run.specs.Outcome.{read_boot_inputs}
-use Rattle.program_args.specs.Args.{BootmemArgsView}
+use Rattle.program_run.specs.Outcome.{linux_extra, read_boot_inputs, read_boot_inputs61, reports_of_list61}
+use Rattle.program_args.specs.Args.{BootmemArgsView, ProgramArgsView}
 
--- the requested reports were appended whole, made of the one boot that the command line and the
--- files' bytes determine. In it each usable frame is touched by a claim with a recorded owner, or
--- is in exactly one block (`each`). No other frame is in a block (`others`). Each block is whole,
--- and maximal.
+-- The requested reports were appended whole. They describe the one boot that the command line and
+-- the files' bytes determine. In this boot each usable frame is touched by a claim with a
+-- recorded owner, or is in exactly one block (`each`). No other frame is in a block (`others`).
+-- Each block is whole, and maximal.
 pub record AppendsReports (accepted : Option BootmemArgsView) (held : FileContents) (old new : Option (List ℕ)) : Type 0 where
   pub wanted : BootmemArgsView
   pub given : InputsView
@@ -24,3 +25,18 @@ pub record AppendsReports (accepted : Option BootmemArgsView) (held : FileConten
   pub others : NoOtherInABlock given told
   pub whole : BlocksAreWhole given told
   pub maximal : BlocksAreMaximal given told
+
+-- The same for `bootmem61`: the boot has the profile of Linux 6.1 and the early claims of the
+-- files. Each fact is about this boot.
+pub record AppendsReports61 (accepted : Option ProgramArgsView) (held : FileContents) (old new : Option (List ℕ)) : Type 0 where
+  pub wanted : ProgramArgsView
+  pub given : InputsWithClaims
+  pub told : BootedView
+  pub words : accepted ≡ Some wanted
+  pub inputs : read_boot_inputs61 held wanted ≡ Ok given
+  pub boots : whole_boot_with (linux_extra given.claims) given.inputs ≡ Ok told
+  pub written : Appends old new (report_list_text (reports_of_list61 wanted.list) told)
+  pub each : AllTouchedOrInOneBlock given.inputs told
+  pub others : NoOtherInABlock given.inputs told
+  pub whole : BlocksAreWhole given.inputs told
+  pub maximal : BlocksAreMaximal given.inputs told

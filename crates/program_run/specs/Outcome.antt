@@ -1,25 +1,30 @@
--- The outcome of the program: what the command line and the contents of the files determine.
+-- The outcome of each program: what the command line and the contents of the files determine.
 -- `held` gives the bytes of each file.
 use Rattle.std.specs.Prelude.{ℕ, List, drop, take, Option, Some, None, Result, Ok}
 use Rattle.bm_base.specs.ResultSteps.{◌>>=◌, map_error}
 use Rattle.e820_table.specs.Made.{generated_entries}
 use Rattle.boot_inputs.specs.Reason.{InputsReason}
 use Rattle.boot_inputs.specs.Inputs.{inputs_of}
+use Rattle.boot_inputs.specs.WithClaims.{InputsWithClaims, inputs_with_claims_of}
 use Rattle.program_end.specs.Program.{FileContents}
 use Rattle.boot_model.specs.declared.stop.Cause.{Cause}
-use Rattle.boot_model.specs.Boot.{InputsView, whole_boot}
+use Rattle.boot_model.specs.Boot.{ExtraView, InputsView, whole_boot, whole_boot_with}
+use Rattle.boot_model.specs.Profiles.{linux_profile}
 use Rattle.debugfs_reports.specs.declared.report.Report.{Report}
-use Rattle.debugfs_reports.specs.ReportList.{report_list_text}
+use Rattle.debugfs_reports.specs.Report.{reports_with_claims}
+use Rattle.debugfs_reports.specs.ReportList.{report_list_text, reports_named_in}
 use Rattle.program_end.specs.declared.failure.Reason.TheVariants as reasons
 use Rattle.program_end.specs.Fetches.{accepted_or_usage}
-use Rattle.program_args.specs.Args.{BootmemArgsView}
+use Rattle.program_args.specs.Args.{BootmemArgsView, ProgramArgsView, named61}
+use Rattle.script_reader.specs.declared.act.Line.{Line}
 
--- the value, or the cause of the stop as a reason
+-- the value, or the cause of the stop as the reason why there is no report
 abbrev pub value_or_stopped : {A : Type 0} → Result A Cause → Result A InputsReason
 value_or_stopped answer = map_error reasons.Stopped answer
 
--- the inputs with a made table, if the command line asks for one: its first 128 entries replace
--- those of the zero page, the others those of the extension, and there is no initrd
+-- The inputs with a made table of this many entries, if there is a number. The first 128 entries
+-- replace those of the zero page, the others replace those of the extension, and the initrd is
+-- dropped.
 abbrev pub with_made_table : Option ℕ → InputsView → InputsView
 with_made_table None given = given
 with_made_table (Some count) given = record given {
@@ -40,9 +45,42 @@ reports_on_boot reports given = do
   told ← value_or_stopped (whole_boot given)
   Ok (report_list_text reports told)
 
--- the outcome of the program: the text that it writes, or the reason why there is none
+-- the outcome of `bootmem`: the text that it writes, or the reason why there is none
 abbrev pub bootmem_outcome : Option BootmemArgsView → FileContents → Result (List ℕ) InputsReason
 bootmem_outcome accepted held = do
   wanted ← accepted_or_usage accepted
   given ← read_boot_inputs held wanted
   reports_on_boot wanted.reports given
+
+-- the inputs with a made table, if there is a number; the early claims stay
+abbrev pub with_made_table61 : Option ℕ → InputsWithClaims → InputsWithClaims
+with_made_table61 made given = record { inputs = with_made_table made given.inputs; claims = given.claims }
+
+-- the inputs of the boot and the early claims, as the command line of `bootmem61` and its files
+-- give them
+abbrev pub read_boot_inputs61 : FileContents → ProgramArgsView → Result InputsWithClaims InputsReason
+read_boot_inputs61 held wanted = do
+  given ← inputs_with_claims_of held (named61 wanted) wanted.begun
+  Ok (with_made_table61 wanted.made given)
+
+-- what `bootmem61` gives a boot besides its inputs: the profile of Linux 6.1, and these early
+-- claims
+abbrev pub linux_extra : List Line → ExtraView
+linux_extra claims = record { profile = linux_profile; claims = claims }
+
+-- the text of the reports on a boot of `bootmem61` with these inputs and early claims
+abbrev pub reports_on_boot61 : List Report → InputsWithClaims → Result (List ℕ) InputsReason
+reports_on_boot61 reports given = do
+  told ← value_or_stopped (whole_boot_with (linux_extra given.claims) given.inputs)
+  Ok (report_list_text reports told)
+
+-- the reports that the list asks `bootmem61` for
+abbrev pub reports_of_list61 : List ℕ → List Report
+reports_of_list61 list = reports_named_in reports_with_claims list
+
+-- the outcome of `bootmem61`: the text that it writes, or the reason why there is none
+abbrev pub bootmem61_outcome : Option ProgramArgsView → FileContents → Result (List ℕ) InputsReason
+bootmem61_outcome accepted held = do
+  wanted ← accepted_or_usage accepted
+  given ← read_boot_inputs61 held wanted
+  reports_on_boot61 (reports_of_list61 wanted.list) given

@@ -1,4 +1,4 @@
--- Why there is no report, for each error of the layers below.
+-- Why there is no report, for each error of the crates below.
 use Rattle.std.specs.Prelude.{Option, Some, None}
 use Rattle.boot_inputs.specs.Reason.{NoInputs}
 use Rattle.boot_model.specs.declared.stop.Cause.{Cause}
@@ -9,7 +9,7 @@ use Rattle.program_end.specs.declared.failure.Reason.TheVariants as reasons
 use Rattle.program_args.specs.declared.reader.ArgsError.{ArgsError}
 use Rattle.program_args.specs.declared.reader.ArgsError.TheVariants as words
 
--- a stop without a cause is out of memory
+-- a cause as a reason; a stop without a cause is out of memory
 abbrev pub reason_by_cause : Option Cause → NoInputs
 reason_by_cause None = errors.Memory
 reason_by_cause (Some cause) = errors.Reason (reasons.Stopped cause)
@@ -18,7 +18,7 @@ reason_by_cause (Some cause) = errors.Reason (reasons.Stopped cause)
 abbrev pub reason_by_stop : Stop → NoInputs
 reason_by_stop stop = reason_by_cause (cause_of stop)
 
--- why a command line that couldn't be read gives no report
+-- why a command line that wasn't accepted, or couldn't be read, gives no report
 abbrev pub reason_by_args_error : ArgsError → NoInputs
 reason_by_args_error words.Usage = errors.Reason reasons.Usage
 reason_by_args_error words.Memory = errors.Memory

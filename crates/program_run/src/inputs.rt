@@ -1,21 +1,25 @@
-//! The inputs of the boot: what the named files contain, or a made table in place of the entries
-//! of the zero page and of the extension.
+//! The inputs of the boot: what the named files contain. With `--make`, a generated table replaces
+//! the entries of the zero page and of the extension.
 
 ghost use Rattle.std.specs.Prelude.{◌≡◌, ◌<◌, IfErr, IfOk, IfSome, IsErr, IsSomeAnd, Some};
+ghost use Rattle.boot_inputs.specs.WithClaims.{inputs_with_claims_view};
+ghost use Rattle.boot_model.specs.Facts.{HaveBounds, HaveNoSections};
 ghost use Rattle.boot_model.specs.View.{inputs_view};
 ghost use Rattle.program_end.specs.Causes.{IsFileError};
 ghost use Rattle.program_end.specs.Fetches.{Fetches};
 ghost use Rattle.boot_inputs.specs.Input.{input_place};
 ghost use Rattle.program_args.specs.Entries.{IsEntryCount};
-ghost use Rattle.program_args.specs.View.{bootmem_args_view};
-ghost use Rattle.program_run.specs.Outcome.{read_boot_inputs, with_made_table};
+ghost use Rattle.program_args.specs.Args.{named61};
+ghost use Rattle.program_args.specs.View.{bootmem_args_view, program_args_view};
+ghost use Rattle.program_run.specs.Outcome.{read_boot_inputs, read_boot_inputs61, with_made_table};
 
 use bm_base::Memory;
 use bm_io::Files;
-use boot_inputs::{NoInputs, read_inputs};
+use boot_inputs::{NoInputs, read_inputs, read_inputs_with_claims};
 use boot_model::Inputs;
 use e820_table::made;
-use program_args::BootmemArgs;
+use program_args::{BootmemArgs, NamesWithClaims};
+use script_reader::Line;
 use std::alloc::Global;
 
 /// Reads the files that the arguments of `bootmem` name, in their order. With `--make N`, a
@@ -47,8 +51,39 @@ pub fn read_boot_inputs<F: Files>(
     }
 }
 
-/// Returns `inputs`. If `entries` is a number (2 to 3000), a made table with so many entries
-/// replaces those of the zero page and of the extension. Runs out of memory only for more than 128
+/// Reads the files that the arguments of `bootmem61` name, in their order. The inputs are those of
+/// [`read_boot_inputs`]. In addition it returns the lines of early claims, none without a file.
+///
+/// # Errors
+///
+/// Those of [`read_boot_inputs`].
+pub(crate) fn read_boot_inputs61<F: Files>(
+    alloc: Global,
+    names: &NamesWithClaims<'_, '_>,
+    files: &mut F,
+) -> Result<(Inputs, Vec<Line>), NoInputs>
+    ensures fetches { IfSome (F.holds files.old) (λ held.
+        Fetches input_place inputs_with_claims_view result
+        (read_boot_inputs61 held (program_args_view names.now.wanted.now))) }
+    ensures cause { IfErr result (IsFileError (F.faults files.old) (F.faults files.new)
+        (named61 (program_args_view names.now.wanted.now))) }
+    ensures bounds { IfOk result (λ given. HaveBounds given.1.items) }
+    ensures no_sections { IfOk result (λ given. HaveNoSections given.1.items) }
+{
+    let Ok(begun) = names.wanted.command_line_inputs(alloc) else {
+        return Err(NoInputs::Memory);
+    };
+    let (inputs, claims) = read_inputs_with_claims::<F, NamesWithClaims<'_, '_>>(
+        alloc, files, names, begun,
+    )?;
+    match with_made_table(alloc, inputs, names.wanted.made) {
+        Ok(inputs) => Ok((inputs, claims)),
+        Err(_) => Err(NoInputs::Memory),
+    }
+}
+
+/// Returns `inputs`. If `entries` is a number (2 to 3000), a made table of so many entries replaces
+/// the entries of the zero page and of the extension. Runs out of memory only for more than 128
 /// entries.
 fn with_made_table(alloc: Global, inputs: Inputs, entries: Option<u32>) -> Result<Inputs, Memory>
     requires few { IfSome entries IsEntryCount }

@@ -1,4 +1,4 @@
-//! The program `bootmem` over any files, output and error output.
+//! The programs `bootmem` and `bootmem61` over any files, output and error output.
 //!
 //! [`run`] reads the words after the program's name (the command line) and the files that they
 //! name, boots with them, and writes the reports. `bootmem_outcome` (`specs/Outcome.antt`) defines
@@ -13,8 +13,12 @@
 //! which line it writes if it fails, is defined for any program over files (`program_end`); this
 //! one is `bootmem` (`specs/Bootmem.antt`).
 //!
-//! `bootmem_cli` runs it on the files and streams of the operating system. [`read_boot_inputs`] and
-//! [`reason_by_stop`] serve a caller that boots without writing reports (`bootmem_c`).
+//! [`run61`] is the program `bootmem61`, with the same clauses. Its boot follows the rules of Linux
+//! 6.1 and runs early claims, and its outcome is `bootmem61_outcome`.
+//!
+//! `bootmem_cli` and `bootmem61_cli` run them on the files and streams of the operating system.
+//! [`read_boot_inputs`] and [`reason_by_stop`] serve a caller that boots without writing reports
+//! (`bootmem_c`).
 //!
 //! In contracts, a name means the definition in `specs/`.
 #![tactic(auto)]
@@ -22,7 +26,9 @@
 mod inputs;
 mod lines;
 mod program;
+mod program61;
 
 pub use boot_inputs::InputsReason;
 pub use inputs::read_boot_inputs;
 pub use program::{Failure, NoReport, reason_by_stop, run};
+pub use program61::run61;

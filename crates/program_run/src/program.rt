@@ -1,4 +1,4 @@
-//! The whole program over any files and outputs. Since it is generic, one contract covers the
+//! The whole program over any files and outputs. It is generic in them, so one contract covers the
 //! files in memory of the tests and those of the operating system (`bootmem_cli`).
 
 ghost use Rattle.std.specs.Prelude.{◌≡◌, ◌≢◌, ℕ, List, Some, Ok, IfErr, IfSome, IsNone, IsOkAnd, ◌⊎◌, flat_map};
@@ -67,9 +67,10 @@ pub fn reason_by_stop(stop: Stop) -> NoReport
 /// failed. If `err` refuses it, the status stays the same. With 2, 3, 5 and 6 nothing is written to
 /// `out`. With 4 and 7 `out` may have the first part of the text.
 ///
-/// `holds` gives what each file contains, if the type of `files` knows it, as that of files in
-/// memory does. For the files of the operating system it is `None`. The clauses on
-/// `bootmem_outcome` then say nothing, but it is the same generic code that runs.
+/// The ghost `holds` gives the contents of each file if the type of `files` knows them. The type
+/// of files in memory does. For the files of the operating system `holds` is `None`, and the
+/// clauses on `bootmem_outcome` say nothing; but the code is generic, so the same code runs in
+/// both cases.
 pub fn run<F: Files, S: Sink, E: Sink>(
     alloc: Global,
     words: &[String],
@@ -86,8 +87,8 @@ pub fn run<F: Files, S: Sink, E: Sink>(
         (read_args (bytes_of_words words.now)) input }
     ensures unwritten { result ≡ 4 → Rose (S.faults out.old) (S.faults out.new) }
 
-    // What stays as it was, even if the files' contents are unknown: the files and `out` if the
-    // command line is refused, and `out` if there is no text.
+    // What stays as it was, even if the files' contents are unknown. If the command line is
+    // refused, the files and `out` stay. If there is no text, `out` stays.
     ensures unfetched { IsNone (read_args (bytes_of_words words.now)) → files.new ≡ files.old }
     ensures unput { IsNone (read_args (bytes_of_words words.now)) → out.new ≡ out.old }
     ensures early { (result ≡ 2) ⊎ (result ≡ 3) ⊎ (result ≡ 5) ⊎ (result ≡ 6) → out.new ≡ out.old }
@@ -118,8 +119,8 @@ pub fn run<F: Files, S: Sink, E: Sink>(
     ensures stopped { result ≡ 6 → IfSome (F.holds files.old) (λ held.
         IsStopped (bootmem_outcome (read_args (bytes_of_words words.now)) held)) }
 
-    // If no counter of faults rose, of `out` or of a file, a text of the outcome is written
-    // unless the program is out of memory.
+    // If no counter of faults rose, neither of `out` nor of a file, and the outcome is a text, the
+    // text is written unless the program runs out of memory.
     ensures complete { IfSome (F.holds files.old) (λ held. (text : List ℕ)
         → bootmem_outcome (read_args (bytes_of_words words.now)) held ≡ Ok text
         → ¬ Rose (S.faults out.old) (S.faults out.new)
@@ -129,7 +130,7 @@ pub fn run<F: Files, S: Sink, E: Sink>(
         → (result ≡ 0) ⊎ (result ≡ 7)) }
 
     // What `err` has: nothing with status 0, else the line for a failure with this status. The
-    // failure has its cause and fits the outcome.
+    // cause of this failure did occur, and the failure fits the outcome.
     ensures silent { result ≡ 0 → err.new ≡ err.old }
     ensures line { result ≢ 0 → (failure : AnyFailure AnyReason) × (result ≡ failure_status failure)
         × PutsLine E.Sink err.old err.new
@@ -143,7 +144,7 @@ pub fn run<F: Files, S: Sink, E: Sink>(
     exit_status(end)
 }
 
-/// Runs the program, and writes to `err` why it failed. Returns the status of its result, or the
+/// Runs the program, and writes to `err` why it failed, if it did. Returns the exit status, or the
 /// failure.
 fn run_to_end<F: Files, S: Sink, E: Sink>(
     alloc: Global,
@@ -183,8 +184,8 @@ fn run_to_end<F: Files, S: Sink, E: Sink>(
     }
 }
 
-/// Returns why a command line that couldn't be read gives no report.
-fn reason_by_args_error(error: ArgsError) -> NoReport
+/// Returns why a command line that wasn't accepted, or couldn't be read, gives no report.
+pub(crate) fn reason_by_args_error(error: ArgsError) -> NoReport
     ensures { result ≡ reason_by_args_error error }
 {
     match error {

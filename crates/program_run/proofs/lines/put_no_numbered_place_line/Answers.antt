@@ -1,4 +1,4 @@
--- The chunks that are put make up the line.
+-- The chunks that are written make up the line.
 use Rattle.program_run.proofs.lines.put_no_numbered_place_line.Goals as goal
 
 pub returns : goal.returns

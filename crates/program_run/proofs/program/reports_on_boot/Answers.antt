@@ -1,4 +1,4 @@
--- A stop is the boot's; the texts are those of the boot.
+-- A stop is that of the boot. Otherwise the texts are the reports on the boot.
 use Rattle.std.proofs.Common.{◌∙◌, refl}
 use Rattle.address_runs.proofs.RunsLaws.{runs_ascend}
 use Rattle.program_run.proofs.BootedLaws.{items_shown, items_stand, told_is}

@@ -1,16 +1,21 @@
 -- The clauses of `run` follow from how its end fits the outcome.
 use Rattle.program_end.proofs.EndLaws.{failure_status_has_line}
-use Rattle.program_args.specs.Args.{read_args, bytes_of_words}
+use Rattle.program_args.specs.Args.{BootmemArgsView, bytes_of_words, read_args}
 use Rattle.program_run.specs.Bootmem.{bootmem}
+use Rattle.program_run.specs.Headline.{AppendsReports}
 use Rattle.program_run.specs.Line.{bootmem_failure_line}
 use Rattle.program_run.specs.Outcome.{bootmem_outcome}
-use Rattle.program_run.proofs.HeadlineLaws.{never_eight, ran_answers, ran_headline, ran_refused, ran_written}
+use Rattle.program_run.proofs.HeadlineLaws.{is_reported, never_eight, ran_answers, ran_headline, ran_refused, ran_unread, ran_written}
 use Rattle.program_run.proofs.program.run.Goals as goal
 
 pub returns-clause-headline : goal.returns-clause-headline
 returns-clause-headline g c =
     let end = c.run_to_end-end in
-    ran_headline _ _ (read_args (bytes_of_words c.args.words.now)) end.result _ c.exit_status.ensures _ end.ensures.writes
+    let wanted = read_args (bytes_of_words c.args.words.now) in
+    let old = g.S.Sink.written c.args.out.now in
+    let new = g.S.Sink.written end.new.out in
+    ran_headline (λ (args : BootmemArgsView). args.named) end.result _ c.exit_status.ensures old new (bootmem_outcome wanted)
+    (λ held. AppendsReports wanted held old new) (λ held. is_reported wanted held old new) _ end.ensures.writes
 
 pub returns-clause-line : goal.returns-clause-line
 returns-clause-line g c = λ some.
@@ -20,19 +25,28 @@ returns-clause-line g c = λ some.
     let now = g.F.Files.faults end.new.files in
     failure_status_has_line bootmem g.E.Sink (bootmem_failure_line wanted) before now wanted _ _ _ _ end.result _ c.exit_status.ensures end.ensures.cause
     end.ensures.told _ (bootmem_outcome wanted) end.ensures.writes some
-    (never_eight before now wanted end.result _ c.exit_status.ensures end.ensures.cause)
+    (never_eight (λ (args : BootmemArgsView). args.named) end.result _ c.exit_status.ensures before now wanted end.ensures.cause)
+
+pub returns-clause-unread : goal.returns-clause-unread
+returns-clause-unread g c =
+    let end = c.run_to_end-end in
+    ran_unread (λ (args : BootmemArgsView). args.named) end.result _ c.exit_status.ensures (g.F.Files.faults c.args.files.now) (g.F.Files.faults end.new.files) _
+    end.ensures.cause
 
 pub returns-clause-refused : goal.returns-clause-refused
 returns-clause-refused g c =
     let end = c.run_to_end-end in
-    ran_refused (g.F.Files.faults c.args.files.now) (g.F.Files.faults end.new.files) _ end.result _ c.exit_status.ensures end.ensures.cause
+    ran_refused (λ (args : BootmemArgsView). args.named) end.result _ c.exit_status.ensures (g.F.Files.faults c.args.files.now)
+    (g.F.Files.faults end.new.files) _ end.ensures.cause
 
 pub returns-clause-answers : goal.returns-clause-answers
 returns-clause-answers g c =
     let end = c.run_to_end-end in
-    ran_answers _ _ (read_args (bytes_of_words c.args.words.now)) end.result _ c.exit_status.ensures _ end.ensures.writes
+    ran_answers (λ (args : BootmemArgsView). args.named) end.result _ c.exit_status.ensures _ _
+    (bootmem_outcome (read_args (bytes_of_words c.args.words.now))) _ end.ensures.writes
 
 pub returns-clause-written : goal.returns-clause-written
 returns-clause-written g c =
     let end = c.run_to_end-end in
-    ran_written _ _ (read_args (bytes_of_words c.args.words.now)) end.result _ c.exit_status.ensures _ end.ensures.writes
+    ran_written (λ (args : BootmemArgsView). args.named) end.result _ c.exit_status.ensures _ _
+    (bootmem_outcome (read_args (bytes_of_words c.args.words.now))) _ end.ensures.writes

@@ -1,5 +1,8 @@
--- An accepted command line ends as its reports do. For a refused one no file is fetched and
--- nothing is put.
+-- With an accepted command line the run ends as writing the reports does. With a refused one no
+-- file is fetched and nothing is written.
+use Rattle.std.proofs.Common.{Some}
+use Rattle.program_run.specs.Bootmem.{bootmem}
+use Rattle.program_run.specs.Outcome.{bootmem_outcome}
 use Rattle.program_run.proofs.RunLaws.{are_accepted, never_refused, words_cause, words_fit}
 use Rattle.program_run.proofs.program.run_to_end.Goals as goal
 
@@ -20,9 +23,9 @@ returns-in-Ok-clause-told g c = rw (are_accepted _ _ c.in-Ok.ensures) c.put_end_
 
 pub returns-in-Err-clause-writes : goal.returns-in-Err-clause-writes
 returns-in-Err-clause-writes g c =
-    rw c.reason_by_args_error.ensures (words_fit (g.F.Files.holds c.args.files.now) _ c.in-Err.error c.in-Err.ensures)
+    rw c.reason_by_args_error.ensures (words_fit (λ held wanted. bootmem_outcome (Some wanted) held) (g.F.Files.holds c.args.files.now) _ c.in-Err.error c.in-Err.ensures)
 
 pub returns-in-Err-clause-cause : goal.returns-in-Err-clause-cause
 returns-in-Err-clause-cause g c =
     rw c.reason_by_args_error.ensures
-    (words_cause (g.F.Files.faults c.args.files.now) (g.F.Files.faults c.args.files.now) _ c.in-Err.error c.in-Err.ensures)
+    (words_cause bootmem (g.F.Files.faults c.args.files.now) (g.F.Files.faults c.args.files.now) _ c.in-Err.error c.in-Err.ensures)
