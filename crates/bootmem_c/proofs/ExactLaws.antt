@@ -1,10 +1,12 @@
--- A file that can't be read is the one in the outcome: reading fails only if the file isn't lent.
-use Rattle.std.proofs.Common.{◌≡◌, ℕ, ◌<◌, List, [], ◌∷◌, Option, Some, None, Result, Ok, Err, refl, inl, inr, ap, arith, ◌∙◌}
+-- A file that can't be read is the one that the outcome names: reading fails only if no lent file
+-- has the name.
+use Rattle.std.proofs.Common.{◌≡◌, ℕ, ◌<◌, List, [], ◌∷◌, Option, Some, None, Result, Ok, Err, refl, inl, inr, ap, arith, sym, ◌∙◌}
 use Rattle.std.specs.Prelude.{◌⊎◌}
 use Rattle.bm_base.specs.ResultSteps.{◌>>=◌}
 use Rattle.bm_io.specs.MemFiles.{file_bytes}
 use Rattle.boot_inputs.specs.declared.fault.Fault.{Fault}
 use Rattle.boot_inputs.specs.declared.input.Input.{Input}
+use Rattle.boot_inputs.specs.declared.input.Input.TheVariants as inputs
 use Rattle.boot_inputs.specs.Reason.{NoInputs, InputsReason}
 use Rattle.boot_inputs.specs.File.{File}
 use Rattle.boot_inputs.specs.Input.{input_place}
@@ -22,16 +24,27 @@ use Rattle.program_args.specs.Args.{BootmemArgsView}
 use Rattle.bootmem_c.specs.Boots.{HasOutcomeReason}
 use Rattle.bootmem_c.specs.Fetches.{LentFilesView, faults_at}
 use Rattle.bootmem_c.proofs.FetchLaws.{rose_unheld}
+use Rattle.bootmem_c.proofs.NameLaws.{HasNoClaims}
 
--- the input is in the list, and those before it in the list have lower positions
+-- the input is in the list, and the files before it in the list come earlier in the order of
+-- reading
 abbrev Has : Input → List File → Type 0
 Has input [] = ⊥
 Has input (file ∷ files) = (file.input ≡ input) ⊎ ((input_place file.input < input_place input) × Has input files)
 
-has : (input : Input) → Has input input_files
-has = grind arith
+-- each input that a command line of `bootmem` names is in the list
+has : (named : FileNames) (name : List ℕ) → named inputs.Claims ≡ None → (input : Input) → named input ≡ Some name → Has input input_files
+has named name own inputs.ZeroPage is = grind arith
+has named name own inputs.Extension is = grind arith
+has named name own inputs.CommandLine is = grind arith
+has named name own inputs.Srat is = grind arith
+has named name own inputs.Script is = grind arith
+has named name own inputs.Claims is = let clash : None ≡ Some name = sym own ∙ is in absurd (cc clash)
+has named name own inputs.Pages is = grind arith
+has named name own inputs.Slit is = grind arith
+has named name own inputs.Efi is = grind arith
 
--- if the file's step fails, its reason is one of this file
+-- if the step for a file fails, its reason names this input
 abbrev Refuses : Input → Result InputsView InputsReason → Type 0
 Refuses input (Ok given) = Unit {0}
 Refuses input (Err reason) = IsErrorOfInput {F = Fault} {C = Cause} input (errors.Reason reason)
@@ -51,7 +64,8 @@ step_is held file given None = tt
 step_is held file given (Some name) =
     unread_is (held name) file.input _ (λ bytes. faulty_is file.input (within_limit file.limit bytes >>= λ read. file.says read given))
 
--- if the files before are read, the reason is the first file that can't be read
+-- if reading reaches the file of `input` and can't read it, reading the whole list ends with that
+-- reason
 behind : (input : Input) (file : File) (rest : InputsView → Result InputsView InputsReason) → input_place file.input < input_place input
     → ((given : InputsView) → ReachesFile input_place input (rest given) → rest given ≡ Err (reasons.Unread input))
     → (step : Result InputsView InputsReason) → Refuses file.input step → ReachesFile input_place input (step >>= rest)
@@ -80,44 +94,44 @@ unread_at held named input name is none (file ∷ files) given (inr more) comes 
     behind input file (inputs_after_files held named files) more.0 (λ given. unread_at held named input name is none files given more.1)
     (inputs_after_file held named file given) (step_is held file given (named file.input)) comes
 
--- if the input's file is read for the outcome, it is read for the inputs
+-- a file that the outcome reaches is reached when the inputs are read
 comes_to : (input : Input) (wanted : BootmemArgsView) (said : Result InputsView InputsReason)
     → ReachesFile input_place input ((said >>= λ given. Ok (with_made_table wanted.made given)) >>= reports_on_boot wanted.reports)
     → ReachesFile input_place input said
 comes_to input wanted (Ok given) reaches = tt
 comes_to input wanted (Err reason) reaches = reaches
 
-pub unread_outcome : (held : FileContents) (wanted : BootmemArgsView) (input : Input) (name : List ℕ) → wanted.named input ≡ Some name
-    → held name ≡ None
+pub unread_outcome : (held : FileContents) (wanted : BootmemArgsView) (input : Input) (name : List ℕ)
+    → wanted.named inputs.Claims ≡ None → wanted.named input ≡ Some name → held name ≡ None
     → ReachesFile input_place input (bootmem_outcome (Some wanted) held) → bootmem_outcome (Some wanted) held ≡ Err (reasons.Unread input)
-unread_outcome held wanted input name is none reaches =
-    let said = unread_at held wanted.named input name is none input_files wanted.begun (has input)
+unread_outcome held wanted input name own is none reaches =
+    let said = unread_at held wanted.named input name is none input_files wanted.begun (has wanted.named name own input is)
     (comes_to input wanted (inputs_of held wanted.named wanted.begun) reaches) in
     ap (λ (s : Result InputsView InputsReason). (s >>= λ given. Ok (with_made_table wanted.made given))
     >>= reports_on_boot wanted.reports) said
 
--- if the counter of a file rose, it isn't lent
+-- if the counter of a name rose, no lent file has the name
 risen_file_is_not_lent : (old new : LentFilesView) (named : Option (List ℕ)) → FaultsRose (faults_at old) (faults_at new) named
     → (name : List ℕ) × (named ≡ Some name) × (file_bytes old.files name ≡ None)
 risen_file_is_not_lent old new None rose = absurd rose
 risen_file_is_not_lent old new (Some name) rose = (name, refl, rose_unheld old new name rose)
 
-pub unread_is_said : (old new : LentFilesView) (accepted : Option BootmemArgsView) (input : Input)
+pub unread_is_said : (old new : LentFilesView) (accepted : Option BootmemArgsView) (input : Input) → HasNoClaims accepted
     → InputFaultsRose bootmem (faults_at old) (faults_at new) accepted input
     → ReachesFile input_place input (bootmem_outcome accepted (file_bytes old.files))
     → bootmem_outcome accepted (file_bytes old.files) ≡ Err (reasons.Unread input)
-unread_is_said old new None input rose reaches = absurd rose
-unread_is_said old new (Some wanted) input rose reaches =
+unread_is_said old new None input own rose reaches = absurd rose
+unread_is_said old new (Some wanted) input own rose reaches =
     let found = risen_file_is_not_lent old new (wanted.named input) rose in
-    unread_outcome (file_bytes old.files) wanted input found.0 found.1 found.2 reaches
+    unread_outcome (file_bytes old.files) wanted input found.0 own found.1 found.2 reaches
 
--- over lent files the error is that of the outcome
-pub fails_as : (old new : LentFilesView) (accepted : Option BootmemArgsView) (error : NoInputs)
+-- with lent files, the error is that of the outcome
+pub fails_as : (old new : LentFilesView) (accepted : Option BootmemArgsView) (error : NoInputs) → HasNoClaims accepted
     → ErrorHasCause bootmem (faults_at old) (faults_at new) accepted error
     → FitsError input_place error (bootmem_outcome accepted (file_bytes old.files))
     → HasOutcomeReason error (bootmem_outcome accepted (file_bytes old.files))
-fails_as old new accepted (errors.Reason reasons.Usage) cause fits = fits
-fails_as old new accepted (errors.Reason (reasons.Unread input)) cause fits = unread_is_said old new accepted input cause fits
-fails_as old new accepted (errors.Reason (reasons.Faulty input fault)) cause fits = fits
-fails_as old new accepted (errors.Reason (reasons.Stopped why)) cause fits = fits
-fails_as old new accepted errors.Memory cause fits = tt
+fails_as old new accepted (errors.Reason reasons.Usage) own cause fits = fits
+fails_as old new accepted (errors.Reason (reasons.Unread input)) own cause fits = unread_is_said old new accepted input own cause fits
+fails_as old new accepted (errors.Reason (reasons.Faulty input fault)) own cause fits = fits
+fails_as old new accepted (errors.Reason (reasons.Stopped why)) own cause fits = fits
+fails_as old new accepted errors.Memory own cause fits = tt

@@ -1,4 +1,4 @@
--- The counters of each name in a fetch of lent files.
+-- How a fetch of a lent file changes the counter of each name.
 use Rattle.std.proofs.Common.{◌≡◌, ℕ, ◌+◌, ◌-◌, ◌^◌, ◌<◌, ◌≤◌, List, Option, Some, None, Result, Err, Vec, Global, refl, arith, ap, min}
 use Rattle.std.specs.Prelude.{IsNone, is_some, if◌then◌else◌}
 use Rattle.bm_io.specs.Counts.{Rose, RoseByMoreThan}
@@ -7,11 +7,11 @@ use Rattle.bm_io.specs.declared.reading.Fetch.{Fetch}
 use Rattle.bm_io.specs.declared.reading.Fetch.TheVariants as fetch
 use Rattle.bootmem_c.specs.Fetches.{LentFilesView, faults_at, misses_of}
 
--- a counter at its greatest value counts as risen
+-- a counter that stays at its greatest value counts as risen
 pub bytes_stay : (limit : ℕ) → RoseByMoreThan limit (2 ^ 64 - 1) (2 ^ 64 - 1)
 bytes_stay limit = omega arith
 
--- the counter of a name, by the bytes that it has
+-- the counter of a name, from the bytes of its file if there is one
 abbrev at : Option (List ℕ) → ℕ → ℕ
 at held misses = if is_some held then 2 ^ 64 - 2 else min misses (2 ^ 32)
 
@@ -23,7 +23,7 @@ at_fits : (held : Option (List ℕ)) (misses : ℕ) → at held misses < 2 ^ 64
 at_fits None misses = omega arith
 at_fits (Some bytes) misses = omega arith
 
--- the counter of a name that isn't lent rose with a miss
+-- a failed fetch raises the counter of a name that no lent file has
 at_rose : (held : Option (List ℕ)) (old new : ℕ) → IsNone held → new ≡ old + 1 → new < 2 ^ 32 → Rose (at held old) (at held new)
 at_rose None old new none grew few = omega (arith, grew, few)
 at_rose (Some bytes) old new none grew few = absurd (cc)
@@ -48,7 +48,7 @@ faults_stay answer old new kept grew any =
 pub faults_fit : (state : LentFilesView) (any : List ℕ) → faults_at state any < 2 ^ 64
 faults_fit state any = at_fits (file_bytes state.files any) state.misses
 
--- if the counter of a name rose, it isn't lent
+-- if the counter of a name rose, no lent file has the name
 held_not_rose : (held : Option (List ℕ)) (misses now : ℕ) → now < 2 ^ 64 - 1 → Rose (at held misses) now → held ≡ None
 held_not_rose None misses now few rose = refl
 held_not_rose (Some bytes) misses now few rose = absurd (omega (arith, few, rose))

@@ -12,7 +12,8 @@ use Rattle.bootmem_c.specs.declared.crossing.File.{File}
 use Rattle.bootmem_c.specs.Fetches.{is_lent_as}
 use Rattle.bootmem_c.specs.Lent.{lent_files, lent_word, lent_words}
 
--- one more file before those for which it is known
+-- with one more file in front, the search still finds the bytes that the definition gives for the
+-- name
 file_in_front : (f : File) (fs : List File) (name : List ℕ) (named : Bool)
     → option_map (λ f. f.bytes.now) (find (is_lent_as name) fs) ≡ file_bytes (lent_files fs) name
     → option_map (λ f. f.bytes.now) (cond named (Some f) (find (is_lent_as name) fs))
@@ -20,13 +21,13 @@ file_in_front : (f : File) (fs : List File) (name : List ℕ) (named : Bool)
 file_in_front f fs name true rest = refl
 file_in_front f fs name false rest = rest
 
--- the bytes of the first file of the name are those of the file that a search finds
+-- the bytes of a name are those of the first file that a search for the name finds
 pub bytes_of_found : (files : List File) (name : List ℕ)
     → option_map (λ f. f.bytes.now) (find (is_lent_as name) files) ≡ file_bytes (lent_files files) name
 bytes_of_found [] name = refl
 bytes_of_found (f ∷ fs) name = file_in_front f fs name (is_lent_as name f) (bytes_of_found fs name)
 
--- one more word
+-- the first i + 1 words are the first i words and the word at index i
 word_more : (words : List Bytes) (i : ℕ) (d : Bytes) → i < length words
     → take (i + 1) (lent_words words) ≡ take i (lent_words words) ++ (get_or words i d).bytes.now ∷ []
 word_more words i d below =
@@ -48,7 +49,7 @@ utf8_more words i d below is so_far =
     subst (All IsUtf8) (sym (word_more words i d below))
     (All-push IsUtf8 (take i (lent_words words)) _ so_far is)
 
--- a word that isn't UTF-8 is one of all words
+-- if one word isn't UTF-8, not all words are
 pub not_all : (words : List Bytes) (i : ℕ) (d : Bytes) → i < length words → ¬ IsUtf8 (get_or words i d).bytes.now
     → ¬ All IsUtf8 (lent_words words)
 not_all words i d below isnt all =

@@ -1,4 +1,4 @@
--- The outputs of a run over the words and files of a call, by the outcome.
+-- The outputs of a run over the words and files of a call, compared with the outcome.
 use Rattle.std.proofs.Common.{◌≡◌, ◌≢◌, ℕ, zero, suc, Bool, true, false, List, [], ◌∷◌, ◌++◌, Option, Some, Result, Ok, Err, String, string_bytes, Global, map, refl, inl, inr, ap, arith, subst, sym, ◌∙◌}
 use Rattle.std.specs.Prelude.{◌⊎◌, IsOkAnd, if◌then◌else◌}
 use Rattle.std.specs.List.{All}
@@ -35,8 +35,9 @@ use Rattle.bootmem_c.specs.Copies.{CopiesText, TextSinkView, failed_writes_of}
 use Rattle.bootmem_c.specs.declared.crossing.Text.{Text}
 use Rattle.bootmem_c.specs.contracts.text_sink.TextSinkSink.TheImpl.{ghosts}
 use Rattle.bootmem_c.proofs.ExactLaws.{fails_as}
+use Rattle.bootmem_c.proofs.NameLaws.{HasNoClaims}
 
--- if all words are UTF-8, the test says so
+-- if all words are UTF-8, `are_utf8` is true
 pub are-utf8 : (words : List (List ℕ)) → All IsUtf8 words → are_utf8 words ≡ true
 are-utf8 [] all = refl
 are-utf8 (word ∷ words) all =
@@ -48,7 +49,7 @@ all-utf8 (word ∷ words) is =
     let parts = and_parts (is_utf8 word) (are_utf8 words) is in
     All-cons IsUtf8 word words (IsUtf8-from_is_utf8 word parts.0) (all-utf8 words parts.1)
 
--- the status
+-- the exit status of a run
 no_rise : Rose 0 0 → ⊥
 no_rise rose = omega (arith, rose)
 
@@ -56,35 +57,36 @@ text_is_zero : (said : Result (List ℕ) InputsReason) (P : List ℕ → Type 0)
 text_is_zero (Ok text) P is = refl
 text_is_zero (Err reason) P is = absurd is
 
--- what the run says of its failure; `BootedView` says which line it put
+-- what the run's contract says of its failure
 abbrev IsFailure : (old new : LentFilesView) → Option BootmemArgsView → ℕ → (Failure InputsReason → Type 0) → Type 0
 IsFailure old new read_args status BootedView =
     (failure : Failure InputsReason) × (status ≡ failure_status failure) × BootedView failure
     × FailureHasCause bootmem (faults_at old) (faults_at new) read_args failure
     × FitsFailure bootmem failure (bootmem_outcome read_args (file_bytes old.files))
 
-status_by : (old new : LentFilesView) (read_args : Option BootmemArgsView) (failure : Failure InputsReason) → failure_status failure ≢ 4
+status_by : (old new : LentFilesView) (read_args : Option BootmemArgsView) (failure : Failure InputsReason) → HasNoClaims read_args
+    → failure_status failure ≢ 4
     → FailureHasCause bootmem (faults_at old) (faults_at new) read_args failure
     → FitsFailure bootmem failure (bootmem_outcome read_args (file_bytes old.files))
     → (failure_status failure ≡ outcome_status (bootmem_outcome read_args (file_bytes old.files))) ⊎ (failure_status failure ≡ 7)
-status_by old new read_args (failures.NoResult (errors.Reason reason)) other cause fits =
-    inl (sym (ap outcome_status (fails_as old new read_args (errors.Reason reason) cause fits)))
-status_by old new read_args (failures.NoResult errors.Memory) other cause fits = inr refl
-status_by old new read_args (failures.Output put.Failed) other cause fits = absurd (other refl)
-status_by old new read_args (failures.Output put.Memory) other cause fits = inr refl
+status_by old new read_args (failures.NoResult (errors.Reason reason)) own other cause fits =
+    inl (sym (ap outcome_status (fails_as old new read_args (errors.Reason reason) own cause fits)))
+status_by old new read_args (failures.NoResult errors.Memory) own other cause fits = inr refl
+status_by old new read_args (failures.Output put.Failed) own other cause fits = absurd (other refl)
+status_by old new read_args (failures.Output put.Memory) own other cause fits = inr refl
 
 pub ran_status : (old new : LentFilesView) (read_args : Option BootmemArgsView) (P : List ℕ → Type 0) (BootedView : Failure InputsReason
-    → Type 0) (status : ℕ)
+    → Type 0) (status : ℕ) → HasNoClaims read_args
     → (status ≡ 4 → Rose 0 0) → (status ≡ 0 → IsOkAnd (bootmem_outcome read_args (file_bytes old.files)) P)
     → (status ≢ 0 → IsFailure old new read_args status BootedView)
     → (status ≡ outcome_status (bootmem_outcome read_args (file_bytes old.files))) ⊎ (status ≡ 7)
-ran_status old new read_args P BootedView zero unwritten written line =
+ran_status old new read_args P BootedView zero own unwritten written line =
     inl (sym (text_is_zero (bootmem_outcome read_args (file_bytes old.files)) P (written refl)))
-ran_status old new read_args P BootedView (suc n) unwritten written line =
+ran_status old new read_args P BootedView (suc n) own unwritten written line =
     let told = line (λ is. omega (arith, is)) in
-    rw told.1 (status_by old new read_args told.0 (λ four. no_rise (unwritten (told.1 ∙ four))) told.3 told.4)
+    rw told.1 (status_by old new read_args told.0 own (λ four. no_rise (unwritten (told.1 ∙ four))) told.3 told.4)
 
--- the text of the reports is that of the outcome
+-- the text of the reports on a boot is the text of the outcome
 told_text : (reports : List Report) (answer : Result BootedView Cause) (told : BootedView) (P : List ℕ → Type 0) → answer ≡ Ok told
     → P (report_list_text reports told) → IsOkAnd (value_or_stopped answer >>= λ told. Ok (report_list_text reports told)) P
 told_text reports answer told P is holds =
@@ -120,32 +122,33 @@ line_of : (read_args : Option BootmemArgsView) (said : Result (List ℕ) InputsR
 line_of read_args said reason are = sym (ap (outcome_line read_args) are)
 
 line_ends : (old new : LentFilesView) (read_args : Option BootmemArgsView) (failure : Failure InputsReason) (l0 l1 : TextSinkView)
-    → failure_status failure ≢ 4
+    → HasNoClaims read_args → failure_status failure ≢ 4
     → failure_status failure ≢ 7 → l0.text ≡ [] → l0.is_short ≡ false → l1.is_short ≡ false
     → PutsLine ghosts l0 l1 (bootmem_failure_line read_args failure)
     → FailureHasCause bootmem (faults_at old) (faults_at new) read_args failure
     → FitsFailure bootmem failure (bootmem_outcome read_args (file_bytes old.files))
     → l1.text ≡ outcome_line read_args (bootmem_outcome read_args (file_bytes old.files))
-line_ends old new read_args (failures.NoResult (errors.Reason reason)) l0 l1 written other empty not_short short told cause fits =
+line_ends old new read_args (failures.NoResult (errors.Reason reason)) l0 l1 own written other empty not_short short told cause fits =
     appended_text_is_line l0 l1 (bootmem_failure_line read_args (failures.NoResult (errors.Reason reason))) short empty not_short told.whole
     ∙ line_of read_args (bootmem_outcome read_args (file_bytes old.files)) reason
-    (fails_as old new read_args (errors.Reason reason) cause fits)
-line_ends old new read_args (failures.NoResult errors.Memory) l0 l1 written other empty not_short short told cause fits =
+    (fails_as old new read_args (errors.Reason reason) own cause fits)
+line_ends old new read_args (failures.NoResult errors.Memory) l0 l1 own written other empty not_short short told cause fits =
     absurd (other refl)
-line_ends old new read_args (failures.Output put.Failed) l0 l1 written other empty not_short short told cause fits = absurd (written refl)
-line_ends old new read_args (failures.Output put.Memory) l0 l1 written other empty not_short short told cause fits = absurd (other refl)
+line_ends old new read_args (failures.Output put.Failed) l0 l1 own written other empty not_short short told cause fits = absurd (written refl)
+line_ends old new read_args (failures.Output put.Memory) l0 l1 own written other empty not_short short told cause fits = absurd (other refl)
 
-pub ran_line : (old new : LentFilesView) (read_args : Option BootmemArgsView) (l0 l1 : TextSinkView) (status : ℕ) → (status ≡ 4 → Rose 0 0)
-    → l0.text ≡ [] → l0.is_short ≡ false
+pub ran_line : (old new : LentFilesView) (read_args : Option BootmemArgsView) (l0 l1 : TextSinkView) (status : ℕ) → HasNoClaims read_args
+    → (status ≡ 4 → Rose 0 0) → l0.text ≡ [] → l0.is_short ≡ false
     → (status ≢ 0 → IsFailure old new read_args status (λ failure. PutsLine ghosts l0 l1 (bootmem_failure_line read_args failure)))
     → status ≢ 0 → status ≢ 7 → l1.is_short ≡ false
     → l1.text ≡ outcome_line read_args (bootmem_outcome read_args (file_bytes old.files))
-ran_line old new read_args l0 l1 status unwritten empty not_short line some other short =
+ran_line old new read_args l0 l1 status own unwritten empty not_short line some other short =
     let told = line some in
-    line_ends old new read_args told.0 l0 l1 (λ four. no_rise (unwritten (told.1 ∙ four))) (λ seven. other (told.1 ∙ seven)) empty not_short
+    line_ends old new read_args told.0 l0 l1 own (λ four. no_rise (unwritten (told.1 ∙ four))) (λ seven. other (told.1 ∙ seven)) empty not_short
     short told.2 told.3 told.4
 
--- the words that were read, and the lent files, are those of the call
+-- the words that were read and the lent files determine the same outcome as the call's words and
+-- files
 pub same_asked : (taken : List (String Global)) (words : List (List ℕ)) → map string_bytes taken ≡ words → All IsUtf8 words
     → read_args (bytes_of_words taken) ≡ read_lent_args words
 same_asked taken words are all = ap read_args are ∙ rw (are-utf8 words all) refl
@@ -156,7 +159,7 @@ same_outcome one other files lent same kept =
     ap (λ (a : Option BootmemArgsView). bootmem_outcome a (file_bytes files)) same
     ∙ ap (λ (f : List MemFileView). bootmem_outcome other (file_bytes f)) kept
 
--- if a word isn't UTF-8, the words aren't accepted
+-- if a word isn't UTF-8, `are_utf8` is false
 not_utf8 : (words : List (List ℕ)) (b : Bool) → are_utf8 words ≡ b → ¬ All IsUtf8 words → are_utf8 words ≡ false
 not_utf8 words true is other = absurd (other (all-utf8 words is))
 not_utf8 words false is other = is
@@ -172,17 +175,17 @@ nothing_asked words held other = ap outcome_status (nothing_said words held othe
 pub line_asked : (words : List (List ℕ)) (line : List ℕ) → All IsUtf8 words → (if are_utf8 words then line else []) ≡ line
 line_asked words line all = rw (are-utf8 words all) refl
 
--- if a word isn't UTF-8, there is no line
+-- if a word isn't UTF-8, the call has no error line
 pub none_asked : (words : List (List ℕ)) (line : List ℕ) → ¬ All IsUtf8 words → [] ≡ (if are_utf8 words then line else [])
 none_asked words line other = rw (not_utf8 words (are_utf8 words) refl other) refl
 
--- a status other than 7 is that of the run, and memory didn't run out for the line
+-- with a status other than 7 the status is that of the run, and memory didn't run out for the line
 pub whole_run : (short : Bool) (ran status : ℕ) → (short ≡ false → status ≡ ran) → (short ≡ true → status ≡ 7) → status ≢ 7
     → (short ≡ false) × (status ≡ ran)
 whole_run true ran status whole is_short other = absurd (other (is_short refl))
 whole_run false ran status whole is_short other = (refl, whole refl)
 
--- a text that was copied is that of the outcome
+-- a text that the call copied is the text of the outcome
 pub taken_by : (said : Result (List ℕ) InputsReason) (text : List ℕ) (old new : Text) → IsOkAnd said (λ s. text ≡ s)
     → CopiesText text old new
     → IsOkAnd said (λ s. CopiesText s old new)

@@ -1,4 +1,4 @@
--- The records of memory as values: by their bytes, and by the table that lies in them.
+-- The memory records as values: read from their bytes, and from the table that lies in these bytes.
 use Rattle.std.proofs.Common.{◌≡◌, ◌∙◌, ℕ, suc, ◌+◌, ◌-◌, ◌*◌, ◌<◌, List, [], ◌∷◌, ◌++◌, map, length, get_or, refl, ap, sym, add-zero, append_assoc, arith}
 use Rattle.std.proofs.lemmas.List.{append-nil}
 use Rattle.phys_store.specs.Bytes.{ExtentView, byte_of, bytes_at}
@@ -10,7 +10,7 @@ use Rattle.memblock_ranges.specs.Tables.{IsInStore, TableView}
 use Rattle.bootmem_c.specs.declared.values.MemoryRange.{MemoryRange}
 use Rattle.bootmem_c.specs.Values.{record_value, region_value, regions_at}
 
--- the first of the records that are left is the next
+-- the first of the remaining records is the record at index i
 next : (f : ℕ → ℕ) (place count i : ℕ) → i < count
     → regions_at f (place + 24 * i) (count - i)
     ≡ region_value (decode_region (bytes_at f (place + 24 * i) 24)) ∷ regions_at f (place + 24 * (i + 1)) (count - (i + 1))
@@ -20,7 +20,7 @@ next f place count i within =
     ap (regions_at f (place + 24 * i)) more
     ∙ ap (λ (at : ℕ). region_value (decode_region (bytes_at f (place + 24 * i) 24)) ∷ regions_at f at (count - (i + 1))) past
 
--- one more value, of the next record
+-- adding the value of the next record to the values so far
 pub one_more : (f : ℕ → ℕ) (place count i : ℕ) (before after : List MemoryRange) (one : MemoryRange) (region : Region) → i < count
     → region ≡ decode_region (bytes_at f (place + 24 * i) 24) → one ≡ region_value region → after ≡ before ++ one ∷ []
     → before ++ regions_at f (place + 24 * i) (count - i) ≡ regions_at f place count
@@ -32,14 +32,14 @@ one_more f place count i before after one region within is of grew so_far =
     ∙ ap (λ (m : MemoryRange). before ++ (m ∷ rest)) first
     ∙ ap (λ (values : List MemoryRange). before ++ values) (sym (next f place count i within)) ∙ so_far
 
--- at the end all records are read
+-- after the last record the values are those of all records
 pub no_more : (f : ℕ → ℕ) (place count i : ℕ) (values : List MemoryRange) → i ≡ count
     → values ++ regions_at f (place + 24 * i) (count - i) ≡ regions_at f place count → values ≡ regions_at f place count
 no_more f place count i values end so_far =
     let none : count - i ≡ 0 = omega (arith, end) in
     sym (append-nil values) ∙ sym (ap (λ (n : ℕ). values ++ regions_at f (place + 24 * i) n) none) ∙ so_far
 
--- the records of a table that lies in the bytes
+-- the values of a table's records are those of the records in its bytes
 alike : (f : ℕ → ℕ) (place : ℕ) (rs : List (RunOf LabelView))
     → ((i : ℕ) (r : RunOf LabelView) → i < length rs → decode_region (bytes_at f (place + 24 * i) 24) ≡ region_of (get_or rs i r))
     → regions_at f place (length rs) ≡ map record_value rs

@@ -1,4 +1,4 @@
--- The outcome of a call, from the words and files that are passed to it.
+-- The outcome of a call, from the words and files that the caller passes.
 use Rattle.std.specs.Prelude.{ℕ, Bool, true, if◌then◌else◌, ◌&&◌, List, [], ◌∷◌, Option, None, Result, Ok, Err}
 use Rattle.std.specs.Str.{is_utf8}
 use Rattle.bm_io.specs.MemFiles.{file_bytes}
@@ -14,7 +14,7 @@ use Rattle.bootmem_c.specs.declared.crossing.Bytes.{Bytes}
 use Rattle.bootmem_c.specs.declared.crossing.File.{File}
 use Rattle.bootmem_c.specs.Lent.{lent_files, lent_words}
 
--- each word is UTF-8
+-- whether each word is UTF-8
 abbrev pub are_utf8 : List (List ℕ) → Bool
 are_utf8 [] = true
 are_utf8 (word ∷ words) = is_utf8 word && are_utf8 words
@@ -23,7 +23,7 @@ are_utf8 (word ∷ words) = is_utf8 word && are_utf8 words
 abbrev pub read_lent_args : List (List ℕ) → Option BootmemArgsView
 read_lent_args words = if are_utf8 words then read_args words else None
 
--- the outcome: the text that is written, or the reason why there is none
+-- the outcome: the text that the call writes, or the reason why there is none
 abbrev pub outcome_of : List Bytes → List File → Result (List ℕ) InputsReason
 outcome_of words files = bootmem_outcome (read_lent_args (lent_words words)) (file_bytes (lent_files files))
 
@@ -37,11 +37,11 @@ abbrev pub outcome_line : Option BootmemArgsView → Result (List ℕ) InputsRea
 outcome_line read_args (Ok text) = []
 outcome_line read_args (Err reason) = bootmem_failure_line read_args (failures.NoResult (errors.Reason reason))
 
--- the error line of the call's outcome: empty for a text, and also if a word isn't UTF-8
+-- the error line of the call: empty if the outcome is a text, and also if a word isn't UTF-8
 abbrev pub call_line : List Bytes → List File → List ℕ
 call_line words files =
     if are_utf8 (lent_words words) then outcome_line (read_lent_args (lent_words words)) (outcome_of words files) else []
 
--- the line that says that the program ran out of memory
+-- the line for a program that ran out of memory
 abbrev pub out_of_memory_line : List ℕ
 out_of_memory_line = memory_line bootmem_name

@@ -2,12 +2,12 @@
 use Rattle.std.specs.Prelude.{◌≡◌, ℕ, ◌-◌, ◌^◌, ◌≤◌, ◌<◌, Bool, if◌then◌else◌, List, ◌++◌, drop, length}
 use Rattle.bootmem_c.specs.declared.crossing.Text.{Text}
 
--- the buffer begins with the text, and the bytes after it are as they were
+-- the buffer begins with the text, and the rest of it is unchanged
 abbrev pub BeginsWithText : List ℕ → (old new : List ℕ) → Type 0
 BeginsWithText text old new = new ≡ text ++ drop (length text) old
 
--- `needed` is the length of the text; if the text fits, the buffer begins with it; otherwise the
--- buffer is as it was
+-- `needed` is the length of the text. If the text fits, the buffer begins with it; otherwise the
+-- buffer is unchanged.
 pub record CopiesText (text : List ℕ) (old new : Text) : Type 0 where
   pub needed : new.needed ≡ length text
   pub fits : length text ≤ length old.room.now → BeginsWithText text old.room.now new.room.now
@@ -18,6 +18,7 @@ pub record TextSinkView : Type 0 where
   pub text : List ℕ
   pub is_short : Bool
 
--- the counter of puts without memory: 0 until memory runs out, and from then on the greatest value
+-- the counter of writes that failed for lack of memory: 0 until memory runs out, and from then on
+-- the greatest value
 abbrev pub failed_writes_of : TextSinkView → ℕ
 failed_writes_of written = if written.is_short then 2 ^ 64 - 1 else 0

@@ -1,4 +1,4 @@
--- The result of fetching a lent file.
+-- The counters for fetching files that the caller passes (lent files).
 use Rattle.std.specs.Prelude.{◌≡◌, ℕ, ◌-◌, ◌^◌, ◌<◌, Bool, List, length, min, Some, is_some, if◌then◌else◌, Result, Ok, Err, Vec}
 use Rattle.std.specs.Str.{bytes_eq}
 use Rattle.std.specs.declared.alloc.Global.{Global}
@@ -12,23 +12,23 @@ pub record LentFilesView : Type 0 where
   pub files : List MemFileView
   pub misses : ℕ
 
--- the file has the name
+-- whether the file has this name
 abbrev pub is_lent_as : List ℕ → File → Bool
 is_lent_as name file = bytes_eq file.name.now name
 
--- how much the result of a fetch adds to `misses`
+-- what the result of a fetch adds to `misses`: 1 if no file has the name, else 0
 abbrev pub misses_of : Result (Vec ℕ Global) Fetch → ℕ
 misses_of (Ok bytes) = 0
 misses_of (Err fetch.Failed) = 1
 misses_of (Err fetch.TooLong) = 0
 misses_of (Err fetch.Memory) = 0
 
--- the counter of a name's faults. If the name isn't lent, it is the number of misses of all names
--- (below 2^32). It is 2^64 - 2 for a lent name, whose fetches never fail; no counter here is
--- greater.
+-- The counter of faults for a name. If no lent file has the name, it is the number of failed
+-- fetches of all names (below 2^32). If one has, its fetches never fail, and the counter is always
+-- 2^64 - 2, which no other counter exceeds.
 abbrev pub faults_at : LentFilesView → List ℕ → ℕ
 faults_at state name = if is_some (file_bytes state.files name) then 2 ^ 64 - 2 else min state.misses (2 ^ 32)
 
--- the name is lent, and its file contains more bytes than the limit
+-- a lent file has the name, and it has more bytes than the limit
 abbrev pub IsLonger : List MemFileView → List ℕ → ℕ → Type 0
 IsLonger files name limit = (bytes : List ℕ) × (file_bytes files name ≡ Some bytes) × (limit < length bytes)

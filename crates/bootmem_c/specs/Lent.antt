@@ -1,4 +1,4 @@
--- Words and files that the caller passes, as bytes.
+-- The words and files that the caller passes, as bytes.
 use Rattle.std.specs.Prelude.{ℕ, List, map}
 use Rattle.bm_io.specs.MemFiles.{MemFileView}
 use Rattle.bootmem_c.specs.declared.crossing.Bytes.{Bytes}

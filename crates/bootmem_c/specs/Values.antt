@@ -1,4 +1,4 @@
--- What a boot made, as values for C.
+-- The results of a boot as values for C.
 use Rattle.std.specs.Prelude.{◌≡◌, ℕ, zero, suc, ◌+◌, List, [], ◌∷◌, ◌++◌, map, take, drop, length, Option, Some, None}
 use Rattle.std.specs.List.{slice_get}
 use Rattle.phys_store.specs.Bytes.{bytes_at}
@@ -24,13 +24,13 @@ use Rattle.bootmem_c.specs.declared.values.MemoryNode.{MemoryNode}
 use Rattle.bootmem_c.specs.declared.values.MemoryRange.{MemoryRange}
 use Rattle.bootmem_c.specs.declared.values.ZoneSpan.{ZoneSpan}
 
--- `told` is the number of all values that the call returns. The buffer begins with as many of them
--- as it has room for, and the rest of it is as it was.
+-- `told` is the number of all values. The buffer begins with as many of them as it has room for,
+-- and the rest of it is unchanged.
 pub record CopiesValues {T : Type 0} (values old new : List T) (told : ℕ) : Type 0 where
   pub count : told ≡ length values
   pub front : new ≡ take (length old) values ++ drop (length values) old
 
--- a run of the map: its range in bytes and its type
+-- the value of a run of the map: its range in bytes and its type
 abbrev pub run_value : RunOf ℕ → MapRun
 run_value run = record { base = run.base; size = run.size; kind = run.value }
 
@@ -38,13 +38,13 @@ run_value run = record { base = run.base; size = run.size; kind = run.value }
 abbrev pub map_values : BootedView → List MapRun
 map_values told = map run_value told.map
 
--- one part of the crash area; base and size are 0 if there is none
+-- the value of a part of the crash area; base and size are 0 if there is no such part
 abbrev pub crash_part_value : Option RangeView → RangeView
 crash_part_value None = record { base = 0; size = 0 }
 crash_part_value (Some part) = part
 
--- the crash area, from the number that says why there is or isn't one, its main part and its part
--- below 4 GiB
+-- the value of the crash area: the number for why there is or isn't an area, its main part, and its
+-- part below 4 GiB
 abbrev pub crash_parts_value : ℕ → Option RangeView → Option RangeView → CrashArea
 crash_parts_value state main low = record {
   base = (crash_part_value main).base;
@@ -54,8 +54,8 @@ crash_parts_value state main low = record {
   state = state;
 }
 
--- the number that says why there is or isn't a crash area (`BOOTMEM_CRASH_..` in C): 1 if there is
--- one
+-- the number for why there is or isn't a crash area (`BOOTMEM_CRASH_..` in C); 1 means that there
+-- is one
 abbrev pub crash_state_value : Crash → ℕ
 crash_state_value crash.Nothing = 0
 crash_state_value (crash.At main low) = 1
@@ -63,7 +63,7 @@ crash_state_value crash.NoArea = 2
 crash_state_value crash.InUse = 3
 crash_state_value crash.LowFailed = 4
 
--- the crash area of each outcome of the reservation; only `At` has one
+-- the value of each outcome for the crash area; only `At` has an area
 abbrev pub crash_outcome_value : Crash → CrashArea
 crash_outcome_value crash.Nothing = crash_parts_value (crash_state_value crash.Nothing) None None
 crash_outcome_value (crash.At main low) = crash_parts_value (crash_state_value (crash.At main low)) (Some main) low
@@ -77,7 +77,7 @@ zone_number zone.Dma = 0
 zone_number zone.Dma32 = 1
 zone_number zone.Normal = 2
 
--- a free block: its first frame, order, node and zone
+-- the value of a free block: its first frame, order, node and zone
 abbrev pub block_value : Block → FreeBlock
 block_value b = record { first = b.first; order = b.order; node = b.node; zone = zone_number b.zone }
 
@@ -85,8 +85,8 @@ block_value b = record { first = b.first; order = b.order; node = b.node; zone =
 abbrev pub block_values : BootedView → List FreeBlock
 block_values told = map block_value (booted_blocks told)
 
--- the frames that a node spans in a zone: the first, the one after the last, and how many of those
--- between are the node's; then its node and zone
+-- the value of a span: the first frame, the frame after the last, the number of frames in between
+-- that are the node's, and the node and zone
 abbrev pub span_value : Span → ZoneSpan
 span_value s = record { start = s.start; end = s.end; present = s.present; node = s.node; zone = zone_number s.zone }
 
@@ -94,32 +94,33 @@ span_value s = record { start = s.start; end = s.end; present = s.present; node 
 abbrev pub zone_values : BootedView → List ZoneSpan
 zone_values told = map span_value told.spans
 
--- a node with its domain; if the firmware's table isn't used there is none, and its number is 0
+-- the value of a node with its domain; if the SRAT isn't used, the node has no domain, and the
+-- field `domain` is 0
 abbrev pub domain_value : ℕ → Option ℕ → MemoryNode
 domain_value node None = record { node = node; domain = 0; has_domain = 0 }
 domain_value node (Some domain) = record { node = node; domain = domain; has_domain = 1 }
 
--- a node, if the domains of the nodes are these
+-- the value of a node; `domains` has the domain of each node
 abbrev pub node_value : List ℕ → ℕ → MemoryNode
 node_value domains node = domain_value node (slice_get domains node)
 
--- the nodes with memory of the boot
+-- the nodes of the boot that have memory
 abbrev pub node_values : BootedView → List MemoryNode
 node_values told = map (node_value told.nodes.domains) told.nodes.with_memory
 
--- a record of memory: its range, its flags and its node (`struct memblock_region`)
+-- the value of a record of memory: its range, flags and node (`struct memblock_region`)
 abbrev pub region_value : Region → MemoryRange
 region_value r = record { base = r.base; size = r.size; flags = r.flags; node = r.node }
 
--- the n records whose bytes begin at `place`
+-- the values of the n records whose bytes begin at `place`
 abbrev pub regions_at : (ℕ → ℕ) → ℕ → ℕ → List MemoryRange
 regions_at f place zero = []
 regions_at f place (suc n) = region_value (decode_region (bytes_at f place 24)) ∷ regions_at f (place + 24) n
 
--- a record that the journal gives
+-- the value of a record that the journal gives
 abbrev pub record_value : RunOf LabelView → MemoryRange
 record_value r = region_value (region_of r)
 
--- the records of memory that the boot's journal gives
+-- the values of the memory records that the boot's journal gives
 abbrev pub memory_values : BootedView → List MemoryRange
 memory_values told = map record_value (records_of which.Memory told.items)

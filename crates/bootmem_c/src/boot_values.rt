@@ -1,8 +1,9 @@
-//! What the boot made, as values: the map, the crash area, memory, the nodes, the zones and the
+//! The results of a boot as values: the map, the crash area, memory, the nodes, the zones and the
 //! free blocks.
 //!
-//! Each export takes the words and files of `bootmem_run` and returns the same status, except that
-//! either may run out of memory. The reports that the words ask for make no difference.
+//! Each export takes words and files as `bootmem_run` does, and returns the exit status that
+//! `bootmem_run` returns for them, unless one of the two calls runs out of memory. An export
+//! ignores which reports the words ask for.
 
 ghost use Rattle.std.specs.Prelude.{◌≡◌, ◌≢◌, ◌⊎◌, [], None, IfOk, IfErr};
 ghost use Rattle.bm_io.specs.MemFiles.{file_bytes};
@@ -22,9 +23,9 @@ use crate::values::{
 use program_run::NoReport;
 use std::alloc::Global;
 
-/// Writes the runs of the map to `out`, ascending, as many as its buffer has room for, and sets
-/// `out.count` to the number of all runs. Returns the exit status: that of the outcome, or 7 if
-/// out of memory. With a status other than 0, `out.count` is 0 and the buffer stays as it was.
+/// Writes the runs of the map to `out` in ascending order, as many as its buffer has room for, and
+/// sets `out.count` to the number of all runs. Returns the exit status: that of the outcome, or 7
+/// if out of memory. With a status other than 0, `out.count` is 0 and the buffer is unchanged.
 #[unsafe(no_mangle)]
 pub extern "C" fn bootmem_map(
     alloc: Global,
@@ -50,11 +51,11 @@ pub extern "C" fn bootmem_map(
     }
 }
 
-/// Runs the boot with these command-line words and files. Writes to `out` the crash area, the
-/// second area below 4 GiB that an area at or above 4 GiB gets (`reserve_crashkernel_low`), and why
-/// there is or isn't an area. Base and size of an area that isn't reserved are 0. Returns the exit
-/// status that `bootmem_run` has for the same words and files, or 7 if out of memory. With a status
-/// other than 0 every number in `out` is 0.
+/// Boots with these words and files, and writes the crash area to `out`: the area itself, the
+/// second one below 4 GiB that an area at or above 4 GiB gets (`reserve_crashkernel_low`), and why
+/// there is or isn't an area. Base and size are 0 for an area that isn't reserved. Returns the exit
+/// status: that of the outcome, or 7 if out of memory. With a status other than 0, every number in
+/// `out` is 0.
 #[unsafe(no_mangle)]
 pub extern "C" fn bootmem_crash(
     alloc: Global,
@@ -82,8 +83,8 @@ pub extern "C" fn bootmem_crash(
 
 /// Writes the free blocks after the handover to `out`, ascending by their first frames, as many as
 /// its buffer has room for, and sets `out.count` to the number of all blocks. Returns the exit
-/// status: that of the outcome, or 7 if out of memory. With a status other than 0, `out.count` is
-/// 0 and the buffer stays as it was.
+/// status: that of the outcome, or 7 if out of memory. With a status other than 0, `out.count` is 0
+/// and the buffer is unchanged.
 #[unsafe(no_mangle)]
 pub extern "C" fn bootmem_blocks(
     alloc: Global,
@@ -110,9 +111,9 @@ pub extern "C" fn bootmem_blocks(
 }
 
 /// Writes the frames that each node spans in each zone to `out`, by node and then by zone, as many
-/// as its buffer has room for, and sets `out.count` to the number of all. Returns the exit status:
-/// that of the outcome, or 7 if out of memory. With a status other than 0, `out.count` is 0 and
-/// the buffer stays as it was.
+/// as its buffer has room for, and sets `out.count` to the number of all such spans. Returns the
+/// exit status: that of the outcome, or 7 if out of memory. With a status other than 0, `out.count`
+/// is 0 and the buffer is unchanged.
 #[unsafe(no_mangle)]
 pub extern "C" fn bootmem_zones(
     alloc: Global,
@@ -138,9 +139,10 @@ pub extern "C" fn bootmem_zones(
     }
 }
 
-/// Writes the records of memory to `out`, ascending, as many as its buffer has room for, and sets
-/// `out.count` to the number of all. Returns the exit status: that of the outcome, or 7 if out of
-/// memory. With a status other than 0, `out.count` is 0 and the buffer stays as it was.
+/// Writes the records of the memory table to `out` in ascending order, as many as its buffer has
+/// room for, and sets `out.count` to the number of all records. Returns the exit status: that of
+/// the outcome, or 7 if out of memory. With a status other than 0, `out.count` is 0 and the buffer
+/// is unchanged.
 #[unsafe(no_mangle)]
 pub extern "C" fn bootmem_memory(
     alloc: Global,
@@ -166,9 +168,10 @@ pub extern "C" fn bootmem_memory(
     }
 }
 
-/// Writes the nodes that have memory to `out`, ascending, as many as its buffer has room for, and
-/// sets `out.count` to the number of all. Returns the exit status: that of the outcome, or 7 if
-/// out of memory. With a status other than 0, `out.count` is 0 and the buffer stays as it was.
+/// Writes the nodes that have memory to `out` in ascending order, as many as its buffer has room
+/// for, and sets `out.count` to the number of all such nodes. Returns the exit status: that of the
+/// outcome, or 7 if out of memory. With a status other than 0, `out.count` is 0 and the buffer is
+/// unchanged.
 #[unsafe(no_mangle)]
 pub extern "C" fn bootmem_nodes(
     alloc: Global,
@@ -196,7 +199,11 @@ pub extern "C" fn bootmem_nodes(
 
 /// Returns the runs of the map of the boot with these words and files. Errors are those of
 /// [`boot_lent_files`].
-fn boot_for_map(alloc: Global, words: &[Bytes<'_>], files: &[File<'_>]) -> Result<Vec<MapRun>, NoReport>
+fn boot_for_map(
+    alloc: Global,
+    words: &[Bytes<'_>],
+    files: &[File<'_>],
+) -> Result<Vec<MapRun>, NoReport>
     ensures runs { IfOk result (λ runs. (told : BootedView)
         × IsBoot (read_lent_args (lent_words words.now)) (file_bytes (lent_files files.now)) told
         × (runs.items ≡ map_values told)) }
@@ -225,7 +232,7 @@ fn boot_for_blocks(
     Ok(block_values(alloc, &blocks)?)
 }
 
-/// Returns the zones of the boot with these words and files. Errors are those of
+/// Returns the spans of the boot with these words and files. Errors are those of
 /// [`boot_lent_files`].
 fn boot_for_zones(
     alloc: Global,
@@ -259,8 +266,8 @@ fn boot_for_nodes(
     Ok(node_values(alloc, &booted.nodes)?)
 }
 
-/// Returns the records of memory of the boot with these words and files. Errors are those of
-/// [`boot_lent_files`].
+/// Returns the records of the memory table after the boot with these words and files. Errors are
+/// those of [`boot_lent_files`].
 fn boot_for_memory(
     alloc: Global,
     words: &[Bytes<'_>],

@@ -1,4 +1,4 @@
-//! Boots with words and files that the caller passes, without writing reports.
+//! Boots with the words and files that the caller passes, without writing reports.
 
 ghost use Rattle.std.specs.Prelude.{Some, IfOk, IfErr};
 ghost use Rattle.bm_io.specs.MemFiles.{file_bytes};
@@ -18,17 +18,21 @@ use crate::words::{StringsError, strings_of_words};
 use boot_model::Booted;
 use boot_stages::boot;
 use program_args::{ArgsError, BootmemArgs, read_args};
-use program_run::{InputsReason, NoReport, reason_by_stop, read_boot_inputs};
+use program_run::{InputsReason, NoReport, read_boot_inputs, reason_by_stop};
 use std::alloc::Global;
 
-/// Returns what the boot with these words and files made.
+/// Boots with these words and files, and returns the results of the boot.
 ///
 /// # Errors
 ///
-/// - A reason exactly as the outcome has it: the words aren't UTF-8 or aren't accepted, a file
-///   isn't lent or has a fault, or the boot stops.
+/// - The reason of the outcome: the words aren't UTF-8 or aren't accepted, no file that is passed
+///   has the name, a file has a fault, or the boot stops.
 /// - `Memory` if this program is out of memory.
-pub fn boot_lent_files(alloc: Global, words: &[Bytes<'_>], files: &[File<'_>]) -> Result<Booted, NoReport>
+pub fn boot_lent_files(
+    alloc: Global,
+    words: &[Bytes<'_>],
+    files: &[File<'_>],
+) -> Result<Booted, NoReport>
     ensures boots { IfOk result (λ booted.
         IsBoot (read_lent_args (lent_words words.now)) (file_bytes (lent_files files.now))
         (booted_view booted)) }
@@ -44,8 +48,8 @@ pub fn boot_lent_files(alloc: Global, words: &[Bytes<'_>], files: &[File<'_>]) -
     }
 }
 
-/// Returns what the boot with these words, which are UTF-8, and these files made. Errors are those
-/// of [`boot_lent_files`].
+/// Boots with these words, which are UTF-8, and these files. Returns the results of the boot.
+/// Errors are those of [`boot_lent_files`].
 fn boot_with_strings(
     alloc: Global,
     words: &[String],
@@ -67,8 +71,8 @@ fn boot_with_strings(
     }
 }
 
-/// Returns what the boot with these accepted words and these files made. Errors are those of
-/// [`boot_lent_files`].
+/// Boots with this accepted command line and these files. Returns the results of the boot. Errors
+/// are those of [`boot_lent_files`].
 fn boot_with_args(
     alloc: Global,
     wanted: &BootmemArgs<'_>,

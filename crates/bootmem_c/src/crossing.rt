@@ -1,4 +1,4 @@
-//! The types that `include/bootmem.h` declares for words, files and texts. A slice is passed as a
+//! The types that `include/bootmem.h` declares for words, files and texts. A slice crosses as a
 //! pointer and a length.
 
 ghost use Rattle.std.specs.Prelude.{◌≤◌, length};
@@ -29,7 +29,7 @@ pub struct Text<'a> {
 }
 
 /// Copies the text to the beginning of the buffer if it fits, and sets `needed` to its length. The
-/// bytes after the text stay as they were; if the text doesn't fit, all bytes do.
+/// bytes after the text are unchanged. If the text doesn't fit, the whole buffer is unchanged.
 pub fn copy_text(text: &[u8], out: &mut Text<'_>)
     ensures { CopiesText text.now out.old out.new }
 {
@@ -39,7 +39,7 @@ pub fn copy_text(text: &[u8], out: &mut Text<'_>)
     }
 }
 
-/// Copies the text to the beginning of the buffer. It must fit.
+/// Copies the text to the beginning of the buffer. The text must fit.
 fn copy_to_front(text: &[u8], room: &mut [u8])
     requires { length text.now ≤ length room.old }
     ensures { BeginsWithText text.now room.old room.new }

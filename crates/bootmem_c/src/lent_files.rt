@@ -1,4 +1,4 @@
-//! The files that the caller passes, as the program fetches them.
+//! The files that the caller passes, as a type from which the program can fetch.
 
 ghost use Rattle.std.specs.Prelude.{◌≡◌, ℕ, ◌+◌, ◌-◌, ◌^◌, ◌<◌, ◌≤◌, ◌↔◌, length, Option, Some, IfOk, IsErrOf, IsNone, find};
 ghost use Rattle.std.specs.Option.{option_copied};
@@ -11,7 +11,8 @@ use bm_io::{Fetch, Files};
 use std::alloc::Global;
 use std::marker::Model;
 
-/// Files that the caller passes. If two have the same name, the first counts.
+/// Files that the caller passes (lent files). If two have the same name, only the first can be
+/// fetched.
 #[derive(Drop)]
 pub struct LentFiles<'a> {
     files: &'a [File<'a>],
@@ -42,22 +43,22 @@ impl<'a> LentFiles<'a> {
 impl<'a> Files for LentFiles<'a> {
     ghost holds = { λ s. Some (file_bytes s.files) };
 
-    // For a name that isn't lent, this is the number of all fetches that failed, of any name. For
-    // one that is lent, it is always 2^64 - 2, and no counter here is greater. So if a counter
-    // rose, its name isn't lent.
+    // The counter of faults for a name. If no lent file has the name, the counter is the number of
+    // all failed fetches, whatever their names. If a lent file has the name, the counter is always
+    // 2^64 - 2, which no other counter exceeds. A counter rises only if no lent file has its name.
     ghost faults = { λ s name. faults_at s name };
 
     // The counter of bytes stays at its greatest value.
     ghost taken = { λ s. 2 ^ 64 - 1 };
 
-    /// Returns a copy of the file's bytes.
+    /// Returns a copy of the bytes of the file `name`.
     ///
     /// # Errors
     ///
-    /// - `Failed` only if no file of this name is lent.
+    /// - `Failed` only if no lent file has this name.
     /// - `TooLong` exactly if the file contains more than `limit` bytes.
-    /// - `Memory` if this program is out of memory, and also if 2^32 - 1 fetches have failed and
-    ///   one more would.
+    /// - `Memory` if this program is out of memory, or if no lent file has this name and the
+    ///   counter of failed fetches is full, after 2^32 - 1 of them.
     fn fetch(&mut self, alloc: Global, name: &str, limit: u64) -> Result<Vec<u8>, Fetch>
         ensures bounded { IfOk result (λ bytes. length bytes.items ≤ limit) }
         ensures told { IfOk result (λ bytes.

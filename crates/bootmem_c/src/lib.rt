@@ -12,8 +12,8 @@
 //! All but the last return the exit status of `bootmem`: that of the outcome, or 7 if out of
 //! memory. A file is *lent* if the caller passes it. Since the files (`LentFiles`) and the outputs
 //! (`TextSink`) are in memory, a file can be read exactly if it is lent, and an output never
-//! refuses a text. So a caller may rest on this: unless memory runs out, the result depends on the
-//! words and files only.
+//! refuses a text. A caller may therefore rest on this: unless memory runs out, the result depends
+//! on the words and files only.
 //!
 //! `crossing` and `values` have the types that are passed from and to C, `boots` boots without
 //! writing reports. In contracts, a name means the definition in `specs/`.

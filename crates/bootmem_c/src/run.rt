@@ -15,9 +15,9 @@ use program_run::run;
 use std::alloc::Global;
 
 /// Runs `bootmem`. `words` are the words after the program's name, and `files` the files that they
-/// may name. The reports go to `out`, and the line that says why the program failed to `err`.
+/// may name. Copies the reports to `out`, and the line that says why the program failed to `err`.
 /// Returns the exit status: that of the outcome (0, 2, 3, 5 or 6), or 7 if out of memory, even if
-/// only the error line needed it.
+/// only the error line needed the memory.
 #[unsafe(no_mangle)]
 pub extern "C" fn bootmem_run(
     alloc: Global,
@@ -26,11 +26,11 @@ pub extern "C" fn bootmem_run(
     out: &mut Text<'_>,
     err: &mut Text<'_>,
 ) -> u8
-    // The status is that of the one outcome that words and files determine, or 7.
+    // The status is that of the one outcome that words and files determine, or 7 for out of memory.
     ensures status { (result ≡ outcome_status (outcome_of words.now files.now)) ⊎ (result ≡ 7) }
 
     // With status 0 `out` has the text of the outcome, and the four facts of the headline hold for
-    // it. With any other status `out` has the empty text.
+    // the boot that it describes. With any other status `out` has the empty text.
     ensures written { result ≡ 0
         → IsOkAnd (outcome_of words.now files.now) (λ text. CopiesText text out.old out.new) }
     ensures headline { result ≡ 0 → (text : List ℕ) × CopiesText text out.old out.new
@@ -54,8 +54,8 @@ pub extern "C" fn bootmem_run(
     status
 }
 
-/// Runs the program over these words and files, with empty outputs. Returns the exit status. If
-/// memory ran out for the error line, `line.is_short` returns true afterwards.
+/// Runs the program over these words and files. `report` and `line` must be empty. Returns the exit
+/// status. If memory runs out for the error line, `line.is_short` returns true afterwards.
 fn run_lent_files(
     alloc: Global,
     words: &[Bytes<'_>],
@@ -82,8 +82,8 @@ fn run_lent_files(
     }
 }
 
-/// Returns the status of a run that wrote this error line: 7 if memory ran out for the line, else
-/// `ran`.
+/// Returns the status of a run that wrote the error line `line`: 7 if memory ran out for the line,
+/// else the run's own status `ran`.
 fn status_after_line(ran: u8, line: &TextSink) -> u8
     ensures whole { line.now.is_short ≡ false → result ≡ ran }
     ensures short { line.now.is_short ≡ true → result ≡ 7 }
@@ -102,7 +102,7 @@ fn report_text_for_status(status: u8, report: &TextSink) -> &[u8]
     &[]
 }
 
-/// Returns the text for `err`: empty with status 0, the line that says out of memory with 7, and
+/// Returns the text for `err`: the empty text with status 0, the out-of-memory line with 7, and
 /// else the error line that the run wrote.
 fn error_text_for_status(status: u8, line: &TextSink) -> &[u8]
     ensures silent { status ≡ 0 → result.now ≡ [] }

@@ -1,4 +1,4 @@
-//! A text in memory that the program writes.
+//! A text in memory to which the program can write.
 
 ghost use Rattle.std.specs.Prelude.{◌≡◌, true, false, [], ◌++◌, Some, OnOk, OnErr, IsErrOf};
 ghost use Rattle.bootmem_c.specs.Copies.{failed_writes_of};
@@ -7,8 +7,7 @@ use bm_io::{Put, Sink};
 use std::alloc::Global;
 use std::marker::Model;
 
-/// A text in memory to which each put of the program appends. A put fails only if this program is
-/// out of memory.
+/// A text in memory. Each write appends to it, and fails only if this program is out of memory.
 #[derive(Drop)]
 pub struct TextSink {
     text: Vec<u8>,
@@ -54,8 +53,8 @@ impl Sink for TextSink {
 
     ghost faults = { λ s. 0 };
 
-    // The counter of puts without memory: 0 until memory runs out, and from then on the greatest
-    // value.
+    // The counter of writes that failed for lack of memory: 0 until memory runs out, and from then
+    // on the greatest value.
     ghost wants = { λ s. failed_writes_of s };
 
     fn put(&mut self, chunk: &[u8]) -> Result<(), Put>

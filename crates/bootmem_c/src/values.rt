@@ -1,4 +1,4 @@
-//! The types that `include/bootmem.h` declares for what a boot made, and for buffers of them.
+//! The types that `include/bootmem.h` declares for the results of a boot, and for buffers of them.
 
 ghost use Rattle.std.specs.Prelude.{◌≡◌, ◌+◌, ◌*◌, ◌^◌, ◌<◌, IfOk, None, map};
 ghost use Rattle.phys_store.specs.Bytes.{byte_of};
@@ -35,7 +35,8 @@ pub struct MapRuns<'a> {
     pub count: usize,
 }
 
-/// The crash area and its part below 4 GiB: base and size in bytes, both 0 if there is none.
+/// The crash area, and its low part, which is a further area below 4 GiB. Each has a base and a
+/// size in bytes, both 0 if there is no such area.
 #[repr(C)]
 #[derive(Clone, Copy)]
 pub struct CrashArea {
@@ -70,23 +71,23 @@ pub struct FreeBlocks<'a> {
     pub count: usize,
 }
 
-/// The frames that a node spans in a zone. All numbers but the last two are of frames.
+/// The frames that a node spans in a zone.
 #[repr(C)]
 #[derive(Clone, Copy)]
 pub struct ZoneSpan {
-    /// The first frame.
+    /// The number of the first frame.
     pub start: u64,
-    /// One more than the last frame.
+    /// The number of the frame after the last one.
     pub end: u64,
-    /// The number of frames of this node and zone.
+    /// The number of frames in the span that are memory of this node.
     pub present: u64,
     pub node: u32,
     /// The number of the zone (`enum zone_type`): 0, 1 or 2.
     pub zone: u32,
 }
 
-/// A buffer that the caller passes for zones (`room`), and the number of all zones with memory
-/// (`count`), which the call sets.
+/// A buffer that the caller passes for spans (`room`), and the number of all spans (`count`), which
+/// the call sets.
 #[repr(C)]
 #[derive(Drop)]
 pub struct ZoneSpans<'a> {
@@ -94,14 +95,14 @@ pub struct ZoneSpans<'a> {
     pub count: usize,
 }
 
-/// A node with memory, and its domain in the firmware's table.
+/// A node with memory, and its domain in the SRAT.
 #[repr(C)]
 #[derive(Clone, Copy)]
 pub struct MemoryNode {
     pub node: u32,
-    /// The domain, or 0 if the table isn't used.
+    /// The domain, or 0 if the SRAT isn't used.
     pub domain: u32,
-    /// 1 if the table is used, else 0.
+    /// 1 if the SRAT is used, else 0.
     pub has_domain: u32,
 }
 
@@ -149,7 +150,7 @@ impl MapRun {
 }
 
 impl CrashArea {
-    /// Returns the value for no crash area. `state` says why there is none.
+    /// Returns the value for a boot without a crash area. `state` says why there is none.
     pub fn none(state: u32) -> CrashArea
         ensures { result ≡ crash_parts_value state None None }
     {
@@ -179,7 +180,7 @@ impl CrashArea {
     }
 }
 
-/// Returns the number that says in C why there is or isn't a crash area (`BOOTMEM_CRASH_..`).
+/// Returns the number for why there is or isn't a crash area (`BOOTMEM_CRASH_..` in C).
 fn crash_state(crash: &Crash) -> u32
     ensures { result ≡ crash_state_value crash.now }
 {
@@ -263,7 +264,7 @@ impl MemoryRange {
     }
 }
 
-/// Returns the records of the head's table as values for C. Fails only if out of memory.
+/// Returns the records of the table at this head as values for C. Fails only if out of memory.
 pub fn memory_values(alloc: Global, store: &Store, head: &Head) -> Result<Vec<MemoryRange>, Memory>
     requires { head.now.place + 24 * head.now.count < 2 ^ 64 }
     ensures { IfOk result (λ values.
@@ -312,8 +313,8 @@ pub fn block_values(alloc: Global, blocks: &[Block]) -> Result<Vec<FreeBlock>, M
     Ok(blocks.iter().map(FreeBlock::from_block).collect(alloc)?)
 }
 
-/// Copies values to the beginning of the buffer, as many as it has room for, and returns the
-/// number of all values. The rest of the buffer stays as it was.
+/// Copies values to the beginning of the buffer, as many as it has room for, and returns the number
+/// of all values. The rest of the buffer is unchanged.
 pub fn copy_values<T: Copy>(values: &[T], room: &mut [T]) -> usize
     ensures { CopiesValues values.now room.old room.new result }
 {

@@ -10,7 +10,7 @@ use std::alloc::{AllocError, AllocFailed, Global};
 /// Why reading the words failed.
 #[derive(Clone, Copy, Debug, PartialEq, Eq)]
 pub enum StringsError {
-    /// One of them isn't UTF-8.
+    /// One of the words isn't UTF-8.
     NotUtf8,
     /// This program is out of memory.
     Memory,

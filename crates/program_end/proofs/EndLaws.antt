@@ -37,7 +37,7 @@ module _ {W I A F C S : Type 0} (program : Program W I A) (sink : SinkOf S) (bef
   pub ends_wanting : status ≡ 7 → (new ≡ old) ⊎ Rose (sink.wants old) (sink.wants new)
   ends_wanting seven = grind (arith, program.statuses)
 
-  -- if the files' contents are known: `said` is the outcome
+  -- what holds if the files' contents are known; `said` is the outcome
   module _ (said : Result A (Reason I F C)) (writes : WritesOutcome program (sink.written old) (sink.written new) end said) where
     pub status_fits_outcome : MayEndWith program said status
     status_fits_outcome = grind arith
@@ -68,8 +68,8 @@ module _ {W I A F C S : Type 0} (program : Program W I A) (sink : SinkOf S) (bef
   pub ends_unread : status ≡ 3 → (input : I) × InputFaultsRose program before now accepted input
   ends_unread three = grind (arith, program.statuses)
 
--- a status other than 0 and 8 is that of a failure: its line was put, it has its cause, and it
--- fits the outcome
+-- a status other than 0 and 8 is that of a failure, whose line was written, which has its cause,
+-- and which fits the outcome
 pub failure_status_has_line : {W I A F C E : Type 0} (program : Program W I A) (errors : SinkOf E) (line : Failure (Reason I F C) → List ℕ)
     (before now : List ℕ → ℕ) (accepted : Option W) (old new : Option (List ℕ)) (err_old err_new : E) (end : End (Reason I F C))
     (status : ℕ)

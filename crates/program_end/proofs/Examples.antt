@@ -33,19 +33,20 @@ text = Ok (codes "ab")
 abbrev faulty : Result (List ℕ) Why
 faulty = Err (reasons.Faulty 0 7)
 
--- input 1 is read if there is a result or input 2 can't be read, but not if input 0 has a fault or
--- the command line isn't accepted
+-- the file of input 1 is read if there is a result or if input 2 can't be read, but not if input 0
+-- has a fault or the command line isn't accepted
 reaches_examples : ReachesFile (λ (n : ℕ). n) 1 text × ReachesFile {F = ℕ} {C = ℕ} {A = ℕ} (λ (n : ℕ). n) 1 (Err (reasons.Unread 2))
     × (ReachesFile (λ (n : ℕ). n) 1 faulty → ⊥)
     × (ReachesFile {F = ℕ} {C = ℕ} {A = ℕ} (λ (n : ℕ). n) 1 (Err reasons.Usage) → ⊥)
 reaches_examples = (tt, omega arith, (λ comes. omega (arith, comes)), λ comes. comes)
 
--- out of memory fits every outcome
+-- out of memory fits every outcome; a call may end with the outcome's value, but not with another
+-- outcome's reason
 fetches_examples : FitsError (λ (n : ℕ). n) errors.Memory text × Fetches (λ (n : ℕ). n) (λ (n : ℕ). codes "ab") (Ok 7) text
     × (Fetches (λ (n : ℕ). n) (λ (n : ℕ). codes "ab") (Err (errors.Reason reasons.Usage)) text → ⊥)
 fetches_examples = (tt, refl, λ same. cc same)
 
--- no name has a fault
+-- counters of faults: 0 for every name
 abbrev before : List ℕ → ℕ
 before name = 0
 
@@ -57,7 +58,7 @@ cause_examples : ReasonHasCause {F = ℕ} {C = ℕ} program before before None r
     × (EndHasCause {F = ℕ} {C = ℕ} program before before None (Ok 0) → ⊥)
 cause_examples = (refl, (λ some. cc some), tt, (λ some. cc some), λ some. cc some.0)
 
--- the status of each failure
+-- the exit status of each failure
 abbrev why : Why → Failure Why
 why reason = failures.NoResult (errors.Reason reason)
 
@@ -86,12 +87,12 @@ writes_examples : WritesOutcome program (Some []) (Some (codes "ab")) (Ok 0) tex
     × (WritesOutcome program (Some []) (Some (codes "a")) (Ok 0) text → ⊥)
 writes_examples = ((refl, refl), (1, omega arith, refl), tt, λ is. cc is.1)
 
--- with a result the error output is as it was, and without one the output is
+-- with a result the error output is unchanged; without a result the output is unchanged
 unchanged_examples : (sink : SinkOf ℕ) → PutsEndLine sink line 3 3 (Ok 0) × (PutsEndLine sink line 3 4 (Ok 0) → ⊥)
     × WritingHasCause sink 3 3 (Err (why reasons.Usage)) × (WritingHasCause sink 3 4 (Err (why reasons.Usage)) → ⊥)
 unchanged_examples sink = (refl, (λ same. omega (arith, same)), refl, λ same. omega (arith, same))
 
--- a result with status 0 ends with 0, 3, 4 or 7, a refused command line with 2 or 7
+-- a result with status 0 may end with status 0, 3, 4 or 7; a refused command line with 2 or 7
 may_end_examples : MayEndWith program text 0 × MayEndWith program text 3 × (MayEndWith program text 5 → ⊥)
     × MayEndWith {F = ℕ} {C = ℕ} program (Err reasons.Usage) 2 × (MayEndWith {F = ℕ} {C = ℕ} program (Err reasons.Usage) 3 → ⊥)
     × MayEndWith program faulty 5 × (MayEndWith program faulty 6 → ⊥)

@@ -15,9 +15,10 @@ use Rattle.program_end.specs.declared.failure.Failure.TheVariants as failures
 use Rattle.program_end.specs.declared.failure.Reason.{Reason}
 use Rattle.program_end.specs.declared.failure.Reason.TheVariants as reasons
 
--- how the end fits the outcome. With a status, the outcome is a result that has this status, and
--- its text was appended. With no result, the error fits the outcome. If the output refused, the
--- outcome is a result, and the first bytes of its text were appended (none, some or all).
+-- the end fits the outcome. If the program ended with a status, the outcome is a result with this
+-- status, and its text was appended. If there is no result, the error fits the outcome. If the
+-- output failed, the outcome is a result, and the first bytes of its text were appended (none,
+-- some or all).
 abbrev pub WritesOutcome : {W I A F C : Type 0} → Program W I A → (old new : Option (List ℕ)) → End (Reason I F C) → Result A (Reason I F C)
     → Type 0
 WritesOutcome program old new (Ok status) said =
@@ -25,22 +26,23 @@ WritesOutcome program old new (Ok status) said =
 WritesOutcome program old new (Err (failures.NoResult error)) said = FitsError program.place error said
 WritesOutcome program old new (Err (failures.Output refusal)) said = IsOkAnd said (λ result. AppendsFront old new (program.text result))
 
--- What holds whether or not the files' contents are known. Without a result the output is as it
--- was. If the output refused the text, its counter `faults` rose. If memory ran out for the text,
--- its counter `wants` rose.
+-- What holds whether or not the files' contents are known. Without a result the output is
+-- unchanged. If the output refused the text, its counter `faults` rose. If memory ran out for the
+-- text, its counter `wants` rose.
 abbrev pub WritingHasCause : {S R : Type 0} → SinkOf S → (old new : S) → End R → Type 0
 WritingHasCause sink old new (Ok status) = Unit {0}
 WritingHasCause sink old new (Err (failures.NoResult error)) = new ≡ old
 WritingHasCause sink old new (Err (failures.Output put.Failed)) = Rose (sink.faults old) (sink.faults new)
 WritingHasCause sink old new (Err (failures.Output put.Memory)) = Rose (sink.wants old) (sink.wants new)
 
--- with a result the error output is as it was; with a failure its line was written (`PutsLine`)
+-- with a result the error output is unchanged; with a failure the line of the failure was written
+-- (`PutsLine`)
 abbrev pub PutsEndLine : {E R : Type 0} → SinkOf E → (Failure R → List ℕ) → (old new : E) → End R → Type 0
 PutsEndLine errors line old new (Ok status) = new ≡ old
 PutsEndLine errors line old new (Err failure) = PutsLine errors old new (line failure)
 
--- how a failure fits the outcome: an error fits it, and if the output failed the outcome is a
--- result
+-- the failure fits the outcome. If there is no result, the error fits the outcome. If the output
+-- failed, the outcome is a result.
 abbrev pub FitsFailure : {W I A F C : Type 0} → Program W I A → Failure (Reason I F C) → Result A (Reason I F C) → Type 0
 FitsFailure program (failures.NoResult error) said = FitsError program.place error said
 FitsFailure program (failures.Output refusal) said = IsOkAnd said (λ result. Unit {0})
@@ -49,7 +51,7 @@ FitsFailure program (failures.Output refusal) said = IsOkAnd said (λ result. Un
 abbrev pub IsFaulty : {I F C A : Type 0} → Result A (Reason I F C) → Type 0
 IsFaulty {I} {F} said = (input : I) × ((fault : F) × (said ≡ Err (reasons.Faulty input fault)))
 
--- the outcome is a stop for some cause
+-- the outcome is that files without a fault give no result, for some cause
 abbrev pub IsStopped : {I F C A : Type 0} → Result A (Reason I F C) → Type 0
 IsStopped {I} {F} {C} said = (cause : C) × (said ≡ Err (reasons.Stopped cause))
 

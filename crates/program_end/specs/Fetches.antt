@@ -1,5 +1,5 @@
--- How a call that fetches files may end. `said` is the outcome that its definition gives, and
--- `place input` the position of the input in the order in which the files are read.
+-- How a call that fetches files may end. `said` is the outcome that its definition gives. `place
+-- input` is the position of the input in the order in which the files are read.
 use Rattle.std.specs.Prelude.{◌≡◌, ℕ, ◌≤◌, Option, Some, None, Result, Ok, Err}
 use Rattle.program_end.specs.declared.failure.NoResult.{NoResult}
 use Rattle.program_end.specs.declared.failure.NoResult.TheVariants as errors
@@ -7,7 +7,7 @@ use Rattle.program_end.specs.declared.failure.Reason.{Reason}
 use Rattle.program_end.specs.declared.failure.Reason.TheVariants as reasons
 
 -- with this outcome the file of `input` is read: the command line is accepted, and no file before
--- it is missing or has a fault
+-- this one is missing or has a fault
 abbrev pub ReachesFile : {I F C A : Type 0} → (I → ℕ) → I → Result A (Reason I F C) → Type 0
 ReachesFile place input (Ok value) = Unit {0}
 ReachesFile place input (Err reasons.Usage) = ⊥
@@ -15,20 +15,21 @@ ReachesFile place input (Err (reasons.Unread other)) = place input ≤ place oth
 ReachesFile place input (Err (reasons.Faulty other fault)) = place input ≤ place other
 ReachesFile place input (Err (reasons.Stopped cause)) = Unit {0}
 
--- the reason is that of the outcome, except that any file which is read may fail to be read
+-- the reason fits the outcome: it is the outcome's reason; or it is that the file of some input
+-- couldn't be read, and the outcome reaches this file (`ReachesFile`)
 abbrev pub FitsReason : {I F C A : Type 0} → (I → ℕ) → Reason I F C → Result A (Reason I F C) → Type 0
 FitsReason place reasons.Usage said = said ≡ Err reasons.Usage
 FitsReason place (reasons.Unread input) said = ReachesFile place input said
 FitsReason place (reasons.Faulty input fault) said = said ≡ Err (reasons.Faulty input fault)
 FitsReason place (reasons.Stopped cause) said = said ≡ Err (reasons.Stopped cause)
 
--- the error fits the outcome: its reason does, and out of memory fits every outcome
+-- the error fits the outcome: it is out of memory, or its reason fits the outcome
 abbrev pub FitsError : {I F C A : Type 0} → (I → ℕ) → NoResult (Reason I F C) → Result A (Reason I F C) → Type 0
 FitsError place (errors.Reason reason) said = FitsReason place reason said
 FitsError place errors.Memory said = Unit {0}
 
--- how a call ends: with a value, whose `view` is the value of the outcome; or with an error that
--- fits the outcome
+-- the call fetches what the outcome says: it ends with a value whose `view` is the outcome's
+-- value, or with an error that fits the outcome
 abbrev pub Fetches : {I F C A B : Type 0} → (I → ℕ) → (A → B) → Result A (NoResult (Reason I F C)) → Result B (Reason I F C) → Type 0
 Fetches place view (Ok value) said = said ≡ Ok (view value)
 Fetches place view (Err error) said = FitsError place error said

@@ -18,7 +18,7 @@ use Rattle.program_end.specs.declared.failure.Reason.TheVariants as reasons
 abbrev pub unread_line : List ℕ → List ℕ → List ℕ
 unread_line program file = program ++ (codes ": cannot read " ++ (file ++ codes "\n"))
 
--- the line that says for which reason there is no result; faults and causes have texts of the
+-- the line that says for which reason there is no result; the lines of faults and causes are the
 -- program's own
 abbrev pub reason_line : {I F C : Type 0} → List ℕ → (I → List ℕ) → (I → F → List ℕ) → (C → List ℕ) → Reason I F C → List ℕ
 reason_line program file fault_line cause_line reasons.Usage = program ++ codes ": usage\n"
@@ -35,16 +35,16 @@ abbrev pub refusal_line : List ℕ → Put → List ℕ
 refusal_line program put.Failed = program ++ codes ": cannot write\n"
 refusal_line program put.Memory = memory_line program
 
--- the line that says why a program failed
+-- the line that says what failed
 abbrev pub failure_line : {I F C : Type 0} → List ℕ → (I → List ℕ) → (I → F → List ℕ) → (C → List ℕ) → Failure (Reason I F C) → List ℕ
 failure_line program file fault_line cause_line (failures.NoResult (errors.Reason reason)) =
     reason_line program file fault_line cause_line reason
 failure_line program file fault_line cause_line (failures.NoResult errors.Memory) = memory_line program
 failure_line program file fault_line cause_line (failures.Output refusal) = refusal_line program refusal
 
--- What writing a line does to the output, whose traits are `sink`. It appends the first bytes of
--- the line (`front`). It appends all of it (`whole`) unless one of the output's two counters rose:
--- that of faults, or that of puts without memory.
+-- What writing a line does to the output, whose ghost members are `sink`. It appends the first
+-- bytes of the line (`front`). It appends the whole line (`whole`) unless one of the output's two
+-- counters rose: that of faults, or that of puts that ran out of memory.
 pub record PutsLine {S : Type 0} (sink : SinkOf S) (old new : S) (line : List ℕ) : Type 0 where
   pub front : AppendsFront (sink.written old) (sink.written new) line
   pub whole : Appends (sink.written old) (sink.written new) line ⊎ Rose (sink.faults old) (sink.faults new)

@@ -9,24 +9,24 @@ use Rattle.program_end.specs.declared.failure.NoResult.TheVariants as errors
 use Rattle.program_end.specs.declared.failure.Reason.{Reason}
 use Rattle.program_end.specs.declared.failure.Reason.TheVariants as reasons
 
--- the status of a reason
+-- the exit status of a reason
 abbrev pub reason_status : {I F C : Type 0} → Reason I F C → ℕ
 reason_status reasons.Usage = 2
 reason_status (reasons.Unread input) = 3
 reason_status (reasons.Faulty input fault) = 5
 reason_status (reasons.Stopped cause) = 6
 
--- the status without a result; 7 if out of memory
+-- the exit status of a call without a result; 7 if it ran out of memory
 abbrev pub error_status : {I F C : Type 0} → NoResult (Reason I F C) → ℕ
 error_status (errors.Reason reason) = reason_status reason
 error_status errors.Memory = 7
 
--- the status if the output refused the text or ran out of memory
+-- the exit status if the output refused the text or ran out of memory
 abbrev pub refusal_status : Put → ℕ
 refusal_status put.Failed = 4
 refusal_status put.Memory = 7
 
--- the status of a failure
+-- the exit status of a failure
 abbrev pub failure_status : {I F C : Type 0} → Failure (Reason I F C) → ℕ
 failure_status (failures.NoResult error) = error_status error
 failure_status (failures.Output refusal) = refusal_status refusal
@@ -35,7 +35,7 @@ failure_status (failures.Output refusal) = refusal_status refusal
 abbrev pub End : Type 0 → Type 0
 End R = Result ℕ (Failure R)
 
--- the exit status of an end
+-- the exit status of a program's end
 abbrev pub exit_status : {I F C : Type 0} → End (Reason I F C) → ℕ
 exit_status (Ok status) = status
 exit_status (Err failure) = failure_status failure

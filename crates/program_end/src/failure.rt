@@ -7,7 +7,7 @@ use bm_base::Memory;
 use bm_io::Put;
 
 /// Why the command line and the files give no result. `I` is the type of input files and `F` that
-/// of their faults. `C` is the type of causes for which files without a fault give no result.
+/// of their faults. `C` is the type of causes: why files without a fault give no result.
 #[derive(Clone, Copy, Debug, PartialEq, Eq)]
 pub enum Reason<I, F, C> {
     /// The command line isn't accepted. Status 2.
@@ -16,7 +16,7 @@ pub enum Reason<I, F, C> {
     Unread(I),
     /// The file of this input has this fault. The files before it have none. Status 5.
     Faulty(I, F),
-    /// The files have no fault, but give no result for this cause. Status 6.
+    /// The files have no fault, but give no result, for this cause. Status 6.
     Stopped(C),
 }
 
@@ -25,17 +25,17 @@ pub enum Reason<I, F, C> {
 pub enum NoResult<R> {
     /// The command line and the files give no result, for this reason.
     Reason(R),
-    /// This program is out of memory. Status 7.
+    /// The program itself is out of memory. Status 7.
     Memory,
 }
 
-/// Why a program didn't write its result whole.
+/// Why a program couldn't write its result.
 #[derive(Clone, Copy, Debug, PartialEq, Eq)]
 pub enum Failure<R> {
     /// There is no result, and nothing was written to the output.
     NoResult(NoResult<R>),
-    /// The output refused the text (status 4), or ran out of memory (status 7). It may have taken
-    /// the first part of the text.
+    /// The output refused the text (status 4), or ran out of memory (status 7). The first bytes of
+    /// the text may have been written.
     Output(Put),
 }
 
@@ -76,8 +76,8 @@ impl<I: Copy, F: Copy, C: Copy> Failure<Reason<I, F, C>> {
     }
 }
 
-/// Returns the exit status of a program's end: the status of the result, or that of the failure (2
-/// to 7).
+/// Returns the exit status of a program's end: that of its result, 0 or 8, or that of its failure,
+/// 2 to 7.
 pub fn exit_status<I: Copy, F: Copy, C: Copy>(end: Result<u8, Failure<Reason<I, F, C>>>) -> u8
     ensures { result ≡ exit_status end }
 {

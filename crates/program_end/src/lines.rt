@@ -1,6 +1,6 @@
-//! Writes the line of a failure to the error output. It is written in chunks, so no memory is
-//! allocated for it. If the error output refuses a chunk, the chunks after it aren't written, and
-//! nothing else changes.
+//! Writes the line of a failure to the error output. The line is written in chunks, so no memory
+//! is allocated for it. If the error output refuses a chunk, the chunks after it aren't written,
+//! and nothing else changes.
 
 ghost use Rattle.std.specs.Prelude.{◌≡◌, ℕ, List, flat_map};
 ghost use Rattle.program_end.specs.Ends.{PutsEndLine};
@@ -12,9 +12,9 @@ use bm_io::{Put, Sink, put_all};
 /// The texts in which one program's error lines differ from another's: its name, the names of its
 /// files, and the lines for faults `F` and causes `C`.
 pub trait Lines<I, F, C> {
-    // `program_name` is the program's name. `file_name` is the name of an input's file, empty if it
-    // has none. `fault_line` is the line for a fault of an input's file, and `cause_line` the line
-    // for a cause.
+    // `program_name` is the program's name. `file_name` is the name of an input's file, empty if
+    // the input has no file. `fault_line` is the line for a fault of an input's file, and
+    // `cause_line` the line for a cause.
     ghost program_name: { List ℕ };
 
     ghost file_name: { Self → I → List ℕ };
@@ -27,7 +27,7 @@ pub trait Lines<I, F, C> {
     fn program() -> &'static str
         ensures { result.now ≡ program_name };
 
-    /// Returns the name of the input's file; it is empty if the input has no file.
+    /// Returns the name of the input's file, empty if the input has no file.
     fn file(&self, input: I) -> &str
         ensures { result.now ≡ file_name self.now input };
 
@@ -35,13 +35,13 @@ pub trait Lines<I, F, C> {
     fn put_fault_line<E: Sink>(err: &mut E, input: I, fault: F)
         ensures { PutsLine E.Sink err.old err.new (fault_line input fault) };
 
-    /// Writes to `err` the line that says why the program stopped.
+    /// Writes to `err` the line that says for which cause the files give no result.
     fn put_cause_line<E: Sink>(err: &mut E, cause: C)
         ensures { PutsLine E.Sink err.old err.new (cause_line cause) };
 }
 
-/// Writes to `err` the one line that says why a program failed. Writes nothing if the program ended
-/// with a result.
+/// Writes to `err` the one line that says why a program failed. Writes nothing if the program
+/// ended with a result.
 pub fn put_end_line<E: Sink, I: Copy, F: Copy, C: Copy, L: Lines<I, F, C>>(
     err: &mut E,
     lines: &L,
@@ -55,7 +55,7 @@ pub fn put_end_line<E: Sink, I: Copy, F: Copy, C: Copy, L: Lines<I, F, C>>(
     }
 }
 
-/// Writes to `err` the line for this failure.
+/// Writes to `err` the one line that says what failed.
 fn put_failure_line<E: Sink, I: Copy, F: Copy, C: Copy, L: Lines<I, F, C>>(
     err: &mut E,
     lines: &L,
@@ -94,7 +94,8 @@ fn put_unread_line<'a, E: Sink>(err: &mut E, program: &'a str, file: &'a str)
     put_line(err, &[program, ": cannot read ", file, "\n"])
 }
 
-/// Writes to `err` why the output didn't get its text: it refused it, or memory ran out.
+/// Writes to `err` the line that says why the text couldn't be written: the output refused it, or
+/// memory ran out.
 fn put_refusal_line<'a, E: Sink>(err: &mut E, program: &'a str, refusal: Put)
     ensures { PutsLine E.Sink err.old err.new (refusal_line program.now refusal) }
 {

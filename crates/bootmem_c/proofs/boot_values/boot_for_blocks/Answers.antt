@@ -1,4 +1,4 @@
--- The blocks are those of the boot's free frames, each as a value.
+-- The values are those of the blocks of the boot's free frames.
 use Rattle.std.proofs.Common.{◌∙◌, ap, map}
 use Rattle.boot_model.specs.View.{booted_view}
 use Rattle.bootmem_c.specs.Values.{block_value}

@@ -1,4 +1,4 @@
--- The records are those of the table that the journal gives, each as a value.
+-- The values are those of the memory records that the journal gives.
 use Rattle.std.proofs.Common.{◌∙◌, ap, map}
 use Rattle.phys_store.specs.Bytes.{byte_of}
 use Rattle.memblock_ranges.specs.declared.region.Head.{Head}

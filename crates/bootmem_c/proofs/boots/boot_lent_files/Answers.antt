@@ -1,4 +1,4 @@
--- What holds of the words that were read holds of the call's words.
+-- What is proved of the words that were read holds for the call's words.
 use Rattle.std.proofs.Common.{◌≡◌, ◌∙◌, Option, Err, ap, map, string_bytes, subst}
 use Rattle.std.specs.Prelude.{IfErr, IfOk}
 use Rattle.bm_io.specs.MemFiles.{file_bytes}

@@ -1,6 +1,6 @@
--- An error of the files and a stop of the boot are those of the outcome; otherwise the boot is
--- that of the inputs.
-use Rattle.std.proofs.Common.{◌∙◌, Err, ap}
+-- An error of the files, or a stop of the boot, is that of the outcome. Otherwise the results are
+-- those of the boot with these inputs.
+use Rattle.std.proofs.Common.{◌∙◌, Err, ap, refl}
 use Rattle.std.proofs.lemmas.Result.{err_from_is_err_and}
 use Rattle.boot_inputs.specs.Reason.{NoInputs}
 use Rattle.boot_model.specs.View.{booted_view, inputs_view}
@@ -12,7 +12,7 @@ pub returns-in_err-inputs-clause-fails : goal.returns-in_err-inputs-clause-fails
 returns-in_err-inputs-clause-fails c =
     let p = err_from_is_err_and c.from_residual.result c.from_residual.ensures.1 in
     inputs_failed c.from_residual.result c.in_err-inputs.field-0.0 c.new.result c.read_boot_inputs.new.files _
-    (bootmem_args_view c.args.wanted.now)
+    (bootmem_args_view c.args.wanted.now) refl
     (p.1 ∙ ap (λ (e : NoInputs). Err e) p.2) c.new.ensures.files c.in_err-inputs.ensures.fetches c.in_err-inputs.ensures.cause
 
 pub returns-in-Err-clause-fails : goal.returns-in-Err-clause-fails

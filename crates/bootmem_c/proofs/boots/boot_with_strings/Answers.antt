@@ -1,8 +1,9 @@
--- Accepted words boot as what they ask for; others are refused.
+-- Accepted words boot with what they ask for. Other words are refused.
 use Rattle.std.specs.Prelude.{Some}
 use Rattle.bm_io.specs.MemFiles.{file_bytes}
 use Rattle.program_args.specs.declared.reader.ArgsError.TheVariants as words
 use Rattle.program_run.proofs.RunLaws.{are_accepted, words_fit}
+use Rattle.program_run.specs.Outcome.{bootmem_outcome}
 use Rattle.bootmem_c.specs.Lent.{lent_files}
 use Rattle.bootmem_c.proofs.boots.boot_with_strings.Goals as goal
 
@@ -14,4 +15,5 @@ returns-in-Ok-clause-fails c = rw (are_accepted _ _ c.in-Ok.ensures) c.boot_with
 
 pub returns-in-Err-Usage-clause-fails : goal.returns-in-Err-Usage-clause-fails
 returns-in-Err-Usage-clause-fails c =
-    words_fit (Some (file_bytes (lent_files c.args.files.now))) _ words.Usage (rw c.in-Err-Usage.field-0-is at c.in-Err-Usage.ensures)
+    words_fit (λ held wanted. bootmem_outcome (Some wanted) held)
+    (Some (file_bytes (lent_files c.args.files.now))) _ words.Usage (rw c.in-Err-Usage.field-0-is at c.in-Err-Usage.ensures)

@@ -1,4 +1,4 @@
--- The search over the lent files finds what the definition says.
+-- The search over the lent files finds the bytes that the definition gives.
 use Rattle.std.proofs.Common.{arith}
 use Rattle.std.proofs.lemmas.Grind.{common_steps}
 use Rattle.bootmem_c.proofs.LentLaws.{bytes_of_found}

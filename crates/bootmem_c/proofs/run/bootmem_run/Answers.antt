@@ -1,4 +1,5 @@
--- With a status other than 7 memory didn't run out for the line, and the outputs are the run's.
+-- With a status other than 7, memory didn't run out for the line, and the outputs are those of the
+-- run.
 use Rattle.std.proofs.Common.{◌∙◌, ℕ, List, arith, subst, sym}
 use Rattle.bootmem_c.specs.Call.{outcome_of}
 use Rattle.bootmem_c.specs.Copies.{CopiesText}

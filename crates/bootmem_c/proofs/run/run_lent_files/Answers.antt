@@ -1,4 +1,4 @@
--- What the run promises for the words that were read and the lent files holds for the call.
+-- The contract of the run, for the words that were read and the lent files, holds for the call.
 use Rattle.std.proofs.Common.{◌≡◌, ◌∙◌, ℕ, List, [], Some, Option, Result, Err, ap, inl, map, string_bytes, subst, sym}
 use Rattle.std.specs.Prelude.{◌⊎◌}
 use Rattle.bm_io.specs.MemFiles.{MemFileView, file_bytes}
@@ -9,6 +9,7 @@ use Rattle.program_args.specs.Args.{BootmemArgsView, read_args, bytes_of_words}
 use Rattle.bootmem_c.specs.declared.words.StringsError.{StringsError}
 use Rattle.bootmem_c.specs.Lent.{lent_files, lent_words}
 use Rattle.bootmem_c.specs.Call.{read_lent_args, outcome_line, call_line, outcome_of, outcome_status}
+use Rattle.bootmem_c.proofs.NameLaws.{names_no_claims}
 use Rattle.bootmem_c.proofs.RunLaws.{line_asked, none_asked, nothing_asked, ran_line, ran_reported, ran_status, reported_text, same_asked, same_outcome}
 use Rattle.bootmem_c.proofs.run.run_lent_files.Goals as goal
 
@@ -26,8 +27,8 @@ is_outcome c = same_outcome _ _ _ _ (asks c) c.new.ensures.files
 pub returns-in-Ok-clause-status : goal.returns-in-Ok-clause-status
 returns-in-Ok-clause-status c =
     subst (λ (said : Result (List ℕ) InputsReason). (c.run.result ≡ outcome_status said) ⊎ (c.run.result ≡ 7)) (is_outcome c)
-    (ran_status c.new.result c.run.new.files (read_args (bytes_of_words c.deref.result.now)) _ _ c.run.result c.run.ensures.unwritten
-    c.run.ensures.written c.run.ensures.line)
+    (ran_status c.new.result c.run.new.files (read_args (bytes_of_words c.deref.result.now)) _ _ c.run.result
+    (names_no_claims (bytes_of_words c.deref.result.now)) c.run.ensures.unwritten c.run.ensures.written c.run.ensures.line)
 
 pub returns-in-Ok-clause-headline : goal.returns-in-Ok-clause-headline
 returns-in-Ok-clause-headline c = λ zero.
@@ -48,8 +49,8 @@ pub returns-in-Ok-clause-line : goal.returns-in-Ok-clause-line
 returns-in-Ok-clause-line c = λ some other short.
     let was = read_args (bytes_of_words c.deref.result.now) in
     let said = bootmem_outcome was (file_bytes c.new.result.files) in
-    let told = ran_line c.new.result c.run.new.files was c.args.line.now c.run.new.err c.run.result c.run.ensures.unwritten
-    c.requires.no_line c.requires.not_short c.run.ensures.line some other short in
+    let told = ran_line c.new.result c.run.new.files was c.args.line.now c.run.new.err c.run.result
+    (names_no_claims (bytes_of_words c.deref.result.now)) c.run.ensures.unwritten c.requires.no_line c.requires.not_short c.run.ensures.line some other short in
     let same : outcome_line was said ≡ call_line c.args.words.now c.args.files.now =
     ap (λ (a : Option BootmemArgsView). outcome_line a said) (asks c)
     ∙ ap (outcome_line (read_lent_args (lent_words c.args.words.now))) (is_outcome c)

@@ -1,4 +1,4 @@
--- The next value is that of the next record.
+-- The value that is added is that of the next record.
 use Rattle.std.proofs.Common.{arith}
 use Rattle.phys_store.specs.Bytes.{byte_of}
 use Rattle.bootmem_c.proofs.ValueLaws.{no_more, one_more}

@@ -1,4 +1,4 @@
--- The values so far, and those of the records that are left, are all values.
+-- The values so far, followed by those of the remaining records, are all values.
 use Rattle.std.proofs.Common.{◌≡◌, ◌+◌, ◌-◌, ◌*◌, ◌++◌}
 use Rattle.phys_store.specs.Bytes.{byte_of}
 use Rattle.bootmem_c.specs.Values.{regions_at}

@@ -1,4 +1,4 @@
--- One more word, or the first that isn't UTF-8; after the last one all are read.
+-- Either one more word becomes a string, or it isn't UTF-8. After the last word all are strings.
 use Rattle.std.proofs.Common.{◌≡◌, ap, arith, subst, Err}
 use Rattle.std.specs.List.{All}
 use Rattle.std.specs.Str.{IsUtf8}

@@ -1,4 +1,4 @@
--- The words so far are strings, and UTF-8.
+-- The words so far became strings, so they are UTF-8.
 use Rattle.std.proofs.Common.{◌≡◌, IsUtf8, map, string_bytes, take}
 use Rattle.std.specs.List.{All}
 use Rattle.bootmem_c.specs.Lent.{lent_words}

@@ -1,4 +1,4 @@
--- A fetch of a lent name never fails, and one that fails is counted.
+-- A fetch never fails for a name that a lent file has. A fetch that fails is counted.
 use Rattle.std.proofs.Common.{Some, ap, arith}
 use Rattle.bm_io.specs.MemFiles.{file_bytes}
 use Rattle.bootmem_c.proofs.FetchLaws.{bytes_stay, faults_fit, faults_rose, faults_stay}
