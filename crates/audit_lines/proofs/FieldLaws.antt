@@ -1,4 +1,4 @@
--- Lemmas on the rest of a text after its start.
+-- Lemmas on the rest of a text after a given front.
 use Rattle.std.proofs.Common.{◌≡◌, ◌≢◌, ℕ, ◌==◌, List, [], ◌∷◌, ◌++◌, Option, Some, None, refl, sym, ap, ◌∙◌, eq-eqb, inl, inr}
 use Rattle.std.specs.Option.{option_map, MatchOption}
 use Rattle.std.proofs.Common.{Bor}
@@ -6,13 +6,13 @@ use Rattle.std.proofs.lemmas.Bool.{cases_Bool}
 use Rattle.std.proofs.lemmas.Bool.Decides.{Decides-eqb}
 use Rattle.audit_lines.specs.Fields.{rest_after}
 
--- the rest after a front that is there
+-- if the text is `front` and a rest, `rest_after` finds the rest
 pub behind_front : (front rest : List ℕ) → rest_after front (front ++ rest) ≡ Some rest
 unfolding rest_after
 behind_front [] rest = refl
 behind_front (f ∷ fs) rest = rw (eq-eqb f f refl) (behind_front fs rest)
 
--- if there is a rest, the text is the front followed by it
+-- if `rest_after` finds a rest, the text is `front` followed by it
 pub behind_is : (front text rest : List ℕ) → rest_after front text ≡ Some rest → text ≡ front ++ rest
 unfolding rest_after
 behind_is [] text rest is = cc
@@ -31,7 +31,7 @@ none_behind : (front text : List ℕ) (found : Option (List ℕ)) → rest_after
 none_behind front text None is never = refl
 none_behind front text (Some rest) is never = absurd (never rest (behind_is front text rest is))
 
--- the rest after a front was removed
+-- what the code finds after removing `front` is what `rest_after` finds
 pub stripped : (front text : List ℕ) (r : Option (Bor (List ℕ)))
     → MatchOption r ((rest : List ℕ) → text ≢ front ++ rest) (λ x. text ≡ front ++ x.now)
     → option_map (λ x. x.now) r ≡ rest_after front text

@@ -8,13 +8,13 @@ use Rattle.audit_lines.specs.Lines.{StartFrom, AscendApart}
 use Rattle.audit_lines.specs.declared.report.LineFault.{LineFault}
 use Rattle.audit_lines.specs.Reports.{LinesAndRest, report_line_at, line_or_fault, line_if_in_order, no_lines_if_ended, report_from}
 
--- these lines followed by those of the result, or its fault
+-- the result with these lines put before its own, or its fault
 abbrev pub in_front : {L : Type 0} → List L → Result (List L) LineFault → Result (List L) LineFault
 in_front front (Ok lines) = Ok (front ++ lines)
 in_front front (Err fault) = Err fault
 
 module _ {L : Type 0} (form : ℕ → List ℕ → Option L) (extent : L → RangeView) where
-  -- no line has been read yet
+  -- at the start no line has been read
   pub none_read : (answer : Result (List L) LineFault) → in_front [] answer ≡ answer
   none_read (Ok lines) = refl
   none_read (Err fault) = refl
@@ -24,7 +24,7 @@ module _ {L : Type 0} (form : ℕ → List ℕ → Option L) (extent : L → Ran
   more_in_front front line (Ok lines) = ap (λ (ls : List L). Ok ls) (sym (append_assoc front (line ∷ []) lines))
   more_in_front front line (Err fault) = refl
 
-  -- one more line
+  -- one more line is read
   pub line_read : (front : List L) (index at : ℕ) (split : LinesAndRest) (text : List ℕ) (texts : List (List ℕ)) (left : List ℕ) (line : L)
       (said : Result (List L) LineFault)
       → split ≡ (text ∷ texts, left) → report_line_at form extent index at text ≡ Ok line
@@ -34,7 +34,7 @@ module _ {L : Type 0} (form : ℕ → List ℕ → Option L) (extent : L → Ran
       sym (more_in_front front line (report_from form extent (index + 1) (end_of (extent line)) texts left))
       ∙ (rw is at (rw splits at so))
 
-  -- a line that has a fault
+  -- if the next line has a fault, it is the fault of the report
   pub line_faulty : (front : List L) (index at : ℕ) (split : LinesAndRest) (text : List ℕ) (texts : List (List ℕ)) (left : List ℕ)
       (fault : LineFault)
       (said : Result (List L) LineFault)
@@ -42,19 +42,19 @@ module _ {L : Type 0} (form : ℕ → List ℕ → Option L) (extent : L → Ran
       → in_front front (report_from form extent index at split.0 split.1) ≡ said → said ≡ Err fault
   line_faulty front index at split text texts left fault said splits is so = sym (rw is at (rw splits at so))
 
-  -- no line is left
+  -- if no line and no byte is left, the lines so far are all lines of the report
   pub lines_end : (front : List L) (index at : ℕ) (split : LinesAndRest) (said : Result (List L) LineFault)
       → split ≡ ([], []) → in_front front (report_from form extent index at split.0 split.1) ≡ said → said ≡ Ok front
   lines_end front index at split said splits so = sym (rw splits at so) ∙ ap (λ (ls : List L). Ok ls) (append-nil front)
 
-  -- bytes without a newline are left
+  -- if bytes without a newline are left, the report has the fault of a line without a newline
   pub line_open : (front : List L) (index at : ℕ) (split : LinesAndRest) (left : List ℕ) (said : Result (List L) LineFault)
       → split ≡ ([], left) → 0 < length left → in_front front (report_from form extent index at split.0 split.1) ≡ said
       → said ≡ no_lines_if_ended form extent index left
   line_open front index at split [] said splits some so = absurd (omega arith)
   line_open front index at split (b ∷ bs) said splits some so = sym (rw splits at so)
 
-  -- a line that was read begins at or above the end of the one before it
+  -- a line that was accepted begins at or above the end of the line before it
   at_or_behind : (index at : ℕ) (text : List ℕ) (read : Option L) (line : L)
       → (line_or_fault form extent index read >>= line_if_in_order form extent index at) ≡ Ok line → at ≤ (extent line).base
   at_or_behind index at text None line is = cc
@@ -67,7 +67,7 @@ module _ {L : Type 0} (form : ℕ → List ℕ → Option L) (extent : L → Ran
             rw (← line_is) (grind (arith, nat_tests))
       ]
 
-  -- the lines that were read are ascending
+  -- the lines that were read ascend from `at` on
   abbrev AscendFrom : ℕ → List L → Type 0
   AscendFrom at lines = StartFrom at (map extent lines) × AscendApart (map extent lines)
 

@@ -1,10 +1,10 @@
--- Lemmas on splitting a text into lines, byte by byte.
+-- Lemmas on splitting a text into lines byte by byte.
 use Rattle.std.proofs.Common.{◌≡◌, ◌≢◌, ℕ, ◌+◌, ◌<◌, ◌==◌, false, List, [], ◌∷◌, ◌++◌, length, take, drop, get_or, refl, ap, add-one, drop-cons, eq-eqb, suc}
 use Rattle.std.proofs.lemmas.Bool.{ne_eqb}
 use Rattle.std.proofs.lemmas.List.{take_more}
 use Rattle.audit_lines.specs.Reports.{LinesAndRest, split_lines, lines_with_byte, lines_with_newline}
 
--- bytes before a text, none of them a newline
+-- the lines of a text with these bytes, none of them a newline, put in front
 abbrev pub glued : List ℕ → LinesAndRest → LinesAndRest
 glued [] split = split
 glued (b ∷ bs) split = lines_with_byte b (glued bs split)
@@ -21,7 +21,7 @@ pub glued_end : (front : List ℕ) → glued front ([], []) ≡ ([], front)
 glued_end [] = refl
 glued_end (a ∷ front) = ap (lines_with_byte a) (glued_end front)
 
--- a newline ends the bytes before it as a line
+-- at a newline the bytes before it are a line
 pub newline_found : (text : List ℕ) (i : ℕ) → i < length text → get_or text i 0 ≡ 10
     → glued (take i text) (split_lines (drop i text))
     ≡ (take i text ∷ (split_lines (drop (i + 1) text)).0, (split_lines (drop (i + 1) text)).1)
@@ -30,7 +30,7 @@ newline_found text i inside is =
     rw (add-one, drop-cons text i 0 inside, eq-eqb (get_or text i 0) 10 is)
     (glued_line (take i text) (split_lines (drop (suc i) text)).0 (split_lines (drop (suc i) text)).1)
 
--- any other byte belongs to the same line
+-- any byte but a newline belongs to the line that has begun
 pub byte_passed : (text : List ℕ) (i : ℕ) → i < length text → get_or text i 0 ≢ 10
     → glued (take (i + 1) text) (split_lines (drop (i + 1) text)) ≡ glued (take i text) (split_lines (drop i text))
 unfolding split_lines

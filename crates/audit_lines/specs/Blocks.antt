@@ -1,10 +1,11 @@
--- Free blocks of the page allocator, as lines of the report `blocks` have them.
+-- Free blocks of the page allocator, as the lines of the report `blocks` state them.
 use Rattle.std.specs.Prelude.{ℕ, ◌*◌, ◌^◌, ◌≤◌}
 use Rattle.bm_base.specs.declared.zone.Zone.{Zone}
 use Rattle.bm_base.specs.Range.{RangeView, end_of}
 use Rattle.bm_base.specs.declared.range.TheConstants.{FRAME_SIZE}
 
--- a block of 2^order frames from the address on, with the node and the zone that the line states
+-- what a line of `blocks` states: a block of 2^order frames from the address `at` on, with its node
+-- and zone
 pub record BlockLineView : Type 0 where
   pub node : ℕ
   pub zone : Zone
@@ -15,6 +16,7 @@ pub record BlockLineView : Type 0 where
 abbrev pub bytes_of_block : BlockLineView → RangeView
 bytes_of_block b = record { base = b.at; size = FRAME_SIZE * 2 ^ b.order }
 
--- the order of the block is at most 10 (`MAX_ORDER` is 11), and it ends at or below 2^52
+-- the order of the block is at most 10, as the kernel's `MAX_ORDER` is 11, and the block ends at
+-- or below 2^52
 abbrev pub IsBlockLine : BlockLineView → Type 0
 IsBlockLine b = (b.order ≤ 10) × (end_of (bytes_of_block b) ≤ 2 ^ 52)

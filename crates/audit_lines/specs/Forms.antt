@@ -2,7 +2,7 @@
 use Rattle.std.specs.Prelude.{ℕ, ◌-◌, ◌^◌, ◌==◌, ◌&&◌, ◌||◌, Bool, true, false, nat_le, nat_lt, if◌then◌else◌, List, [], ◌∷◌, codes, Option, Some, None}
 use Rattle.std.specs.Option.{option_map}
 use Rattle.bm_base.specs.Range.{RangeView, end_of}
-use Rattle.bm_base.specs.OptionSteps.{◌>>=◌}
+use Rattle.bm_base.specs.OptionSteps.{◌>>=◌, some_if}
 use Rattle.bm_base.specs.Text.{padded_decimal}
 use Rattle.bm_base.specs.declared.zone.Zone.{Zone}
 use Rattle.bm_base.specs.declared.zone.Zone.TheVariants as zones
@@ -23,76 +23,73 @@ map_type_name kind =
     (if kind == 128 then codes "usable kernel" else
     (if kind == 4026531839 then codes "soft reserved" else codes "other"))))))))
 
--- a step that succeeds if the test is true
-abbrev pub guard : Bool → Option (Unit {0})
-guard true = Some tt
-guard false = None
-
--- `A..A T NAME`: a run, its type, which isn't 0, and the name of that type
+-- the line `A..A T NAME` of `map`: a run, its type, which isn't 0, and the name of that type
 unfoldable pub map_line_in : ℕ → List ℕ → Option MapLine
 map_line_in index text = do
   range ← range_at_start text
   kind_text ← rest_after (codes " ") range.1
   kind ← number_in (2 ^ 32 - 1) kind_text
-  above ← guard (nat_lt 0 kind.0)
+  above ← some_if (nat_lt 0 kind.0)
   name ← rest_after (codes " ") kind.1
   left ← rest_after (map_type_name kind.0) name
   nothing ← is_at_end left
   Some (record { range = range.0; kind = kind.0 })
 
--- there is a rest of the text, and it is empty
+-- whether there is a rest of the text, and it is empty
 abbrev pub is_empty_rest : Option (List ℕ) → Bool
 is_empty_rest (Some []) = true
 is_empty_rest (Some (b ∷ bs)) = false
 is_empty_rest None = false
 
--- the text is exactly this word
+-- whether the text is exactly this word
 unfoldable pub is_exactly : List ℕ → List ℕ → Bool
 is_exactly word text = is_empty_rest (rest_after word text)
 
--- there is a rest of the text, and it is a number
+-- whether there is a rest of the text, and it is a number
 abbrev pub is_number_rest : Option (List ℕ) → Bool
 is_number_rest None = false
 is_number_rest (Some text) = is_empty_rest (option_map (λ number. number.1) (number_in (2 ^ 32 - 1) text))
 
--- the text is this word followed by a number
+-- whether the text is this word followed by a number
 unfoldable pub is_numbered : List ℕ → List ℕ → Bool
 is_numbered front text = is_number_rest (rest_after front text)
 
--- the text is the name of an owner that reserves memory at the start of the boot
+-- whether the text is the name of an owner that claims memory at the start of the boot
 abbrev pub is_first_owner : List ℕ → Bool
 is_first_owner text =
     is_exactly (codes "kernel") text || is_exactly (codes "low-64k") text || is_exactly (codes "initrd") text
     || is_exactly (codes "low-1m") text
     || is_exactly (codes "soft-reserved") text
 
--- the text is the name of a table, or of an owner of a later stage without a number
+-- whether the text is the name of an owner that claims memory after the start of the boot and has
+-- no number: one of memblock's tables, a part of the crash area, or the table of roots
 abbrev pub is_later_owner : List ℕ → Bool
 is_later_owner text =
     is_exactly (codes "table-memory") text || is_exactly (codes "table-reserved") text || is_exactly (codes "crash") text
     || is_exactly (codes "crash-low") text || is_exactly (codes "roots") text
 
--- the text is the name of an owner with a number, followed by that number
+-- whether the text is the name of an owner with a number, followed by that number
 abbrev pub is_numbered_owner : List ℕ → Bool
 is_numbered_owner text =
     is_numbered (codes "node-data ") text || is_numbered (codes "root ") text || is_numbered (codes "usage ") text
     || is_numbered (codes "map ") text || is_numbered (codes "script ") text
 
--- the text is the name of an owner of reserved memory, as the report `owners` prints it
+-- whether the text is the name of an owner, as the report `owners` prints it
 unfoldable pub is_owner : List ℕ → Bool
 is_owner text = is_first_owner text || is_later_owner text || is_numbered_owner text
 
--- `INDEX: A..A OWNER`: the index of the line in four columns, a range, and the name of its owner
+-- the line `INDEX: A..A OWNER` of `owners`: the index of the line in four columns, a range, and the
+-- name of its owner
 unfoldable pub owner_line_in : ℕ → List ℕ → Option RangeView
 owner_line_in index text = do
   colon ← rest_after (padded_decimal 4 index) text
   range_text ← rest_after (codes ": ") colon
   range ← range_at_start range_text
   name ← rest_after (codes " ") range.1
-  known ← guard (is_owner name)
+  known ← some_if (is_owner name)
   Some range.0
 
--- the name of a zone at the start of the text
+-- the zone whose name is at the start of the text, and the rest
 unfoldable pub zone_in : List ℕ → Option (Zone × List ℕ)
 zone_in text = dma32 (rest_after (codes "DMA32") text) (rest_after (codes "DMA") text) (rest_after (codes "Normal") text)
   where
@@ -106,7 +103,7 @@ zone_in text = dma32 (rest_after (codes "DMA32") text) (rest_after (codes "DMA")
 abbrev pub block_if_bounded : BlockLineView → Option BlockLineView
 block_if_bounded b = if nat_le b.order 10 && nat_le (end_of (bytes_of_block b)) (2 ^ 52) then Some b else None
 
--- `node N zone Z order O A`: a block of 2^O frames from A on
+-- the line `node N zone Z order O A` of `blocks`: a block of 2^O frames from A on
 unfoldable pub block_in : ℕ → List ℕ → Option BlockLineView
 block_in index text = do
   node_text ← rest_after (codes "node ") text

@@ -1,8 +1,8 @@
--- Ascending and disjoint lines, as contracts require them.
+-- Ascending and disjoint ranges of lines, as contracts require them.
 use Rattle.std.specs.Prelude.{ℕ, ◌≤◌, List, [], ◌∷◌}
 use Rattle.bm_base.specs.Range.{RangeView, end_of}
 
--- the ranges in the list begin at or above the address
+-- the first range of the list, if there is one, begins at or above `at`
 abbrev pub StartFrom : ℕ → List RangeView → Type 0
 StartFrom at [] = Unit {0}
 StartFrom at (r ∷ rs) = at ≤ r.base

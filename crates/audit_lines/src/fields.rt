@@ -1,5 +1,5 @@
-//! Reads the fields of a line. Each function takes a field from the start of a text, and returns
-//! it with the rest of the text.
+//! Reads the fields of a line. Each function reads a field at the start of a text, and returns it
+//! with the rest of the text.
 
 ghost use Rattle.std.specs.Prelude.{◌≡◌, ◌≤◌, length, take, drop, IsTrue};
 ghost use Rattle.std.specs.List.{list_all};
@@ -9,7 +9,7 @@ ghost use Rattle.bm_base.specs.Size.{begins_with_zero};
 
 use bm_base::{Range, read_number};
 
-/// Returns the rest of the text after `front`, or `None` if the text doesn't begin with that.
+/// Returns the rest of the text after `front`, or `None` if the text doesn't begin with `front`.
 pub fn rest_after<'t>(text: &'t [u8], front: &[u8]) -> Option<&'t [u8]>
     ensures { option_map (λ rest. rest.now) result ≡ rest_after front.now text.now }
 {
@@ -45,8 +45,8 @@ fn begins_with_zero(text: &[u8]) -> bool
     }
 }
 
-/// Returns the address at the start of the text, `0x` and sixteen lower-case digits, and the rest.
-/// Returns `None` if there is no such address.
+/// Returns the address at the start of the text, and the rest. An address is `0x` and sixteen
+/// lower-case hexadecimal digits. Returns `None` if there is no such address.
 #[tactic(auto, unfolding(crate::specs::Fields::address_in))]
 pub fn address_in(text: &[u8]) -> Option<(u64, &[u8])>
     ensures { option_map (λ found. (found.0, found.1.now)) result ≡ address_in text.now }

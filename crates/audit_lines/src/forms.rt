@@ -141,8 +141,8 @@ fn map_type_name(kind: u32) -> &'static [u8]
     }
 }
 
-/// Returns the zone whose name is at the start of the text, and the rest. Returns `None` if there
-/// is none.
+/// Returns the zone whose name is at the start of the text, and the rest. Returns `None` if no
+/// zone's name is there.
 #[tactic(auto, unfolding(crate::specs::Forms::zone_in))]
 fn zone_in(text: &[u8]) -> Option<(Zone, &[u8])>
     ensures { option_map (λ found. (found.0, found.1.now)) result ≡ zone_in text.now }
@@ -157,7 +157,7 @@ fn zone_in(text: &[u8]) -> Option<(Zone, &[u8])>
     Some((Zone::Normal, rest))
 }
 
-/// Returns the block, or `None` if its order is above 10, or it ends above 2^52.
+/// Returns the block, or `None` if its order is above 10 or it ends above 2^52.
 fn block_if_bounded(node: u32, zone: Zone, order: u32, at: u64) -> Option<BlockLine>
     ensures { result
         ≡ block_if_bounded (record { node = node; zone = zone; order = order; at = at }) }

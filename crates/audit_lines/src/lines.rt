@@ -23,7 +23,8 @@ pub struct BlockLine {
     pub node: u32,
     /// The zone.
     pub zone: Zone,
-    /// The order, from 0 to 10 (`MAX_ORDER` is 11): the block has 2^`order` frames.
+    /// The order, from 0 to 10: the block has 2^`order` frames. The kernel's orders are below its
+    /// `MAX_ORDER`, which is 11.
     pub order: u32,
     /// The address of the first byte. The reader doesn't require that it is a multiple of the
     /// block's size.

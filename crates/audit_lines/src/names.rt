@@ -25,8 +25,8 @@ fn is_first_owner(text: &[u8]) -> bool
         || is_exactly(text, b"soft-reserved")
 }
 
-/// Tests whether the text is the name of a table, or of an owner of a later stage that has no
-/// number.
+/// Tests whether the text is the name of an owner that claims memory after the start of the boot
+/// and has no number: one of memblock's tables, a part of the crash area, or the table of roots.
 fn is_later_owner(text: &[u8]) -> bool
     ensures { result ≡ is_later_owner text.now }
 {

@@ -18,10 +18,10 @@ pub enum LineFault {
     Order { line: u64 },
 }
 
-/// The reason why a report is refused.
+/// Why a report is refused.
 #[derive(Clone, Copy, Debug, PartialEq, Eq)]
 pub enum ReadError {
-    /// The lowest line that has a fault, and that fault.
+    /// The first line that has a fault, and what is wrong with it.
     Fault(LineFault),
     /// The program ran out of memory.
     Memory,
@@ -40,22 +40,22 @@ impl From<LineFault> for ReadError {
 
 /// A line of a report.
 pub trait ReportLine: Copy + Drop {
-    // the line that a text spells if it has this index in the report, from 0 on
+    // the line that a text spells at an index of the report, counted from 0
     ghost form: { ℕ → List ℕ → Option Self };
 
-    // the addresses of the line
+    // the range of addresses that the line states
     ghost extent: { Self → RangeView };
 
-    /// Returns the line that the text spells, or `None` if it spells none. The text has no
-    /// newline; `index` is the index of the line in the report, from 0 on.
+    /// Returns the line that the text spells, or `None` if the text isn't a line of this form. The
+    /// text has no newline; `index` is the index of the line in the report, from 0 on.
     fn read(index: u64, text: &[u8]) -> Option<Self>
         ensures { result ≡ form index text.now };
 
-    /// Returns the address of the first byte.
+    /// Returns the address of the line's first byte.
     fn base(&self) -> u64
         ensures { result ≡ (extent self.now).base };
 
-    /// Returns the address after the last byte.
+    /// Returns the address after the line's last byte.
     fn end(&self) -> u64
         ensures { result ≡ end_of (extent self.now) };
 }
@@ -65,7 +65,7 @@ pub trait ReportLine: Copy + Drop {
 ///
 /// # Errors
 ///
-/// - `Fault`: the fault of the lowest line that has one.
+/// - `Fault`: the fault of the first line that has one.
 /// - `Memory`: the program ran out of memory. This never happens for an empty report.
 pub fn read_report<L: ReportLine>(alloc: Global, bytes: &[u8]) -> Result<Vec<L>, ReadError>
     ensures answers { Answers ReadError.Memory (λ lines. lines.items) result
@@ -113,8 +113,8 @@ fn report_line_at<L: ReportLine>(index: u64, at: u64, text: &[u8]) -> Result<L, 
     Ok(line)
 }
 
-/// Returns the first line, without its newline, and the rest of the text after that. Returns
-/// `None` if there is no newline.
+/// Returns the first line, without its newline, and the text after the newline. Returns `None` if
+/// there is no newline.
 pub fn cut_line(text: &[u8]) -> Option<(&[u8], &[u8])>
     ensures line { IfSome result (λ found. split_lines text.now
         ≡ (found.0.now ∷ (split_lines found.1.now).0, (split_lines found.1.now).1)) }

@@ -1,4 +1,4 @@
--- Lemmas: each line that is written is read as what it states.
+-- Lemmas: each printed line is read as what it states.
 use Rattle.std.proofs.Common.{◌≡◌, ℕ, ◌-◌, ◌^◌, ◌<◌, ◌==◌, Bool, true, false, nat_le, nat_lt, if◌then◌else◌, List, [], ◌∷◌, ◌++◌, codes, Some, refl, ap, ◌∙◌, sym, arith, append_assoc, append-nil}
 use Rattle.std.specs.Fmt.{decimal}
 use Rattle.std.proofs.lemmas.Bool.Decides.{nat_tests}
@@ -14,8 +14,9 @@ use Rattle.audit_lines.proofs.FieldLaws.{behind_front}
 use Rattle.audit_roundtrip.proofs.NumberLaws.{address_line, address_read, number_line, number_read, range_line, range_read, index_line}
 use Rattle.report_memory.specs.Lines.{index_text, range_text}
 use Rattle.audit_roundtrip.proofs.SplitLaws.{IsOneLine, one_line-append}
+use Rattle.bm_base.specs.Zones.{zone_name}
 
--- texts one after another
+-- eight texts one after another, however they are bracketed
 pub apart_eight : (a b c d e f g h : List ℕ)
     → ((((((a ++ b) ++ c) ++ d) ++ e) ++ f) ++ g) ++ h ≡ a ++ (b ++ (c ++ (d ++ (e ++ (f ++ (g ++ h))))))
 apart_eight a b c d e f g h =
@@ -23,26 +24,21 @@ apart_eight a b c d e f g h =
     ∙ append_assoc (((a ++ b) ++ c) ++ d) e (f ++ (g ++ h)) ∙ append_assoc ((a ++ b) ++ c) d (e ++ (f ++ (g ++ h)))
     ∙ append_assoc (a ++ b) c (d ++ (e ++ (f ++ (g ++ h)))) ∙ append_assoc a b (c ++ (d ++ (e ++ (f ++ (g ++ h)))))
 
-abbrev pub zone_word : Zone → List ℕ
-zone_word zones.Dma = codes "DMA"
-zone_word zones.Dma32 = codes "DMA32"
-zone_word zones.Normal = codes "Normal"
-
-zone_read : (zone : Zone) (rest : List ℕ) → zone_in (zone_word zone ++ (32 ∷ rest)) ≡ Some (zone, 32 ∷ rest)
+zone_read : (zone : Zone) (rest : List ℕ) → zone_in (zone_name zone ++ (32 ∷ rest)) ≡ Some (zone, 32 ∷ rest)
 unfolding zone_in rest_after
 zone_read zones.Dma rest = refl
 zone_read zones.Dma32 rest = refl
 zone_read zones.Normal rest = refl
 
--- the line of a block
+-- the line of a block is read as that block
 block_by : (b : BlockLineView) (index : ℕ) → b.node < 2 ^ 32 → IsBlockLine b
-    → block_in index (codes "node " ++ (decimal b.node ++ (codes " zone " ++ (zone_word b.zone ++ (codes " order " ++ (decimal b.order
+    → block_in index (codes "node " ++ (decimal b.node ++ (codes " zone " ++ (zone_name b.zone ++ (codes " order " ++ (decimal b.order
     ++ (codes " " ++ hex_text b.at))))))) ≡ Some b
 unfolding block_in
 block_by b index node fits =
     let last : List ℕ = codes " " ++ hex_text b.at in
     let order_on : List ℕ = codes " order " ++ (decimal b.order ++ last) in
-    let zone_on : List ℕ = codes " zone " ++ (zone_word b.zone ++ order_on) in
+    let zone_on : List ℕ = codes " zone " ++ (zone_name b.zone ++ order_on) in
     let at : address_in (hex_text b.at) ≡ Some (b.at, []) =
     ap address_in (sym (append-nil (hex_text b.at))) ∙ address_read b.at [] (omega (arith, fits.1)) in
     let small : nat_le b.order 10 ≡ true = grind (arith, nat_tests, fits.0) in
@@ -50,7 +46,7 @@ block_by b index node fits =
     rw (
       behind_front (codes "node ") (decimal b.node ++ zone_on),
       number_read (2 ^ 32 - 1) b.node zone_on (omega (arith, node)) (omega arith) refl,
-      behind_front (codes " zone ") (zone_word b.zone ++ order_on),
+      behind_front (codes " zone ") (zone_name b.zone ++ order_on),
       zone_read b.zone (codes "order " ++ (decimal b.order ++ last)),
       behind_front (codes " order ") (decimal b.order ++ last),
       number_read 10 b.order last fits.0 (omega arith) refl,
@@ -62,35 +58,35 @@ block_by b index node fits =
 
 abbrev pub block_words : BlockLineView → List ℕ
 block_words b =
-    codes "node " ++ decimal b.node ++ codes " zone " ++ zone_word b.zone ++ codes " order " ++ decimal b.order ++ codes " "
+    codes "node " ++ decimal b.node ++ codes " zone " ++ zone_name b.zone ++ codes " order " ++ decimal b.order ++ codes " "
     ++ hex_text b.at
 
 pub block_read : (b : BlockLineView) (index : ℕ) → b.node < 2 ^ 32 → IsBlockLine b → block_in index (block_words b) ≡ Some b
 block_read b index node fits =
-    ap (block_in index) (apart_eight (codes "node ") (decimal b.node) (codes " zone ") (zone_word b.zone) (codes " order ")
+    ap (block_in index) (apart_eight (codes "node ") (decimal b.node) (codes " zone ") (zone_name b.zone) (codes " order ")
     (decimal b.order) (codes " ") (hex_text b.at)) ∙ block_by b index node fits
 
-zone_line : (zone : Zone) → IsOneLine (zone_word zone)
+zone_line : (zone : Zone) → IsOneLine (zone_name zone)
 zone_line zones.Dma = (refl, (refl, (refl, tt)))
 zone_line zones.Dma32 = (refl, (refl, (refl, (refl, (refl, tt)))))
 zone_line zones.Normal = (refl, (refl, (refl, (refl, (refl, (refl, tt))))))
 
--- texts without a newline, one after another
+-- texts without a newline are together a text without a newline
 one_line-more : (xs : List ℕ) (word ys : List ℕ) → IsOneLine xs → IsOneLine word → IsOneLine ys → IsOneLine ((xs ++ word) ++ ys)
 one_line-more xs word ys first middle last = one_line-append (xs ++ word) ys (one_line-append xs word first middle) last
 
 pub block_one : (b : BlockLineView) → b.node < 2 ^ 32 → IsBlockLine b → IsOneLine (block_words b)
 block_one b node fits =
-    one_line-more (codes "node " ++ decimal b.node ++ codes " zone " ++ zone_word b.zone ++ codes " order " ++ decimal b.order) (codes " ")
+    one_line-more (codes "node " ++ decimal b.node ++ codes " zone " ++ zone_name b.zone ++ codes " order " ++ decimal b.order) (codes " ")
     (hex_text b.at)
-    (one_line-more (codes "node " ++ decimal b.node ++ codes " zone " ++ zone_word b.zone) (codes " order ") (decimal b.order)
-    (one_line-more (codes "node " ++ decimal b.node) (codes " zone ") (zone_word b.zone)
+    (one_line-more (codes "node " ++ decimal b.node ++ codes " zone " ++ zone_name b.zone) (codes " order ") (decimal b.order)
+    (one_line-more (codes "node " ++ decimal b.node) (codes " zone ") (zone_name b.zone)
     (one_line-append (codes "node ") (decimal b.node) (refl, (refl, (refl, (refl, (refl, tt))))) (number_line b.node (omega (arith, node))))
     (refl, (refl, (refl, (refl, (refl, (refl, tt)))))) (zone_line b.zone))
     (refl, (refl, (refl, (refl, (refl, (refl, (refl, tt))))))) (number_line b.order (omega (arith, fits.0))))
     (refl, tt) (address_line b.at (omega (arith, fits.1)))
 
--- a line of the map
+-- this and the following: the line of a run of the map is read as that run
 pub apart_five : (a b c d e : List ℕ) → (((a ++ b) ++ c) ++ d) ++ e ≡ a ++ (b ++ (c ++ (d ++ e)))
 apart_five a b c d e =
     append_assoc ((a ++ b) ++ c) d e ∙ append_assoc (a ++ b) c (d ++ e) ∙ append_assoc a b (c ++ (d ++ e))
@@ -125,7 +121,7 @@ one_line-if : (test : Bool) (xs ys : List ℕ) → IsOneLine xs → IsOneLine ys
 one_line-if true xs ys first second = first
 one_line-if false xs ys first second = second
 
--- a known text has no newline if this test is true
+-- whether a text has no newline, as a test that computation decides for a known text
 abbrev is_one_line : List ℕ → Bool
 is_one_line [] = true
 is_one_line (b ∷ bs) = if b == 10 then false else is_one_line bs
@@ -159,7 +155,7 @@ map_one l some near small =
     (number_line l.kind (omega (arith, small))))
     (refl, tt) (kind_line l.kind)
 
--- a line of the owners
+-- the line of an owner is read as its range
 owner_by : (r : RangeView) (name : List ℕ) (index : ℕ) → 0 < r.size → end_of r < 2 ^ 64 → is_owner name ≡ true
     → owner_line_in index (padded_decimal 4 index ++ (codes ": " ++ (range_text r ++ (codes " " ++ name)))) ≡ Some r
 unfolding owner_line_in
@@ -189,7 +185,7 @@ owner_one r name index small some near one =
     (one_line-append (padded_decimal 4 index) (codes ": ") (index_line index small) (refl, (refl, tt))) (range_line r some near))
     (refl, tt) one
 
--- the names of owners that have a number
+-- the name of a numbered owner, followed by its number, is accepted
 pub owner_with_number_is_read : (front : List ℕ) (n : ℕ) → n < 2 ^ 32 → is_numbered front (front ++ decimal n) ≡ true
 unfolding is_numbered
 owner_with_number_is_read front n small =

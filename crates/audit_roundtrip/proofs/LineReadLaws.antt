@@ -1,4 +1,4 @@
--- Lemmas: a line that was accepted is the line of the result, and so is a whole report.
+-- Lemmas: a line that is accepted is the printed line of what was read.
 use Rattle.std.proofs.Common.{◌≡◌, ℕ, ◌-◌, ◌^◌, ◌&&◌, Bool, true, false, nat_le, nat_lt, if◌then◌else◌, List, [], ◌∷◌, ◌++◌, codes, Option, Some, None, refl, ap, ◌∙◌, sym, inl, inr, append-nil, ◌⊎◌}
 use Rattle.std.specs.Fmt.{decimal}
 use Rattle.bm_base.specs.Range.{RangeView, end_of}
@@ -7,18 +7,20 @@ use Rattle.bm_base.specs.declared.zone.Zone.{Zone}
 use Rattle.bm_base.specs.declared.zone.Zone.TheVariants as zones
 use Rattle.audit_lines.specs.Blocks.{BlockLineView, bytes_of_block}
 use Rattle.audit_lines.specs.Fields.{address_in, rest_after, is_at_end, number_in, range_at_start}
-use Rattle.audit_lines.specs.Forms.{block_in, block_if_bounded, guard, map_type_name, map_line_in, zone_in}
+use Rattle.audit_lines.specs.Forms.{block_in, block_if_bounded, map_type_name, map_line_in, zone_in}
 use Rattle.audit_lines.specs.declared.lines.MapLine.{MapLine}
 use Rattle.audit_lines.proofs.FieldLaws.{behind_is}
 use Rattle.report_memory.specs.Lines.{range_text}
-use Rattle.audit_roundtrip.proofs.FormLaws.{apart_eight, apart_five, block_words, map_words, zone_word}
+use Rattle.audit_roundtrip.proofs.FormLaws.{apart_eight, apart_five, block_words, map_words}
 use Rattle.audit_roundtrip.proofs.ReadLaws.{address_is, chain, left_of_found, number_is, range_is, value_of_found}
+use Rattle.bm_base.specs.OptionSteps.{some_if}
+use Rattle.bm_base.specs.Zones.{zone_name}
 
 none_left : (text : List ℕ) (u : Unit {0}) → is_at_end text ≡ Some u → text ≡ []
 none_left [] u is = refl
 none_left (b ∷ bs) u is = cc
 
--- a line of the map
+-- this and the following: for lines of the map
 map_parts : (l : MapLine) (range : RangeView) (kind : ℕ) (text one two three four five : List ℕ)
     → ◌≡◌ {A = MapLine} (record { range = range; kind = kind }) l
     → text ≡ range_text range ++ one → one ≡ codes " " ++ two → two ≡ decimal kind ++ three → three ≡ codes " " ++ four
@@ -35,7 +37,7 @@ map_is index text l found =
     let one = chain (range_at_start text) _ l found in
     let two = chain (rest_after (codes " ") one.0.1) _ l one.1.1 in
     let three = chain (number_in (2 ^ 32 - 1) two.0) _ l two.1.1 in
-    let four = chain (guard (nat_lt 0 three.0.0)) _ l three.1.1 in
+    let four = chain (some_if (nat_lt 0 three.0.0)) _ l three.1.1 in
     let five = chain (rest_after (codes " ") three.0.1) _ l four.1.1 in
     let six = chain (rest_after (map_type_name three.0.0) five.0) _ l five.1.1 in
     let seven = chain (is_at_end six.0) _ l six.1.1 in
@@ -48,25 +50,25 @@ map_is index text l found =
         → ◌≡◌ {A = MapLine} (record { range = range; kind = kind }) l
     line_is range kind is = cc
 
--- a line of the blocks
+-- this and the following: for lines of blocks
 has_value : {A : Type 0} (o : Option A) → (o ≡ None) ⊎ ((a : A) × (o ≡ Some a))
 has_value None = inl refl
 has_value (Some a) = inr (a, refl)
 
-zone_at : (there zone : Zone) (text left rest : List ℕ) → text ≡ zone_word there ++ left
-    → ◌≡◌ {A = Option (Zone × List ℕ)} (Some (there, left)) (Some (zone, rest)) → text ≡ zone_word zone ++ rest
+zone_at : (there zone : Zone) (text left rest : List ℕ) → text ≡ zone_name there ++ left
+    → ◌≡◌ {A = Option (Zone × List ℕ)} (Some (there, left)) (Some (zone, rest)) → text ≡ zone_name zone ++ rest
 zone_at there zone text left rest is same =
-    is ∙ ap (λ (z : Zone). zone_word z ++ left) (value_of_found there zone left rest same)
-    ∙ ap (λ (xs : List ℕ). zone_word zone ++ xs) (left_of_found there zone left rest same)
+    is ∙ ap (λ (z : Zone). zone_name z ++ left) (value_of_found there zone left rest same)
+    ∙ ap (λ (xs : List ℕ). zone_name zone ++ xs) (left_of_found there zone left rest same)
 
-zone_is : (zone : Zone) (text rest : List ℕ) → zone_in text ≡ Some (zone, rest) → text ≡ zone_word zone ++ rest
+zone_is : (zone : Zone) (text rest : List ℕ) → zone_in text ≡ Some (zone, rest) → text ≡ zone_name zone ++ rest
 unfolding zone_in
 zone_is zone text rest found =
-    elim (has_value (rest_after (codes "DMA32") text)) as (λ _. text ≡ zone_word zone ++ rest) [
+    elim (has_value (rest_after (codes "DMA32") text)) as (λ _. text ≡ zone_name zone ++ rest) [
       | inr one ↦ zone_at zones.Dma32 zone text one.0 rest (behind_is (codes "DMA32") text one.0 one.1) (rw (one.1) at found)
-      | inl none ↦ elim (has_value (rest_after (codes "DMA") text)) as (λ _. text ≡ zone_word zone ++ rest) [
+      | inl none ↦ elim (has_value (rest_after (codes "DMA") text)) as (λ _. text ≡ zone_name zone ++ rest) [
         | inr two ↦ zone_at zones.Dma zone text two.0 rest (behind_is (codes "DMA") text two.0 two.1) (rw (none, two.1) at found)
-        | inl neither ↦ elim (has_value (rest_after (codes "Normal") text)) as (λ _. text ≡ zone_word zone ++ rest) [
+        | inl neither ↦ elim (has_value (rest_after (codes "Normal") text)) as (λ _. text ≡ zone_name zone ++ rest) [
           | inr three ↦
               zone_at zones.Normal zone text three.0 rest (behind_is (codes "Normal") text three.0 three.1)
               (rw (none, neither, three.1) at found)
@@ -77,14 +79,14 @@ zone_is zone text rest found =
 
 block_parts : (b : BlockLineView) (text one two three four five six seven eight : List ℕ) → text ≡ codes "node " ++ one
     → one ≡ decimal b.node ++ two
-    → two ≡ codes " zone " ++ three → three ≡ zone_word b.zone ++ four → four ≡ codes " order " ++ five → five ≡ decimal b.order ++ six
+    → two ≡ codes " zone " ++ three → three ≡ zone_name b.zone ++ four → four ≡ codes " order " ++ five → five ≡ decimal b.order ++ six
     → six ≡ codes " " ++ seven → seven ≡ hex_text b.at ++ eight → eight ≡ [] → text ≡ block_words b
 block_parts b text one two three four five six seven eight a c d e f g h i j =
     a ∙ ap (λ (xs : List ℕ). codes "node " ++ xs) (c ∙ ap (λ (xs : List ℕ). decimal b.node ++ xs) (d
-    ∙ ap (λ (xs : List ℕ). codes " zone " ++ xs) (e ∙ ap (λ (xs : List ℕ). zone_word b.zone ++ xs) (f
+    ∙ ap (λ (xs : List ℕ). codes " zone " ++ xs) (e ∙ ap (λ (xs : List ℕ). zone_name b.zone ++ xs) (f
     ∙ ap (λ (xs : List ℕ). codes " order " ++ xs) (g ∙ ap (λ (xs : List ℕ). decimal b.order ++ xs) (h
     ∙ ap (λ (xs : List ℕ). codes " " ++ xs) (i ∙ ap (λ (xs : List ℕ). hex_text b.at ++ xs) j ∙ append-nil (hex_text b.at))))))))
-    ∙ sym (apart_eight (codes "node ") (decimal b.node) (codes " zone ") (zone_word b.zone) (codes " order ") (decimal b.order) (codes " ")
+    ∙ sym (apart_eight (codes "node ") (decimal b.node) (codes " zone ") (zone_name b.zone) (codes " order ") (decimal b.order) (codes " ")
     (hex_text b.at))
 
 bounded_is : (c b : BlockLineView) → block_if_bounded c ≡ Some b → c ≡ b

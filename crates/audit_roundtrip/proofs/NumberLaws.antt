@@ -1,4 +1,4 @@
--- Lemmas: numbers, addresses and ranges that are written are read.
+-- Lemmas: printed numbers, addresses and ranges are read back.
 use Rattle.std.proofs.Common.{◌≡◌, ℕ, zero, suc, ◌+◌, ◌-◌, ◌/◌, ◌%◌, ◌^◌, ◌<◌, ◌≤◌, ◌==◌, Bool, true, false, nat_le, nat_lt, if◌then◌else◌, List, [], ◌∷◌, ◌++◌, length, take, drop, replicate, codes, get_or, Some, Result, Ok, Err, refl, ap, ◌∙◌, inl, inr, arith, append_assoc, append-nil}
 use Rattle.std.specs.List.{list_all}
 use Rattle.std.specs.Char.{digit_value, is_digit}
@@ -21,7 +21,7 @@ use Rattle.report_memory.specs.Lines.{range_text}
 use Rattle.audit_roundtrip.proofs.SplitLaws.{IsOneLine, one_line-append}
 use Rattle.report_stages.proofs.BatchLaws.{hex_length}
 
--- a lower-case hexadecimal digit
+-- the byte is a lower-case hexadecimal digit
 abbrev pub IsGlyph : ℕ → Type 0
 IsGlyph c = (is_lower_hex c ≡ true) × ((is_digit c 16 ≡ true) × ((c == 10) ≡ false))
 
@@ -77,7 +77,7 @@ digits_number n small =
     zeros_value (16 - length (hex_digits n)) (hex_digits n)
     ∙ (digits_is_IsNumeral 16 false (omega arith) (omega arith) n (omega arith)).1
 
--- digits after `0x` are read as the number that they spell
+-- the text `0x` followed by hexadecimal digits is read as the number that they spell
 pub hex_number : (ds : List ℕ) → AreGlyphs ds → 0 < length ds → number_of (48 ∷ 120 ∷ ds) ≡ fit_in_u64 (digits_value 16 ds) (2 + length ds)
 hex_number [] glyphs some = absurd (omega arith)
 hex_number (d ∷ ds) glyphs some =
@@ -109,7 +109,7 @@ drop_front [] rest (suc n) is = absurd (omega (arith, is))
 drop_front (f ∷ fs) rest zero is = absurd (omega (arith, is))
 drop_front (f ∷ fs) rest (suc n) is = drop_front fs rest n (omega (arith, is))
 
--- an address
+-- a printed address is read back
 pub address_read : (n : ℕ) (rest : List ℕ) → n < 2 ^ 64 → address_in (hex_text n ++ rest) ≡ Some (n, rest)
 unfolding address_in
 address_read n rest small =
@@ -123,7 +123,7 @@ address_read n rest small =
     hex_read (address_digits n) n (digits_glyphs n small) (omega arith) (digits_number n small) small in
     rw (front, left, is, read) refl
 
--- the text is empty, or doesn't begin with a digit or letter
+-- the text can't continue a number: it is empty, or doesn't begin with a digit or letter
 abbrev pub EndsNumber : List ℕ → Type 0
 EndsNumber [] = Unit {0}
 EndsNumber (mark ∷ rest) = is_digit mark 36 ≡ false
@@ -160,7 +160,7 @@ by_number : (zero_first : Bool) (text : List ℕ) (found : Result (ℕ × ℕ) N
 by_number zero_first text found m taken {most} other is small left =
     let fits : nat_le m most ≡ true = grind (arith, nat_tests, small) in rw (other, is, fits, left) refl
 
--- a decimal number
+-- a printed decimal number is read back
 pub number_read : (most n : ℕ) (rest : List ℕ) → n ≤ most → most < 2 ^ 64 → EndsNumber rest
     → number_in most (decimal n ++ rest) ≡ Some (n, rest)
 unfolding number_in
@@ -181,7 +181,7 @@ number_read most (suc n) rest small most_small ends =
         by_number (begins_with_zero ((d ∷ ds) ++ rest)) ((d ∷ ds) ++ rest) (number_of ((d ∷ ds) ++ rest)) m (length (d ∷ ds)) other read
         small (drop_front (d ∷ ds) rest (length (d ∷ ds)) refl)
 
--- a range that isn't empty and ends below 2^64
+-- a printed range is read back, if it isn't empty and ends below 2^64
 range_by : (first last : ℕ) (rest : List ℕ) → first ≤ last → last < 2 ^ 64 - 1
     → range_at_start (hex_text first ++ (codes ".." ++ (hex_text last ++ rest)))
     ≡ Some (record { base = first; size = last + 1 - first }, rest)
@@ -205,7 +205,7 @@ range_read r rest some small =
     ap range_at_start parts ∙ range_by r.base (end_of r - 1) rest (omega (arith, some)) (omega (arith, some, small))
     ∙ ap (λ (n : ℕ). Some (record { base = r.base; size = n }, rest)) size
 
--- none of these texts has a newline
+-- this and the following: these texts have no newline
 glyphs_line : (ds : List ℕ) → AreGlyphs ds → IsOneLine ds
 glyphs_line [] glyphs = tt
 glyphs_line (d ∷ ds) glyphs = (glyphs.0.1.1, glyphs_line ds glyphs.1)

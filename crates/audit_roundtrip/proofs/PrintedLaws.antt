@@ -1,4 +1,4 @@
--- Lemmas: what was read would be printed as the same text.
+-- Lemmas: what was read from a text is printed as the same text.
 use Rattle.std.proofs.Common.{◌≡◌, ℕ, ◌*◌, ◌/◌, List, ◌++◌, ◌∷◌, [], map, Ok, refl, arith}
 use Rattle.std.specs.List.{All}
 use Rattle.audit_lines.specs.Blocks.{BlockLineView, bytes_of_block}
@@ -12,7 +12,7 @@ use Rattle.audit_roundtrip.specs.PrintedLines.{BeginsAtFrame, block_of_line, run
 use Rattle.audit_roundtrip.proofs.FormLaws.{block_words, map_words}
 use Rattle.audit_roundtrip.proofs.LineReadLaws.{block_is, map_is}
 use Rattle.audit_roundtrip.proofs.ReportReadLaws.{report_is}
-use Rattle.audit_roundtrip.proofs.ToldLaws.{same_name, same_zone}
+use Rattle.audit_roundtrip.proofs.ToldLaws.{same_name}
 
 map_lined : (n : ℕ) (l : MapLine) → Unit {0} → map_line n (run_of_line l) ≡ map_words l ++ (10 ∷ [])
 map_lined n l any = rw (same_name l.kind) refl
@@ -24,7 +24,7 @@ map_printed bytes lines is =
 
 block_lined : (n : ℕ) (b : BlockLineView) → BeginsAtFrame b → block_line n (block_of_line b) ≡ block_words b ++ (10 ∷ [])
 block_lined n b at_frame =
-    let at : 4096 * (b.at / 4096) ≡ b.at = omega (arith, at_frame) in rw (same_zone b.zone, at) refl
+    let at : 4096 * (b.at / 4096) ≡ b.at = omega (arith, at_frame) in rw at refl
 
 pub blocks_printed : (bytes : List ℕ) (blocks : List BlockLineView) → report_of block_in bytes_of_block bytes ≡ Ok blocks
     → All BeginsAtFrame blocks → bytes ≡ indexed_lines block_line 0 (map block_of_line blocks)

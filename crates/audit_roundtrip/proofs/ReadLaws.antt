@@ -1,4 +1,5 @@
--- Lemmas: a number, an address, a range or a line that was read from a text is in it.
+-- Lemmas: if a number, an address, a range or a line was read at the start of a text, the text
+-- begins with its printed form.
 use Rattle.std.proofs.Common.{◌≡◌, ℕ, suc, ◌+◌, ◌-◌, ◌*◌, ◌/◌, ◌%◌, ◌^◌, ◌<◌, ◌≤◌, ◌==◌, ◌&&◌, Bool, true, false, nat_le, nat_lt, if◌then◌else◌, List, [], ◌∷◌, ◌++◌, length, take, drop, codes, Option, Some, None, Result, Ok, Err, refl, sym, ap, ◌∙◌, inl, inr, arith, append_assoc, append-nil, take-append-drop}
 use Rattle.std.specs.List.{list_all}
 use Rattle.std.specs.Char.{digit_value, is_digit}
@@ -44,7 +45,7 @@ front_all (b ∷ bs) = by_test (is_digit b 10) refl (front_all bs)
 own : IsNumeralModel (AllDigits 10) (digits_value 10)
 own = record { to = λ ds all. all; from = λ ds all. all; same = λ ds all. refl }
 
--- digits that don't begin with `0` are the text of their value
+-- decimal digits that don't begin with `0` are the printed form of their value
 digits_text : (d : ℕ) (ds : List ℕ) → AllDigits 10 (d ∷ ds) → d == 48 ≡ false → digits_value 10 (d ∷ ds) < 2 ^ 64
     → decimal (digits_value 10 (d ∷ ds)) ≡ d ∷ ds
 digits_text d ds all other small =
@@ -53,14 +54,14 @@ digits_text d ds all other small =
     never : d ≡ 48 → ⊥
     never is = let same : d == 48 ≡ true = (Decides-eqb d 48).1 is in cc
 
--- the value and the rest that a reader gives
+-- this and the next: equal results of a reader have the same value, and the same rest of the text
 pub value_of_found : {A : Type 0} (a b : A) (xs ys : List ℕ) → ◌≡◌ {A = Option (A × List ℕ)} (Some (a, xs)) (Some (b, ys)) → a ≡ b
 value_of_found a b xs ys is = let both : ◌≡◌ {A = _ × List ℕ} (a, xs) (b, ys) = cc in ap (λ p. p.0) both
 
 pub left_of_found : {A : Type 0} (a b : A) (xs ys : List ℕ) → ◌≡◌ {A = Option (A × List ℕ)} (Some (a, xs)) (Some (b, ys)) → xs ≡ ys
 left_of_found a b xs ys is = let both : ◌≡◌ {A = _ × List ℕ} (a, xs) (b, ys) = cc in ap (λ p. p.1) both
 
--- the number that was found is the one at the start of the text
+-- the number that was found is the one whose digits begin the text
 found_is : (text rest : List ℕ) (most n : ℕ) (front : List ℕ) → front ≡ front_digits 10 text
     → (nat_lt (digits_value 10 front) (2 ^ 64) ≡ true → decimal (digits_value 10 front) ≡ front)
     → number_at_most most text (fit_in_u64 (digits_value 10 front) (length front)) ≡ Some (n, rest) → text ≡ decimal n ++ rest
@@ -122,7 +123,7 @@ number_is most n (b ∷ bs) rest found =
         spelled (begins_with_digit (b ∷ bs)) (radix_of (b ∷ bs)) (prefix_of (b ∷ bs)) refl is (rw (is_hexadecimal-other b bs is, is) refl)
         (rw (is_hexadecimal-other b bs is) refl) found
 
--- sixteen digits are the text of the number that they spell
+-- this and the following: sixteen digits are the printed form of the number that they spell
 glyph_of : (c : ℕ) → is_lower_hex c ≡ true → (digit_glyph false (digit_value c) ≡ c) × (digit_value c < 16)
 glyph_of c lower =
     elim (cases_lt c 58) as (λ _. (digit_glyph false (digit_value c) ≡ c) × (digit_value c < 16)) [
@@ -209,7 +210,7 @@ address_is n text rest found = by_front (rest_after (codes "0x") (take 18 text))
     by_front None is found = cc
     by_front (Some ds) is found = by_digits ds is ((length ds == 16) && list_all is_lower_hex ds) refl found
 
--- if two steps in a row give a value, the first one does
+-- if a sequence of two steps returns a value, its first step did
 pub chain : {A B : Type 0} (first : Option A) (next : A → Option B) (b : B) → (first >>= next) ≡ Some b
     → (a : A) × ((first ≡ Some a) × (next a ≡ Some b))
 chain None next b is = cc

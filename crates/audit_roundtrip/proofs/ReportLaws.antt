@@ -1,4 +1,4 @@
--- Lemmas: a report is read if its lines are read one by one.
+-- Lemmas: if each line of a report is read back, the report is.
 use Rattle.std.proofs.Common.{◌≡◌, ℕ, ◌+◌, ◌^◌, ◌<◌, ◌≤◌, nat_lt, false, List, [], ◌∷◌, ◌++◌, length, map, Option, Some, Ok, refl, ap, ◌∙◌, arith, append_assoc}
 use Rattle.std.proofs.lemmas.Bool.Decides.{nat_tests}
 use Rattle.bm_base.specs.Range.{RangeView, end_of}
@@ -8,7 +8,8 @@ use Rattle.report_memory.specs.Lines.{indexed_lines}
 use Rattle.audit_roundtrip.proofs.SplitLaws.{IsOneLine, split_first}
 
 module _ {L X : Type 0} (form : ℕ → List ℕ → Option L) (extent : L → RangeView) (line text : ℕ → X → List ℕ) (seen : X → L) where
-  -- at each index, the line is one line of text and its newline, and is read as this value
+  -- at each index, the printed line of `x` is one line of text with its newline, and is read back
+  -- as the line of `x`
   pub record IsReadBack (x : X) : Type 0 where
     pub ended : (n : ℕ) → line n x ≡ text n x ++ (10 ∷ [])
     pub one : (n : ℕ) → n < 2 ^ 64 → IsOneLine (text n x)

@@ -1,4 +1,4 @@
--- Lemmas: a report that was accepted is the text of its lines.
+-- Lemmas: a report that is accepted is the printed text of its lines.
 use Rattle.std.proofs.Common.{◌≡◌, ℕ, ◌+◌, ◌==◌, nat_lt, Bool, true, false, if◌then◌else◌, List, [], ◌∷◌, ◌++◌, map, Option, Some, None, Result, Ok, Err, refl, ap, ◌∙◌, sym, inl, inr, append_assoc}
 use Rattle.std.specs.List.{All}
 use Rattle.std.proofs.lemmas.Bool.{cases_Bool}
@@ -11,7 +11,7 @@ use Rattle.audit_lines.specs.declared.report.LineFault.{LineFault}
 use Rattle.audit_lines.specs.declared.report.LineFault.TheVariants as faults
 use Rattle.report_memory.specs.Lines.{indexed_lines}
 
--- the text that is split into these lines
+-- the text with these lines, each followed by a newline, and then these bytes
 abbrev joined_by : List (List ℕ) → List ℕ → List ℕ
 joined_by [] left = left
 joined_by (t ∷ ts) left = t ++ (10 ∷ joined_by ts left)

@@ -20,10 +20,10 @@ use Rattle.report_memory.specs.Lines.{indexed_lines}
 use Rattle.report_memory.specs.MapText.{e820_type_name, map_line, map_text}
 use Rattle.report_memory.specs.OwnersText.{owner_line, owner_text, owners_text}
 use Rattle.report_stages.specs.BlocksText.{block_line}
-use Rattle.report_stages.specs.ZonesText.{zone_name}
-use Rattle.audit_roundtrip.proofs.FormLaws.{block_one, block_read, block_words, map_one, map_owner, map_read, map_words, named_line, node_owner, numbered_line, owner_one, owner_read, owner_words, root_owner, script_owner, usage_owner, zone_word}
+use Rattle.audit_roundtrip.proofs.FormLaws.{block_one, block_read, block_words, map_one, map_owner, map_read, map_words, named_line, node_owner, numbered_line, owner_one, owner_read, owner_words, root_owner, script_owner, usage_owner}
 use Rattle.audit_roundtrip.proofs.ReportLaws.{AreReadBack, IsReadBack, lines_read}
 use Rattle.audit_roundtrip.proofs.SplitLaws.{IsOneLine}
+use Rattle.bm_base.specs.Zones.{zone_name}
 
 module _ {L X : Type 0} (form : ℕ → List ℕ → Option L) (extent : L → RangeView) (line text : ℕ → X → List ℕ) (seen : X → L) (P : X → Type 0)
     (each : (x : X) → P x → IsReadBack form extent line text seen x) where
@@ -31,7 +31,7 @@ module _ {L X : Type 0} (form : ℕ → List ℕ → Option L) (extent : L → R
   all_back [] all = tt
   all_back (x ∷ xs) all = (each x (All-head P x xs all), all_back xs (All-tail P x xs all))
 
--- both crates have the same names for types
+-- the audit and the report `map` have the same names for types
 pub same_name : (kind : ℕ) → map_type_name kind ≡ e820_type_name kind
 unfolding map_type_name
 same_name kind = refl
@@ -87,20 +87,15 @@ owner_back r told = record {
   read = λ n. owner_read (range_of_run r) (owner_text r.value) n told.0.0 told.0.1 (name_known r.value told.1);
 }
 
-pub same_zone : (zone : Zone) → zone_word zone ≡ zone_name zone
-same_zone zones.Dma = refl
-same_zone zones.Dma32 = refl
-same_zone zones.Normal = refl
-
 block_back : (b : Block) → IsPrintableBlock b
     → IsReadBack block_in bytes_of_block block_line (λ n x. block_words (line_of_block x)) line_of_block b
 block_back b told = record {
-  ended = λ n. rw (same_zone b.zone) refl;
+  ended = λ n. refl;
   one = λ n small. block_one (line_of_block b) told.0 told.1;
   read = λ n. block_read (line_of_block b) n told.0 told.1;
 }
 
--- addresses begin at 0
+-- every address is at or above 0, so the ranges start from 0
 from_first : (rs : List RangeView) → StartFrom 0 rs
 from_first [] = tt
 from_first (r ∷ rs) = omega arith

@@ -1,5 +1,5 @@
--- The lines of the three reports that runs and blocks are read back as, and the conditions for
--- that.
+-- The lines that runs and blocks are read back as, and what must be true of a run, an owner or a
+-- block that can be printed as a line.
 use Rattle.std.specs.Prelude.{◌≡◌, ℕ, ◌/◌, ◌%◌, ◌<◌, ◌^◌}
 use Rattle.address_runs.specs.Runs.{RunOf, range_of_run}
 use Rattle.bm_base.specs.Range.{end_of}
@@ -15,15 +15,15 @@ use Rattle.memblock_model.specs.declared.owner.Owner.TheVariants as owners
 abbrev pub line_of_run : RunOf ℕ → MapLine
 line_of_run r = record { range = range_of_run r; kind = r.value }
 
--- the run isn't empty, and ends below 2^64
+-- the range of the run isn't empty, and ends below 2^64
 abbrev pub IsPrintableRange : {V : Type 0} → RunOf V → Type 0
 IsPrintableRange r = (0 < r.size) × (end_of (range_of_run r) < 2 ^ 64)
 
--- its type also has 32 bits and is above 0
+-- the run isn't empty and ends below 2^64, and its type is above 0 and fits in 32 bits
 abbrev pub IsPrintableRun : RunOf ℕ → Type 0
 IsPrintableRun r = IsPrintableRange r × ((0 < r.value) × (r.value < 2 ^ 32))
 
--- the number of an owner that has one has 32 bits
+-- the number of a numbered owner fits in 32 bits
 abbrev pub IsPrintableOwner : Owner → Type 0
 IsPrintableOwner (owners.NodeData n) = n < 2 ^ 32
 IsPrintableOwner (owners.Root n) = n < 2 ^ 32
@@ -39,17 +39,18 @@ IsPrintableOwnerRun r = IsPrintableRange r × IsPrintableOwner r.value
 abbrev pub line_of_block : Block → BlockLineView
 line_of_block b = record { node = b.node; zone = b.zone; order = b.order; at = (bytes_of_frame b.first).base }
 
--- the block has a node of 32 bits and an order up to 10, and ends at or below 2^52
+-- the node of the block fits in 32 bits, its order is at most 10, and it ends at or below 2^52
 abbrev pub IsPrintableBlock : Block → Type 0
 IsPrintableBlock b = (b.node < 2 ^ 32) × IsBlockLine (line_of_block b)
 
--- in the other direction: the run and the block of a line
+-- `run_of_line` is the run that a line of `map` states, and `block_of_line` the block that a
+-- line of `blocks` states
 abbrev pub run_of_line : MapLine → RunOf ℕ
 run_of_line l = record { base = l.range.base; size = l.range.size; value = l.kind }
 
 abbrev pub block_of_line : BlockLineView → Block
 block_of_line b = record { node = b.node; zone = b.zone; order = b.order; first = b.at / FRAME_SIZE }
 
--- the block begins at a frame
+-- the address of the block is a multiple of the frame size
 abbrev pub BeginsAtFrame : BlockLineView → Type 0
 BeginsAtFrame b = b.at % FRAME_SIZE ≡ 0

@@ -1,5 +1,6 @@
-//! The laws: each of the three reports is read as what it was printed from. Two of them are also
-//! accepted only in the text that would be printed.
+//! Laws: each of the three reports is read back as what it was printed from. In the other
+//! direction, a text that is accepted as lines of `map`, or as lines of `blocks` whose blocks
+//! begin at frames, is the text that is printed for these lines.
 
 ghost use Rattle.std.specs.Prelude.{◌≡◌, ◌<◌, ◌^◌, ℕ, List, Ok, length, map};
 ghost use Rattle.std.specs.List.{All};
@@ -17,8 +18,8 @@ ghost use Rattle.report_memory.specs.MapText.{map_text};
 ghost use Rattle.report_memory.specs.OwnersText.{owners_text};
 ghost use Rattle.report_stages.specs.BlocksText.{block_line};
 
-/// Law: the text of a map is read as its runs, each with its type. The runs must be ascending and
-/// disjoint, not empty, end below 2^64, and have types above 0. There must be fewer than 2^64
+/// Law: the text of a map is read as the map's runs, each with its type. The runs must be ascending
+/// and disjoint, not empty, end below 2^64, and have types above 0. There must be fewer than 2^64
 /// runs.
 pub fn map_is_read_back()
     ensures { (runs : List (RunOf ℕ)) → length runs < 2 ^ 64 → All IsPrintableRun runs
@@ -43,15 +44,16 @@ pub fn blocks_are_read_back()
         ≡ Ok (map line_of_block blocks) }
 {}
 
-/// Law: bytes that are read as a map are exactly the text of that map.
+/// Law: if bytes are accepted as lines of `map`, they are exactly the text of the runs that the
+/// lines state.
 pub fn read_map_is_printed()
     ensures { (bytes : List ℕ) (lines : List MapLine)
         → report_of map_line_in (λ l. l.range) bytes ≡ Ok lines
         → bytes ≡ map_text (map run_of_line lines) }
 {}
 
-/// Law: bytes that are read as blocks, each of which begins at a frame, are exactly the lines of
-/// these blocks.
+/// Law: if bytes are accepted as lines of `blocks`, and each block begins at a frame, they are
+/// exactly the text of these blocks.
 pub fn read_blocks_are_printed()
     ensures { (bytes : List ℕ) (blocks : List BlockLineView)
         → report_of block_in bytes_of_block bytes ≡ Ok blocks

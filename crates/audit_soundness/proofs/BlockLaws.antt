@@ -1,4 +1,4 @@
--- What the line of a block says, if the block is whole and maximal.
+-- A block that is whole and maximal has a line that passes the audit.
 use Rattle.std.proofs.Common.{◌≡◌, ℕ, ◌+◌, ◌-◌, ◌*◌, ◌/◌, ◌%◌, ◌^◌, ◌<◌, ◌≤◌, ◌==◌, Bool, true, false, ◌&&◌, ◌||◌, nat_lt, List, [], ◌∷◌, map, Some, refl, sym, ◌∙◌, ap, subst, inl, inr, arith}
 use Rattle.std.specs.List.{All}
 use Rattle.std.proofs.Math.Nat.{mul_assoc, div-add-mod, mul-mod_right}
@@ -27,7 +27,8 @@ zone_same zones.Dma = refl
 zone_same zones.Dma32 = refl
 zone_same zones.Normal = refl
 
--- if a frame's number is a multiple of s, its address is one of s frames
+-- this and the next: if a frame's number is a multiple of s, its address is a multiple of the size
+-- of s frames, so an aligned block has an aligned line
 by_frames : (n s : ℕ) → n % s ≡ 0 → (4096 * n) % (4096 * s) ≡ 0
 by_frames n s whole =
     let parts : s * (n / s) + n % s ≡ n = div-add-mod n s in
@@ -38,7 +39,7 @@ by_frames n s whole =
 pub aligned_told : (b : Block) → b.first % 2 ^ b.order ≡ 0 → is_aligned (line_of_block b) ≡ true
 aligned_told b whole = eq-eqb ((4096 * b.first) % (4096 * 2 ^ b.order)) 0 (by_frames b.first (2 ^ b.order) whole)
 
--- a block of the list that has the frame, and has the node and zone of `b`
+-- the list has a block with the frame, of the same node and zone as `b`
 record HasKin (b : Block) (bs : List Block) (frame : ℕ) : Type 0 where
   pub block : Block
   pub listed : ListsBlock bs block
@@ -73,7 +74,7 @@ kin_found b (c ∷ cs) frame found =
 
 module _ (given : InputsView) (items : List Item) (bs : List Block) (whole : (b : Block) → ListsBlock bs b → IsWhole given items b)
     (maximal : (b : Block) → ListsBlock bs b → IsMaximal given items b) where
-  -- a frame in such a block is free for block `b`
+  -- a frame of a block with the node and zone of `b` is free for `b`
   kin_free : (b : Block) (frame : ℕ) → HasKin b bs frame → IsFreeFor given items b frame
   kin_free b frame kin =
       let free : IsFreeFor given items kin.block frame = (whole kin.block kin.listed).frames frame kin.inside in
@@ -92,7 +93,7 @@ module _ (given : InputsView) (items : List Item) (bs : List Block) (whole : (b 
       both_tests b.first frame (b.first + 2 ^ b.order) (omega (arith, above)) (omega (arith, below)) in
       ap (λ (z : Zone). same_zone z b.zone) ((whole b listed).frames frame inside).zone ∙ zone_same b.zone)
 
-  -- the frames of the block and its buddy are those of the parent
+  -- the frames of the parent are those of the block and its buddy
   parent_frame : (b : Block) (frame : ℕ) → has_frame (block_with_buddy b) frame ≡ true
       → ((parent_of (line_of_block b)).base ≤ frame) × (frame < (parent_of (line_of_block b)).base + 2 ^ (b.order + 1))
   parent_frame b frame inside =

@@ -1,4 +1,4 @@
--- The boot can be printed as lines if its runs are as the program's types ensure.
+-- A boot is printable if its runs are within the bounds that the program's types ensure.
 use Rattle.std.proofs.Common.{◌≡◌, ℕ, ◌+◌, ◌^◌, ◌<◌, Some, List, [], ◌∷◌, drop, get_or, length, Ok, refl, sym, ◌∙◌, ap, subst, inl, inr, arith}
 use Rattle.std.specs.List.{All}
 use Rattle.std.proofs.lemmas.Bool.{cases_lt}
@@ -8,9 +8,9 @@ use Rattle.address_runs.specs.Edits.{IsEmptyFrom}
 use Rattle.address_runs.specs.Runs.{AreRuns, IsRunsOf, RunOf, run_end, value_at}
 use Rattle.address_runs.proofs.RunsLaws.{behind, inside, none_below, rest_from}
 use Rattle.audit_roundtrip.specs.PrintedLines.{IsPrintableOwnerRun, IsPrintableRun}
-use Rattle.boot_model.specs.Boot.{InputsView, BootedView, claims, whole_boot}
+use Rattle.boot_model.specs.Boot.{InputsView, BootedView, claims, whole_boot, no_extra}
 use Rattle.boot_model.proofs.BootLaws.{goes_on, map_between}
-use Rattle.conservation.proofs.ToldLaws.{IsReportOfBoot, is_told_of}
+use Rattle.conservation.proofs.ToldLaws.{IsReportOfBoot, is_told_of, own_told}
 use Rattle.e820_model.specs.Map.{map_of}
 use Rattle.e820_model.proofs.ClaimLaws.{kind_small}
 use Rattle.memblock_model.specs.Items.{owner_of, owner_runs_of}
@@ -18,20 +18,20 @@ use Rattle.memblock_model.specs.declared.owner.Owner.{Owner}
 use Rattle.audit_soundness.specs.PrintableBoots.{IsPrintableBoot, RunEndsInSpace, IsBoundedOwnerRun}
 use Rattle.audit_soundness.proofs.SavedLaws.{map_runs}
 
--- one more element before those that remain
+-- if the remaining elements satisfy `P` and the one before them does too, all these do
 pub one_more : {X : Type 0} (P : X → Type 0) (xs : List X) (i : ℕ) (x d : X) → i < length xs → x ≡ get_or xs i d → P x
     → All P (drop (i + 1) xs) → All P (drop i xs)
 one_more {X} P xs i x d few is here rest =
     subst (λ (ys : List X). All P ys) (sym (drop_more xs i d few)) (All-cons P (get_or xs i d) (drop (i + 1) xs) (subst P is here) rest)
 
--- runs that end below 2^64 have no value from there on
+-- runs that end below 2^64 give no value to an address from 2^64 on
 nothing_past : {X : Type 0} (rs : List (RunOf X)) → All RunEndsInSpace rs → IsEmptyFrom (2 ^ 64) (value_at rs)
 nothing_past [] near x far = refl
 nothing_past (r ∷ rs) near x far =
     let end : r.base + r.size < 2 ^ 64 = All-head RunEndsInSpace r rs near in
     rw (behind r x (omega (arith, end, far))) (nothing_past rs (All-tail RunEndsInSpace r rs near) x far)
 
--- runs of types that end below 2^64 can be printed as lines
+-- runs of the map are printable if they end below 2^64 and have types above 0 of 32 bits
 runs_told : (rs : List (RunOf ℕ)) → AreRuns rs → ((x k : ℕ) → value_at rs x ≡ Some k → (0 < k) × (k < 2 ^ 32)) → All RunEndsInSpace rs
     → All IsPrintableRun rs
 runs_told [] runs types near = All-nil IsPrintableRun
@@ -57,8 +57,8 @@ owners_told (r ∷ rs) runs near =
 module _ (given : InputsView) (told : BootedView) (ends : whole_boot given ≡ Ok told) where
   map_types : (x k : ℕ) → value_at told.map x ≡ Some k → (0 < k) × (k < 2 ^ 32)
   map_types x k found =
-      let of : IsReportOfBoot given told = is_told_of given told ends in
-      let is : told.map ≡ map_of (claims given) = ap (λ (t : BootedView). t.map) (sym of.tells) ∙ (goes_on given of.made of.boots).map in
+      let of : IsReportOfBoot no_extra given told = is_told_of no_extra given told (own_told told given ends) in
+      let is : told.map ≡ map_of (claims given) = ap (λ (t : BootedView). t.map) (sym of.tells) ∙ (goes_on no_extra given of.made of.boots).map in
       let given_so : value_at (map_of (claims given)) x ≡ Some k = ap (λ (rs : List (RunOf ℕ)). value_at rs x) (sym is) ∙ found in
       elim (cases_lt x (2 ^ 64)) as (λ _. (0 < k) × (k < 2 ^ 32)) [
         | inl low ↦

@@ -1,4 +1,5 @@
--- What lines say about a frame, and what their runs and blocks say about it.
+-- What lines say of a frame, compared with what the runs and blocks say from which they were
+-- printed.
 use Rattle.std.proofs.Common.{◌≡◌, ℕ, ◌+◌, ◌*◌, ◌/◌, ◌^◌, ◌≤◌, ◌<◌, ◌==◌, Bool, true, false, ◌&&◌, ◌||◌, not, nat_lt, is_some, cond, List, [], ◌∷◌, map, refl, sym, ◌∙◌, ap, inl, inr, arith}
 use Rattle.std.proofs.Math.Bool.{and_comm}
 use Rattle.std.proofs.lemmas.Bool.{and_from, and_parts, cases_Bool}
@@ -24,14 +25,14 @@ use Rattle.boot_audit.specs.Frames.{frames_of_block, is_in_memory, has_owner, is
 abbrev or_of : Bool → Bool → Bool
 or_of a b = a || b
 
--- a byte is in memory by the lines exactly if it is by the runs
+-- a byte is in memory by the lines exactly if it is in memory by the runs
 memory_told : (runs : List (RunOf ℕ)) (x : ℕ) → is_in_memory (map line_of_run runs) x ≡ lies_in_memory runs x
 memory_told [] x = refl
 memory_told (r ∷ rs) x =
     ap (λ (b : Bool). or_of b (is_in_memory (map line_of_run rs) x)) (and_comm (r.value == 1 || r.value == 128) (lies_in r x))
     ∙ ap (or_of (lies_in r x && (r.value == 1 || r.value == 128))) (memory_told rs x)
 
--- so a frame is usable by the lines exactly if it is by the runs
+-- a frame is usable by the lines exactly if it is usable by the runs
 pub told_usable : (limit : ℕ) (runs : List (RunOf ℕ)) (frame : ℕ) → is_usable limit (map line_of_run runs) frame ≡ true
     → IsUsableByMap limit runs frame
 unfolding is_usable
@@ -69,7 +70,7 @@ module _ (items : List Item) (rs : List (RunOf Owner)) (runs : IsRunsOf (owner_o
   owned_by : (x : ℕ) → has_owner (map range_of_run rs) x ≡ is_some (owner_of items x)
   owned_by x = owned_told rs x ∙ ap is_some (runs.each x)
 
-  -- so a frame is untouched by the lines exactly if it is by the runs
+  -- a frame is untouched by the lines exactly if it is untouched by the runs
   pub untouched_told : (frame : ℕ) → IsUntouched items frame → is_untouched (map range_of_run rs) frame ≡ true
   unfolding is_untouched
   untouched_told frame bare =
@@ -83,7 +84,7 @@ module _ (items : List Item) (rs : List (RunOf Owner)) (runs : IsRunsOf (owner_o
       each_in-fails (bytes_of_frame frame) (λ x. not (has_owner (map range_of_run rs) x)) touched.byte ends.0 ends.1
       (ap not (owned_by touched.byte ∙ ap is_some touched.owned))
 
--- the line of a block has a frame exactly if the block has it
+-- this and the next: the line of a block has a frame exactly if the block has it
 at_first : (first : ℕ) → (4096 * first) / 4096 ≡ first
 at_first first = omega arith
 
@@ -93,7 +94,7 @@ frames_told b = ap (λ (n : ℕ). let e : RangeView = record { base = n; size = 
 pub frame_told : (b : Block) (frame : ℕ) → covers (frames_of_block (line_of_block b)) frame ≡ has_frame b frame
 frame_told b frame = ap (λ (e : RangeView). covers e frame) (frames_told b)
 
--- so the numbers of blocks that have it are equal
+-- as many lines as blocks have the frame
 pub counted_told : (bs : List Block) (frame : ℕ) → count_blocks_of_frame (map line_of_block bs) frame ≡ count_blocks_with bs frame
 counted_told [] frame = refl
 counted_told (b ∷ bs) frame =

@@ -1,4 +1,4 @@
--- The lines of a boot are ascending and disjoint, and there are fewer than 2^64.
+-- The lines of a boot are ascending and disjoint, and there are fewer than 2^64 of them.
 use Rattle.std.proofs.Common.{◌≡◌, ℕ, ◌+◌, ◌-◌, ◌*◌, ◌%◌, ◌^◌, ◌<◌, ◌≤◌, true, nat_lt, if◌then◌else◌, Bool, false, Option, Some, None, List, [], ◌∷◌, length, map, Ok, refl, sym, ◌∙◌, ap, inl, inr, arith}
 use Rattle.std.specs.List.{All}
 use Rattle.std.proofs.lemmas.Bool.{cases_lt}
@@ -21,18 +21,19 @@ use Rattle.memblock_model.specs.Items.{memory_of}
 use Rattle.memblock_model.specs.declared.item.Item.{Item}
 use Rattle.memblock_frames.specs.Frames.{free_node_in, valid_node, node_of_frame, node_of_label}
 use Rattle.memblock_frames.proofs.TakeLaws.{both_tests}
-use Rattle.boot_model.specs.Boot.{InputsView, BootedView, handover_frames, whole_boot}
+use Rattle.boot_model.specs.Boot.{InputsView, BootedView, handover_frames, whole_boot, no_extra}
 use Rattle.conservation.specs.Headline.{booted_blocks}
 use Rattle.conservation.proofs.CountLaws.{in_block}
 use Rattle.conservation.proofs.HeadlineLaws.{below, is_told}
+use Rattle.conservation.proofs.ToldLaws.{own_told}
 
--- runs are ascending and disjoint
+-- the ranges of ascending runs are ascending and disjoint
 pub runs_ascend : {X : Type 0} (rs : List (RunOf X)) → AreRuns rs → AscendApart (map range_of_run rs)
 runs_ascend [] runs = tt
 runs_ascend (r ∷ []) runs = (tt, tt)
 runs_ascend (r ∷ (s ∷ ss)) runs = (runs.1.0, runs_ascend (s ∷ ss) runs.2)
 
--- disjoint ranges below an end, none of them empty, are no more than there are bytes
+-- disjoint ranges below an end, none of them empty, are at most as many as there are bytes
 few_from : {X : Type 0} (end at : ℕ) (rs : List (RunOf X)) → at ≤ end → StartFrom at (map range_of_run rs) → AscendApart (map range_of_run rs)
     → All (λ r. (0 < r.size) × (end_of (range_of_run r) ≤ end)) rs → at + length rs ≤ end
 few_from end at [] low start order all = omega (arith, low)
@@ -55,7 +56,7 @@ few_runs rs order all =
     (λ k d inside. (let ends = all k d inside in (ends.0, omega (arith, ends.1)))) in
     omega (arith, few)
 
--- the last frame of a block is in it
+-- the last frame of an aligned block is in the block
 last_frame : (b : Block) → b.first % 2 ^ b.order ≡ 0 → IsInBlock b (b.first + 2 ^ b.order - 1)
 last_frame b whole =
     let some = pow_pos b.order in
@@ -63,7 +64,7 @@ last_frame b whole =
     (both_tests b.first (b.first + 2 ^ b.order - 1) (b.first + 2 ^ b.order) (omega (arith, some)) (omega (arith, some)))
 
 module _ (f : Frames) where
-  -- of two blocks, one ends before the other begins
+  -- if one of two blocks begins before the other, it ends before the other begins
   blocks_apart : (b c : Block) → IsBlock f b → IsBlock f c → b.first < c.first → b.first + 2 ^ b.order ≤ c.first
   blocks_apart b c one other less =
       elim (cases_lt c.first (b.first + 2 ^ b.order)) as (λ _. b.first + 2 ^ b.order ≤ c.first) [
@@ -118,7 +119,7 @@ module _ (f : Frames) where
         let few : 0 + length (blocks_of f) ≤ 2 ^ 40 = few_blocks 0 (blocks_of f) (omega arith) (listed_ascends f) (listed_sound f) in
         omega (arith, few)
 
--- the node that a frame is handed over with is below 1024
+-- the node of a frame that was handed over is below 1024
 below_low : (n m : ℕ) (small : Bool) → nat_lt m 1024 ≡ small → (if small then Some m else None) ≡ Some n → n < 1024
 below_low n m true test is =
     let same : m ≡ n = cc in
@@ -149,9 +150,9 @@ module _ (given : InputsView) (told : BootedView) (ends : whole_boot given ≡ O
   block_told b listed =
       let block : IsBlock told.free b = listed_sound told.free b listed in
       let free : handover_frames told.items b.first ≡ Some b.node =
-      ap (λ (f : Frames). f b.first) (sym (is_told given told ends).free) ∙ (block.good b.first refl).0 in
+      ap (λ (f : Frames). f b.first) (sym (is_told no_extra given told (own_told told given ends)).free) ∙ (block.good b.first refl).0 in
       let low : b.node < 1024 = handed_low told.items b.first b.node free in
-      let end : b.first + 2 ^ b.order ≤ 2 ^ 40 = block_near told.free (below given told ends) b block in
+      let end : b.first + 2 ^ b.order ≤ 2 ^ 40 = block_near told.free (below no_extra given told (own_told told given ends)) b block in
       (omega (arith, low), (block.small, omega (arith, end)))
 
   all_told : (bs : List Block) → ((b : Block) → ListsBlock bs b → ListsBlock (booted_blocks told) b) → All IsPrintableBlock bs

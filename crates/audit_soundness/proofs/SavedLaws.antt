@@ -18,11 +18,11 @@ use Rattle.program_end.specs.Program.{FileContents}
 use Rattle.boot_audit.specs.Args.{AuditArgsView}
 use Rattle.boot_audit.specs.declared.failure.SavedReport.{SavedReport as Saved}
 use Rattle.boot_audit.specs.declared.failure.SavedReport.TheVariants as saved
-use Rattle.boot_model.specs.Boot.{InputsView, BootedView, claims, whole_boot}
+use Rattle.boot_model.specs.Boot.{InputsView, BootedView, claims, whole_boot, no_extra}
 use Rattle.boot_model.proofs.BootLaws.{goes_on, map_between}
 use Rattle.conservation.specs.Headline.{booted_blocks}
 use Rattle.conservation.proofs.HeadlineLaws.{below}
-use Rattle.conservation.proofs.ToldLaws.{IsReportOfBoot, is_told_of}
+use Rattle.conservation.proofs.ToldLaws.{IsReportOfBoot, is_told_of, own_told}
 use Rattle.debugfs_reports.specs.Report.{report_text}
 use Rattle.debugfs_reports.specs.declared.report.Report.TheVariants as reports
 use Rattle.memblock_model.specs.Items.{owner_runs_of}
@@ -32,7 +32,7 @@ use Rattle.audit_soundness.specs.PrintableBoots.{IsPrintableBoot}
 use Rattle.audit_soundness.proofs.OrderLaws.{blocks_ascend, blocks_few, blocks_told, few_runs, runs_ascend}
 use Rattle.audit_soundness.proofs.ValueLaws.{lines_conserved, owner_runs}
 
--- the text of a file that contains it whole is read
+-- a file that contains a whole text gives the lines of that text
 read_saved : {L : Type 0} (form : ℕ → List ℕ → Option L) (extent : L → RangeView) (report : Saved) (held : Option (List ℕ)) (text : List ℕ)
     (lines : List L) → IsSaved held text → report_of form extent text ≡ Ok lines → lines_in_file form extent report held ≡ Ok lines
 read_saved form extent report held text lines is read =
@@ -41,9 +41,9 @@ read_saved form extent report held text lines is read =
 
 pub map_runs : (given : InputsView) (told : BootedView) → whole_boot given ≡ Ok told → AreRuns told.map
 map_runs given told ends =
-    let of : IsReportOfBoot given told = is_told_of given told ends in
+    let of : IsReportOfBoot no_extra given told = is_told_of no_extra given told (own_told told given ends) in
     subst (λ (t : BootedView). AreRuns t.map) of.tells
-    (subst (λ (rs : List (RunOf ℕ)). AreRuns rs) (sym (goes_on given of.made of.boots).map) (map_between (claims given)).runs)
+    (subst (λ (rs : List (RunOf ℕ)). AreRuns rs) (sym (goes_on no_extra given of.made of.boots).map) (map_between (claims given)).runs)
 
 module _ (given : InputsView) (told : BootedView) (ends : whole_boot given ≡ Ok told) (can : IsPrintableBoot told) where
   pub map_read : report_of map_line_in (λ l. l.range) (report_text reports.Map told) ≡ Ok (map line_of_run told.map)
@@ -59,7 +59,7 @@ module _ (given : InputsView) (told : BootedView) (ends : whole_boot given ≡ O
 
   pub blocks_read : report_of block_in bytes_of_block (report_text reports.Blocks told) ≡ Ok (map line_of_block (booted_blocks told))
   blocks_read =
-      blocks_back (booted_blocks told) (blocks_few told.free (below given told ends)) (blocks_told given told ends)
+      blocks_back (booted_blocks told) (blocks_few told.free (below no_extra given told (own_told told given ends))) (blocks_told given told ends)
       (blocks_ascend told.free)
 
   module _ (held : FileContents) (wanted : AuditArgsView) (is : AreSaved held wanted told) where

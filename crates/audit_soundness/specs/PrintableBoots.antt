@@ -1,4 +1,4 @@
--- The boots whose three reports can be printed as lines.
+-- The boots whose three reports are read back as lines.
 use Rattle.std.specs.Prelude.{◌<◌, ◌^◌}
 use Rattle.std.specs.List.{All}
 use Rattle.bm_base.specs.Range.{end_of}
@@ -9,17 +9,17 @@ use Rattle.boot_model.specs.Boot.{BootedView}
 use Rattle.memblock_model.specs.Items.{owner_of, owner_runs_of}
 use Rattle.memblock_model.specs.declared.owner.Owner.{Owner}
 
--- the runs of the map and of the owners end below 2^64, and their types and numbers have 32 bits;
--- blocks need no condition
+-- The runs of the map and of the owners end below 2^64. The types of runs of the map and the
+-- numbers of owners fit in 32 bits. Blocks need no condition.
 pub record IsPrintableBoot (told : BootedView) : Type 0 where
   pub map : All IsPrintableRun told.map
   pub owners : All IsPrintableOwnerRun (owner_runs_of told.items)
   pub within : IsEmptyFrom (2 ^ 64) (owner_of told.items)
 
--- the run ends below 2^64, as the program's types ensure
+-- the run ends below 2^64; the program's types ensure this
 abbrev pub RunEndsInSpace : {V : Type 0} → RunOf V → Type 0
 RunEndsInSpace r = end_of (range_of_run r) < 2 ^ 64
 
--- the run ends below 2^64, and the owner's number has 32 bits, as the program's types ensure
+-- the run ends below 2^64, and the owner's number fits in 32 bits; the program's types ensure both
 abbrev pub IsBoundedOwnerRun : RunOf Owner → Type 0
 IsBoundedOwnerRun r = RunEndsInSpace r × IsPrintableOwner r.value

@@ -1,4 +1,4 @@
--- Files that contain three reports of one boot.
+-- Files that contain the three reports of one boot.
 use Rattle.std.specs.Prelude.{◌≡◌, ℕ, ◌≤◌, List, length, Option, Some}
 use Rattle.program_end.specs.Program.{FileContents}
 use Rattle.boot_audit.specs.Args.{AuditArgsView}
@@ -6,14 +6,13 @@ use Rattle.boot_model.specs.Boot.{BootedView}
 use Rattle.debugfs_reports.specs.Report.{report_text}
 use Rattle.debugfs_reports.specs.declared.report.Report.TheVariants as reports
 
--- the file contains the whole text, which is at most 512 MiB, the greatest size that an audit
--- reads
+-- the file contains the whole text, which is at most 512 MiB, the largest file that the audit reads
 pub record IsSaved (held : Option (List ℕ)) (text : List ℕ) : Type 0 where
   pub holds : held ≡ Some text
   pub short : length text ≤ 536870912
 
--- the three files contain the reports of the boot, and the audit's width of addresses is that of
--- the boot
+-- the three files contain the reports of the boot, and the audit is run for the boot's width of
+-- physical addresses
 pub record AreSaved (held : FileContents) (wanted : AuditArgsView) (told : BootedView) : Type 0 where
   pub width : wanted.width ≡ told.width
   pub map : IsSaved (held wanted.map_name) (report_text reports.Map told)

@@ -1,6 +1,6 @@
-//! The law for the value that the code's boot returns. The types of its fields bound its addresses
-//! and numbers. A proof knows the range of a field's type once the code reads the field, so the
-//! functions here read each run.
+//! The law for the value that the code's boot returns. The types of its fields bound addresses and
+//! numbers, but a proof knows these bounds only after the code has read the field. The functions
+//! here therefore read each run.
 
 ghost use Rattle.std.specs.Prelude.{◌≡◌, Some, Ok};
 ghost use Rattle.std.specs.List.{All};
@@ -19,8 +19,8 @@ use boot_model::Booted;
 use e820_model::Run;
 use memblock_model::{Owner, OwnerRun};
 
-/// Law: if the files that an audit names contain the three reports of this boot, as `bootmem`
-/// prints them, they show that memory was conserved, and the outcome of the audit is `Sound`.
+/// Law: if the files of an audit contain the three reports of this boot, as `bootmem` prints them,
+/// these reports show that memory was conserved, and the outcome of the audit is `Sound`.
 pub fn booted_reports_are_sound(booted: &Booted)
     ghost given: { InputsView }
     requires { whole_boot given ≡ Ok (booted_view booted.now) }
@@ -52,7 +52,8 @@ fn run_ends_in_space(run: &Run)
     let _range = run.range;
 }
 
-/// Law: each run of an owner ends below 2^64, and the owner's number, if it has one, has 32 bits.
+/// Law: each run of bytes with one owner ends below 2^64, and the owner's number, if it has one,
+/// fits in 32 bits.
 fn owner_runs_are_bounded(runs: &[OwnerRun])
     ensures { All IsBoundedOwnerRun runs.now }
 {
@@ -61,14 +62,15 @@ fn owner_runs_are_bounded(runs: &[OwnerRun])
     }
 }
 
-/// Law: a run of an owner ends below 2^64, and the owner's number, if it has one, has 32 bits.
+/// Law: a run of bytes with one owner ends below 2^64, and the owner's number, if it has one, fits
+/// in 32 bits.
 fn owner_run_is_bounded(run: &OwnerRun)
     ensures { IsBoundedOwnerRun run.now }
 {
     owner_number_is_bounded(run.owner);
 }
 
-/// Law: the number of an owner, if it has one, has 32 bits.
+/// Law: the number of an owner, if it has one, fits in 32 bits.
 fn owner_number_is_bounded(owner: Owner)
     ensures { IsPrintableOwner owner }
 {

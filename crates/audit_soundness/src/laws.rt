@@ -1,5 +1,5 @@
-//! The lines of a boot's map, owners and blocks show that memory was conserved: as lines, and as
-//! texts that are read back.
+//! Laws: the lines of a boot's map, owners and blocks show that memory was conserved, and so do the
+//! printed texts of these lines.
 
 ghost use Rattle.std.specs.Prelude.{◌≡◌, ◌^◌, Some, Ok, map};
 ghost use Rattle.address_runs.specs.Edits.{IsEmptyFrom};
@@ -51,8 +51,9 @@ pub fn booted_reports_are_read_back()
         ≡ Ok (map line_of_block (booted_blocks told)) }
 {}
 
-/// Law: if the files that an audit names contain the three reports of such a boot, they show that
-/// memory was conserved, and the outcome of the audit is `Sound`.
+/// Law: if the files of an audit contain the three reports of a successful boot, these reports
+/// show that memory was conserved, and the outcome of the audit is `Sound`. The boot's addresses
+/// and numbers must be in the ranges of the program's types.
 pub fn saved_reports_are_sound()
     ensures conserved { (given : InputsView) (told : BootedView) → whole_boot given ≡ Ok told
         → IsPrintableBoot told

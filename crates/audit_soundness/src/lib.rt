@@ -4,7 +4,8 @@
 //! The laws connect the definition of the boot (`boot_model`), the texts of its reports
 //! (`debugfs_reports`) and the verdict on lines (`boot_audit`). The four facts of a boot
 //! (`conservation`) are about what happened to memory. Those of the audit (`specs/Conserved.antt`
-//! of `boot_audit`) are about lines that were read. Here the second are proved from the first.
+//! of `boot_audit`) are about lines that were read. The laws here prove the facts of the audit
+//! from the facts of the boot.
 //!
 //! - [`booted_lines_conserve_memory`]: the lines of a boot show that memory was conserved.
 //! - [`booted_reports_are_read_back`]: the printed reports are read back as these lines.

@@ -1,4 +1,4 @@
--- What the verdict `Sound` means, for each kind of fault.
+-- What the verdict `Sound` excludes, for each kind of fault.
 use Rattle.std.proofs.Common.{◌≡◌, ℕ, zero, suc, ◌+◌, ◌*◌, ◌/◌, ◌^◌, ◌<◌, ◌≤◌, ◌&&◌, ◌||◌, Bool, true, false, not, nat_lt, List, [], ◌∷◌, length, get_or, map, Option, Some, None, refl, sym, ap, ◌∙◌, inl, inr, arith}
 use Rattle.std.proofs.Math.Bool.{and-false}
 use Rattle.std.proofs.lemmas.Bool.{cases_Bool, cases_lt, and_parts}
@@ -19,7 +19,7 @@ use Rattle.boot_audit.specs.Verdicts.{verdict_of_faults, first_line_passing, is_
 use Rattle.boot_audit.proofs.LineLaws.{covers_below}
 use Rattle.boot_audit.proofs.SweepLaws.{least_none}
 
--- if no line passes the test, none of the blocks does
+-- if `first_line_passing` finds no line, no block passes the test
 pub no_line : (p : BlockLineView → Bool) (n : ℕ) (bs : List BlockLineView) → first_line_passing p n bs ≡ None
     → (k : ℕ) (d : BlockLineView) → k < length bs → p (get_or bs k d) ≡ false
 no_line p n [] none k d inside = absurd (omega arith)
@@ -43,7 +43,7 @@ first_none p n (b ∷ bs) each =
     let here : p b ≡ false = each 0 b (omega arith) in
     rw here (first_none p (n + 1) bs (λ k d inside. each (suc k) d (omega arith)))
 
--- if there is no least number below the bound, none passes
+-- if `least_below` finds no number, no number below the bound passes the test
 pub none_least : (p : ℕ → Bool) (n : ℕ) → least_below p n ≡ None → (f : ℕ) → f < n → p f ≡ false
 unfolding least_below
 none_least p zero none f below = absurd (omega arith)
@@ -59,7 +59,7 @@ none_least p (suc n) none f below =
     neither m true None is = cc
     neither m false None is = (refl, refl)
 
--- a frame that is in no block is in 0 of them
+-- a frame that is in no block is counted in 0 blocks
 pub none_with : (bs : List BlockLineView) (f : ℕ) → is_in_a_block bs f ≡ false → count_blocks_of_frame bs f ≡ 0
 none_with [] f out = refl
 none_with (b ∷ bs) f out = by_first (covers (frames_of_block b) f) (is_in_a_block bs f) refl out (none_with bs f)
@@ -119,7 +119,7 @@ in_block_near (b ∷ bs) f fit in_it =
         omega arith
     by_first false is some rest = rest some
 
--- without a fault none of the five kinds was found
+-- none of the five kinds of faults was found
 abbrev AllNone : Option ℕ → Option ℕ → Option ℕ → Option ℕ → Option ℕ → Type 0
 AllNone m z f l x = (m ≡ None) × (z ≡ None) × (f ≡ None) × (l ≡ None) × (x ≡ None)
 
@@ -137,7 +137,8 @@ not_false false is = cc
 
 module _ (limit : ℕ) (lines : List MapLine) (owners : List RangeView) (bs : List BlockLineView) (near : limit ≤ 2 ^ 52)
     (order : AscendApart (map frames_of_block bs)) (fit : (k : ℕ) (d : BlockLineView) → k < length bs → IsBlockLine (get_or bs k d)) where
-  -- a usable frame, if no frame is lost and each frame in a block is free
+  -- a usable frame is touched or in exactly one block, if no frame is lost and each frame of a
+  -- block is free
   touched_or_one : (f : ℕ) (untouched in_it : Bool) → is_untouched owners f ≡ untouched → is_in_a_block bs f ≡ in_it
       → is_usable limit lines f ≡ true → is_in_block_but_not_free limit lines owners bs f ≡ false → is_lost limit lines owners bs f ≡ false
       → IsTouchedOrInOne owners bs f

@@ -1,4 +1,4 @@
--- What the bytes of a frame say about the frame.
+-- What the states of a frame's bytes say about the frame.
 use Rattle.std.proofs.Common.{◌≡◌, ◌≢◌, ℕ, ◌+◌, ◌*◌, ◌/◌, ◌%◌, ◌^◌, ◌<◌, ◌≤◌, ◌&&◌, ◌||◌, Bool, true, false, not, nat_le, nat_lt, if◌then◌else◌, Option, Some, None, List, [], ◌∷◌, refl, sym, ap, ◌∙◌, arith}
 use Rattle.std.proofs.Math.Bool.{and-false}
 use Rattle.std.proofs.Math.Nat.{mul_assoc, div-add-mod}
@@ -15,7 +15,8 @@ use Rattle.boot_audit.specs.Sweep.{is_byte_in_block, is_free_byte, byte_state_at
 use Rattle.boot_audit.specs.Verdicts.{first_line_passing, is_free, is_lost, is_in_block_but_not_free}
 use Rattle.boot_audit.proofs.SweepLaws.{Tells}
 
--- n frames that begin at a multiple of 4096: their bytes are those whose frame is one of the n
+-- for n frames from frame m on, an address is one of their bytes exactly if its frame is one of the
+-- n
 at_frame : (a m n f x : ℕ) → a ≡ 4096 * m → x / 4096 ≡ f
     → (nat_le a x && nat_lt x (a + 4096 * n)) ≡ (nat_le (a / 4096) f && nat_lt f (a / 4096 + n))
 at_frame a m n f x is frame = grind (arith, nat_tests)
@@ -46,7 +47,7 @@ blocks_byte (b ∷ bs) n f x aligned frame =
     aligned_first true line others is = (refl, is)
     aligned_first false line others is = cc
 
--- what each state says of a byte
+-- what each state says of a byte: whether it is free, and whether it is in a block
 lost_says : (free blocked : Bool) → byte_state_of free blocked ≡ states.Lost → (free ≡ true) × (blocked ≡ false)
 lost_says true true is = cc
 lost_says true false is = (refl, refl)
@@ -155,7 +156,7 @@ module _ (limit : ℕ) (map_lines : List MapLine) (owners : List RangeView) wher
       free_true = λ f none. free_by f (is_in_a_block blocks f) refl none;
     }
 
--- the state of a byte, from four tests
+-- the state of a byte, computed from four tests
 pub around : (limit : ℕ) (map_lines : List MapLine) (owners : List RangeView) (blocks : List BlockLineView) (x : ℕ)
     (below inside owned held : Bool)
     → nat_lt x limit ≡ below → is_in_memory map_lines x ≡ inside → has_owner owners x ≡ owned → is_byte_in_block blocks x ≡ held
@@ -163,7 +164,7 @@ pub around : (limit : ℕ) (map_lines : List MapLine) (owners : List RangeView) 
 unfolding byte_state_at
 around limit map_lines owners blocks x below inside owned held first second third fourth = rw (first, second, third, fourth) refl
 
--- the state of a byte is the same by lists that agree on it
+-- lists that agree on a byte give it the same state
 pub same_state : (limit : ℕ) (runs map_lines : List MapLine) (left owners : List RangeView) (rest blocks : List BlockLineView) (x : ℕ)
     → is_in_memory runs x ≡ is_in_memory map_lines x → has_owner left x ≡ has_owner owners x
     → is_byte_in_block rest x ≡ is_byte_in_block blocks x

@@ -1,5 +1,5 @@
--- The outcome is `Sound` exactly if the texts are well-formed and memory was conserved by their
--- lines.
+-- The outcome is `Sound` exactly if the texts are well-formed and their lines show that memory was
+-- conserved.
 use Rattle.std.proofs.Common.{◌≡◌, ℕ, ◌+◌, ◌-◌, ◌^◌, ◌&&◌, Bool, true, false, nat_le, nat_lt, if◌then◌else◌, List, [], ◌∷◌, length, map, codes, Option, Some, None, Result, Ok, Err, refl, ap, ◌∙◌, arith}
 use Rattle.std.specs.List.{All}
 use Rattle.std.proofs.lemmas.Bool.{and_parts}
@@ -31,7 +31,7 @@ use Rattle.boot_audit.specs.Args.{AuditArgsView}
 use Rattle.boot_audit.proofs.ConservedLaws.{conserved_says, reach_near, sound_says}
 use Rattle.boot_audit.proofs.OrderLaws.{frames_ascend}
 
--- a sequence that returns a value had one at its first step
+-- if a sequence of two steps returns a value, its first step did
 step_some : {A B : Type 0} (first : Option A) (next : A → Option B) (b : B) (P : Type 0)
     → ((a : A) → next a ≡ Some b → P) → (first and_then next) ≡ Some b → P
 step_some None next b P each is = cc
@@ -45,7 +45,7 @@ within c b true tests is =
     let parts = and_parts (nat_le c.order 10) (nat_le (end_of (bytes_of_block c)) (2 ^ 52)) tests in
     rw (← same) (grind (arith, nat_tests, parts.0), grind (arith, nat_tests, parts.1))
 
--- a line of `blocks` that was read has the bounds of a block (`IsBlockLine`)
+-- a block that is read from a line of `blocks` has the bounds of `IsBlockLine`
 block_fits : (index : ℕ) (text : List ℕ) (b : BlockLineView) → block_in index text ≡ Some b → IsBlockLine b
 unfolding block_in
 block_fits index text b is =
@@ -67,7 +67,7 @@ module _ {L : Type 0} (form : ℕ → List ℕ → Option L) (extent : L → Ran
   ordered index true other line is = cc
   ordered index false other line is = cc
 
-  -- if each line that is read has a property, all lines of a report have it
+  -- if every line that can be read has a property, all lines of a report have it
   line_fits : (index at : ℕ) (text : List ℕ) (read : Option L) (line : L) → form index text ≡ read
       → (line_or_fault form extent index read >>= line_if_in_order form extent index at) ≡ Ok line → P line
   line_fits index at text None line reads is = cc
@@ -111,7 +111,7 @@ read_of form extent report (Some bytes) lines is = (bytes, by_length (nat_lt 536
     by_length false (Ok some) is = let same : some ≡ lines = cc in rw same refl
     by_length false (Err fault) is = cc
 
--- blocks that were read are ascending, disjoint and well-formed
+-- the blocks are ascending, disjoint, and within the bounds of `IsBlockLine`
 abbrev AreGood : List BlockLineView → Type 0
 AreGood blocks = AscendApart (map bytes_of_block blocks) × All IsBlockLine blocks
 

@@ -1,4 +1,4 @@
--- What ascending lines say of a byte below, in and above the first of them.
+-- What ascending lines say of a byte below, in, and above the first of them.
 use Rattle.std.proofs.Common.{◌≡◌, ℕ, ◌<◌, ◌≤◌, ◌&&◌, ◌||◌, Bool, true, false, List, [], ◌∷◌, map, refl, ap, ◌∙◌, arith}
 use Rattle.std.proofs.lemmas.Bool.Decides.{nat_tests}
 use Rattle.bm_base.specs.Range.{RangeView, covers, end_of}
@@ -54,7 +54,7 @@ module _ {L : Type 0} (counts : L → Bool) (extent : L → RangeView) where
       ap (λ (c : Bool). either (counts l) c (is_in_relevant_line counts extent ls x)) out
       ∙ first_false (counts l) (is_in_relevant_line counts extent ls x)
 
-  -- the facts above, for a list that is known to begin with a line
+  -- what the lemmas above say, for a list whose first line is known
   pub seen_before : (lines : List L) (l : L) (ls : List L) → lines ≡ l ∷ ls → AscendApart (map extent lines)
       → (x : ℕ) → x < (extent l).base → is_in_relevant_line counts extent lines x ≡ false
   seen_before lines l ls is order x before =

@@ -18,13 +18,13 @@ use Rattle.boot_audit.specs.Reason.{AuditReason}
 use Rattle.boot_audit.specs.Args.{AuditArgsView}
 use Rattle.boot_audit.proofs.HeadlineLaws.{conserved_sound, sound_conserved}
 
--- status 0 comes only with the verdict `Sound`
+-- only the verdict `Sound` gives status 0
 sound_said : (old new : Option (List ℕ)) (end : End AuditReason) (status : ℕ) (said : Result Verdict AuditReason) → status ≡ exit_status end
     → WritesOutcome bootaudit old new end said → status ≡ 0 → said ≡ Ok verdicts.Sound
 sound_said old new end status said is writes zero = grind arith
 
 module _ (accepted : Option AuditArgsView) (end : End AuditReason) (status : ℕ) (is : status ≡ exit_status end) where
-  -- with status 0 memory was conserved
+  -- status 0 implies that memory was conserved
   pub ran_headline : (old new : Option (List ℕ)) (holds : Option FileContents)
       → IfSome holds (λ held. WritesOutcome bootaudit old new end (audit_outcome accepted held)) → status ≡ 0
       → IfSome holds (FilesConserveMemory accepted)
@@ -32,8 +32,8 @@ module _ (accepted : Option AuditArgsView) (end : End AuditReason) (status : ℕ
   ran_headline old new (Some held) writes zero =
       sound_conserved accepted held (sound_said old new end status (audit_outcome accepted held) is writes zero)
 
-  -- if memory was conserved and neither a file nor the output failed, the status is 0, or 7 if out
-  -- of memory
+  -- if memory was conserved, and neither a file nor the output failed, the status is 0, or 7 for
+  -- out of memory
   pub ran_conserved : {S : Type 0} (sink : SinkOf S) (old new : S) (before now : List ℕ → ℕ)
       → EndHasCause bootaudit before now accepted end → WritingHasCause sink old new end → (holds : Option FileContents)
       → IfSome holds (λ held. WritesOutcome bootaudit (sink.written old) (sink.written new) end (audit_outcome accepted held))

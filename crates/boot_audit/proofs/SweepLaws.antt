@@ -1,4 +1,4 @@
--- The sweep over the bytes: what it knows of the frames so far.
+-- The sweep over the bytes: what it knows of frames up to the present address.
 use Rattle.std.proofs.Common.{◌≡◌, ◌≢◌, ℕ, zero, suc, ◌+◌, ◌*◌, ◌/◌, ◌^◌, ◌<◌, ◌≤◌, Bool, true, false, nat_lt, Option, Some, None, refl, sym, ap, ◌∙◌, inl, inr, arith}
 use Rattle.std.proofs.lemmas.Bool.{cases_lt}
 use Rattle.std.proofs.lemmas.Bool.Decides.{nat_tests}
@@ -7,7 +7,8 @@ use Rattle.boot_audit.specs.declared.sweep.ByteState.TheVariants as states
 use Rattle.boot_audit.specs.Sweep.{advance_lost_frame, first_whole_frame}
 use Rattle.boot_audit.specs.Verdicts.{least_below, least_frame, or_this}
 
--- if no number passes there is no least one; the next lemma is for a number that passes
+-- this and the next: `least_below` finds nothing if no number passes, and finds the least number
+-- that does
 pub least_none : (p : ℕ → Bool) (n : ℕ) → ((f : ℕ) → f < n → p f ≡ false) → least_below p n ≡ None
 unfolding least_below
 least_none p zero none = refl
@@ -29,15 +30,15 @@ least_some p (suc n) k below here first =
           rw (none, passes) (ap (λ (m : ℕ). Some m) same)
     ]
 
--- what the states of its bytes say about a frame
+-- what the states of a frame's bytes say about the frame
 pub record Tells (st : ℕ → ByteState) (lost not_free : ℕ → Bool) : Type 0 where
   pub lost_true : (f : ℕ) → ((x : ℕ) → 4096 * f ≤ x → x < 4096 * f + 4096 → st x ≡ states.Lost) → lost f ≡ true
   pub lost_false : (f x : ℕ) → 4096 * f ≤ x → x < 4096 * f + 4096 → st x ≢ states.Lost → lost f ≡ false
   pub free_false : (f x : ℕ) → 4096 * f ≤ x → x < 4096 * f + 4096 → st x ≡ states.NotFree → not_free f ≡ true
   pub free_true : (f : ℕ) → ((x : ℕ) → 4096 * f ≤ x → x < 4096 * f + 4096 → st x ≢ states.NotFree) → not_free f ≡ false
 
--- no frame that begins before `from` is lost; all bytes from `from` up to `at` are lost, but have
--- no whole frame yet
+-- no frame that begins before `from` is lost; all bytes from `from` up to `at` are lost, but they
+-- contain no whole frame yet
 pub record IsLostSoFar (st : ℕ → ByteState) (lost : ℕ → Bool) (from at : ℕ) : Type 0 where
   pub ordered : from ≤ at
   pub before : (f : ℕ) → 4096 * f < from → lost f ≡ false
@@ -107,7 +108,7 @@ module _ (st : ℕ → ByteState) (lost not_free : ℕ → Bool) (tells : Tells 
     none = λ f above. omega arith;
   }
 
-  -- after one more piece
+  -- what the sweep knows after one more piece
   pub carried_on : (from at until : ℕ) (old : Option ℕ) (s : ByteState) → at < until → until ≤ 2 ^ 52
       → ((x : ℕ) → at ≤ x → x < until → st x ≡ s) → SoFar st lost from at old
       → SoFar st lost (advance_lost_frame old from until s).1 until (advance_lost_frame old from until s).0
@@ -125,7 +126,7 @@ module _ (st : ℕ → ByteState) (lost not_free : ℕ → Bool) (tells : Tells 
   carried_near from until old states.Sound low near = near
   carried_near from until old states.NotFree low near = near
 
-  -- at the end of all addresses
+  -- at the end of all addresses the frame found is the least lost frame
   pub lost_at_end : (from at : ℕ) (found : Option ℕ) → 2 ^ 52 ≤ at → SoFar st lost from at found → found ≡ least_frame lost
   lost_at_end from at None end known = sym (least_none lost (2 ^ 40) (λ f small.
       elim (cases_lt (4096 * f) from) as (λ _. lost f ≡ false) [
@@ -137,7 +138,7 @@ module _ (st : ℕ → ByteState) (lost not_free : ℕ → Bool) (tells : Tells 
   pub none_at_end : (at : ℕ) → 2 ^ 52 ≤ at → ((x : ℕ) → x < at → st x ≢ states.NotFree) → None ≡ least_frame not_free
   none_at_end at end none = sym (least_none not_free (2 ^ 40) (λ f small. tells.free_true f (λ x above below. none x (omega arith))))
 
-  -- the first byte that is in a block but not free is in the least such frame
+  -- the first byte that is in a block but not free lies in the least frame with this fault
   pub first_not_free : (at : ℕ) → at < 2 ^ 52 → ((x : ℕ) → x < at → st x ≢ states.NotFree) → st at ≡ states.NotFree
       → Some (at / 4096) ≡ least_frame not_free
   first_not_free at near none here =

@@ -1,4 +1,4 @@
--- The walk over ascending blocks: what it knows of the frames before.
+-- The walk over ascending blocks: what it knows of the frames before the present block.
 use Rattle.std.proofs.Common.{◌≡◌, ℕ, ◌+◌, ◌-◌, ◌<◌, ◌≤◌, ◌==◌, ◌&&◌, ◌||◌, Bool, true, false, nat_le, nat_lt, if◌then◌else◌, List, [], ◌∷◌, ◌++◌, map, Option, Some, None, refl, sym, ap, ◌∙◌, subst, inl, inr, arith, append_assoc}
 use Rattle.std.proofs.Math.Nat.{mod-lt}
 use Rattle.std.proofs.lemmas.Nat.{pow_pos}
@@ -22,7 +22,8 @@ first b = (frames_of_block b).base
 abbrev end : BlockLineView → ℕ
 end b = end_of (frames_of_block b)
 
--- to have the same node and zone is symmetric and transitive; first for zones
+-- this and the following: having the same node and zone is symmetric and transitive, first for
+-- zones alone
 zone_same : (a b c : Zone) → same_zone a b ≡ true → same_zone b c ≡ same_zone a c
 zone_same zones.Dma zones.Dma c is = refl
 zone_same zones.Dma32 zones.Dma32 c is = refl
@@ -57,14 +58,14 @@ kin_same b c d kin =
     let node : b.node ≡ c.node = (Decides-eqb b.node c.node).0 parts.0 in
     rw (node, zone_same b.zone c.zone d.zone parts.1) refl
 
--- blocks of the same node and zone give the same frames
+-- two blocks of the same node and zone lead to the same frames in blocks of that node and zone
 kin_lists : (b c : BlockLineView) → are_of_one_zone b c ≡ true → (blocks : List BlockLineView) (f : ℕ)
     → is_in_same_zone_block c blocks f ≡ is_in_same_zone_block b blocks f
 kin_lists b c kin [] f = refl
 kin_lists b c kin (d ∷ ds) f = rw (kin_same b c d kin, kin_lists b c kin ds f) refl
 
--- if the test of cover passes, each frame from `at` up to `until` is in a block of this node and
--- zone
+-- if `is_covered_up_to` is true, each frame from `at` up to `until` is in a block of the node and
+-- zone of `b`
 fills_true : (b : BlockLineView) (at until : ℕ) (cs : List BlockLineView) → StartFrom at (map frames_of_block cs)
     → AscendApart (map frames_of_block cs)
     → is_covered_up_to b at until cs ≡ true → (f : ℕ) → at ≤ f → f < until → is_in_same_zone_block b cs f ≡ true
@@ -85,7 +86,8 @@ fills_true b at until (c ∷ cs) start order is f above below =
       | inr stops ↦ let wrong : ◌≡◌ {A = Bool} false true = rw stops at more in cc
     ]
 
--- a frame from `at` up to `until` that is in no such block; there is one if the test fails
+-- a frame from `at` up to `until` that no block with the node and zone of `b` has; if
+-- `is_covered_up_to` is false, there is one
 abbrev IsGap : BlockLineView → ℕ → ℕ → List BlockLineView → Type 0
 IsGap b at until cs = (y : ℕ) × (at ≤ y) × (y < until) × (is_in_same_zone_block b cs y ≡ false)
 
@@ -123,8 +125,8 @@ fills_false b at until (c ∷ cs) start order is =
           ]
     ]
 
--- what is known of the blocks up to `last`: none has a frame above `last`; a frame of `last` is in
--- `last` only; and the run that ends with it begins at `from`
+-- What is known of the blocks up to `last`. None has a frame above `last`, a frame of `last` is in
+-- `last` only, and the run that ends with `last` begins at `from`.
 record IsFront (front : List BlockLineView) (last : BlockLineView) (from : ℕ) : Type 0 where
   pub some : first last < end last
   pub low : from ≤ first last
@@ -184,7 +186,7 @@ kin_itself b = rw ((Decides-eqb b.node b.node).1 refl) (zone_itself b.zone)
 some_frame : (b : BlockLineView) → first b < end b
 some_frame b = let some = pow_pos b.order in omega arith
 
--- one more block: after a gap or with another node or zone
+-- one more block, which has a gap before it or another node or zone, begins a new run
 front_new : (front : List BlockLineView) (b : BlockLineView)
     → ((c : BlockLineView) (f : ℕ) → first b ≤ f → is_in_same_zone_block c front f ≡ false)
     → ((f : ℕ) → f + 1 ≡ first b → is_in_same_zone_block b front f ≡ false) → IsFront (front ++ (b ∷ [])) b (first b)
@@ -247,7 +249,7 @@ next_front front (Some last) from b known start =
     by_test false is =
         front_new front b (λ c f above. known.behind c f (omega arith)) (λ f one. front_apart front last b from f known start is one)
 
--- the block could merge, by the frames before and after it
+-- this and the next: the first frame of a block lies in the block's parent
 parent_low : (b : BlockLineView) → (parent_of b).base ≤ first b
 parent_low b = omega arith
 
@@ -302,7 +304,7 @@ module _ (b : BlockLineView) (front bs : List BlockLineView) (from : ℕ) (known
       ap (λ (u : Bool). nat_lt b.order 10 && u)
       (each_is (nat_le from (parent_of b).base) (is_covered_up_to b (end b) (end_of (parent_of b)) bs) refl refl)
 
--- the first line for which the walk says so is the first that could merge
+-- the first line that the walk finds is the first whose block could merge
 abbrev line_by : Bool → ℕ → Option ℕ → Option ℕ
 line_by passes line others = if passes then Some line else others
 

@@ -1,4 +1,4 @@
--- Zones are intervals of frames.
+-- Each zone is one range of frames.
 use Rattle.std.proofs.Common.{◌≡◌, ℕ, ◌+◌, ◌≤◌, ◌&&◌, Bool, true, false, nat_lt, not, if◌then◌else◌, refl, sym, ◌∙◌, arith}
 use Rattle.std.proofs.lemmas.Bool.Decides.{nat_tests}
 use Rattle.bm_base.specs.Range.{end_of}
@@ -12,7 +12,7 @@ use Rattle.boot_audit.specs.Frames.{frames_of_block, is_in_zone, same_zone}
 abbrev zone_by : Bool → Bool → Zone
 zone_by dma dma32 = if dma then zones.Dma else (if dma32 then zones.Dma32 else zones.Normal)
 
--- the test of a zone, from two tests of a frame
+-- whether a frame is in the zone, from two tests of the frame's number
 abbrev zone_test : Zone → Bool → Bool → Bool
 zone_test zones.Dma dma dma32 = dma
 zone_test zones.Dma32 dma dma32 = not dma && dma32
@@ -45,7 +45,7 @@ between zone low frame high above below first last =
     zone_is zone frame
     ∙ tests_between zone low frame high above below (sym (zone_is zone low) ∙ first) (sym (zone_is zone high) ∙ last)
 
--- so it is enough to test the first and the last frame of a block
+-- a block lies in its zone exactly if its first and its last frame do
 pub ends_tell : (b : BlockLineView) (first last : ℕ) (r : Bool) → first ≡ (frames_of_block b).base → last + 1 ≡ end_of (frames_of_block b)
     → first ≤ last → same_zone (zone_of first) b.zone ≡ true → r ≡ same_zone (zone_of last) b.zone → r ≡ is_in_zone b
 unfolding is_in_zone

@@ -6,7 +6,8 @@ use Rattle.bm_base.specs.declared.width.Width.TheVariants as widths
 use Rattle.boot_audit.specs.declared.failure.SavedReport.{SavedReport}
 use Rattle.boot_audit.specs.declared.failure.SavedReport.TheVariants as reports
 
--- the width of physical addresses, and the names of the three files
+-- what an accepted command line gives: the width of physical addresses, and the names of the three
+-- files
 pub record AuditArgsView : Type 0 where
   pub width : Width
   pub map_name : List ℕ
@@ -19,12 +20,12 @@ report_file_name wanted reports.Map = wanted.map_name
 report_file_name wanted reports.Owners = wanted.owners_name
 report_file_name wanted reports.Blocks = wanted.blocks_name
 
--- the word can be a name: it doesn't begin with `-`; the empty word can
+-- whether the word can be a file name: it doesn't begin with `-`; the empty word can
 abbrev pub is_file_word : List ℕ → Bool
 is_file_word [] = true
 is_file_word (b ∷ bs) = not (b == 45)
 
--- exactly three names
+-- the width with three file names, if there are exactly three words and each can be a file name
 abbrev pub three_file_names : Width → List (List ℕ) → Option AuditArgsView
 three_file_names width (m ∷ o ∷ b ∷ []) =
     if is_file_word m && (is_file_word o && is_file_word b)
@@ -32,7 +33,7 @@ three_file_names width (m ∷ o ∷ b ∷ []) =
     else None
 three_file_names width other = None
 
--- the command line is `[--la57] MAP OWNERS BLOCKS`: addresses have 52 bits with `--la57`, else 46
+-- what the words `[--la57] MAP OWNERS BLOCKS` give; addresses have 52 bits with `--la57`, else 46
 abbrev pub read_audit_args : List (List ℕ) → Option AuditArgsView
 read_audit_args [] = None
 read_audit_args (w ∷ ws) =

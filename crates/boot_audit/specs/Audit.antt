@@ -16,7 +16,8 @@ report_position reports.Map = 0
 report_position reports.Owners = 1
 report_position reports.Blocks = 2
 
--- an accepted command line names a file for each report
+-- `bootaudit` as a program over files: its command line names a file for each report, and its
+-- result is a verdict
 abbrev pub bootaudit : Program AuditArgsView SavedReport Verdict
 bootaudit = record {
   place = report_position;
@@ -26,6 +27,6 @@ bootaudit = record {
   statuses = verdict_statuses;
 }
 
--- the outcome is a verdict other than `Sound`. `said` is the outcome.
+-- the outcome `said` is a verdict other than `Sound`
 abbrev pub IsUnsound : Result Verdict AuditReason → Type 0
 IsUnsound said = (verdict : Verdict) × ((said ≡ Ok verdict) × (verdict ≢ verdicts.Sound))

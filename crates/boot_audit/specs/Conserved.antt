@@ -1,4 +1,4 @@
--- Conserved memory, as three reports show it.
+-- What it means that three reports show that memory was conserved.
 use Rattle.std.specs.Prelude.{◌≡◌, ℕ, ◌+◌, ◌<◌, true, false, if◌then◌else◌, List, [], ◌∷◌, ◌⊎◌}
 use Rattle.std.specs.List.{All}
 use Rattle.bm_base.specs.Range.{RangeView, covers}
@@ -9,13 +9,13 @@ use Rattle.audit_lines.specs.declared.lines.MapLine.{MapLine}
 use Rattle.boot_audit.specs.declared.judgement.Saved.{Saved}
 use Rattle.boot_audit.specs.Frames.{could_merge, frames_of_block, is_aligned, is_in_zone, is_untouched, is_usable}
 
--- how many of the blocks have the frame
+-- the number of blocks of the list that have the frame
 abbrev pub count_blocks_of_frame : List BlockLineView → ℕ → ℕ
 count_blocks_of_frame [] frame = 0
 count_blocks_of_frame (b ∷ bs) frame =
     if covers (frames_of_block b) frame then count_blocks_of_frame bs frame + 1 else count_blocks_of_frame bs frame
 
--- the frame is touched and in no block, or untouched and in exactly one
+-- the frame is touched and in no block, or untouched and in exactly one block
 abbrev pub IsTouchedOrInOne : List RangeView → List BlockLineView → ℕ → Type 0
 IsTouchedOrInOne owners blocks frame =
     ((is_untouched owners frame ≡ false) × (count_blocks_of_frame blocks frame ≡ 0))
@@ -27,7 +27,8 @@ pub record IsSoundBlock (blocks : List BlockLineView) (b : BlockLineView) : Type
   pub in_zone : is_in_zone b ≡ true
   pub maximal : could_merge blocks b ≡ false
 
--- these lines show that memory was conserved below the address `limit`
+-- these lines show that memory was conserved below the address `limit`, the limit of physical
+-- addresses
 pub record LinesConserveMemory (limit : ℕ) (map_lines : List MapLine) (owners : List RangeView) (blocks : List BlockLineView) : Type 0 where
   -- each usable frame is either touched or in exactly one block
   pub frames : (frame : ℕ) → is_usable limit map_lines frame ≡ true → IsTouchedOrInOne owners blocks frame

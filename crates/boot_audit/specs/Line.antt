@@ -1,4 +1,4 @@
--- The texts of the program: the verdict on the output, and the one line on the error output.
+-- The texts that the audit writes: the verdict, and the one line on the error output.
 use Rattle.std.specs.Prelude.{ℕ, ◌*◌, List, [], ◌++◌, codes, decimal, Option, Some, None}
 use Rattle.bm_base.specs.Text.{hex_text}
 use Rattle.bm_base.specs.declared.range.TheConstants.{FRAME_SIZE}
@@ -16,11 +16,12 @@ use Rattle.boot_audit.specs.declared.judgement.Verdict.TheVariants as verdicts
 use Rattle.boot_audit.specs.Reason.{AuditReason}
 use Rattle.boot_audit.specs.Args.{AuditArgsView, report_file_name}
 
--- a fault of a block, with its line in `blocks`, counted from 1
+-- the text of a verdict on a block: the number of its line in the report `blocks`, from 1 on, and
+-- what is wrong
 abbrev pub block_fault_text : ℕ → List ℕ → List ℕ
 block_fault_text line what = codes "not sound: block at line " ++ (decimal line ++ what)
 
--- a fault of a frame, with the address of its first byte
+-- the text of a verdict on a frame: the address of its first byte, and what is wrong
 abbrev pub frame_fault_text : ℕ → List ℕ → List ℕ
 frame_fault_text frame what = codes "not sound: frame " ++ (hex_text (FRAME_SIZE * frame) ++ what)
 
@@ -39,29 +40,30 @@ report_word reports.Map = codes "map"
 report_word reports.Owners = codes "owners"
 report_word reports.Blocks = codes "blocks"
 
--- the line for a fault of one line of the report; lines are counted from 1
+-- the error line for a fault of one line of the report `name`; lines are counted from 1
 abbrev pub numbered_line : List ℕ → ℕ → List ℕ → List ℕ
 numbered_line name line what = codes "bootaudit: " ++ (name ++ (codes ": line " ++ (decimal line ++ (codes ": " ++ (what ++ codes "\n")))))
 
--- the line for a fault of one line of a report
+-- the error line for a fault of one line, by the kind of fault
 abbrev pub line_fault_line : List ℕ → LineFault → List ℕ
 line_fault_line name (line_faults.Form line) = numbered_line name line (codes "form")
 line_fault_line name (line_faults.Order line) = numbered_line name line (codes "order")
 
--- the line for a fault of the report `name`
+-- the error line for a fault of the report `name`
 abbrev pub named_fault_line : List ℕ → ReportFault → List ℕ
 named_fault_line name faults.TooLong = codes "bootaudit: " ++ (name ++ codes ": too long\n")
 named_fault_line name (faults.Line fault) = line_fault_line name fault
 
--- the line for a fault of the report
+-- the error line for a fault of a report
 abbrev pub report_fault_line : SavedReport → ReportFault → List ℕ
 report_fault_line report fault = named_fault_line (report_word report) fault
 
--- there is no cause, so this text is never written
+-- the text for a cause; the audit has none, so this text is never written
 abbrev pub impossible_cause_text : NoCause → List ℕ
 impossible_cause_text cause = []
 
--- the name of the report's file on the command line, empty if that is refused
+-- the name of the report's file on the command line, or the empty text if the command line is
+-- refused
 abbrev pub report_file_text : Option AuditArgsView → SavedReport → List ℕ
 report_file_text None report = []
 report_file_text (Some wanted) report = report_file_name wanted report

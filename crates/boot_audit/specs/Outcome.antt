@@ -19,8 +19,8 @@ use Rattle.boot_audit.specs.Reason.{AuditReason}
 use Rattle.boot_audit.specs.Verdicts.{verdict_on_lines}
 use Rattle.boot_audit.specs.Args.{AuditArgsView}
 
--- the lines of a report, from the bytes of its file (`None` if there is no such file), which may
--- be at most 512 MiB
+-- the lines of a report, from the bytes of its file (`None` if the file can't be read), or the
+-- reason why there are none; a file may have at most 512 MiB
 abbrev pub lines_in_file : {L : Type 0} → (ℕ → List ℕ → Option L) → (L → RangeView) → SavedReport → Option (List ℕ)
     → Result (List L) AuditReason
 lines_in_file form extent report None = Err (reasons.Unread report)
@@ -34,7 +34,7 @@ pub record SavedView : Type 0 where
   pub owners : List RangeView
   pub blocks : List BlockLineView
 
--- the lines of the three files, or the reason of the first that has none
+-- the lines of the three files, or the reason for the first file that gives none
 abbrev pub saved_in_files : FileContents → AuditArgsView → Result SavedView AuditReason
 saved_in_files held wanted = do
   map_lines ← lines_in_file map_line_in (λ l. l.range) reports.Map (held wanted.map_name)
@@ -42,7 +42,7 @@ saved_in_files held wanted = do
   blocks ← lines_in_file block_in bytes_of_block reports.Blocks (held wanted.blocks_name)
   Ok (record { map_lines = map_lines; owners = owners; blocks = blocks })
 
--- the verdict on these lines, for the width of the command line
+-- the verdict on these lines, for the width that the command line gives
 abbrev pub verdict_for_args : AuditArgsView → SavedView → Verdict
 verdict_for_args wanted lines = verdict_on_lines (address_limit_of wanted.width) lines.map_lines lines.owners lines.blocks
 

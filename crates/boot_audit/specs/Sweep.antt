@@ -1,4 +1,4 @@
--- The state of a byte, and of all bytes from an address on.
+-- Whether a byte fits the blocks, and what the sweep knows up to an address.
 use Rattle.std.specs.Prelude.{ℕ, ◌+◌, ◌*◌, ◌/◌, ◌<◌, ◌&&◌, Bool, not, nat_lt, if◌then◌else◌, List, [], ◌∷◌, Option, Some, None}
 use Rattle.std.specs.List.{list_any}
 use Rattle.bm_base.specs.Range.{RangeView, covers, end_of}
@@ -13,19 +13,19 @@ abbrev pub FirstEndsAbove : ℕ → List RangeView → Type 0
 FirstEndsAbove at [] = Unit {0}
 FirstEndsAbove at (r ∷ rs) = at < end_of r
 
--- the byte is in the range of a line that counts
+-- whether the byte is in the range of a line that the sweep considers
 abbrev pub is_in_relevant_line : {L : Type 0} → (L → Bool) → (L → RangeView) → List L → ℕ → Bool
 is_in_relevant_line counts extent lines x = list_any (λ l. counts l && covers (extent l) x) lines
 
--- the byte is in a block
+-- whether the byte is in a block
 abbrev pub is_byte_in_block : List BlockLineView → ℕ → Bool
 is_byte_in_block blocks x = list_any (λ b. covers (bytes_of_block b) x) blocks
 
--- the byte is below the limit, in memory, and has no owner
+-- whether the byte is free: below the limit, in memory, and without an owner
 abbrev pub is_free_byte : ℕ → List MapLine → List RangeView → ℕ → Bool
 is_free_byte limit map owners x = (nat_lt x limit && is_in_memory map x) && not (has_owner owners x)
 
--- the state of a byte that is free or not, and in a block or not
+-- the state of a byte; the arguments say whether the byte is free, and whether it is in a block
 abbrev pub byte_state_of : Bool → Bool → ByteState
 byte_state_of free in_block =
     if free then (if in_block then states.Sound else states.Lost) else (if in_block then states.NotFree else states.Sound)
@@ -39,13 +39,14 @@ abbrev pub first_whole_frame : ℕ → ℕ → Option ℕ
 first_whole_frame from until =
     if nat_lt until (4096 * ((from + 4095) / 4096) + 4096) then None else Some ((from + 4095) / 4096)
 
--- the first of two frames that were found one after the other
+-- the frame found so far, or else the one found next
 abbrev pub or_first : Option ℕ → Option ℕ → Option ℕ
 or_first None found = found
 or_first (Some frame) found = Some frame
 
--- the first lost frame, and the address from which all bytes up to `until` are lost. `lost` and
--- `from` are these two before a piece of bytes of one state, which ends at `until`.
+-- The first lost frame so far, and the address from which all bytes up to `until` are lost. The
+-- arguments are these two values before a piece of bytes of one state, and the address `until` at
+-- which the piece ends.
 abbrev pub advance_lost_frame : Option ℕ → ℕ → ℕ → ByteState → Option ℕ × ℕ
 advance_lost_frame lost from until states.Lost = (or_first lost (first_whole_frame from until), from)
 advance_lost_frame lost from until states.Sound = (lost, until)

@@ -1,4 +1,4 @@
--- The verdict on saved reports: the first fault, of five kinds.
+-- The verdict on saved reports: sound, or the first fault. Faults are of five kinds.
 use Rattle.std.specs.Prelude.{ℕ, zero, suc, ◌+◌, ◌^◌, ◌<◌, ◌&&◌, Bool, not, if◌then◌else◌, List, [], ◌∷◌, Option, Some, None}
 use Rattle.bm_base.specs.Range.{RangeView}
 use Rattle.bm_base.specs.Width.{address_limit_of}
@@ -10,12 +10,12 @@ use Rattle.boot_audit.specs.declared.judgement.Verdict.{Verdict}
 use Rattle.boot_audit.specs.declared.judgement.Verdict.TheVariants as verdicts
 use Rattle.boot_audit.specs.Frames.{could_merge, is_in_a_block, is_aligned, is_in_zone, is_untouched, is_usable}
 
--- the number of the first line that passes the test; the first of these lines has number n
+-- the number of the first line whose block passes the test; lines are numbered from `n` on
 abbrev pub first_line_passing : (BlockLineView → Bool) → ℕ → List BlockLineView → Option ℕ
 first_line_passing p n [] = None
 first_line_passing p n (b ∷ bs) = if p b then Some n else first_line_passing p (n + 1) bs
 
--- the number found so far if there is one, else n if it passes the test
+-- the number found so far, or else `n` if it passes the test
 abbrev pub or_this : ℕ → Bool → Option ℕ → Option ℕ
 or_this n passes (Some m) = Some m
 or_this n passes None = if passes then Some n else None
@@ -29,19 +29,20 @@ least_below p (suc n) = or_this n (p n) (least_below p n)
 abbrev pub least_frame : (ℕ → Bool) → Option ℕ
 least_frame p = least_below p (2 ^ 40)
 
--- the frame is usable and untouched
+-- whether the frame is free: usable and untouched
 abbrev pub is_free : ℕ → List MapLine → List RangeView → ℕ → Bool
 is_free limit map owners frame = is_usable limit map frame && is_untouched owners frame
 
--- the frame is in a block, but not free
+-- whether the frame is in a block, but not free
 abbrev pub is_in_block_but_not_free : ℕ → List MapLine → List RangeView → List BlockLineView → ℕ → Bool
 is_in_block_but_not_free limit map owners blocks frame = is_in_a_block blocks frame && not (is_free limit map owners frame)
 
--- the frame is free, but in no block
+-- whether the frame is lost: free, but in no block
 abbrev pub is_lost : ℕ → List MapLine → List RangeView → List BlockLineView → ℕ → Bool
 is_lost limit map owners blocks frame = is_free limit map owners frame && not (is_in_a_block blocks frame)
 
--- the verdict that names the first fault found, in the order of the arguments
+-- the verdict for the first kind of fault that was found. There is one argument for each kind, in
+-- the order of the kinds: the line or the frame with the fault, if there is one.
 abbrev pub verdict_of_faults : Option ℕ → Option ℕ → Option ℕ → Option ℕ → Option ℕ → Verdict
 verdict_of_faults (Some line) misplaced taken lost parted = verdicts.Misaligned line
 verdict_of_faults None (Some line) taken lost parted = verdicts.WrongZone line
@@ -50,7 +51,7 @@ verdict_of_faults None None None (Some frame) parted = verdicts.Lost frame
 verdict_of_faults None None None None (Some line) = verdicts.NotMaximal line
 verdict_of_faults None None None None None = verdicts.Sound
 
--- the verdict on lines of the three reports, for addresses below the limit
+-- the verdict on lines of the three reports, for physical addresses below the limit
 abbrev pub verdict_on_lines : ℕ → List MapLine → List RangeView → List BlockLineView → Verdict
 verdict_on_lines limit map owners blocks =
     verdict_of_faults
@@ -60,11 +61,11 @@ verdict_on_lines limit map owners blocks =
     (least_frame (is_lost limit map owners blocks))
     (first_line_passing (could_merge blocks) 1 blocks)
 
--- the verdict on the saved lines
+-- the verdict on saved lines, for physical addresses of this width
 abbrev pub verdict_on_saved : Saved → Width → Verdict
 verdict_on_saved saved width = verdict_on_lines (address_limit_of width) saved.map.items saved.owners.items saved.blocks.items
 
--- if the verdict has a frame, it is below 2^40
+-- the frame that the verdict names, if it names one, is below 2^40
 abbrev pub HasFrameInSpace : Verdict → Type 0
 HasFrameInSpace (verdicts.NotFree frame) = frame < 2 ^ 40
 HasFrameInSpace (verdicts.Lost frame) = frame < 2 ^ 40

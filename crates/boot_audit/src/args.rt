@@ -8,7 +8,8 @@ ghost use Rattle.boot_audit.specs.View.{audit_args_view};
 use crate::failure::SavedReport;
 use bm_base::Width;
 
-/// What an accepted command line gives: the width of addresses and the names of three files.
+/// What an accepted command line gives: the width of physical addresses and the names of three
+/// files.
 #[derive(Clone, Copy)]
 pub struct AuditArgs<'w> {
     /// The width of physical addresses: 52 bits with `--la57`, else 46.
@@ -66,7 +67,7 @@ fn three_file_names(width: Width, words: &[String]) -> Option<AuditArgs<'_>>
     })
 }
 
-/// Returns whether the word can be a file's name: it doesn't begin with `-`. The empty word can.
+/// Tests whether the word can be a file name: it doesn't begin with `-`. The empty word can.
 fn is_file_word(word: &str) -> bool
     ensures { result ≡ is_file_word word.now }
 {

@@ -8,7 +8,8 @@ ghost use Rattle.bm_base.specs.Range.{end_of};
 use audit_lines::BlockLine;
 use bm_base::{FRAME_SIZE, Zone, zone_of};
 
-/// Returns the first line, counted from 1, whose block isn't at a multiple of its size.
+/// Returns the number of the first line, counted from 1, whose block isn't at a multiple of its
+/// size.
 pub fn first_misaligned(blocks: &[BlockLine]) -> Option<u32>
     requires { length blocks.now < 2 ^ 32 }
     ensures { result ≡ first_line_passing (λ b. not (is_aligned b)) 1 blocks.now }
@@ -21,7 +22,7 @@ pub fn first_misaligned(blocks: &[BlockLine]) -> Option<u32>
     None
 }
 
-/// Returns the first line, counted from 1, whose block has a frame outside its zone.
+/// Returns the number of the first line, counted from 1, whose block has a frame outside its zone.
 pub fn first_in_wrong_zone(blocks: &[BlockLine]) -> Option<u32>
     requires { length blocks.now < 2 ^ 32 }
     ensures { result ≡ first_line_passing (λ b. not (is_in_zone b)) 1 blocks.now }
@@ -40,8 +41,8 @@ fn is_aligned(block: &BlockLine) -> bool
     block.at % (FRAME_SIZE << block.order) == 0
 }
 
-/// Returns whether each frame of the block is in its zone. Zones are intervals, so it is enough to
-/// test the first and the last frame.
+/// Tests whether each frame of the block is in its zone. Each zone is one range of frames, so it is
+/// enough to test the first and the last frame.
 fn is_in_zone(block: &BlockLine) -> bool
     ensures { result ≡ is_in_zone block.now }
 {
@@ -50,7 +51,7 @@ fn is_in_zone(block: &BlockLine) -> bool
     same_zone(zone_of(first), block.zone) && same_zone(zone_of(last), block.zone)
 }
 
-/// Returns whether the two zones are the same.
+/// Tests whether the two zones are the same.
 pub fn same_zone(first: Zone, second: Zone) -> bool
     ensures { result ≡ same_zone first second }
 {

@@ -10,15 +10,15 @@ use audit_lines::LineFault;
 /// A saved report. The audit reads them in this order.
 #[derive(Clone, Copy, Debug, PartialEq, Eq)]
 pub enum SavedReport {
-    /// The map of memory after the boot has accepted it.
+    /// The map of memory that the boot accepted.
     Map,
-    /// The reserved memory that has an owner.
+    /// The ranges of memory that have an owner.
     Owners,
     /// The free blocks of the page allocator.
     Blocks,
 }
 
-/// A fault of a saved report.
+/// What is wrong with a saved report.
 #[derive(Clone, Copy, Debug, PartialEq, Eq)]
 pub enum ReportFault {
     /// The file contains more than 536,870,912 bytes.
@@ -27,7 +27,7 @@ pub enum ReportFault {
     Line(LineFault),
 }
 
-/// An empty type: well-formed reports always have a verdict.
+/// An empty type: the audit has no cause of its own to end without a verdict.
 #[derive(Clone, Copy)]
 pub enum NoCause {}
 
@@ -41,7 +41,7 @@ pub type NoVerdict = program_end::NoResult<AuditReason>;
 pub type Failure = program_end::Failure<AuditReason>;
 
 impl SavedReport {
-    /// Returns the report's name on the error output.
+    /// Returns the report's name in error lines.
     pub fn report_word(self) -> &'static str
         ensures { result.now ≡ report_word self }
     {

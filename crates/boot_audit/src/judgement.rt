@@ -26,29 +26,29 @@ pub enum Verdict {
     Misaligned { line: u32 },
     /// The first line whose block has a frame outside its zone.
     WrongZone { line: u32 },
-    /// The least frame in a block that isn't usable or is touched.
+    /// The lowest frame that is in a block but not free: it isn't usable, or it is touched.
     NotFree { frame: u64 },
-    /// The least frame that is usable, untouched and in no block.
+    /// The lowest frame that is usable and untouched, but in no block.
     Lost { frame: u64 },
     /// The first line whose block could merge: its order is below 10, and blocks of its node and
-    /// zone cover its parent.
+    /// zone cover its parent, which is the block together with its buddy.
     NotMaximal { line: u32 },
 }
 
 /// The lines of the three reports of one boot. In each report they are ascending and disjoint.
 #[derive(Debug, Drop)]
 pub struct Saved {
-    /// The map of memory after the boot has accepted it.
+    /// The lines of the report `map`.
     pub map: Vec<MapLine>,
-    /// The reserved memory that has an owner.
+    /// The ranges in the report `owners`.
     pub owners: Vec<Range>,
-    /// The free blocks of the page allocator.
+    /// The lines of the report `blocks`.
     pub blocks: Vec<BlockLine>,
 }
 
 /// Returns the verdict on saved reports, for physical addresses of this width: `Sound`, or the
-/// first fault, in the order of the other variants of [`Verdict`]. Allocates nothing, so the result
-/// is always `Ok`. A frame in the verdict is below 2^40.
+/// first fault. Kinds of faults are tried in the order of the variants of [`Verdict`]. Allocates
+/// nothing, so the result is always `Ok`. A frame in the verdict is below 2^40.
 pub fn judge(saved: &Saved, width: Width) -> Result<Verdict, Memory>
     requires map_order { AscendApart (map (λ l. l.range) saved.now.map.items) }
     requires owner_order { AscendApart (map (λ r. r) saved.now.owners.items) }

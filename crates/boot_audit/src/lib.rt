@@ -1,5 +1,5 @@
-//! Audits saved reports: was memory conserved, by the reports `map`, `owners` and `blocks` of one
-//! boot?
+//! Audits saved reports: do the reports `map`, `owners` and `blocks` of one boot show that memory
+//! was conserved?
 //!
 //! A frame is *usable* if all its bytes are memory (type 1 or 128) below the limit of addresses,
 //! and *touched* if one of its bytes has an owner. Memory was *conserved* if each usable frame is

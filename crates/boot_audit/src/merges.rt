@@ -2,9 +2,10 @@
 //! twice as many frames that contains it. A block could merge if blocks of its node and zone cover
 //! the whole parent.
 //!
-//! The blocks are ascending and disjoint. For each block the loop keeps the first frame of the run
-//! that ends with it: blocks of its node and zone without a gap. The frames after the block are
-//! covered by the next blocks, which are read up to the parent's end.
+//! The blocks are ascending and disjoint. A *run* consists of blocks of one node and zone without
+//! a gap between them. For each block the loop knows the first frame of the run that ends with
+//! this block. To see whether the frames after the block are covered, the loop reads the next
+//! blocks up to the parent's end.
 
 ghost use Rattle.std.specs.Prelude.{◌≡◌, ◌+◌, ◌^◌, ◌<◌, length, map};
 ghost use Rattle.audit_lines.specs.Lines.{AscendApart};
@@ -16,8 +17,8 @@ ghost use Rattle.bm_base.specs.Range.{end_of};
 use crate::blocks::{end_frame, first_frame, same_zone};
 use audit_lines::BlockLine;
 
-/// Returns the first line, counted from 1, whose block could merge: its order is below 10, and
-/// blocks of its node and zone cover its parent.
+/// Returns the number of the first line, counted from 1, whose block could merge: its order is
+/// below 10, and blocks of its node and zone cover its parent.
 pub fn first_mergeable(blocks: &[BlockLine]) -> Option<u32>
     requires order { AscendApart (map frames_of_block blocks.now) }
     requires few { length blocks.now < 2 ^ 32 }
@@ -35,9 +36,8 @@ pub fn first_mergeable(blocks: &[BlockLine]) -> Option<u32>
     None
 }
 
-/// Returns the first frame of the run of blocks of one node and zone, without a gap, that ends
-/// with `block`. `last` is the block before, and `from` the first frame of the run that ends with
-/// it.
+/// Returns the first frame of the run that ends with `block`: blocks of one node and zone without a
+/// gap. `last` is the block before, and `from` is the first frame of the run that ends with `last`.
 fn run_start(last: Option<BlockLine>, from: u64, block: &BlockLine) -> u64
     ensures { result ≡ run_start last from block.now }
 {
@@ -47,21 +47,21 @@ fn run_start(last: Option<BlockLine>, from: u64, block: &BlockLine) -> u64
     }
 }
 
-/// Returns whether `block` begins where `before` ends and has the same node and zone.
+/// Tests whether `block` begins where `before` ends, and has the same node and zone.
 fn is_next_in_run(before: &BlockLine, block: &BlockLine) -> bool
     ensures { result ≡ is_next_in_run before.now block.now }
 {
     end_frame(before) == first_frame(block) && are_of_one_zone(before, block)
 }
 
-/// Returns whether the blocks have the same node and zone.
+/// Tests whether the blocks have the same node and zone.
 fn are_of_one_zone(first: &BlockLine, second: &BlockLine) -> bool
     ensures { result ≡ are_of_one_zone first.now second.now }
 {
     first.node == second.node && same_zone(first.zone, second.zone)
 }
 
-/// Returns whether the block could merge with its buddy. `from` is the first frame of the run that
+/// Tests whether the block could merge with its buddy. `from` is the first frame of the run that
 /// ends with the block, and `others` are the blocks after it.
 fn could_merge_after_run(from: u64, block: &BlockLine, others: &[BlockLine]) -> bool
     ensures { result ≡ could_merge_after_run from block.now others.now }
@@ -75,8 +75,8 @@ fn could_merge_after_run(from: u64, block: &BlockLine, others: &[BlockLine]) -> 
     from <= parent && is_covered_up_to(block, parent + size, others)
 }
 
-/// Returns whether `others` cover all frames from the block's end up to frame `until`, without a
-/// gap and with blocks of its node and zone.
+/// Tests whether the blocks `others` cover all frames from the end of `block` up to frame `until`,
+/// without a gap. A block of another node or zone covers nothing.
 fn is_covered_up_to(block: &BlockLine, until: u64, others: &[BlockLine]) -> bool
     ensures { result
         ≡ is_covered_up_to block.now (end_of (frames_of_block block.now)) until others.now }

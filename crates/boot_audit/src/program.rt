@@ -53,8 +53,8 @@ use std::alloc::Global;
 /// `out` in one piece. With 2, 3 and 5 nothing is written to `out`; with 4 and 7 it may have the
 /// first part of the text.
 ///
-/// `holds` gives what each file contains, if the type of `files` knows it. If it is `None`, the
-/// clauses on `audit_outcome` say nothing.
+/// The ghost `holds` says what each file contains, if the type of `files` knows it. If it is
+/// `None`, the clauses on `audit_outcome` say nothing.
 pub fn audit<F: Files, S: Sink, E: Sink>(
     alloc: Global,
     words: &[String],
@@ -70,8 +70,8 @@ pub fn audit<F: Files, S: Sink, E: Sink>(
         (read_audit_args (map string_bytes words.now)) report }
     ensures unwritten { result ≡ 4 → Rose (S.faults out.old) (S.faults out.new) }
 
-    // What stays as it was, even if the files' contents are unknown: the files if the command line
-    // is refused, and `out` if there is no verdict.
+    // What stays as it was, even if the files' contents are unknown. If the command line is
+    // refused, the files stay. If there is no verdict, `out` stays.
     ensures unfetched { IsNone (read_audit_args (map string_bytes words.now))
         → files.new ≡ files.old }
     ensures early { (result ≡ 2) ⊎ (result ≡ 3) ⊎ (result ≡ 5) → out.new ≡ out.old }
@@ -112,8 +112,8 @@ pub fn audit<F: Files, S: Sink, E: Sink>(
         ⊎ IsOkAnd (audit_outcome (read_audit_args (map string_bytes words.now)) held)
         (λ verdict. AppendsFront (S.written out.old) (S.written out.new) (verdict_text verdict))) }
 
-    // If no counter of faults rose, of `out` or of a file, a verdict of the outcome is written
-    // unless the program is out of memory.
+    // If no counter of faults rose, neither of `out` nor of a file, and the outcome is a verdict,
+    // the verdict is written unless the program runs out of memory.
     ensures complete { IfSome (F.holds files.old) (λ held. (verdict : AnyVerdict)
         → audit_outcome (read_audit_args (map string_bytes words.now)) held ≡ Ok verdict
         → ¬ Rose (S.faults out.old) (S.faults out.new)
@@ -122,8 +122,8 @@ pub fn audit<F: Files, S: Sink, E: Sink>(
         (read_audit_args (map string_bytes words.now)) report)
         → (result ≡ verdict_status verdict) ⊎ (result ≡ 7)) }
 
-    // What `err` has: nothing with a verdict, else the line for a failure with this status. The
-    // failure has its cause and fits the outcome.
+    // What `err` has: nothing if there is a verdict, else the line for a failure with this status.
+    // The cause of this failure did occur, and the failure fits the outcome.
     ensures silent { (result ≡ 0) ⊎ (result ≡ 8) → err.new ≡ err.old }
     ensures line { result ≢ 0 → result ≢ 8 → (failure : AnyFailure AnyReason)
         × (result ≡ failure_status failure)
@@ -141,7 +141,7 @@ pub fn audit<F: Files, S: Sink, E: Sink>(
     exit_status(end)
 }
 
-/// Writes the verdict, once its whole text is made. Returns its exit status.
+/// Writes the verdict after its whole text is made. Returns its exit status.
 fn write_verdict<F: Files, S: Sink>(
     alloc: Global,
     names: &Option<AuditArgs<'_>>,

@@ -1,9 +1,9 @@
 //! Finds the first byte that is in a block but not free, and the first frame that is lost, by one
 //! sweep over the three lists.
 //!
-//! A byte is *free* if it is below the limit, in memory and has no owner. At each address, the
+//! A byte is *free* if it is below the limit, in memory and without an owner. At each address, the
 //! first remaining line of each list decides for all bytes up to the next address at which a line
-//! begins or ends. So the sweep makes no list of free memory, and takes no step per frame.
+//! begins or ends. The sweep therefore needs no list of free memory, and no step for each frame.
 
 ghost use Rattle.std.specs.Prelude.{◌≡◌, ◌^◌, ◌<◌, ◌≤◌, ◌&&◌, Bool, true, not, nat_lt, ℕ, map, None, IsNone};
 ghost use Rattle.audit_lines.specs.Blocks.{bytes_of_block};
@@ -31,7 +31,7 @@ pub enum ByteState {
     Lost,
 }
 
-/// The faulty frames that the sweep found. At most one of the fields has a frame.
+/// The first faults of frames that the sweep found. At most one of the fields has a frame.
 #[derive(Clone, Copy)]
 pub struct FrameFaults {
     /// The least frame that is in a block but not free.
@@ -123,15 +123,17 @@ impl RangeLine for BlockLine {
     }
 }
 
-/// Whether the bytes from some address up to address `until` are in a line that counts.
+/// Whether the bytes from some address up to address `until` are in a line that the sweep
+/// considers.
 #[derive(Clone, Copy)]
 struct Coverage {
     inside: bool,
     until: u64,
 }
 
-/// Returns whether the address `at` is in a line that counts, and the next address at which that
-/// may change. The first line must end above `at`. Since the lines ascend, only that one matters.
+/// Returns whether the address `at` is in a line that the sweep considers, and the next address at
+/// which this may change. The first line must end above `at`. Lines ascend, so only the first one
+/// matters.
 fn coverage_at<L: RangeLine>(lines: &[L], at: u64) -> Coverage
     requires order { AscendApart (map L.extent lines.now) }
     requires behind { FirstEndsAbove at (map L.extent lines.now) }
@@ -159,7 +161,7 @@ fn coverage_at<L: RangeLine>(lines: &[L], at: u64) -> Coverage
     }
 }
 
-/// Returns the lines without those at the beginning that end at or below address `at`.
+/// Returns the lines without those at the beginning of the list that end at or below address `at`.
 fn skip_lines_below<L: RangeLine>(lines: &[L], at: u64) -> &[L]
     requires { AscendApart (map L.extent lines.now) }
     ensures order { AscendApart (map L.extent result.now) }
@@ -184,7 +186,8 @@ struct StateRun {
     until: u64,
 }
 
-/// Returns whether the bytes from address `at` on are below the limit, and how far that is so.
+/// Returns whether the bytes from address `at` on are below the limit, and the address up to which
+/// this stays true or false.
 fn coverage_below_limit(limit: u64, at: u64) -> Coverage
     requires { at < 2 ^ 52 }
     ensures forward { at < result.until }
@@ -222,8 +225,8 @@ fn byte_state_of(free: bool, in_block: bool) -> ByteState
     }
 }
 
-/// Returns the state of the bytes from address `at` on, and how far it stays the same. In each
-/// list the first line must end above `at`.
+/// Returns the state of the bytes from address `at` on, and the address up to which they all have
+/// it. In each list the first line must end above `at`.
 fn state_run_from(
     limit: u64,
     runs: &[MapLine],
@@ -283,9 +286,9 @@ fn advance_lost_frame(lost: Option<u64>, from: u64, piece: StateRun) -> (Option<
     (lost, piece.until)
 }
 
-/// Returns the least frame that is in a block but not free. Only if there is none, returns the
-/// least frame that is lost: free, but in no block. Frames are free only below the address `limit`.
-/// The blocks must be aligned.
+/// Returns the least frame that is in a block but not free. If there is none, returns the least
+/// lost frame: free, but in no block. Free frames lie below the address `limit`. The blocks must be
+/// aligned.
 pub fn sweep(saved: &Saved, limit: u64) -> FrameFaults
     requires map_order { AscendApart (map (λ l. l.range) saved.now.map.items) }
     requires owner_order { AscendApart (map (λ r. r) saved.now.owners.items) }

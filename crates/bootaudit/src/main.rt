@@ -1,5 +1,5 @@
-//! `bootaudit`: whether memory was conserved, by the saved reports `map`, `owners` and `blocks` of
-//! one boot.
+//! `bootaudit`: checks whether memory was conserved, by the saved reports `map`, `owners` and
+//! `blocks` of one boot.
 //!
 //! The program reads three reports in the form in which `bootmem` prints them; any other program
 //! may have written them. It prints `sound`, or the first fault: `bootaudit [--la57] MAP OWNERS
@@ -10,8 +10,9 @@
 //!
 //! Exit statuses: 0, memory was conserved; 8, it wasn't; 2, the command line isn't accepted; 3, a
 //! file couldn't be read; 4, the output failed; 5, a report has a fault; 7, out of memory. With 0
-//! and 8 nothing is put to the error output, with the others one line. If `main` can't collect the
-//! command line, it returns without a line: 2 for a word that isn't UTF-8, and 7 if out of memory.
+//! and 8 nothing is written to the error output, with the others one line. If `main` can't collect
+//! the command line, it returns without a line: 2 for a word that isn't UTF-8, and 7 if out of
+//! memory.
 #![tactic(auto)]
 
 use bm_io::{RealFiles, StdSink};

@@ -1,4 +1,4 @@
--- The boot can be printed as lines, by the runs that were read.
+-- The boot is printable, since each run of its map and of its owners was read.
 use Rattle.std.proofs.Common.{ℕ, List, Some, subst}
 use Rattle.std.specs.List.{All}
 use Rattle.address_runs.specs.Runs.{IsRunsOf, RunOf}

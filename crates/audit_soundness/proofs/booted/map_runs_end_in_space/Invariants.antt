@@ -1,4 +1,4 @@
--- The runs so far end below 2^64; so all do if the remaining ones do.
+-- The runs so far end below 2^64, so all runs do if the remaining ones do.
 use Rattle.std.proofs.Common.{drop}
 use Rattle.std.specs.List.{All}
 use Rattle.audit_soundness.specs.PrintableBoots.{RunEndsInSpace}

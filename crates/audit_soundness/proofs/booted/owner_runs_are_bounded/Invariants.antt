@@ -1,4 +1,5 @@
--- The runs so far end below 2^64, with numbers of 32 bits; so all do if the remaining ones do.
+-- The runs so far end below 2^64 and have numbers of 32 bits, so all runs do if the remaining ones
+-- do.
 use Rattle.std.proofs.Common.{drop}
 use Rattle.std.specs.List.{All}
 use Rattle.audit_soundness.specs.PrintableBoots.{IsBoundedOwnerRun}

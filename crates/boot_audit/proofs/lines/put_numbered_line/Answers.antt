@@ -1,4 +1,4 @@
--- The chunks that are put make up the line.
+-- The chunks that are written make up the line.
 use Rattle.boot_audit.proofs.lines.put_numbered_line.Goals as goal
 
 pub returns : goal.returns

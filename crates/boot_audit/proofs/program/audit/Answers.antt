@@ -1,4 +1,4 @@
--- The clauses about the headline and the line follow from how the end fits the outcome.
+-- The clauses on the headline and on the error line follow from how the run's end fits the outcome.
 use Rattle.std.specs.Option.{option_map}
 use Rattle.program_end.proofs.EndLaws.{failure_status_has_line}
 use Rattle.boot_audit.specs.Audit.{bootaudit}
