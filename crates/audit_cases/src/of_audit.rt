@@ -67,7 +67,7 @@ const BLOCKS: [&str; 31] = [
     "node 0 zone DMA32 order 0 0x0000000007fae000\n",
 ];
 
-/// The end of an audit: the status, the output and the error output.
+/// How an audit ended: the status, the output and the error output.
 #[derive(Drop)]
 struct Ended {
     status: u8,
@@ -76,8 +76,8 @@ struct Ended {
 }
 
 impl Ended {
-    /// Returns whether the audit ended with this status, this text on the output and this line on
-    /// the error output.
+    /// Tests whether the audit ended with this status, this text on the output and this line on the
+    /// error output.
     fn is(&self, status: u8, text: &str, line: &str) -> bool {
         self.status == status
             && self.out.written_bytes() == text.as_bytes()
@@ -91,7 +91,8 @@ type Change<'a> = (&'a str, usize, &'a str);
 /// No line is changed.
 const SAME: Change<'static> = ("", 0, "");
 
-/// Returns the file of the report `name`, with the change if it is one of this report.
+/// Returns a file with these lines of the report `name`. If the change is for this report, its line
+/// is replaced.
 fn file(alloc: Global, name: &str, lines: &[&str], change: Change<'_>) -> Result<MemFile, Fail>
     ensures { IfOk result (λ file. string_bytes file.name ≡ name.now) }
 {
@@ -120,8 +121,8 @@ fn files_of(alloc: Global, change: Change<'_>) -> Result<Vec<MemFile>, Fail>
     Ok(vec![in alloc; map, owners, blocks]?)
 }
 
-/// Audits with these words. `failing` has the numbers of the calls that fail: of fetches, of puts
-/// to the output, and of puts to the error output.
+/// Audits with these words. `failing` has the numbers of the calls that fail: of fetches, of writes
+/// to the output, and of writes to the error output.
 fn audit_on(
     alloc: Global,
     words: &[&str],
@@ -150,7 +151,7 @@ const NONE: [&[u64]; 3] = [&[], &[], &[]];
 /// output and error output.
 type Row<'a> = (&'a [&'a str], [&'a [u64]; 3], u8, &'a str, &'a str);
 
-/// Runs an audit for each row and compares its end.
+/// Runs an audit for each row and compares how it ended.
 fn compare(rt: &impl Abort, alloc: Global, rows: &[Row<'_>]) -> Result<(), Fail> {
     for (words, failing, status, text, error) in rows {
         let ended = audit_on(alloc, words, SAME, *failing)?;
@@ -227,7 +228,7 @@ fn what_fails(rt: HostRuntime) -> Result<(), Fail> {
             "sou",
             "bootaudit: cannot write\n",
         ),
-        // the verdict is put in one chunk, so there is no second put
+        // the verdict is written in one chunk, so there is no second write
         (&NAMED, [&[], &[2], &[]], 0, "sound\n", ""),
         (&NAMED, [&[], &[1], &[1]], 4, "sou", "boot"),
         (
@@ -257,7 +258,7 @@ fn compare_changes(
 
 #[test]
 fn verdicts(rt: HostRuntime) -> Result<(), Fail> {
-    // the block of order 9 at 2 MiB cut in two, of one node and of two
+    // the block of order 9 at 2 MiB, cut into two blocks of one node, and of two nodes
     let halves =
         "node 0 zone DMA order 8 0x0000000000200000\nnode 0 zone DMA order 8 0x0000000000300000\n";
     let of_two =

@@ -1,12 +1,12 @@
-//! The readers, and the verdict on the three reports of a machine of eight frames, with one line
-//! changed at a time.
+//! The readers of reports, and the verdict on the three reports of a machine of eight frames. Each
+//! case changes one line.
 
 use audit_lines::{BlockLine, LineFault, MapLine, ReadError, read_report};
 use bm_base::{Range, Width};
 use boot_audit::{Saved, Verdict, judge};
 use std::alloc::Global;
 
-/// Returns the verdict on three reports, `None` if one of them has a fault.
+/// Returns the verdict on three reports, or `None` if one of them has a fault.
 fn verdict_on(alloc: Global, runs: &[u8], owners: &[u8], blocks: &[u8]) -> Option<Verdict> {
     let Ok(map) = read_report::<MapLine>(alloc, runs) else {
         return None;
@@ -31,7 +31,7 @@ fn verdict_on(alloc: Global, runs: &[u8], owners: &[u8], blocks: &[u8]) -> Optio
     .ok()
 }
 
-/// Returns the fault of a report, `None` if it is well-formed.
+/// Returns the fault of a report, or `None` if it is well-formed.
 fn fault_of<L: audit_lines::ReportLine>(alloc: Global, bytes: &[u8]) -> Option<LineFault> {
     match read_report::<L>(alloc, bytes) {
         Err(ReadError::Fault(fault)) => Some(fault),

@@ -5,7 +5,7 @@ use crate::ranges::between;
 use srat_reader::{Srat, SratBlock};
 use std::alloc::{AllocError, Global};
 
-/// Returns a block of addresses from `from` to below `until`, in this domain.
+/// Returns a block of the SRAT: the addresses from `from` to below `until`, in this domain.
 pub fn block(domain: u32, from: u64, until: u64) -> SratBlock
     requires { from ≤ until }
 {
@@ -15,7 +15,7 @@ pub fn block(domain: u32, from: u64, until: u64) -> SratBlock
     }
 }
 
-/// Returns a table with the domains of these processors, and with these blocks.
+/// Returns a SRAT with these processors, each given by its domain, and with these blocks.
 pub fn table(alloc: Global, processors: &[u32], blocks: &[SratBlock]) -> Result<Srat, AllocError>
     ensures { IfOk result (λ srat. length srat.blocks.items ≡ length blocks.now) }
 {

@@ -2,9 +2,8 @@
 //! addresses, the tables, the search, the stages, free frames, and the texts of all of these.
 //!
 //! Each module has the cases of the crate that it is named after. It calls that crate as any other
-//! crate does, by its public names, and knows only what the contracts say. The tests of a crate
-//! are proved with the crate. So tests that need no more than its contracts are here, and proving
-//! a crate doesn't repeat them.
+//! crate does, by its public names, and knows only what the contracts say. Tests in a crate are
+//! proved again each time the crate is. Tests that need only its contracts are therefore here.
 #![tactic(auto)]
 
 #[cfg(test)]

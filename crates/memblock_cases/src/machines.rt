@@ -1,5 +1,5 @@
-//! Builds machines on which something has happened: the kernel's image is claimed, and there is
-//! memory.
+//! Builds machines for the cases: memblocks in which the kernel's image is claimed, and memory is
+//! added.
 ghost use Rattle.std.specs.Prelude.{◌<◌, IsTrue};
 ghost use Rattle.growth_model.specs.Tables.{HasFirstItem, IsKernelImage};
 
@@ -10,20 +10,20 @@ use memblock_model::Owner;
 use std::alloc::Global;
 use std::test::Fail;
 
-/// 128 MiB.
+/// The addresses below 128 MiB.
 pub const MEMORY: Range = Range {
     base: 0,
     size: 0x800_0000,
 };
 
-/// Tests whether the journal has an item, as most calls require.
+/// Tests whether the journal has an item (`HasFirstItem`), which most calls of a memblock require.
 pub fn has_begun(memblock: &Memblock) -> bool
     ensures { IsTrue result → HasFirstItem memblock.now.journal.items }
 {
     memblock.journal().items().len() > 0
 }
 
-/// Returns a machine about which nothing is known except the range of its kernel.
+/// Returns a memblock in which only the kernel's image, `kernel`, is claimed. No memory is known.
 pub fn memblock_with_kernel(alloc: Global, kernel: Range) -> Result<Memblock, Refusal>
     requires image { IsKernelImage kernel }
     requires some { 0 < kernel.size }
@@ -33,8 +33,8 @@ pub fn memblock_with_kernel(alloc: Global, kernel: Range) -> Result<Memblock, Re
     Ok(memblock)
 }
 
-// Adds the part to memory and gives it its node. Returns false if it can't be added, or can't get
-// the node.
+// Adds the part to memory and gives it its node. Returns false if a call's requirements don't
+// hold.
 fn add(memblock: &mut Memblock, part: Part) -> Result<bool, Refusal> {
     let (from, until, node) = part;
     let Some(range) = Range::between(from, until) else {
@@ -51,7 +51,7 @@ fn add(memblock: &mut Memblock, part: Part) -> Result<bool, Refusal> {
     Ok(true)
 }
 
-/// Returns a machine with its kernel in this range, and with this memory.
+/// Returns a memblock with the kernel's image in this range, and with this memory.
 pub fn machine(alloc: Global, kernel: Range, memory: &[Part]) -> Result<Memblock, Fail>
     requires image { IsKernelImage kernel }
     requires some { 0 < kernel.size }
@@ -65,7 +65,7 @@ pub fn machine(alloc: Global, kernel: Range, memory: &[Part]) -> Result<Memblock
     Ok(memblock)
 }
 
-/// Sets the limit of allocations.
+/// Sets the limit of allocations; fails if nothing has been claimed yet.
 pub fn limit(memblock: &mut Memblock, at: u64) -> Result<(), Fail> {
     if !has_begun(memblock) {
         return Err("nothing has happened".into());
@@ -74,7 +74,8 @@ pub fn limit(memblock: &mut Memblock, at: u64) -> Result<(), Fail> {
     Ok(())
 }
 
-/// Returns a machine with 128 MiB of memory without a node, and with this limit of allocations.
+/// Returns a memblock with 128 MiB of memory without a node, and with this limit of allocations.
+/// The kernel's image is `KERNEL`.
 pub fn bare(alloc: Global, at: u64) -> Result<Memblock, Fail> {
     let mut memblock = memblock_with_kernel(alloc, KERNEL)?;
     if has_begun(&memblock) {

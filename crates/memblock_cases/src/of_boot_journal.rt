@@ -8,7 +8,8 @@ use std::alloc::Global;
 use std::process::Abort;
 use std::test::Fail;
 
-// Adds one byte less than three frames of memory; the upper half of the second frame is of node 1.
+// Adds memory that is one byte short of three frames. The upper half of the second frame is of
+// node 1.
 fn add_memory(journal: &mut Journal) -> Result<(), Memory> {
     journal.push(Item::Mem {
         range: bytes(0, 0x2FFF),
@@ -19,7 +20,7 @@ fn add_memory(journal: &mut Journal) -> Result<(), Memory> {
     })
 }
 
-// Adds memory that has a node again, with more after it, and then trims.
+// Gives node 3 to the memory below 0x4000, adds the rest of these addresses as memory, and trims.
 fn add_more(journal: &mut Journal) -> Result<(), Memory> {
     journal.push(Item::Node {
         range: bytes(0, 0x4000),
@@ -42,8 +43,8 @@ fn compare_tags(rt: &impl Abort, journal: &Journal, rows: &[(u64, Tag)]) {
     }
 }
 
-// The frames from address 0 on, before the first trim: a whole one, one of two tags, and one that
-// is a byte short.
+// The frames from address 0 on, before the first trim: a whole frame, a frame with two tags, and
+// one that is a byte short.
 //
 //     0x0        0x1000     0x2000     0x3000
 //     |..........|....11111|.........  |
@@ -69,7 +70,7 @@ fn tags(rt: HostRuntime) -> Result<(), Fail> {
     ];
     compare_tags(&rt, &journal, &rows);
 
-    // The second trim removes nothing.
+    // The second trim leaves all memory as it is.
     add_more(&mut journal)?;
     let rows = [
         (0xFFF, memory(Some(3), false)),
@@ -162,7 +163,8 @@ fn compare_owners(rt: &impl Abort, journal: &Journal, rows: &[(u64, Option<Owner
     }
 }
 
-// Each row is a range and the owner of all its bytes. The journal's runs must be these.
+// Compares the journal's runs of owners with these rows. Each row is a range and the owner of all
+// its bytes.
 fn compare_runs(
     rt: &impl Abort,
     journal: &Journal,

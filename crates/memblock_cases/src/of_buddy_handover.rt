@@ -1,5 +1,5 @@
-//! Handovers of whole machines, and frames that are freed in any order. All expected numbers are
-//! from outside.
+//! Tests of `buddy_handover`: handovers of whole machines, and frames that are freed in different
+//! orders. All expected numbers come from outside this project.
 ghost use Rattle.std.specs.Prelude.{◌≡◌, ◌+◌, ◌^◌, ◌<◌, ◌≤◌, None};
 
 use crate::ranges::{IN_TURN, MACHINE};
@@ -14,7 +14,7 @@ use std::alloc::Global;
 use std::process::Abort;
 use std::test::Fail;
 
-// Hands over, if the bytes are records.
+// Hands the free frames over, or fails if the bytes at the heads aren't records.
 fn hand_over_or_fail(alloc: Global, store: &Store, heads: &Heads) -> Result<Buddy, Fail> {
     if has_records(store, &heads.memory, FRAME_SIZE * MAX_FRAMES)
         && has_records(store, &heads.reserved, u64::MAX)
@@ -26,7 +26,7 @@ fn hand_over_or_fail(alloc: Global, store: &Store, heads: &Heads) -> Result<Budd
     Err("records".into())
 }
 
-// Returns the number of blocks of each order.
+// Returns the number of blocks of each order, on this node and in this zone.
 fn counts(buddy: &Buddy, node: u32, zone: Zone) -> [u64; 11] {
     let mut counts = [0; 11];
     for order in 0..11 {
@@ -35,7 +35,7 @@ fn counts(buddy: &Buddy, node: u32, zone: Zone) -> [u64; 11] {
     counts
 }
 
-// Frees the frames. Returns false if one of them is free already.
+// Frees the frames. Returns false if one of them is free already, or is above `MAX_FRAMES`.
 fn free(buddy: &mut Buddy, first: u64, count: u64, node: u32) -> Result<bool, Memory> {
     if first > MAX_FRAMES || count > MAX_FRAMES - first {
         return Ok(false);
@@ -76,7 +76,7 @@ fn compare_ends(rt: &impl Abort, blocks: &[Block], many: usize, ends: [Block; 2]
     );
 }
 
-// Compares the number of blocks, and the first and the last of them.
+// Compares the number of blocks, the first block and the last one with the expected values.
 fn compare_list(
     rt: &impl Abort,
     buddy: &Buddy,
@@ -200,7 +200,7 @@ fn ranges_that_meet(rt: HostRuntime) -> Result<(), Fail> {
     Ok(())
 }
 
-// Compares blocks of one frame: each row is a frame and its zone.
+// Tests for each row, a frame and a zone, that the frame is a block of order 0 in this zone.
 fn compare_zones(rt: &impl Abort, buddy: &Buddy, rows: &[(u64, Zone)]) {
     for (frame, zone) in rows {
         let block = buddy.block_of(*frame).map(|b| (b.order, b.zone));

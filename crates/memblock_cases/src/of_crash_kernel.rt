@@ -6,16 +6,16 @@ ghost use Rattle.std.specs.Prelude.{◌+◌, ◌^◌, ◌<◌};
 use crate::machines::{has_begun, machine};
 use crate::ranges::{Part, bytes};
 use boot_options::read_options;
-use crash_kernel::{Crash, reserve};
+use crash_kernel::{Crash, CrashRule, reserve, reserve_by};
 use memblock_model::{Item, Owner};
 use std::alloc::Global;
 use std::process::Abort;
 use std::test::Fail;
 
-/// 512 MiB, without what firmware keeps.
+/// The memory of a machine with 512 MiB, without what firmware keeps.
 const SMALL: [Part; 2] = [(0x1000, 0x9F000, 0), (0x100000, 0x1FFE_0000, 0)];
 
-/// 2 GiB below 4 GiB and 6 GiB above, of two nodes.
+/// The memory of a machine with two nodes: 2 GiB below 4 GiB, and 6 GiB above.
 const LARGE: [Part; 4] = [
     (0x1000, 0x9F000, 0),
     (0x100000, 0x7FFD_F000, 0),
@@ -42,6 +42,25 @@ fn at_both(base: u64, size: u64, low: u64, low_size: u64) -> Crash
     }
 }
 
+// Returns the outcome for the command line by the rule of Linux 6.1, if `added` bytes became memory
+// before they were trimmed to whole frames.
+fn by_linux(alloc: Global, added: u64, line: &[u8]) -> Result<Crash, Fail>
+    requires { added < 2 ^ 52 }
+{
+    let options = read_options(alloc, line)?;
+    let mut memblock = machine(alloc, bytes(0x100_0000, 0x240_0000), &SMALL)?;
+    if !has_begun(&memblock) {
+        return Err("items".into());
+    }
+    let crash = reserve_by(
+        &mut memblock,
+        CrashRule::RoundedTotal,
+        added,
+        &options.crash,
+    )?;
+    Ok(crash)
+}
+
 // Returns the outcome for the command line, and the last item of the journal.
 fn reserved(alloc: Global, memory: &[Part], line: &[u8]) -> Result<(Crash, Option<Item>), Fail> {
     let options = read_options(alloc, line)?;
@@ -54,7 +73,7 @@ fn reserved(alloc: Global, memory: &[Part], line: &[u8]) -> Result<(Crash, Optio
     Ok((crash, last))
 }
 
-/// Each row is a command line and its outcome.
+/// Compares the outcomes with these rows. Each row is a command line and its outcome.
 fn compare(
     rt: &impl Abort,
     alloc: Global,
@@ -125,6 +144,61 @@ fn ranges_of_the_total(rt: HostRuntime) -> Result<(), Fail> {
         ),
     ];
     compare(&rt, rt.alloc(), &SMALL, &cases)
+}
+
+// Linux rounds total memory up to a multiple of 128 MiB: 0x1FF7E000 bytes are 512 MiB, and one byte
+// more than 512 MiB is 640 MiB. A size of the total or more refuses the plain form, and the high
+// form is tried.
+#[test]
+fn ranges_of_the_rounded_total(rt: HostRuntime) -> Result<(), Fail> {
+    let cases = [
+        (
+            0x1FF7_E000,
+            b"crashkernel=0-512M:16M,512M-:32M".as_slice(),
+            at(0x1D00_0000, 0x200_0000),
+        ),
+        (
+            0x1800_0000,
+            b"crashkernel=0-385M:16M,385M-:32M".as_slice(),
+            at(0x1E00_0000, 0x100_0000),
+        ),
+        (
+            0x1800_0001,
+            b"crashkernel=0-385M:16M,385M-:32M".as_slice(),
+            at(0x1D00_0000, 0x200_0000),
+        ),
+        (
+            0x2000_0001,
+            b"crashkernel=0-640M:16M,640M-:32M".as_slice(),
+            at(0x1D00_0000, 0x200_0000),
+        ),
+        (
+            0x1FF7_E000,
+            b"crashkernel=0-1M:512M,1M-:32M crashkernel=48M,high".as_slice(),
+            at(0x1C00_0000, 0x300_0000),
+        ),
+        (
+            0x1FF7_E000,
+            b"crashkernel=0-1M:511M,1M-:32M crashkernel=48M,high".as_slice(),
+            at(0x1D00_0000, 0x200_0000),
+        ),
+        (
+            0x1FF7_E000,
+            b"crashkernel=1M-:32M,2M-:512M".as_slice(),
+            at(0x1D00_0000, 0x200_0000),
+        ),
+        (
+            0x1FF7_E000,
+            b"crashkernel=1G-:512M,1M-:32M".as_slice(),
+            Crash::Nothing,
+        ),
+        (0x1FF7_E000, b"crashkernel=512M".as_slice(), Crash::NoArea),
+    ];
+    for (added, line, expected) in cases {
+        let crash = by_linux(rt.alloc(), added, line)?;
+        assert!(rt; crash == expected, "{crash:?} at {line:?}");
+    }
+    Ok(())
 }
 
 #[test]

@@ -1,5 +1,5 @@
-//! Each outcome once, on a machine of 128 MiB with its kernel at 16 MiB. The expected addresses,
-//! the greatest that fit, were worked out by hand.
+//! Tests of `early_script`: each outcome of a line once, on a machine of 128 MiB with its kernel
+//! at 16 MiB. The expected addresses are the greatest that fit, and were worked out by hand.
 ghost use Rattle.std.specs.Prelude.{◌≡◌, ◌+◌, ◌^◌, ◌<◌, ◌≤◌, length, IsTrue};
 ghost use Rattle.early_script.specs.Effects.{CanBeRun};
 
@@ -22,7 +22,7 @@ fn is_run(act: &Act) -> bool
     }
 }
 
-// Returns the outcomes of the script's lines.
+// Runs the script and returns the outcomes of its lines.
 fn run(alloc: Global, memblock: &mut Memblock, text: &str) -> Result<Vec<Outcome>, Fail>
     requires { length text.now < 2 ^ 32 }
 {
@@ -37,7 +37,8 @@ fn run(alloc: Global, memblock: &mut Memblock, text: &str) -> Result<Vec<Outcome
     Ok(outcomes)
 }
 
-// Returns what a peek of these bytes returns.
+// Returns the bytes in the form in which a `peek` line returns them, or `None` if there are more
+// than 64.
 pub fn bytes_outcome(bytes: &[u8]) -> Option<ArrayVec<u8, 64>> {
     let mut told = ArrayVec::new();
     for byte in bytes {
@@ -83,7 +84,7 @@ fn each_outcome(rt: HostRuntime) -> Result<(), Fail> {
     Ok(())
 }
 
-// Returns a script that claims `many` pages, with a page between each two.
+// Returns a script that claims `many` pages, with an unclaimed page between any two.
 fn claims(alloc: Global, many: u32) -> Result<String, Fail> {
     let mut text = String::new(alloc);
     for id in 0..many {

@@ -1,5 +1,5 @@
-//! The search, and the runs of unclaimed memory, in the tables after the boot of a virtual
-//! machine.
+//! Tests of `memblock_find`: searches, and runs of unclaimed memory, in the tables after the boot
+//! of a virtual machine.
 
 use crate::ranges::MACHINE;
 use crate::tables::{cover, mirror, tables_of};
@@ -9,7 +9,8 @@ use memblock_ranges::Tables;
 use std::process::Abort;
 use std::test::Fail;
 
-// The result of a search, or that its numbers aren't those of a search.
+// The result of a search. `NoSearch` means that its numbers don't meet the requirements of a
+// search.
 #[derive(Clone, Copy, Debug, PartialEq, Eq)]
 enum Answer {
     At(u64),
@@ -17,19 +18,20 @@ enum Answer {
     NoSearch,
 }
 
-// From the top, in any memory.
+// A search from the highest address down, in any memory.
 const DOWN: Mode = Mode {
     mirror: false,
     up: false,
 };
 
-// From below, in any memory.
+// A search from the lowest address up, in any memory.
 const UP: Mode = Mode {
     mirror: false,
     up: true,
 };
 
-// A search: its window, its size, the exponent of its alignment (a power of two), and its node.
+// A search: the two ends of its window, its size, the exponent of its alignment (a power of two),
+// and its node.
 type Search = (u64, u64, u64, u32, Option<u32>);
 
 fn search(tables: &Tables, mode: Mode, wanted: Search) -> Answer {
@@ -50,7 +52,8 @@ fn search(tables: &Tables, mode: Mode, wanted: Search) -> Answer {
     }
 }
 
-// Tests whether this run is returned, and isn't mirrored. Size 0 stands for no run.
+// Tests whether `run` is this range of this node and isn't mirrored. Size 0 means that `run` must
+// be `None`.
 fn is_expected_run(run: Option<FreeRange>, base: u64, size: u64, node: u32) -> bool {
     match run {
         Some(run) => {
@@ -60,8 +63,8 @@ fn is_expected_run(run: Option<FreeRange>, base: u64, size: u64, node: u32) -> b
     }
 }
 
-// Each row is a size, the exponent of its alignment, and the best place on node 0, which is then
-// claimed.
+// Searches node 0 once for each row, compares the place that is found with the expected one, and
+// claims it. A row is a size, the exponent of the alignment, and the expected address.
 fn claim_each(rt: &impl Abort, tables: &mut Tables, rows: &[(u64, u32, u64)]) {
     for (size, power, at) in rows {
         let answer = search(tables, DOWN, (0, 0x7FE0000, *size, *power, Some(0)));
@@ -70,7 +73,8 @@ fn claim_each(rt: &impl Abort, tables: &mut Tables, rows: &[(u64, u32, u64)]) {
     }
 }
 
-// Each row is an address, and the first run at or after it. Size 0 stands for no run.
+// For each row, compares the run that `next_free` returns for an address. A row is the address,
+// and the base, size and node of the expected run. Size 0 means that no run is expected.
 fn compare_next(rt: &impl Abort, tables: &Tables, rows: &[(u64, u64, u64, u32)]) {
     for (from, base, size, node) in rows {
         let run = next_free(tables, *from);
@@ -78,16 +82,20 @@ fn compare_next(rt: &impl Abort, tables: &Tables, rows: &[(u64, u64, u64, u32)])
     }
 }
 
-// Each row is an address, and the last run that begins before it, cut to end there. Size 0 stands
-// for no run.
+// For each row, compares the run that `prev_free` returns for an address. A row is the address,
+// and the base, size and node of the expected run, which is cut to end at the address. Size 0
+// means that no run is expected.
 fn compare_prev(rt: &impl Abort, tables: &Tables, rows: &[(u64, u64, u64, u32)]) {
     for (until, base, size, node) in rows {
         let run = prev_free(tables, *until);
-        assert!(rt; is_expected_run(run, *base, *size, *node), "until {until:#x}");
+        assert!(rt;
+            is_expected_run(run, *base, *size, *node),
+            "until {until:#x}"
+        );
     }
 }
 
-// Compares all runs from an address on, in one pass.
+// Compares all runs from an address on with these rows, in one pass.
 fn compare_pass(rt: &impl Abort, tables: &Tables, from: u64, rows: &[(u64, u64, u32)]) {
     let mut runs = FreeRuns::from(tables, from);
     for (base, size, node) in rows {

@@ -1,4 +1,4 @@
-//! The frames of small tables, from their bytes.
+//! Tests of `memblock_frames`: the frames of small tables, which are read from the tables' bytes.
 
 use crate::tables::tables_of;
 use memblock_frames::{
@@ -9,7 +9,8 @@ use phys_store::Store;
 use std::process::Abort;
 use std::test::Fail;
 
-// Returns the frames of a record, if the bytes are records.
+// Returns the frames of the record with index `i`, or `None` if the bytes at the head aren't
+// records.
 fn frames(store: &Store, head: &Head, i: u64) -> Option<RecordFrames> {
     if has_records(store, head, u64::MAX) && i < head.count {
         Some(frames_of_record(store, head, i))
@@ -18,7 +19,8 @@ fn frames(store: &Store, head: &Head, i: u64) -> Option<RecordFrames> {
     }
 }
 
-// Returns the first frames that have a byte of a record.
+// Returns the first frames that have a byte of a record, or `None` if the bytes at the head aren't
+// records.
 fn first_claim(store: &Store, head: &Head) -> Option<ClaimedFrames> {
     if has_records(store, head, u64::MAX) {
         Some(next_claimed_frames(store, head, 0, 0))

@@ -18,7 +18,7 @@ use std::test::Fail;
 
 mod nested;
 
-// A call, with its range and its node.
+// A call of a memblock, with its arguments.
 #[derive(Clone, Copy)]
 enum Step {
     Add(u64, u64),
@@ -57,7 +57,8 @@ fn act(memblock: &mut Memblock, step: Step) -> Result<bool, Refusal> {
     }
 }
 
-// Carries out the steps in turn. The error is `NoGap` if the requirements of one don't hold.
+// Carries out the steps in turn. Returns the error `NoGap` if the requirements of a step don't
+// hold.
 fn carry_out(memblock: &mut Memblock, steps: &[Step]) -> Result<(), Refusal> {
     for step in steps {
         if !act(memblock, *step)? {
@@ -172,8 +173,8 @@ fn best(memblock: &Memblock, query: &Query) -> Option<u64>
     memblock.find(query)
 }
 
-// Returns a request for `size` bytes in a window, given by its lowest address and its end, aligned
-// to a frame.
+// Returns a request for `size` bytes, aligned to a frame, in a window. The window is given by its
+// lowest address and its end.
 fn request(size: u64, window: (u64, Option<u64>), node: Option<u32>) -> Request
     ensures size { result.size ≡ size }
     ensures align { result.align ≡ 2 ^ 12 }
@@ -264,8 +265,8 @@ fn allocations_come_from_the_top(rt: HostRuntime) -> Result<(), Fail> {
     Ok(())
 }
 
-// Allocates a frame, and more than the mirrored memory has: from the top, from below, and from the
-// top again.
+// Allocates five ranges: from the top, from below, and from the top again. Two of them are too
+// large for the mirrored memory, and get memory that isn't mirrored.
 fn place_both_ways(rt: &impl Abort, memblock: &mut Memblock) -> Result<(), Refusal> {
     let cases = [
         (false, 0x1000, 0x4FFF000),
@@ -299,7 +300,7 @@ fn mirrored_memory_goes_first(rt: HostRuntime) -> Result<(), Fail> {
     Ok(())
 }
 
-// Tests whether these bytes, at most 24, are read from the address on.
+// Tests whether memory has these bytes, at most 24, from the address on.
 fn reads(memblock: &Memblock, base: u64, bytes: &[u8]) -> bool {
     if base.checked_add(24).is_none() {
         return false;
@@ -333,7 +334,7 @@ fn first_record_after_the_nodes(rt: HostRuntime) -> Result<(), Fail> {
     Ok(())
 }
 
-// Tests whether the tables own the places that they moved to.
+// Tests whether each table owns a byte of the place that it moved to.
 fn owns_places(journal: &Journal) -> bool {
     journal.owner_at(0x7FDBFFF) == Some(Owner::Table(Which::Reserved))
         && journal.owner_at(0x7FDE000) == Some(Owner::Table(Which::Memory))
@@ -351,19 +352,19 @@ fn tables_move(rt: HostRuntime) -> Result<(), Fail> {
     assert!(rt; has_counts(&memblock, 514, 303));
     assert!(rt; owns_places(memblock.journal()));
     let cases = [
-        // the first place of the memory table is all zeros; its new place has the first record
-        // and, after the last one, zeros
+        // The bytes at the first place of the memory table are zeros. Its new place has the first
+        // record and, after the last record, zeros.
         (0x2FFE000, [0; 24].as_slice()),
         (0x7FDE000, FIRST_RECORD.as_slice()),
         (0x7FDE000 + 24 * 202, [0; 24].as_slice()),
-        // at the end of its bytes the earlier fill is still there
+        // Right after the table's new bytes, those of the earlier fill are unchanged.
         (0x7FDF7FE, [0, 0, 0xA5, 0xA5].as_slice()),
         (0x1FFFFFFFF, [0, 0xA5, 0xA5, 0].as_slice()),
     ];
     for (base, bytes) in cases {
         assert!(rt; reads(&memblock, base, bytes), "{base}");
     }
-    // the place that it left may be filled, and its new bytes may not
+    // The place that the memory table left may be filled, and the new bytes of a table may not.
     assert!(rt; fill(&mut memblock, 0x2FFE000, 24, 0x5A)?);
     assert!(rt; reads(&memblock, 0x2FFE000, &[0x5A; 24]));
     assert!(rt; fill(&mut memblock, 0x300000, 0x10, 0x5A)?);

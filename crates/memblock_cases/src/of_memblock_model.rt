@@ -9,7 +9,7 @@ use memblock_model::{Item, Label, MIRROR_FLAG, Owner, OwnerRun, Query, Tag, Whic
 use std::process::Abort;
 use std::test::Fail;
 
-// What contracts see of a run are its fields.
+// Returns the first address of a run, which contracts see as a field.
 fn base_of(run: &OwnerRun) -> u64
     ensures { result ≡ run.now.base }
 {
@@ -28,7 +28,7 @@ fn owner_of(run: &OwnerRun) -> Owner
     run.owner
 }
 
-// Each variant next to one that differs from it in one part.
+// A list with each variant, and next to it one that differs from it in one part.
 #[test]
 fn items_that_differ_in_one_part(rt: HostRuntime) {
     let items = [
@@ -81,7 +81,7 @@ fn items_that_differ_in_one_part(rt: HostRuntime) {
     }
 }
 
-// The item equals only the one at its own index.
+// Compares an item with all: it must equal only the one at its own index.
 fn compare_with_all(rt: &impl Abort, items: &[Item], i: usize, first: &Item) {
     for (j, second) in items.iter().enumerate() {
         assert!(rt; (first == second) == (i == j), "{first:?} and {second:?}");

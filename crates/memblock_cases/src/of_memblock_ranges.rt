@@ -1,4 +1,5 @@
-//! The tables after the boot of a machine, record by record and byte by byte.
+//! Tests of `memblock_ranges`: the tables after the boot of a machine, compared record by record
+//! and byte by byte.
 
 use crate::ranges::{KERNEL, bytes};
 use crate::tables::{FIRST_RECORD, cover, mirror};
@@ -9,7 +10,7 @@ use phys_store::Store;
 use std::process::Abort;
 use std::test::Fail;
 
-// An edit, with its range and its node.
+// An edit of a table, with its range and its node.
 #[derive(Clone, Copy)]
 enum Step {
     Add(u64, u64, u32),
@@ -110,7 +111,7 @@ fn act_all(rt: &impl Abort, tables: &mut Tables, steps: &[Step]) {
     }
 }
 
-// Each row is an address and the 24 bytes there.
+// Compares bytes with each row: an address, and the 24 bytes that must be there.
 fn compare_bytes(rt: &impl Abort, tables: &Tables, rows: &[(u64, [u8; 24])]) {
     for (at, expected) in rows {
         assert!(rt; *at <= u64::MAX - 24);
@@ -283,7 +284,8 @@ fn mirrored_memory(rt: HostRuntime) -> Result<(), Fail> {
     Ok(())
 }
 
-// Moves the table to the place. Returns false if the place overlaps a table.
+// Moves the table to the place, with twice the room. Returns false if the new bytes would overlap
+// a table.
 fn moved(tables: &mut Tables, which: Which, place: u64) -> Result<bool, Memory> {
     let head = tables.head(which);
     let Some(size) = head.room.checked_mul(48) else {
@@ -328,8 +330,8 @@ fn move_reserved(rt: &impl Abort, tables: &mut Tables) -> Result<(), Memory> {
     Ok(())
 }
 
-// The old place may be written now. A read crosses the end of the memory table's bytes, where
-// other bytes follow.
+// The old place of the table may be written now. A read crosses the end of the memory table's
+// bytes, after which there are other bytes.
 fn read_across(rt: &impl Abort, tables: &mut Tables) -> Result<(), Memory> {
     let freed = bytes(0x2FFF000, 0x10);
     assert!(rt; !tables.overlaps_table(freed));
@@ -351,7 +353,8 @@ const MOVED: Head = Head {
     count: 1,
 };
 
-// The bytes and the heads are all of the tables: each record is read from the bytes.
+// Compares records that are read only from the bytes and the heads: these hold everything about
+// the tables.
 fn compare_records(rt: &impl Abort, store: &Store, heads: &Heads) {
     let first = Region {
         base: 0x1000000,

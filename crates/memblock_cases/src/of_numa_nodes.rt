@@ -1,5 +1,5 @@
-//! A machine of 128 MiB with its kernel at 16 MiB: its Node items and the places of node data,
-//! worked out by hand.
+//! Tests of `numa_nodes` on a machine of 128 MiB with its kernel at 16 MiB. The expected Node
+//! items, and the places of node data, were worked out by hand.
 ghost use Rattle.std.specs.Prelude.{◌^◌, ◌<◌, IsTrue, length};
 ghost use Rattle.memblock_model.specs.Items.{limit_of};
 
@@ -18,13 +18,14 @@ use std::test::Fail;
 /// The size of a node's data in bytes.
 const DATA: u64 = 0x2B000;
 
+// Tests whether the last item of the journal sets a limit above 0.
 fn ends_with_limit(memblock: &Memblock) -> bool
     ensures { IsTrue result → 0 < limit_of memblock.now.journal.items }
 {
     matches!(memblock.journal().items(), [.., Item::Limit { at }] if *at > 0)
 }
 
-// Returns the items after those of the machine.
+// Returns the items of the journal after the three that made the machine.
 fn items_after_machine(memblock: &Memblock) -> &[Item] {
     match memblock.journal().items() {
         [_, _, _, behind @ ..] => behind,
@@ -32,7 +33,7 @@ fn items_after_machine(memblock: &Memblock) -> &[Item] {
     }
 }
 
-// Assigns the nodes of the machine, with a table of these blocks.
+// Assigns the nodes of the machine, by a SRAT with these blocks.
 fn nodes_by(
     alloc: Global,
     memblock: &mut Memblock,
@@ -53,7 +54,7 @@ fn compare(rt: &impl Abort, nodes: &Nodes, why: Why, domains: &[u32], with_memor
     assert!(rt; nodes.with_memory.as_slice() == with_memory);
 }
 
-// The items after those of the machine must be these.
+// Compares the items after the three that made the machine with these.
 fn compare_items(rt: &impl Abort, memblock: &Memblock, items: &[Item]) {
     assert!(rt; items_after_machine(memblock) == items, "{memblock:?}");
 }

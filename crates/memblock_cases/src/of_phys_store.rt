@@ -1,4 +1,4 @@
-//! The calls of a store on small ranges.
+//! Tests of `phys_store::Store`. Small ranges are prepared, written, filled and read.
 
 use crate::ranges::bytes;
 use bm_base::{Memory, Range};
@@ -6,14 +6,14 @@ use phys_store::Store;
 use std::process::Abort;
 use std::test::Fail;
 
-// Each row is a range, and whether it is prepared.
+// For each row, compares whether the range is prepared with the expected answer.
 fn compare_prepared(rt: &impl Abort, store: &Store, rows: &[(Range, bool)]) {
     for (range, is_prepared) in rows {
         assert!(rt; store.is_prepared(*range) == *is_prepared, "{range:?}");
     }
 }
 
-// Each row is an address and the four bytes there.
+// Compares bytes with each row: an address, and the four bytes that must be there.
 fn compare_bytes(rt: &impl Abort, store: &Store, rows: &[(u64, [u8; 4])]) {
     for (at, expected) in rows {
         assert!(rt; *at <= u64::MAX - 4);
@@ -39,7 +39,7 @@ fn write_last(store: &mut Store) -> Result<(), Memory> {
     Ok(())
 }
 
-// Two frames with a frame between them, then the three as one.
+// Prepares two frames with a frame between them, then all three as one range.
 //
 //     0x1000     0x2000     0x3000     0x4000
 //     |..........|          |..........|
@@ -84,7 +84,7 @@ fn move_both_ways(rt: &impl Abort, store: &mut Store) -> Result<(), Memory> {
     Ok(())
 }
 
-// Copies more than is copied at a time, to another extent.
+// Copies more than one chunk (256 bytes) to another extent.
 fn copy_across(store: &mut Store) -> Result<(), Memory> {
     store.prepare(bytes(0x1000, 0x400))?;
     store.prepare(bytes(0x9000, 0x400))?;
@@ -98,7 +98,7 @@ fn bytes_are_moved_and_copied(rt: HostRuntime) -> Result<(), Fail> {
     let mut store = Store::new(rt.alloc());
     move_both_ways(&rt, &mut store)?;
     copy_across(&mut store)?;
-    // What is past the end of an extent reads as 0.
+    // An address past the end of an extent reads as 0.
     let read = [
         (0x90FC, [0; 4]),
         (0x9100, [b'b', b'c', b'd', b'e']),

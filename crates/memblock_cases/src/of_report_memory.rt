@@ -1,4 +1,5 @@
-//! The texts of a small boot, each written once with enough memory.
+//! Tests of `report_memory`. They compare the text of each kind of type, edit, item, owner and
+//! record with the expected bytes. Memory never runs out.
 
 use crate::ranges::{FIRST_MIB, KERNEL, bytes};
 use bm_base::{Memory, Range};
@@ -90,7 +91,8 @@ fn page_of(kind: u32) -> Run {
     }
 }
 
-// Each type that has a name, and numbers between and above them, which have none.
+// The text of each type that has a name, and of numbers between and above these types, which have
+// no name.
 #[test]
 fn each_type(rt: HostRuntime) -> Result<(), Fail> {
     let runs = [
@@ -124,7 +126,8 @@ fn each_type(rt: HostRuntime) -> Result<(), Fail> {
     Ok(())
 }
 
-// The edits, and the form of a crash area, that `map_and_options` doesn't have.
+// The texts of the edits, and of the form of a crash area, that the test `map_and_options` doesn't
+// have.
 #[test]
 fn each_edit(rt: HostRuntime) -> Result<(), Fail> {
     let add = Edit::Add {
@@ -165,7 +168,7 @@ fn grown(which: Which) -> Item {
     }
 }
 
-// Each item of a journal except a claim.
+// The text of each item of a journal except a claim.
 #[test]
 fn each_item(rt: HostRuntime) -> Result<(), Fail> {
     let range = FIRST_MIB;
@@ -207,7 +210,7 @@ fn each_item(rt: HostRuntime) -> Result<(), Fail> {
     Ok(())
 }
 
-// Each owner of a claim, with a page of its own.
+// The text of each owner of a claim, each with a page of its own.
 const OWNERS: &[u8] = b"\
     \x20  0: 0x0000000000000000..0x0000000000000fff kernel\n\
     \x20  1: 0x0000000000001000..0x0000000000001fff low-64k\n\
@@ -225,8 +228,8 @@ const OWNERS: &[u8] = b"\
     \x20 13: 0x000000000000d000..0x000000000000dfff map 524287\n\
     \x20 14: 0x000000000000e000..0x000000000000efff script 4294967295\n";
 
-// Each owner of a claim, those that have a number with the greatest one; and all of them in one
-// text.
+// The text of each owner of a claim alone, with the greatest number if the owner has one; and the
+// text of all owners together.
 #[test]
 fn each_owner(rt: HostRuntime) -> Result<(), Fail> {
     let rows = [

@@ -1,4 +1,5 @@
-//! The texts of small stages, each written once with enough memory.
+//! Tests of `report_stages`. They compare the text of each stage's results, on small inputs, with
+//! the expected bytes. Memory never runs out.
 
 use crate::of_early_script::bytes_outcome;
 use crate::ranges::FIRST_MIB;
@@ -27,7 +28,7 @@ fn answer(line: u32, outcome: Outcome) -> Answer {
     Answer { line, outcome }
 }
 
-// Each outcome, in no order.
+// The text of each outcome, in no particular order.
 #[test]
 fn script(rt: HostRuntime) -> Result<(), Fail> {
     let told = bytes_outcome(&[0, 0xAB]).ok_or("no room")?;
@@ -86,7 +87,7 @@ fn nodes(rt: HostRuntime) -> Result<(), Fail> {
     Ok(())
 }
 
-/// Returns the nodes of a machine whose table of domains isn't used for this reason.
+/// Returns the nodes of a machine whose SRAT isn't used, for the reason `why`.
 fn by_no_table(alloc: Global, why: Why) -> Nodes {
     Nodes {
         why,
@@ -96,7 +97,7 @@ fn by_no_table(alloc: Global, why: Why) -> Nodes {
     }
 }
 
-// Each reason except that of `nodes`.
+// The text of each reason except the one that the test `nodes` has.
 #[test]
 fn each_reason(rt: HostRuntime) -> Result<(), Fail> {
     let journal = Journal::new(rt.alloc());
@@ -157,7 +158,7 @@ fn crash(rt: HostRuntime) -> Result<(), Fail> {
     Ok(())
 }
 
-// Two sections, the second with another root.
+// The texts of two sections that have different roots.
 #[test]
 fn sections(rt: HostRuntime) -> Result<(), Fail> {
     let low = RootPlace {

@@ -1,5 +1,6 @@
-//! The maps of two groups. For the second one there is no buffer for all of its maps. The expected
-//! addresses, the greatest that fit, were worked out by hand.
+//! Tests of `section_maps` with two groups of sections. No free buffer has room for all maps of
+//! the second group. The expected addresses are the greatest that fit, and were worked out by
+//! hand.
 
 ghost use Rattle.std.specs.Prelude.{◌<◌, AllPairs};
 
@@ -9,7 +10,7 @@ use section_maps::{Placed, place_maps};
 use stage_steps::Section;
 use std::test::Fail;
 
-// Sections 0 and 1, and the first 3 MiB of each of sections 2 and 3.
+// The memory: sections 0 and 1, and the first 3 MiB of each of sections 2 and 3.
 const MEMORY: [Part; 3] = [
     (0, 0x1000_0000, 0),
     (0x1000_0000, 0x1030_0000, 1),

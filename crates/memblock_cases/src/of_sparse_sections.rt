@@ -1,5 +1,5 @@
-//! Sections and roots of a machine of two nodes. The expected addresses, the greatest that fit,
-//! were worked out by hand.
+//! Tests of `sparse_sections`: the sections and roots of a machine of two nodes. The expected
+//! addresses are the greatest that fit, and were worked out by hand.
 ghost use Rattle.std.specs.Prelude.{◌≡◌, ◌+◌, ◌%◌, ◌^◌, ◌<◌, ◌≤◌, IsTrue};
 ghost use Rattle.std.specs.List.{All};
 ghost use Rattle.sparse_sections.specs.Present.{IsWholeFramesWithNode};
@@ -16,7 +16,7 @@ use std::alloc::Global;
 use std::process::Abort;
 use std::test::Fail;
 
-// Sections 0 and 1, then section 2 and a frame of section 3, and section 256.
+// The memory: sections 0 and 1, then section 2 and a frame of section 3, and section 256.
 const MEMORY: [Part; 3] = [
     (0, 0x1000_0000, 0),
     (0x1000_0000, 0x1800_1000, 1),
@@ -36,7 +36,7 @@ fn is_whole(region: &Region) -> bool
         && region.base <= 0x10_0000_0000_0000 - region.size
 }
 
-// Tests whether sections can be found in all records.
+// Tests whether all records of memory are whole frames with a node, as `present` requires.
 fn are_whole(tables: &Tables) -> bool
     ensures { IsTrue result → All IsWholeFramesWithNode tables.now.memory.records }
 {
@@ -49,7 +49,7 @@ fn are_whole(tables: &Tables) -> bool
     true
 }
 
-// Each row is a section's number and its node.
+// Compares the sections with these rows. Each row is a section's number and its node.
 fn compare_sections(rt: &impl Abort, sections: &[Section], rows: &[(u32, u32)]) {
     assert!(rt; sections.len() == rows.len());
     for (section, (number, node)) in sections.iter().zip(rows) {
@@ -68,6 +68,7 @@ fn sections_of(alloc: Global, memblock: &Memblock) -> Result<Vec<Section>, Fail>
     Ok(present(alloc, memblock.tables())?)
 }
 
+// Places the roots of these sections and returns them. Fails the test if memblock has no items yet.
 fn place_roots_or_fail(
     alloc: Global,
     memblock: &mut Memblock,

@@ -1,4 +1,5 @@
-//! Small machines: the result of their table of domains, and why it isn't used.
+//! Cases of small machines: what `judge_srat` returns for their SRAT, and the reasons why a SRAT
+//! isn't used.
 ghost use Rattle.std.specs.Prelude.{◌^◌, ◌<◌, length};
 
 use crate::domains::{block, table};
@@ -9,7 +10,7 @@ use srat_reader::SratBlock;
 use std::alloc::Global;
 use std::test::Fail;
 
-/// Returns the addresses from `from` to below `until`, in this node.
+/// Returns the addresses from `from` to below `until` as a range of this node.
 fn in_node(node: u32, from: u64, until: u64) -> NodeRange
     requires { from < until }
 {
@@ -57,8 +58,8 @@ fn two_nodes_and_a_hole(rt: HostRuntime) -> Result<(), Fail> {
     Ok(())
 }
 
-// A block of node 1 is between two of node 0. So their hull isn't only node 0's, and the memory
-// around the block has no node.
+// A block of node 1 is between two of node 0. The hull of node 0's blocks therefore isn't node 0's
+// alone, and the memory around the block of node 1 has no node.
 #[test]
 fn another_node_in_between(rt: HostRuntime) -> Result<(), Fail> {
     let blocks = [
@@ -81,7 +82,7 @@ fn another_node_in_between(rt: HostRuntime) -> Result<(), Fail> {
     Ok(())
 }
 
-// The reasons on a machine of 128 MiB, each with its numbers.
+// The reasons why a SRAT isn't used on a machine of 128 MiB, each with its numbers.
 #[test]
 fn reasons(rt: HostRuntime) -> Result<(), Fail> {
     let cases = [

@@ -22,7 +22,7 @@ pub const FIRST_MIB: Range = Range {
 /// The memory of a virtual machine of 128 MiB, without what its firmware keeps.
 pub const MACHINE: [Part; 2] = [(0x1000, 0x9F000, 0), (0x10_0000, 0x7FE_0000, 0)];
 
-/// The same memory, with two nodes that take turns.
+/// The same memory, with two nodes whose ranges alternate.
 pub const IN_TURN: [Part; 4] = [
     (0x1000, 0x9F000, 0),
     (0x10_0000, 0x410_0000, 0),
@@ -30,7 +30,7 @@ pub const IN_TURN: [Part; 4] = [
     (0x600_0000, 0x7FE_0000, 0),
 ];
 
-/// Returns the range of `size` bytes at `base`.
+/// Returns the range of `size` bytes from address `base` on.
 pub fn bytes(base: u64, size: u64) -> Range
     requires { base + size < 2 ^ 64 }
     ensures { result ≡ record { base = base; size = size } }
@@ -38,7 +38,7 @@ pub fn bytes(base: u64, size: u64) -> Range
     Range { base, size }
 }
 
-/// Returns the addresses from `from` to below `until`.
+/// Returns the range of the addresses from `from` to below `until`.
 pub fn between(from: u64, until: u64) -> Range
     requires { from ≤ until }
     ensures { result ≡ record { base = from; size = until - from } }

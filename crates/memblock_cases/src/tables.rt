@@ -7,12 +7,13 @@ use memblock_ranges::Tables;
 use std::alloc::Global;
 use std::test::Fail;
 
-/// The bytes of the record of a machine's first memory, 0x1000..0x9efff of node 0.
+/// The bytes of the first record of a machine's memory table: 0x1000..0x9efff of node 0.
 pub const FIRST_RECORD: [u8; 24] = [
     0, 0x10, 0, 0, 0, 0, 0, 0, 0, 0xE0, 9, 0, 0, 0, 0, 0, 0, 0, 0, 0, 0, 0, 0, 0,
 ];
 
-/// Adds the range to the table, with this node. Returns false if that isn't allowed.
+/// Adds the range to the table, with this node. Returns false if the requirements of the call
+/// don't hold.
 pub fn cover(tables: &mut Tables, which: Which, base: u64, size: u64, node: u32) -> bool {
     let Some(range) = Range::new(base, size) else {
         return false;
@@ -30,7 +31,8 @@ pub fn cover(tables: &mut Tables, which: Which, base: u64, size: u64, node: u32)
     true
 }
 
-/// Marks the memory of the range as mirrored. Returns false if that isn't allowed.
+/// Marks the memory of the range as mirrored. Returns false if the requirements of the call don't
+/// hold.
 pub fn mirror(tables: &mut Tables, base: u64, size: u64) -> bool {
     let Some(range) = Range::new(base, size) else {
         return false;
@@ -43,14 +45,15 @@ pub fn mirror(tables: &mut Tables, base: u64, size: u64) -> bool {
     true
 }
 
-// Adds the addresses of the part to the table, with its node. Returns false if that isn't allowed.
+// Adds the addresses of the part to the table, with its node. Returns false if the requirements of
+// the call don't hold.
 fn cover_part(tables: &mut Tables, which: Which, part: Part) -> bool {
     let (from, until, node) = part;
     from < until && cover(tables, which, from, until - from, node)
 }
 
-/// Returns tables with this memory and these reserved ranges, each from an address to below
-/// another.
+/// Returns tables with this memory and these reserved ranges; a reserved range is its first
+/// address and the address past its last one.
 pub fn tables_of(alloc: Global, memory: &[Part], reserved: &[(u64, u64)]) -> Result<Tables, Fail> {
     let mut tables = Tables::new(alloc, KERNEL)?;
     for part in memory {

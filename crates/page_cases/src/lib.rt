@@ -1,5 +1,5 @@
-//! Worked cases of the page allocator after the handover, with its index, of the lists of zones,
-//! and of the texts of both. This crate has only tests.
+//! Worked cases of the page allocator after the handover, of its index of blocks, of the zone
+//! lists, and of their texts. This crate has only tests.
 //!
 //! Each module has the cases of the crate that it is named after. It calls that crate by its
 //! public names and knows only what the contracts say.

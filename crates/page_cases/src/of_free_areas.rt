@@ -1,4 +1,4 @@
-//! The index of two blocks: a frame is allocated from the first one and freed again. The expected
+//! The index of two blocks: a frame is allocated from the first block and freed again. The expected
 //! values were worked out by hand from `expand` and `__free_one_page`.
 
 use bm_base::{Memory, Zone};
@@ -18,7 +18,8 @@ fn three_mebibytes(alloc: Global) -> Result<Areas, Memory> {
     Areas::index_free_runs(alloc, &[run])
 }
 
-// Returns, for each order of a request, the order and the first frame of the block that serves it.
+// Returns, for a request of each order from 0 to 10, the order and the first frame of the block
+// that serves it.
 fn served(areas: &Areas) -> [Option<(u32, u64)>; 11] {
     let mut served = [None; 11];
     for order in 0..11 {

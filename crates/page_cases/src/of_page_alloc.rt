@@ -1,5 +1,5 @@
-//! A page script on the frames from 1 MiB to 4 MiB, which are two blocks of node 0; and the first
-//! fault of a script.
+//! A page script on the frames from 1 MiB to 4 MiB, which are two blocks of node 0. Also the first
+//! fault of a malformed script.
 
 ghost use Rattle.std.specs.Prelude.{◌<◌, ◌^◌, length};
 

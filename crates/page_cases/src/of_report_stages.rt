@@ -33,7 +33,7 @@ fn each_outcome(rt: HostRuntime) -> Result<(), Fail> {
     Ok(())
 }
 
-/// Returns a table of two domains with these distances.
+/// Returns an SLIT of two domains with these distances.
 fn two(alloc: Global, cells: &[u8]) -> Result<Slit, Memory>
     requires { length cells.now ≡ 4 }
     ensures { IfOk result (λ slit. IsSquare (slit_view slit)) }
@@ -54,7 +54,7 @@ fn span(node: u32, zone: Zone) -> Span {
     }
 }
 
-/// Returns the text of the lists of these zones.
+/// Returns the text of the zone lists for these zones.
 fn text_of(
     alloc: Global,
     slit: Option<&Slit>,
@@ -69,7 +69,8 @@ fn text_of(
     Ok(text)
 }
 
-// Each use of the table without a zone; then the lists of two nodes, the first with two zones.
+// The text without zones for each reason why the SLIT isn't used. Then the lists of two nodes, of
+// which the first has two zones, with a SLIT that is used.
 #[test]
 fn each_use(rt: HostRuntime) -> Result<(), Fail> {
     let alloc = rt.alloc();

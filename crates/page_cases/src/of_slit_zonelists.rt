@@ -1,5 +1,5 @@
-//! The SLIT of a machine of three domains, as its firmware gives it; each fault of a SLIT; the
-//! lists of zones of the machine's nodes; and requests near a node.
+//! The SLIT of a machine of three domains, as its firmware gives it; each fault of an SLIT; the
+//! zone lists of the machine's nodes; and requests near a node.
 
 ghost use Rattle.std.specs.Prelude.{◌≡◌, IfOk, length};
 ghost use Rattle.slit_zonelists.specs.SlitView.{slit_view, IsSquare};
@@ -16,8 +16,8 @@ use zone_spans::Span;
 const THREE_DOMAINS: [u8; 53] = *b"SLIT5\0\0\0\x01\x90CORPUSBOOTMEM \
         \x01\0\0\0TEST\x01\0\0\0\x03\0\0\0\0\0\0\0\x0a\x1e\x14\x1e\x0a\x14\x14\x14\x0a";
 
-/// Returns a table of one domain, with this first byte of the signature, stated length and
-/// checksum. `low` and `high` are the lowest and the highest byte of its number of domains.
+/// Returns an SLIT of one domain, with this first byte of the signature, this stated length and
+/// this checksum. `low` and `high` are the lowest and the highest byte of its number of domains.
 fn one_domain(first: u8, stated: u8, checksum: u8, low: u8, high: u8) -> [u8; 45] {
     let mut bytes = [0; 45];
     bytes[0] = first;
@@ -32,7 +32,7 @@ fn one_domain(first: u8, stated: u8, checksum: u8, low: u8, high: u8) -> [u8; 45
     bytes
 }
 
-/// Returns a table of three domains with these distances.
+/// Returns an SLIT of three domains with these distances.
 fn three(alloc: Global, cells: &[u8]) -> Result<Slit, Memory>
     requires { length cells.now ≡ 9 }
     ensures { IfOk result (λ slit. IsSquare (slit_view slit)) }
@@ -84,8 +84,8 @@ fn a_machine_of_three_domains(rt: HostRuntime) -> Result<(), Fail> {
     Ok(())
 }
 
-/// In each case the faults after the expected one are present, too. In the last, the number of
-/// domains has the square 1 modulo 2^64.
+/// Each SLIT has the expected fault and also all faults that are checked after it. In the last one,
+/// the number of domains has the square 1 modulo 2^64.
 #[test]
 fn the_first_fault_is_told(rt: HostRuntime) {
     let alloc = rt.alloc();
@@ -128,8 +128,8 @@ fn a_bad_cell_and_what_goes_first(rt: HostRuntime) -> Result<(), Fail> {
     Ok(())
 }
 
-/// The distances of a pair may differ by direction. Node 1 has a domain that isn't in the table;
-/// node 3 has none, and no memory.
+/// The distance between two domains may differ by direction. Node 1 has a domain that isn't in the
+/// SLIT; node 3 has no domain and no memory.
 #[test]
 fn distances_of_domains(rt: HostRuntime) -> Result<(), Fail> {
     let slit = three(rt.alloc(), &[10, 40, 15, 30, 10, 25, 12, 13, 10])?;

@@ -36,7 +36,7 @@ pub const FIRST_PAGE: Run = Run {
     kind: 2,
 };
 
-/// The RAM of the first 640 KiB after the first page.
+/// The RAM between the first page and 640 KiB.
 pub const FIRST_640K: Run = Run {
     range: Range {
         base: 0x1000,
@@ -89,7 +89,7 @@ pub fn run(base: u64, size: u64, kind: u32) -> Run
     }
 }
 
-/// Writes an entry at the offset.
+/// Writes an entry of a zero page at the offset.
 pub fn put_entry(bytes: &mut [u8], offset: usize, entry: Entry)
     requires { offset + 20 ≤ length bytes.old }
 {
@@ -98,7 +98,7 @@ pub fn put_entry(bytes: &mut [u8], offset: usize, entry: Entry)
     LittleEndian::write_u32(&mut bytes[offset + 16..], entry.kind);
 }
 
-/// Returns a zero page that states `count` entries and has these as its first two.
+/// Returns a zero page that states `count` entries. Its first two entries are `first` and `second`.
 pub fn page(count: u8, first: Entry, second: Entry) -> [u8; 4096] {
     let mut bytes = [0; 4096];
     bytes[0x1e8] = count;
@@ -117,7 +117,7 @@ pub fn file(alloc: Global, name: &str, bytes: &[u8]) -> Result<MemFile, Fail>
     })
 }
 
-/// Sets the entries of the extension.
+/// Replaces the entries of the extension.
 pub fn put_entries(inputs: &mut Inputs, entries: Vec<Entry>)
     requires { EntriesFit entries.items }
 {
@@ -130,7 +130,7 @@ fn put_options(inputs: &mut Inputs, options: Options)
     inputs.options = options;
 }
 
-/// Boots with these entries, which come as an extension, and with this command line of the kernel.
+/// Boots with these entries, passed as an extension, and with this command line of the kernel.
 pub fn booted(alloc: Global, entries: &[Entry], line: &[u8]) -> Result<Result<Booted, Stop>, Fail>
     requires { EntriesFit entries.now }
     ensures { IfOk result (λ answer. IfOk answer (λ booted. HeadsHaveRecords booted)) }

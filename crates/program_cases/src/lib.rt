@@ -1,10 +1,10 @@
-//! Worked cases of everything that is read (bytes, texts, files and words), of the map of memory,
-//! of the boot, and of the program `bootmem`.
+//! Worked cases of the inputs (bytes, texts, files and words), of the map of memory, of the boot,
+//! and of the program `bootmem`. This crate has only tests.
 //!
-//! Each module has the cases of the crate that it is named after. It calls that crate as any other
-//! crate does, by its public names, and knows only what the contracts say. The tests of a crate
-//! are proved with the crate. So tests that need no more than its contracts are here, and proving
-//! a crate doesn't repeat them.
+//! Each module has the cases of the crate that it is named after. It calls that crate by its public
+//! names and knows only what the contracts say, as any other crate does. Tests inside a crate are
+//! compiled and proved with that crate. The tests here need only its contracts, so they don't slow
+//! down its proof.
 #![tactic(auto)]
 
 #[cfg(test)]
@@ -35,6 +35,8 @@ mod of_efi_map;
 mod of_program_args;
 #[cfg(test)]
 mod of_program_run;
+#[cfg(test)]
+mod of_program_run61;
 #[cfg(test)]
 mod of_run_edits;
 #[cfg(test)]

@@ -1,5 +1,6 @@
-//! Numbers in reports and ranges at the end of numbers, multiples, and numbers that are read. The
-//! expected values come from outside the program.
+//! Tests of `bm_base`: write and read numbers, round to multiples, find the zone of a frame, and
+//! call the methods of ranges at the end of the address space. The expected values come from
+//! outside the program.
 
 use bm_base::{
     NumFault, Range, Zone, put_dec, put_hex, put_text, read_number, read_size, round_down,

@@ -1,6 +1,6 @@
-//! Files and outputs in memory and of the operating system, and a text that is put in chunks.
-//! Calls that fail are planned by their numbers. So each failure shows that all calls before it
-//! were counted.
+//! Files and outputs, in memory and of the operating system, and a text that is written in chunks.
+//! A test says by number which calls fail. A failure at that number also shows that all calls
+//! before it were counted.
 
 use crate::common::file;
 use bm_io::{Fetch, Files, MemFiles, MemSink, Put, RealFiles, Sink, StdSink, put_all};
@@ -9,7 +9,7 @@ use std::process::Abort;
 use std::test::Fail;
 use std::{fs, process};
 
-/// Returns whether fetching the file has this result.
+/// Tests whether fetching the file has this result.
 fn answers(
     files: &mut impl Files,
     alloc: Global,
@@ -23,8 +23,8 @@ fn answers(
     }
 }
 
-/// Fetches for each row and compares the result. A row has a name, a limit, and the expected
-/// result.
+/// Fetches the file of each row and compares the result. A row has a name, a limit, and the
+/// expected result.
 fn compare_files(
     rt: &impl Abort,
     alloc: Global,
@@ -37,7 +37,7 @@ fn compare_files(
     }
 }
 
-/// Returns one file of three bytes; the second and the sixth call fail.
+/// Returns one file of three bytes. The second and the sixth fetch fail.
 fn files_of_three_bytes(alloc: Global) -> Result<MemFiles, Fail> {
     let file = file(alloc, "zp", &[1, 2, 3])?;
     Ok(MemFiles::new(vec![in alloc; file]?, vec![in alloc; 2, 6]?))
@@ -79,7 +79,7 @@ fn files_of_the_system(rt: HostRuntime) -> Result<(), Fail> {
     Ok(())
 }
 
-/// Puts each chunk and compares the result.
+/// Writes each chunk and compares the result.
 fn compare_puts(rt: &impl Abort, sink: &mut impl Sink, rows: &[(&[u8], Result<(), Put>)]) {
     for (chunk, want) in rows {
         assert!(rt; sink.put(chunk) == *want);
@@ -125,14 +125,14 @@ fn streams_of_the_system(rt: HostRuntime) -> Result<(), Fail> {
     Ok(())
 }
 
-/// Puts five chunks, and compares the result and the bytes that were written.
+/// Writes five chunks, and compares the result and the bytes that were written.
 fn compare_chunks(rt: &impl Abort, sink: &mut MemSink, want: Result<(), Put>, written: &str) {
     let answer = put_all(sink, &["", "entry ", "12", "", " too far\n"]);
     assert!(rt; answer == want, "for {written}");
     assert!(rt; sink.written_bytes() == written.as_bytes());
 }
 
-/// Returns an output in memory whose call of this number fails.
+/// Returns an output in memory. The write with this number fails.
 fn failing_at(alloc: Global, number: u64) -> Result<MemSink, Fail> {
     Ok(MemSink::new(vec![in alloc; number]?))
 }

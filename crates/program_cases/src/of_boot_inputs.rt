@@ -1,5 +1,6 @@
-//! The order in which files are fetched. No clause can count fetches, so these tests do, by the
-//! numbers of the calls that fail.
+//! Tests of the order in which input files are fetched. The contract of `read_inputs` doesn't say
+//! how often it fetches. Each test therefore lets chosen fetches fail, by number, and compares the
+//! error.
 
 ghost use Rattle.std.specs.Prelude.{IfOk};
 ghost use Rattle.bm_io.specs.MemFiles.{file_views, HaveOwnNames};
@@ -7,13 +8,15 @@ ghost use Rattle.bm_io.specs.MemFiles.{file_views, HaveOwnNames};
 use crate::common::{KERNEL, SMALLEST_SRAT, file};
 use bm_base::Width;
 use bm_io::{Fetch, Files, MemFile, MemFiles};
-use boot_inputs::{Fault, Input, InputsReason, Names, NoInputs, read_inputs};
+use boot_inputs::{
+    Fault, Input, InputsReason, Names, NoInputs, read_claims, read_inputs, read_inputs_with_claims,
+};
 use boot_model::Inputs;
 use boot_options::OptionFault;
 use e820_table::{ExtFault, ZeroFault};
 use efi_map::EfiFault;
 use page_alloc::PageFault;
-use script_reader::ScriptFault;
+use script_reader::{Act, Line, ScriptFault};
 use slit_zonelists::SlitFault;
 use srat_reader::SratFault;
 use std::alloc::Global;
@@ -22,30 +25,32 @@ use std::test::Fail;
 
 /// The name of each file.
 #[derive(Clone, Copy)]
-struct Eight<'a> {
+struct Nine<'a> {
     zp: &'a str,
     ext: &'a str,
     cmd: &'a str,
     srat: &'a str,
     script: &'a str,
+    claims: &'a str,
     pages: &'a str,
     slit: &'a str,
     efi: &'a str,
 }
 
-impl<'a> Names for Eight<'a> {
+impl<'a> Names for Nine<'a> {
     ghost use Rattle.std.specs.Prelude.{Some};
     ghost use Rattle.boot_inputs.specs.declared.input.Input.TheVariants as inputs;
 
-    ghost named = { λ eight input. elim input [
-      | inputs.ZeroPage ↦ Some eight.zp.now
-      | inputs.Extension ↦ Some eight.ext.now
-      | inputs.CommandLine ↦ Some eight.cmd.now
-      | inputs.Srat ↦ Some eight.srat.now
-      | inputs.Script ↦ Some eight.script.now
-      | inputs.Pages ↦ Some eight.pages.now
-      | inputs.Slit ↦ Some eight.slit.now
-      | inputs.Efi ↦ Some eight.efi.now
+    ghost named = { λ nine input. elim input [
+      | inputs.ZeroPage ↦ Some nine.zp.now
+      | inputs.Extension ↦ Some nine.ext.now
+      | inputs.CommandLine ↦ Some nine.cmd.now
+      | inputs.Srat ↦ Some nine.srat.now
+      | inputs.Script ↦ Some nine.script.now
+      | inputs.Claims ↦ Some nine.claims.now
+      | inputs.Pages ↦ Some nine.pages.now
+      | inputs.Slit ↦ Some nine.slit.now
+      | inputs.Efi ↦ Some nine.efi.now
     ] };
 
     fn of(&self, input: Input) -> Option<&str> {
@@ -55,6 +60,7 @@ impl<'a> Names for Eight<'a> {
             Input::CommandLine => Some(self.cmd),
             Input::Srat => Some(self.srat),
             Input::Script => Some(self.script),
+            Input::Claims => Some(self.claims),
             Input::Pages => Some(self.pages),
             Input::Slit => Some(self.slit),
             Input::Efi => Some(self.efi),
@@ -62,7 +68,8 @@ impl<'a> Names for Eight<'a> {
     }
 }
 
-/// The bytes of the files `zp`, `ext`, `cmd`, `srat`, `script`, `pages`, `slit` and `efi`.
+/// The bytes of the files `zp`, `ext`, `cmd`, `srat`, `script`, `claims`, `pages`, `slit` and
+/// `efi`.
 #[derive(Clone, Copy)]
 struct Held<'a> {
     zp: &'a [u8],
@@ -70,6 +77,7 @@ struct Held<'a> {
     cmd: &'a [u8],
     srat: &'a [u8],
     script: &'a [u8],
+    claims: &'a [u8],
     pages: &'a [u8],
     slit: &'a [u8],
     efi: &'a [u8],
@@ -83,15 +91,16 @@ fn files_of(alloc: Global, held: &Held<'_>) -> Result<Vec<MemFile>, Fail>
     let cmd = file(alloc, "cmd", held.cmd)?;
     let srat = file(alloc, "srat", held.srat)?;
     let script = file(alloc, "script", held.script)?;
+    let claims = file(alloc, "claims", held.claims)?;
     let pages = file(alloc, "pages", held.pages)?;
     let slit = file(alloc, "slit", held.slit)?;
     let efi = file(alloc, "efi", held.efi)?;
-    Ok(vec![in alloc; zp, ext, cmd, srat, script, pages, slit, efi]?)
+    Ok(vec![in alloc; zp, ext, cmd, srat, script, claims, pages, slit, efi]?)
 }
 
-/// Reads the files, with the fetches numbered in `failing` planned to fail, and compares the
-/// error. One more fetch must then fail. Its number is the last of `failing`, so reading made one
-/// fetch fewer than that.
+/// Reads the files and compares the error. `failing` has the numbers of the fetches that fail.
+/// Afterwards the next fetch must fail too: its number is the last one in `failing`. Reading the
+/// files therefore made one fetch fewer than that number.
 fn expect(
     rt: &impl Abort,
     alloc: Global,
@@ -100,12 +109,8 @@ fn expect(
     want: Option<InputsReason>,
 ) -> Result<(), Fail> {
     let mut files = MemFiles::new(files_of(alloc, held)?, Vec::from_slice(alloc, failing)?);
-    let answer = read_inputs(
-        alloc,
-        &mut files,
-        &ALL,
-        Inputs::without_files(alloc, Width::Bits46, KERNEL),
-    );
+    let begun = Inputs::without_files(alloc, Width::Bits46, KERNEL);
+    let answer = read_inputs(alloc, &mut files, &ALL, begun);
     assert!(rt;
         answer.err() == want.map(NoInputs::Reason),
         "fetch {failing:?}"
@@ -114,6 +119,35 @@ fn expect(
     assert!(rt;
         further.err() == Some(Fetch::Failed),
         "behind fetch {failing:?}"
+    );
+    Ok(())
+}
+
+/// Does the same with early claims, which `read_inputs` doesn't fetch. Reading without an error
+/// returns the lines of the script and those of the claims.
+fn expect_with_claims(
+    rt: &impl Abort,
+    alloc: Global,
+    held: &Held<'_>,
+    failing: &[u64],
+    want: Result<(&[Line], &[Line]), InputsReason>,
+) -> Result<(), Fail> {
+    let mut files = MemFiles::new(files_of(alloc, held)?, Vec::from_slice(alloc, failing)?);
+    let begun = Inputs::without_files(alloc, Width::Bits46, KERNEL);
+    match read_inputs_with_claims(alloc, &mut files, &ALL, begun) {
+        Ok((inputs, claims)) => assert!(rt;
+            want == Ok((inputs.lines.as_slice(), claims.as_slice())),
+            "lines, fetch {failing:?}"
+        ),
+        Err(error) => assert!(rt;
+            Some(error) == want.err().map(NoInputs::Reason),
+            "with claims, fetch {failing:?}"
+        ),
+    }
+    let further = files.fetch(alloc, "zp", 4096);
+    assert!(rt;
+        further.err() == Some(Fetch::Failed),
+        "with claims, behind fetch {failing:?}"
     );
     Ok(())
 }
@@ -132,24 +166,26 @@ const HELD: Held<'static> = Held {
     cmd: b"quiet",
     srat: &SMALLEST_SRAT,
     script: b"free 1",
+    claims: b"# early\nfree 3",
     pages: b"give 1",
     slit: &SMALLEST_SLIT,
     efi: &[40, 0, 0, 0, 1, 0, 0, 0],
 };
 
-const ALL: Eight<'static> = Eight {
+const ALL: Nine<'static> = Nine {
     zp: "zp",
     ext: "ext",
     cmd: "cmd",
     srat: "srat",
     script: "script",
+    claims: "claims",
     pages: "pages",
     slit: "slit",
     efi: "efi",
 };
 
-/// Each file is fetched once, in this order. If its fetch fails, the file is unread and no file
-/// after it is fetched. There is no ninth fetch.
+/// Each file is fetched once, in this order. If a fetch fails, its file is reported as unread, and
+/// no later file is fetched. There is no ninth fetch.
 #[test]
 fn files_in_their_order(rt: HostRuntime) -> Result<(), Fail> {
     let mut zp = [0; 4096];
@@ -172,7 +208,99 @@ fn files_in_their_order(rt: HostRuntime) -> Result<(), Fail> {
     Ok(())
 }
 
-/// No file is fetched after one with a fault: the number in each row is that of the next fetch.
+/// The early claims are the sixth file: after the script, and before the page script. Their lines
+/// are apart from those of the script.
+#[test]
+fn claims_after_the_script(rt: HostRuntime) -> Result<(), Fail> {
+    let mut zp = [0; 4096];
+    zp[0x1e8] = 2;
+    let held = Held { zp: &zp, ..HELD };
+    let script = [Line {
+        number: 1,
+        act: Act::Free { id: 1 },
+    }];
+    let claims = [Line {
+        number: 2,
+        act: Act::Free { id: 3 },
+    }];
+    let rows: [(&[u64], Result<(&[Line], &[Line]), InputsReason>); 6] = [
+        (&[5, 6], Err(InputsReason::Unread(Input::Script))),
+        (&[6, 7], Err(InputsReason::Unread(Input::Claims))),
+        (&[7, 8], Err(InputsReason::Unread(Input::Pages))),
+        (&[8, 9], Err(InputsReason::Unread(Input::Slit))),
+        (&[9, 10], Err(InputsReason::Unread(Input::Efi))),
+        (&[10], Ok((&script, &claims))),
+    ];
+    for (failing, want) in &rows {
+        expect_with_claims(&rt, rt.alloc(), &held, *failing, *want)?;
+    }
+    Ok(())
+}
+
+/// A file of early claims with a fault: the page script is not fetched after it.
+#[test]
+fn refused_claims_are_the_last(rt: HostRuntime) -> Result<(), Fail> {
+    let mut zp = [0; 4096];
+    zp[0x1e8] = 2;
+    let good = Held { zp: &zp, ..HELD };
+    let script = Held {
+        script: b"free",
+        claims: b"free",
+        ..good
+    };
+    let claims = Held {
+        claims: b"free 3\nsections",
+        pages: b"give",
+        ..good
+    };
+    let rows = [
+        (script, Input::Script, ScriptFault::BadLine { line: 1 }, 6),
+        (claims, Input::Claims, ScriptFault::BadLine { line: 2 }, 7),
+    ];
+    for (held, input, fault, behind) in &rows {
+        let want = Err(InputsReason::Faulty(*input, Fault::Script(*fault)));
+        expect_with_claims(&rt, rt.alloc(), held, &[*behind], want)?;
+    }
+    Ok(())
+}
+
+/// The lines of early claims are those of a script, except `sections`.
+#[test]
+fn lines_of_claims(rt: HostRuntime) -> Result<(), Fail> {
+    let free = Line {
+        number: 2,
+        act: Act::Free { id: 7 },
+    };
+    let peek = Line {
+        number: 1,
+        act: Act::Peek { at: 0x1000, len: 4 },
+    };
+    let rows: [(&[u8], Result<&[Line], ScriptFault>); 11] = [
+        (b"", Ok(&[])),
+        (b"# sections\nfree 7\n", Ok(&[free])),
+        (b"peek 0x1000 4\r\n\tfree 7", Ok(&[peek, free])),
+        (b"sections", Err(ScriptFault::BadLine { line: 1 })),
+        (
+            b"free 1\n\tsections \r\n",
+            Err(ScriptFault::BadLine { line: 2 }),
+        ),
+        (b"sections 1", Err(ScriptFault::BadLine { line: 1 })),
+        (b"sections\nsections", Err(ScriptFault::BadLine { line: 1 })),
+        (b"free x\nsections", Err(ScriptFault::BadNumber { line: 1 })),
+        (b"sections\nfree x", Err(ScriptFault::BadLine { line: 1 })),
+        (b"alloc 1 4K 3", Err(ScriptFault::BadAlign { line: 1 })),
+        (b"trim 1 0", Err(ScriptFault::ZeroSize { line: 1 })),
+    ];
+    for (bytes, want) in &rows {
+        match read_claims(rt.alloc(), *bytes) {
+            Ok(lines) => assert!(rt; *want == Ok(lines.as_slice()), "{bytes:?}"),
+            Err(fault) => assert!(rt; *want == Err(fault), "{bytes:?}"),
+        }
+    }
+    Ok(())
+}
+
+/// After a file with a fault no file is fetched. The number in each row is that of the next fetch.
 #[test]
 fn refused_file_is_the_last(rt: HostRuntime) -> Result<(), Fail> {
     let mut zp = [0; 4096];

@@ -1,6 +1,6 @@
-//! Command lines of the kernel as files contain them: worked examples as tables. The proved
-//! examples of `boot_options` have single map options, single values of `crashkernel=`, and the
-//! edges of sizes and types.
+//! Command lines of the kernel, as files contain them. Each test is a table of worked examples. The
+//! proved examples of `boot_options` have single map options, single values of `crashkernel=`, and
+//! the extreme sizes and types.
 
 use bm_base::Range;
 use boot_options::{CrashRange, OptionFault, Options, read_options};
@@ -10,8 +10,8 @@ use std::test::Fail;
 
 const MIB: u64 = 1 << 20;
 
-/// Returns the number of edits in a line, whether it turns the SRAT off, and whether it adds the
-/// EFI map.
+/// Returns the number of edits that a line has, whether it turns the SRAT off, and whether it adds
+/// the EFI map.
 fn read_count(alloc: Global, line: &[u8]) -> Result<(usize, bool, bool), OptionFault> {
     let options = read_options(alloc, line)?;
     Ok((options.edits.len(), options.numa_off, options.add_efi))
@@ -155,8 +155,8 @@ fn edits_in_the_order_of_the_line(rt: HostRuntime) -> Result<(), Fail> {
     Ok(())
 }
 
-/// The requested crash area: the number of ranges, the last of them and the base; then the sizes
-/// of the high and the low form.
+/// The requested crash area: for `crashkernel=RANGE:SIZE,..` the number of ranges, the last range
+/// and the base; then the sizes of `crashkernel=SIZE,high` and of `crashkernel=SIZE,low`.
 type Area = (Option<(usize, CrashRange, u64)>, Option<u64>, Option<u64>);
 
 fn read_area(alloc: Global, line: &[u8]) -> Result<Area, Fail> {

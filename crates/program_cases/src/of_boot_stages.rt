@@ -1,4 +1,4 @@
-//! The boot on maps that overlap, are edited or stop it, and what it does to memory. The expected
+//! The boot on maps that overlap, are edited, or stop it, and what happens to memory. The expected
 //! runs come from outside the program.
 
 ghost use Rattle.std.specs.List.{All};
@@ -75,7 +75,7 @@ fn maps_and_stops(rt: HostRuntime) -> Result<(), Fail> {
     expect(&rt, alloc, &machine(), b"mem=0x4000000 -- mem=0", Ok(&cut))?;
     let exact = b"memmap=exactmap memmap=640K@0 memmap=127M@1M";
     expect(&rt, alloc, &machine(), exact, Ok(&whole))?;
-    // the stops
+    // maps that stop the boot
     let reserved = [entry(0, 0x1000, 2), entry(0x10_0000, 0x1000, 2)];
     expect(&rt, alloc, &reserved, b"", Err(Stop::NoRam))?;
     let vast = [entry(0, 0xA_0000, 1), entry(0x10_0000, 0x1000_0000_0000, 1)];
@@ -85,9 +85,10 @@ fn maps_and_stops(rt: HostRuntime) -> Result<(), Fail> {
     expect(&rt, alloc, &vast, b"", Err(too_much))
 }
 
-// The journal of the virtual machine's boot. It begins with the first claims. Of the two runs of
-// RAM the first ends within a frame; the limit is the end of the second. All of it is on node 0,
-// whose data and one section then find places.
+// The journal of the virtual machine's boot. It begins with the first claims. The first of the two
+// runs of RAM ends within a frame, and the limit is the end of the second run. All memory is on
+// node 0. The last items are the claims for the data of this node, for the roots, and for the one
+// section.
 const JOURNAL: &str = "1: claim kernel 0x0000000001000000..0x0000000002ffffff\n\
                        2: claim low-64k 0x0000000000000000..0x000000000000ffff\n\
                        3: limit 0x0000000000100000\n\
@@ -103,7 +104,7 @@ const JOURNAL: &str = "1: claim kernel 0x0000000001000000..0x0000000002ffffff\n\
                        13: claim usage 0 0x0000000007faffc0..0x0000000007faffe7\n\
                        14: claim map 0 0x0000000007c00000..0x0000000007dfffff\n";
 
-// With 16 MiB mirrored, the places are in mirrored memory.
+// The journal of a boot with 16 MiB of mirrored memory: all places are found in that memory.
 const MIRRORED: &str = "1: claim kernel 0x0000000001000000..0x0000000002ffffff\n\
                         2: claim low-64k 0x0000000000000000..0x000000000000ffff\n\
                         3: limit 0x0000000000100000\n\
@@ -120,8 +121,8 @@ const MIRRORED: &str = "1: claim kernel 0x0000000001000000..0x0000000002ffffff\n
                         14: claim usage 0 0x0000000004fcffc0..0x0000000004fcffe7\n\
                         15: claim map 0 0x0000000004c00000..0x0000000004dfffff\n";
 
-// With searches from the lowest address up, the places are just above the first MiB. The map of
-// the section is above the kernel's image.
+// The journal of a boot in which searches go from the lowest address up: places are found just
+// above the first MiB, and the map of the section is above the kernel's image.
 const UPWARD: &str = "1: claim kernel 0x0000000001000000..0x0000000002ffffff\n\
                       2: claim low-64k 0x0000000000000000..0x000000000000ffff\n\
                       3: limit 0x0000000000100000\n\
@@ -138,7 +139,8 @@ const UPWARD: &str = "1: claim kernel 0x0000000001000000..0x0000000002ffffff\n\
                       14: claim usage 0 0x0000000000130000..0x0000000000130027\n\
                       15: claim map 0 0x0000000003000000..0x00000000031fffff\n";
 
-// With another 128 MiB at 64 TiB and addresses of 52 bits, the table of roots has 1 MiB.
+// The journal of a boot with another 128 MiB at 64 TiB and addresses of 52 bits: the table of
+// roots takes 1 MiB.
 const WIDE: &str = "1: claim kernel 0x0000000001000000..0x0000000002ffffff\n\
                     2: claim low-64k 0x0000000000000000..0x000000000000ffff\n\
                     3: limit 0x0000000000100000\n\
@@ -202,7 +204,7 @@ fn journals_of_a_virtual_machine(rt: HostRuntime) -> Result<(), Fail> {
     let alloc = rt.alloc();
     let narrow = Inputs::without_files(alloc, Width::Bits46, KERNEL);
     expect_journal(&rt, alloc, narrow, &machine(), JOURNAL)?;
-    // memory at 64 TiB is beyond addresses of 46 bits
+    // with addresses of 46 bits, the memory at 64 TiB doesn't count
     let narrow = Inputs::without_files(alloc, Width::Bits46, KERNEL);
     expect_journal(&rt, alloc, narrow, &wide_machine(), JOURNAL)?;
     let wide = Inputs::without_files(alloc, Width::Bits52, KERNEL);

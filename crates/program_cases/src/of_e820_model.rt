@@ -1,10 +1,10 @@
-//! An overlay whose records are runs of the map.
+//! An overlay of records that are runs of the map.
 
 use crate::common::run;
 use address_runs::overlay_all;
 use std::test::Fail;
 
-// RAM with a reserved hole, and RAM again above it, given in another order
+// RAM with a reserved hole, and RAM again above it; the records aren't passed in ascending order
 #[test]
 fn the_greater_type_holds(rt: HostRuntime) -> Result<(), Fail> {
     let told = [

@@ -1,5 +1,5 @@
-//! The table on small maps that are edited, and one map with too many runs. The expected runs come
-//! from outside the program.
+//! The table of claims on small maps that are edited, and on one map with too many runs. The
+//! expected runs come from outside the program.
 
 ghost use Rattle.e820_model.specs.Claims.{EntriesFit, HasTypes};
 
@@ -38,7 +38,7 @@ fn expect(rt: &impl Abort, table: &Table, runs: &[Run]) {
     }
 }
 
-// ACPI data, given before the RAM around it, wins since its type is greater
+// ACPI data wins over the RAM around it, although it is given first, since its type is greater
 #[test]
 fn greatest_type_wins(rt: HostRuntime) {
     let entries = [entry(0x10_0000, 0x8_0000, 3), entry(0, 0x20_0000, 1)];
@@ -58,7 +58,7 @@ fn edits_in_their_order(rt: HostRuntime) {
         size: 0x1000,
     };
     let mut table = settled(&rt, rt.alloc(), &[entry(0, 0x1000, 2)]);
-    // the table has type 2: type 1 added to the same page doesn't show, until it is changed to
+    // a page of type 2 stays type 2 if type 1 is added to it; it shows type 4 after a change to
     // type 4
     expect_after(
         &rt,
@@ -89,7 +89,7 @@ fn edits_in_their_order(rt: HostRuntime) {
         &[run(0, 0x1000, 2)],
     );
     expect_after(&rt, &mut table, &Edit::Clear, &[]);
-    // settling drops the claims that lose: if a part of the winner is removed, there is a hole
+    // settling drops the claims that lose, so removing a part of the winner leaves a hole
     let mut table = settled(&rt, rt.alloc(), &nested());
     let hole = Range {
         base: 0x20_0000,
@@ -140,8 +140,8 @@ fn entries_come_in_behind_edits(rt: HostRuntime) {
             entry(0x7FE_0000, 0x2_0000, 2),
         ],
     );
-    // `mem=64M`, then an EFI map: ACPI data in RAM, memory that can't be cached, and RAM that
-    // `mem=` had removed
+    // `mem=64M`, and then an EFI map with ACPI data in RAM, memory that can't be cached, and RAM
+    // that `mem=` had removed
     let above = Range {
         base: 0x400_0000,
         size: u64::MAX - 0x400_0000,

@@ -38,8 +38,8 @@ fn zero_pages(rt: HostRuntime) -> Result<(), Fail> {
     Ok(())
 }
 
-/// Returns a zero page of two entries with this loader and initrd. `address` and `size` have the
-/// upper and the lower half of the initrd's address and size.
+/// Returns a zero page of two entries, of which `second` is the second, with this loader and
+/// initrd. `address` and `size` have the upper and the lower half of the initrd's address and size.
 fn page_with_initrd(second: Entry, loader: u8, address: [u32; 2], size: [u32; 2]) -> [u8; 4096] {
     let mut bytes = page(2, RAM, second);
     bytes[0x210] = loader;
@@ -94,8 +94,8 @@ fn extensions(rt: HostRuntime) -> Result<(), Fail> {
 
 #[test]
 fn made_inputs(rt: HostRuntime) -> Result<(), Fail> {
-    // rows: the number of entries, the last one of the zero page, the number in the extension, and
-    // the last one there
+    // Each case has the number of entries, the last entry of the zero page, the number of entries
+    // in the extension, and the extension's last entry.
     let cases = [
         (3, (135_266_304, 16_384, 2), 0, None),
         (128, (139_169_792, 4096, 1), 0, None),

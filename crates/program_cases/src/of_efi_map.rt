@@ -1,4 +1,4 @@
-//! A small EFI map: the values that are read, and each fault once. The proved examples of
+//! A small EFI memory map: the values that are read, and each fault once. The proved examples of
 //! `efi_map` have the types with their attributes.
 ghost use Rattle.std.specs.Prelude.{◌≡◌, ◌+◌, ◌≤◌, length};
 
@@ -54,7 +54,7 @@ fn descriptors_are_entries_and_mirrors(rt: HostRuntime) -> Result<(), Fail> {
     Ok(())
 }
 
-/// A case has the number of bytes, the version, the pages of the second descriptor, and the
+/// Each case has the number of bytes, the version, the pages of the second descriptor, and the
 /// expected fault.
 #[test]
 fn the_first_fault_is_told(rt: HostRuntime) {

@@ -1,17 +1,18 @@
-//! Words that the command takes and words that it refuses, each form of an option in turn. The
-//! expected results were worked out word by word from the port's definition. The proved examples
-//! of `program_args` aren't repeated.
+//! Words that each command accepts or refuses, for each form of an option. The expected results
+//! were worked out word by word from the port's definition. The proved examples of `program_args`
+//! aren't repeated.
 
 use bm_base::Width;
 use boot_inputs::{Input, Names};
 use boot_model::Inputs;
-use program_args::{ArgsError, BootmemArgs, read_args};
+use program_args::{ArgsError, BootmemArgs, read_args, read_args61};
 use std::alloc::Global;
 use std::process::Abort;
 use std::test::Fail;
 
 /// Returns what the words ask for as one line: the names of files, the list of reports, the
-/// kernel's first byte in MiB, and the number of made entries. A file without a name is `.`.
+/// kernel's first byte in MiB, and the number of made entries. For a file without a name the line
+/// has `.`.
 fn told(alloc: Global, words: &[&str]) -> Result<String, Fail> {
     let mut owned = Vec::new(alloc);
     for word in words {
@@ -41,6 +42,25 @@ fn told_of(alloc: Global, wanted: &BootmemArgs<'_>) -> Result<String, Fail> {
     let kernel = wanted.command_line_inputs(alloc)?.kernel.base / 0x10_0000;
     let made = wanted.made.unwrap_or(0);
     Ok(format!(in alloc; "{line} {kernel} {made}")?)
+}
+
+/// Returns what the words ask `bootmem61` for as one line: that of `told`, and the name of the file
+/// of early claims.
+fn told61(alloc: Global, words: &[&str]) -> Result<String, Fail> {
+    let mut owned = Vec::new(alloc);
+    for word in words {
+        owned.push(String::from_str(alloc, word)?)?;
+    }
+    match read_args61(alloc, &owned) {
+        Ok(wanted) => {
+            let mut line = told_of(alloc, &wanted)?;
+            line.push_str(" ")?;
+            line.push_str(wanted.claims().unwrap_or("."))?;
+            Ok(line)
+        }
+        Err(ArgsError::Usage) => Ok(String::from_str(alloc, "refused")?),
+        Err(ArgsError::Memory) => Ok(String::from_str(alloc, "out of memory")?),
+    }
 }
 
 /// Returns what the words ask for about memory as one line: the width, the direction of searches,
@@ -113,7 +133,7 @@ fn options_and_what_follows_them(rt: HostRuntime) -> Result<(), Fail> {
             ],
             "zp e c t s map 16 0",
         ),
-        // another option in place of a value
+        // an option where a value should be
         (&["--report", "--cmdline", "c", "zp"], "refused"),
         (&["--cmdline", "--report=map", "zp"], "refused"),
         // a value that begins with a hyphen, or contains `=`
@@ -135,7 +155,7 @@ fn options_and_what_follows_them(rt: HostRuntime) -> Result<(), Fail> {
         (&["-r", "map", "zp"], "refused"),
         (&["---report", "map", "zp"], "refused"),
         (&["--=map", "zp"], "refused"),
-        // not an option of this command
+        // an option that this command doesn't have
         (&["--reports=map", "zp"], "refused"),
     ];
     compare(&rt, rt.alloc(), &rows)
@@ -147,14 +167,14 @@ fn forms_of_an_option(rt: HostRuntime) -> Result<(), Fail> {
         (&["--cmdline", "f", "zp"], "zp . f . . buddyinfo 16 0"),
         (&["zp", "--cmdline", "f"], "zp . f . . buddyinfo 16 0"),
         (&["zp", "--cmdline=f"], "zp . f . . buddyinfo 16 0"),
-        // twice, and without a value
+        // an option twice, and an option without a value
         (&["--cmdline=f", "--cmdline=f", "zp"], "refused"),
         (&["zp", "--cmdline"], "refused"),
         // an empty value can name a file, but is no range and no report
         (&["--cmdline=", "zp"], "zp .  . . buddyinfo 16 0"),
         (&["--kernel=", "zp"], "refused"),
         (&["zp", "--report", ""], "refused"),
-        // abbreviated, and with one hyphen
+        // an abbreviated option, and an option with one hyphen
         (&["--cmd", "f", "zp"], "refused"),
         (&["-srat", "f", "zp"], "refused"),
     ];
@@ -190,17 +210,17 @@ fn names_and_the_end_of_options(rt: HostRuntime) -> Result<(), Fail> {
 #[test]
 fn values(rt: HostRuntime) -> Result<(), Fail> {
     let rows: [(&[&str], &str); 13] = [
-        // reports
+        // lists of reports
         (&["--report=map,", "zp"], "refused"),
         (&["--report=,map", "zp"], "refused"),
         (&["--report", "map, options", "zp"], "refused"),
-        // the kernel
+        // ranges of the kernel's image
         (
             &["--report=map", "--kernel=0x2000000,0x2000000", "zp"],
             "zp . . . . map 32 0",
         ),
         (&["--report=map", "--kernel=1020K,8K", "zp"], "refused"),
-        // made entries
+        // numbers of made entries
         (
             &[
                 "--report=map",
@@ -264,5 +284,107 @@ fn the_most_mirrored_ranges(rt: HostRuntime) -> Result<(), Fail> {
     let more = mirrored_pieces(alloc, 65)?;
     let told = memory_told(alloc, &[more.as_str(), "zp"])?;
     assert!(rt; told.as_str() == "refused", "65 pieces");
+    Ok(())
+}
+
+/// Reads the words of each row as those of `bootmem61` and compares the line. `bootmem` refuses the
+/// words of each row.
+fn compare61(rt: &impl Abort, alloc: Global, rows: &[(&[&str], &str)]) -> Result<(), Fail> {
+    for (words, expected) in rows {
+        let line = told61(alloc, words)?;
+        assert!(rt; line.as_str() == *expected, "bootmem61 {words:?}");
+        let line = told(alloc, words)?;
+        assert!(rt; line.as_str() == "refused", "bootmem {words:?}");
+    }
+    Ok(())
+}
+
+#[test]
+fn early_claims(rt: HostRuntime) -> Result<(), Fail> {
+    let rows: [(&[&str], &str); 13] = [
+        (&["--claims", "c", "zp"], "zp . . . . buddyinfo 16 0 c"),
+        (&["zp", "--claims=c"], "zp . . . . buddyinfo 16 0 c"),
+        // beside the script, in either order, and with a made table
+        (
+            &["--claims=c", "--script", "s", "zp"],
+            "zp . . . s buddyinfo 16 0 c",
+        ),
+        (
+            &["zp", "--script=s", "--claims", "c"],
+            "zp . . . s buddyinfo 16 0 c",
+        ),
+        (&["--make=5", "--claims=c"], ". . . . . buddyinfo 16 5 c"),
+        // a value that begins with a hyphen, and an empty one
+        (&["--claims=-c", "zp"], "zp . . . . buddyinfo 16 0 -c"),
+        (&["--claims", "-c", "zp"], "refused"),
+        (&["--claims=", "zp"], "zp . . . . buddyinfo 16 0 "),
+        // twice, and without a value
+        (&["--claims=c", "--claims=c", "zp"], "refused"),
+        (&["--claims", "c", "zp", "--claims", "d"], "refused"),
+        (&["zp", "--claims"], "refused"),
+        (&["--claims", "--script=s", "zp"], "refused"),
+        // without a source of entries
+        (&["--claims=c"], "refused"),
+    ];
+    compare61(&rt, rt.alloc(), &rows)
+}
+
+#[test]
+fn the_report_of_early_claims(rt: HostRuntime) -> Result<(), Fail> {
+    let rows: [(&[&str], &str); 8] = [
+        (&["--report", "claims", "zp"], "zp . . . . claims 16 0 ."),
+        (
+            &["--report=claims", "--claims=c", "zp"],
+            "zp . . . . claims 16 0 c",
+        ),
+        (
+            &["--report=map,claims,script", "zp"],
+            "zp . . . . map,claims,script 16 0 .",
+        ),
+        // abbreviated, longer, in capitals, and beside an empty or unknown name
+        (&["--report=claim", "zp"], "refused"),
+        (&["--report=claimsx", "zp"], "refused"),
+        (&["--report=Claims", "zp"], "refused"),
+        (&["--report=claims,", "zp"], "refused"),
+        (&["--report=claims,nothing", "zp"], "refused"),
+    ];
+    compare61(&rt, rt.alloc(), &rows)
+}
+
+#[test]
+fn words_that_both_programs_take(rt: HostRuntime) -> Result<(), Fail> {
+    let alloc = rt.alloc();
+    let rows: [(&[&str], &str); 3] = [
+        (&["zp"], "zp . . . . buddyinfo 16 0"),
+        (
+            &[
+                "--la57",
+                "--mirror=1M,1M",
+                "--bottom-up",
+                "--cmdline=c",
+                "--e820ext=e",
+                "--srat=t",
+                "--script=s",
+                "--pages=p",
+                "--slit=d",
+                "--efi=m",
+                "--kernel=32M,32M",
+                "--report=map",
+                "zp",
+            ],
+            "zp e c t s map 32 0",
+        ),
+        (&["--make", "7", "--report=map"], ". . . . . map 16 7"),
+    ];
+    for (words, expected) in rows {
+        let line = told(alloc, words)?;
+        assert!(rt; line.as_str() == expected, "bootmem {words:?}");
+        let line = told61(alloc, words)?;
+        let with_claims = format!(in alloc; "{expected} .")?;
+        assert!(rt;
+            line.as_str() == with_claims.as_str(),
+            "bootmem61 {words:?}"
+        );
+    }
     Ok(())
 }

@@ -31,7 +31,7 @@ const EXTENSION: [u8; 36] = [
     0, 0, 0xFE, 7, 0, 0, 0, 0, 0, 0x10, 2, 0, 0, 0, 0, 0, 1, 0, 0, 0, // address, size, type
 ];
 
-/// The end of a run: the status, the output and the error output.
+/// How a run ended: the status, the output and the error output.
 #[derive(Drop)]
 struct Ended {
     status: u8,
@@ -40,8 +40,8 @@ struct Ended {
 }
 
 impl Ended {
-    /// Returns whether the run ended with this status, this text on the output and this line on
-    /// the error output.
+    /// Tests whether the run ended with this status, this text on the output and this line on the
+    /// error output.
     fn is(&self, status: u8, text: &str, line: &str) -> bool {
         self.status == status
             && self.out.written_bytes() == text.as_bytes()
@@ -60,15 +60,15 @@ fn files_of(alloc: Global, line: &[u8]) -> Result<Vec<MemFile>, Fail>
 }
 
 /// Runs `bootmem` with these words and this command line of the kernel. `failing` has the numbers
-/// of the calls that fail: of fetches, of puts to the output, and of puts to the error output.
+/// of the calls that fail: of fetches, of writes to the output, and of writes to the error output.
 fn run_on(alloc: Global, words: &[&str], line: &[u8], failing: [&[u64]; 3]) -> Result<Ended, Fail> {
     let [fetches, puts, lines] = failing;
     let mut files = MemFiles::new(files_of(alloc, line)?, Vec::from_slice(alloc, fetches)?);
     run_over(alloc, words, &mut files, puts, lines)
 }
 
-/// Runs `bootmem` with these words and files. `puts` and `lines` have the numbers of the puts that
-/// fail, to the output and to the error output.
+/// Runs `bootmem` with these words and files. `puts` and `lines` have the numbers of the writes
+/// that fail, to the output and to the error output.
 fn run_over(
     alloc: Global,
     words: &[&str],
@@ -90,7 +90,8 @@ fn run_over(
 /// output and error output.
 type Row<'a> = (&'a [&'a str], [&'a [u64]; 3], u8, &'a str, &'a str);
 
-/// Runs `bootmem` for each row, with this command line of the kernel, and compares its end.
+/// Runs `bootmem` for each row, with this command line of the kernel, and compares how the run
+/// ended.
 fn compare(rt: &impl Abort, alloc: Global, line: &[u8], rows: &[Row<'_>]) -> Result<(), Fail> {
     for (words, failing, status, text, error) in rows {
         let ended = run_on(alloc, words, line, *failing)?;
@@ -113,7 +114,7 @@ fn words_and_what_fails(rt: HostRuntime) -> Result<(), Fail> {
         (map, [&[1], &[], &[]], 3, "", "bootmem: cannot read zp\n"),
         (map, [&[2], &[], &[]], 0, MAP, ""),
         (map, [&[], &[1], &[]], 4, half, "bootmem: cannot write\n"),
-        // the report is one put, so there is no second
+        // the report is written at once, so there is no second write
         (map, [&[], &[2], &[]], 0, MAP, ""),
         (map, [&[], &[1], &[1]], 4, half, "boo"),
         (other, [&[], &[], &[1]], 3, "", "boo"),
@@ -182,7 +183,7 @@ fn extension_and_command_line(rt: HostRuntime) -> Result<(), Fail> {
     compare_lines(&rt, rt.alloc(), &words, &rows)
 }
 
-// All texts are made before the first is put. Each text that isn't empty is one put.
+// All texts are made before the first is written. Each text that isn't empty is one write.
 #[test]
 fn lists_of_reports(rt: HostRuntime) -> Result<(), Fail> {
     let both = "== options\nnuma off\n\
@@ -218,19 +219,19 @@ fn lists_of_reports(rt: HostRuntime) -> Result<(), Fail> {
         ),
     ];
     compare(&rt, rt.alloc(), b"numa=off", &rows)?;
-    // a report without lines makes no put
+    // a report without lines writes nothing
     let empty: [Row<'_>; 1] = [(&["--report", "options", "zp"], [&[], &[1], &[]], 0, "", "")];
     compare(&rt, rt.alloc(), b"", &empty)
 }
 
-/// The part of the report `map`, for a machine with 16 GiB above 4 GiB.
+/// The report `map` with its title line, for a machine with 16 GiB above 4 GiB.
 const GREAT_MAP: &str = "== map\n\
     0x0000000000100000..0x0000000007fdffff 1 usable\n\
     0x0000000007fe0000..0x0000000007ffffff 2 reserved\n\
     0x0000000100000000..0x00000004ffffffff 1 usable\n";
 
-// The report `blocks` of such a machine has thousands of lines, but is one put. The second put is
-// the second report, and there is no third.
+// The report `blocks` of a machine with 16 GiB has thousands of lines, but is one write. The second
+// write is the second report, and there is no third.
 #[test]
 fn one_put_per_report(rt: HostRuntime) -> Result<(), Fail> {
     let words = ["--cmdline", "cmd", "--report", "blocks,map", "zp"];
@@ -295,14 +296,15 @@ fn five_files(alloc: Global, held: &Held<'_>) -> Result<Vec<MemFile>, Fail>
     Ok(vec![in alloc; zp, ext, cl, sr, sc]?)
 }
 
-/// Returns whether one more fetch fails. The file is there, so it fails only if its number is
+/// Tests whether one more fetch fails. The file is there, so the fetch fails only if its number is
 /// planned to fail.
 fn fails(files: &mut MemFiles, alloc: Global) -> bool {
     files.fetch(alloc, "zp", 4096).err() == Some(Fetch::Failed)
 }
 
-/// Runs `bootmem` over five files for each row and compares its end. One more fetch must then
-/// fail. Its number is the last of the row's, so the run made one fetch fewer than that.
+/// Runs `bootmem` over five files for each row and compares how the run ends. Afterwards the next
+/// fetch must fail too: its number is the last one in the row's list of fetches that fail. The run
+/// therefore made one fetch fewer than that number.
 fn compare_fetches(
     rt: &impl Abort,
     alloc: Global,
@@ -415,7 +417,8 @@ fn each_call_that_fails(rt: HostRuntime) -> Result<(), Fail> {
     compare_fetches(&rt, rt.alloc(), &Held { zp: &zp, ..HELD }, &rows)
 }
 
-// A zero page of 4095 bytes, after which no file is fetched, and an extension of 15 bytes.
+// A zero page of 4095 bytes and an extension of 15 bytes. After a file with a fault no file is
+// fetched.
 #[test]
 fn malformed_files(rt: HostRuntime) -> Result<(), Fail> {
     let short = Held {
@@ -436,7 +439,7 @@ fn malformed_files(rt: HostRuntime) -> Result<(), Fail> {
     compare_fetches(&rt, rt.alloc(), &short, &rows)
 }
 
-// However a run ends, it fetches no file that the words don't name.
+// A run fetches no file that the words don't name, however it ends.
 #[test]
 fn files_that_no_word_names(rt: HostRuntime) -> Result<(), Fail> {
     let rows: [Row<'_>; 5] = [

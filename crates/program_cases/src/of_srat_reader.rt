@@ -59,9 +59,9 @@ fn put_x2apic(bytes: &mut [u8], at: usize, domain: u32, flags: u32)
     LittleEndian::write_u32(&mut bytes[at + 12..], flags);
 }
 
-/// Returns a table with the header (48 bytes) and these entries: x2APIC (24), memory (40), type 9
-/// (5), APIC (16), memory of size 0 (40), APIC that is disabled (16), and memory that is disabled
-/// and too far (40).
+/// Returns a table of the header (48 bytes) and these entries: an x2APIC (24), memory (40), type 9
+/// (5), an APIC (16), memory of size 0 (40), a disabled APIC (16), and disabled memory that ends
+/// too far (40).
 fn every_kind() -> [u8; 229] {
     let mut bytes = [0; 229];
     put_x2apic(&mut bytes, 48, 0x0c0d, 1);
@@ -116,8 +116,8 @@ fn entries_of_every_kind(rt: HostRuntime) -> Result<(), Fail> {
     Ok(())
 }
 
-/// Each table has two ranges of memory, at 48 and 88. A case has the type, the length and the size
-/// of the first, the length of the second, and the expected fault.
+/// Each table has two ranges of memory, at offsets 48 and 88. Each case has the type, the length
+/// and the size of the first range, the length of the second, and the expected fault.
 #[test]
 fn faults_of_entries(rt: HostRuntime) {
     let length_at = |offset: u32| Some(SratFault::EntryLength { offset });

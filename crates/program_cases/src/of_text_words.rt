@@ -1,5 +1,6 @@
-//! Words and parts in a row, halves, the beginning and the inside of a text, beside the proved
-//! examples of `text_words`.
+//! Tests of `text_words`: take words and parts off a text one after another, remove quotation
+//! marks, split a text in two at a byte, and find the text before a byte. The proved examples of
+//! `text_words` aren't repeated.
 
 use text_words::{Separators, next_part, next_word, split_once, text_before, unquote};
 

@@ -1,5 +1,5 @@
-//! Maps that stop a boot and maps that don't, and frames at the ends of runs and at the limit of
-//! addresses.
+//! Maps that stop a boot and maps that don't. Frames at the ends of runs and at the limit of
+//! physical addresses.
 
 ghost use Rattle.address_runs.specs.Runs.{AreRuns};
 
@@ -8,7 +8,7 @@ use e820_model::Run;
 use e820_sanitise::{MapStop, judge_frames, usable_frames};
 use std::process::Abort;
 
-/// The limit of addresses with page tables of five levels.
+/// The limit of physical addresses with page tables of five levels.
 const LIMIT: u64 = 1 << 52;
 
 fn expect(rt: &impl Abort, runs: &[Run], frames: u64, stop: Option<MapStop>)

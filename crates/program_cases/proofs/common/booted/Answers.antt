@@ -1,4 +1,4 @@
--- The boot's tables are in the bytes at their heads.
+-- The tables of a boot are in the bytes at their heads.
 use Rattle.std.proofs.Common.{Result, Ok, Err}
 use Rattle.std.specs.Prelude.{IfOk}
 use Rattle.memblock_model.specs.declared.owner.Which.TheVariants as which

@@ -1,4 +1,4 @@
--- If the boot's tables are in the bytes at their heads, they are so with any other map.
+-- Replacing the map of a boot leaves its tables in the bytes at their heads.
 use Rattle.std.proofs.Common.{◌≡◌, Result, Ok, subst}
 use Rattle.std.specs.Prelude.{IfOk}
 use Rattle.boot_model.specs.declared.booted.Booted.{Booted}

@@ -1,0 +1,250 @@
+//! The program `bootmem61` over files in memory: what it has beside `bootmem`. These are the early
+//! claims, their file and their report, the rule for the crash area, and the name in error lines.
+
+ghost use Rattle.std.specs.Prelude.{IfOk};
+ghost use Rattle.bm_io.specs.MemFiles.{file_views, HaveOwnNames};
+
+use crate::common::{RAM, entry, file, page};
+use bm_io::{MemFile, MemFiles, MemSink};
+use program_run::{run, run61};
+use std::alloc::Global;
+use std::process::Abort;
+use std::test::Fail;
+
+/// Which program runs.
+#[derive(Clone, Copy, Debug)]
+enum Program {
+    Bootmem,
+    Bootmem61,
+}
+
+/// The bytes of the kernel's command line `cl`, of the script `sc` and of the early claims `cm`.
+#[derive(Clone, Copy)]
+struct Held<'a> {
+    line: &'a [u8],
+    script: &'a [u8],
+    claims: &'a [u8],
+}
+
+/// Three empty files.
+const EMPTY: Held<'static> = Held {
+    line: b"",
+    script: b"",
+    claims: b"",
+};
+
+/// Returns these files, and a zero page `zp` with RAM from 1 MiB to 128 MiB, of which the last 128
+/// KiB are reserved.
+fn files_of(alloc: Global, held: &Held<'_>) -> Result<Vec<MemFile>, Fail>
+    ensures { IfOk result (λ files. HaveOwnNames (file_views files.items)) }
+{
+    let zp = file(alloc, "zp", &page(2, RAM, entry(0x7fe0000, 0x20000, 2)))?;
+    let line = file(alloc, "cl", held.line)?;
+    let script = file(alloc, "sc", held.script)?;
+    let claims = file(alloc, "cm", held.claims)?;
+    Ok(vec![in alloc; zp, line, script, claims]?)
+}
+
+/// The program, its words, the numbers of the fetches and of the writes to the output that fail,
+/// and the expected status, output and error output.
+type Row<'a> = (Program, &'a [&'a str], [&'a [u64]; 2], u8, &'a str, &'a str);
+
+/// Runs the program of each row over these files, and compares how it ends.
+fn compare(rt: &impl Abort, alloc: Global, held: &Held<'_>, rows: &[Row<'_>]) -> Result<(), Fail> {
+    for (program, words, [fetches, puts], status, text, line) in rows {
+        let mut owned = Vec::new(alloc);
+        for word in *words {
+            owned.push(String::from_str(alloc, word)?)?;
+        }
+        let mut files = MemFiles::new(files_of(alloc, held)?, Vec::from_slice(alloc, fetches)?);
+        let mut out = MemSink::new(Vec::from_slice(alloc, puts)?);
+        let mut err = MemSink::new(Vec::new(alloc));
+        let ended = match program {
+            Program::Bootmem => run(alloc, &owned, &mut files, &mut out, &mut err),
+            Program::Bootmem61 => run61(alloc, &owned, &mut files, &mut out, &mut err),
+        };
+        assert!(rt; ended == *status, "{program:?} {words:?}");
+        assert!(rt;
+            out.written_bytes() == text.as_bytes(),
+            "{program:?} {words:?}"
+        );
+        assert!(rt;
+            err.written_bytes() == line.as_bytes(),
+            "{program:?} {words:?}"
+        );
+    }
+    Ok(())
+}
+
+/// No call fails.
+const NONE: [&[u64]; 2] = [&[], &[]];
+
+// The last three claims are refused: the ID has a range, the ID has none, and no place fits. The
+// script frees the range of the first claim, and claims it again. It doesn't know the refused ID.
+#[test]
+fn claims_and_script(rt: HostRuntime) -> Result<(), Fail> {
+    let held = Held {
+        claims: b"alloc 1 64K 4K max 16M\nreserve 2 0x4000000 1M\nalloc 1 4K 4K\nfree 9\n\
+                  alloc 3 2G 4K\n",
+        script: b"free 1\nalloc 1 64K 4K max 16M\nfree 3\nfree 2\n",
+        ..EMPTY
+    };
+    let words: &[&str] = &[
+        "--claims",
+        "cm",
+        "--script=sc",
+        "--report",
+        "claims,script",
+        "zp",
+    ];
+    let text = "== claims\n\
+                1: at 0x0000000000ff0000\n\
+                2: done\n\
+                3: taken\n\
+                4: unknown\n\
+                5: no gap\n\
+                == script\n\
+                1: done\n\
+                2: at 0x0000000000ff0000\n\
+                3: unknown\n\
+                4: done\n";
+    let alone: &[&str] = &["--claims=cm", "--report=claims", "zp"];
+    let claims = "1: at 0x0000000000ff0000\n2: done\n3: taken\n4: unknown\n5: no gap\n";
+    let without: &[&str] = &["--script=sc", "--report=claims,script", "zp"];
+    let unknown = "== claims\n\
+                   == script\n\
+                   1: unknown\n\
+                   2: at 0x0000000000ff0000\n\
+                   3: unknown\n\
+                   4: unknown\n";
+    let rows: [Row<'_>; 3] = [
+        (Program::Bootmem61, words, NONE, 0, text, ""),
+        (Program::Bootmem61, alone, NONE, 0, claims, ""),
+        (Program::Bootmem61, without, NONE, 0, unknown, ""),
+    ];
+    compare(&rt, rt.alloc(), &held, &rows)
+}
+
+// The RAM is a little less than 128 MiB, to which Linux 6.1 rounds it up.
+#[test]
+fn crash_rule(rt: HostRuntime) -> Result<(), Fail> {
+    let held = Held {
+        line: b"crashkernel=128M-:16M",
+        ..EMPTY
+    };
+    let words: &[&str] = &["--cmdline=cl", "--report=crash", "zp"];
+    let area = "crash at 0x0000000006000000..0x0000000006ffffff\n";
+    let rows: [Row<'_>; 2] = [
+        (Program::Bootmem61, words, NONE, 0, area, ""),
+        (Program::Bootmem, words, NONE, 0, "crash none\n", ""),
+    ];
+    compare(&rt, rt.alloc(), &held, &rows)
+}
+
+// `bootmem` has neither the option nor the report.
+#[test]
+fn two_grammars(rt: HostRuntime) -> Result<(), Fail> {
+    let option: &[&str] = &["--claims", "cm", "--report=options", "zp"];
+    let report: &[&str] = &["--report", "claims", "zp"];
+    let twice: &[&str] = &["--claims=cm", "--claims=cm", "zp"];
+    let unnamed: &[&str] = &["--report", "options,maps", "zp"];
+    let own = "bootmem: usage\n";
+    let usage = "bootmem61: usage\n";
+    let rows: [Row<'_>; 7] = [
+        (Program::Bootmem61, option, NONE, 0, "", ""),
+        (Program::Bootmem, option, NONE, 2, "", own),
+        (Program::Bootmem61, report, NONE, 0, "", ""),
+        (Program::Bootmem, report, NONE, 2, "", own),
+        (Program::Bootmem61, twice, NONE, 2, "", usage),
+        (Program::Bootmem61, unnamed, NONE, 2, "", usage),
+        (Program::Bootmem61, &[], NONE, 2, "", usage),
+    ];
+    compare(&rt, rt.alloc(), &EMPTY, &rows)
+}
+
+// The early claims are fetched after the script and before the page script.
+#[test]
+fn each_call_that_fails(rt: HostRuntime) -> Result<(), Fail> {
+    let words: &[&str] = &[
+        "--pages=cl",
+        "--claims=cm",
+        "--script=sc",
+        "--report=claims",
+        "zp",
+    ];
+    let held = Held {
+        claims: b"reserve 2 0x4000000 1M\n",
+        ..EMPTY
+    };
+    let zp = "bootmem61: cannot read zp\n";
+    let script = "bootmem61: cannot read sc\n";
+    let claims = "bootmem61: cannot read cm\n";
+    let pages = "bootmem61: cannot read cl\n";
+    let missing: &[&str] = &["--claims", "no", "zp"];
+    let unread = "bootmem61: cannot read no\n";
+    let unwritten = "bootmem61: cannot write\n";
+    let rows: [Row<'_>; 7] = [
+        (Program::Bootmem61, words, [&[1], &[]], 3, "", zp),
+        (Program::Bootmem61, words, [&[2], &[]], 3, "", script),
+        (Program::Bootmem61, words, [&[3], &[]], 3, "", claims),
+        (Program::Bootmem61, words, [&[4], &[]], 3, "", pages),
+        (Program::Bootmem61, words, [&[5], &[]], 0, "1: done\n", ""),
+        (Program::Bootmem61, missing, NONE, 3, "", unread),
+        (Program::Bootmem61, words, [&[], &[1]], 4, "1: d", unwritten),
+    ];
+    compare(&rt, rt.alloc(), &held, &rows)
+}
+
+/// Runs `bootmem61` with the command line, the script and the early claims of each row. Compares
+/// the status and the error output; nothing is written to the output.
+fn compare_faults(
+    rt: &impl Abort,
+    alloc: Global,
+    rows: &[(Held<'_>, u8, &str)],
+) -> Result<(), Fail> {
+    let words: &[&str] = &[
+        "--claims=cm",
+        "--script=sc",
+        "--cmdline=cl",
+        "--report=options",
+        "zp",
+    ];
+    for (held, status, line) in rows {
+        let row: [Row<'_>; 1] = [(Program::Bootmem61, words, NONE, *status, "", *line)];
+        compare(rt, alloc, held, &row)?;
+    }
+    Ok(())
+}
+
+/// Returns early claims with these bytes, and two empty files.
+fn claims(claims: &[u8]) -> Held<'_> {
+    Held { claims, ..EMPTY }
+}
+
+#[test]
+fn faults_and_stops(rt: HostRuntime) -> Result<(), Fail> {
+    let both = Held {
+        script: b"sections\nsections\n",
+        ..claims(b"sections\n")
+    };
+    let stopped = Held {
+        line: b"memmap=exactmap memmap=4K$8K memmap=4K$16K",
+        ..EMPTY
+    };
+    let rows: [(Held<'_>, u8, &str); 5] = [
+        (
+            claims(b"free 1\nsections\n"),
+            5,
+            "bootmem61: claims: line 2: form\n",
+        ),
+        (
+            claims(b"# one\nreserve 1 0x4000000 0\n"),
+            5,
+            "bootmem61: claims: line 2: zero size\n",
+        ),
+        (both, 5, "bootmem61: script: line 2: second sections\n"),
+        (stopped, 6, "bootmem61: stopped: no usable frame\n"),
+        (EMPTY, 0, ""),
+    ];
+    compare_faults(&rt, rt.alloc(), &rows)
+}
