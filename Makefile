@@ -2,18 +2,19 @@
 #
 #   make run                  prints the map and the free blocks of an example machine, by ./bootmem if it is up to date, else by
 #                             an unproved build, which takes about a minute
-#   make                      proves and builds both programs, as the next two do
+#   make                      proves and builds the three programs, as the next three do
 #   make bootmem              proves and builds ./bootmem: some 35 minutes of processor time, and 10 minutes or more; it shows its progress
+#   make bootmem61            proves and builds ./bootmem61, the boot by the profile of Linux 6.1; it has almost all crates of bootmem
 #   make bootaudit            proves and builds ./bootaudit, the audit of saved reports, which takes some minutes
 #   make lib                  proves and builds the library: libbootmem.a and libbootmem.so, for C and whatever calls C
-#   make try ARGS="..."       runs the program on these words without proof, within a minute
+#   make try ARGS="..."       runs bootmem on these words without proof, within a minute; PROGRAM=bootmem61 or bootaudit names another
 #   make test                 the whole gate: every proof, every test, the real machines; it shows its progress, and keeps the whole
 #                             log in test.log
 #   make check                compares the documents with the sources, in some seconds; the gate does so too
-#   make install PREFIX=DIR   installs both programs as they are, tools, manual pages, documents and examples, and the
+#   make install PREFIX=DIR   installs the programs as they are, tools, manual pages, documents and examples, and the
 #                             library where it is there, and proves nothing: without a program it stops, unless PROVE=1
 #                             (DESTDIR and MANDIR are honoured)
-#   make install PROGRAMS=bootmem  the same with one of the two programs alone
+#   make install PROGRAMS=bootmem  the same with one of the programs alone, or with two
 #   make uninstall PREFIX=DIR removes what 'make install' put there
 #   make dist                 makes an archive of what 'make install' installs, with a script that installs it without the
 #                             toolchain, for other machines; like 'make deb', it stops if sources are newer than what was built
@@ -42,7 +43,11 @@ AUDIT := $(call sources,$(wildcard $(addprefix crates/,bm_base bm_io audit_lines
 
 export RT
 
-PROGRAMS := bootmem bootaudit
+PROGRAMS := bootmem bootmem61 bootaudit
+
+# the program that 'make try' runs, and the crate of its main
+PROGRAM ?= bootmem
+MAIN = $(patsubst bootmem%,bootmem%_cli,$(PROGRAM))
 
 LIBRARY := libbootmem.a
 
@@ -53,6 +58,9 @@ all: $(PROGRAMS)
 
 bootmem: $(SOURCES)
 	@tools/build.sh bootmem_cli $@ --report map "$(CURDIR)/examples/first/zp.bin"
+
+bootmem61: $(SOURCES)
+	@tools/build.sh bootmem61_cli $@ --report map "$(CURDIR)/examples/first/zp.bin"
 
 bootaudit: $(AUDIT)
 	@tools/build.sh bootaudit $@ $(addprefix "$(CURDIR)"/crates/bootaudit/data/,map owners blocks)
@@ -66,7 +74,7 @@ run:
 	@if $(MAKE) -q --no-print-directory bootmem >/dev/null 2>&1; then ./bootmem $(FIRST); else tools/try.sh bootmem_cli $(FIRST) </dev/null; fi
 
 try:
-	@tools/try.sh bootmem_cli $(ARGS)
+	@tools/try.sh $(MAIN) $(ARGS)
 
 # the gate calls rt by its name, so a toolchain that RT names goes onto the PATH
 test:
@@ -113,4 +121,4 @@ clean:
 	rm -rf crates/*/out
 
 help:
-	@sed -n '3,24s/^# *//p' Makefile | sed '/^$$/d; s/^/  /'
+	@sed -n '3,25s/^# *//p' Makefile | sed '/^$$/d; s/^/  /'

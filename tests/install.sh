@@ -1,10 +1,11 @@
 #!/bin/sh
-# install.sh: installs ./bootmem and ./bootaudit into a folder as 'make install' does, and looks that what the manual pages and the
+# install.sh: installs ./bootmem, ./bootmem61 and ./bootaudit into a folder as 'make install' does, and looks that what the manual pages and the
 # README point to is there, that the programs and the tools run from there, that an installation proves nothing, and that 'make uninstall'
 # leaves nothing. Prints a line for each difference, and 'N passed, M failed' at its end.
 . "$(dirname "$0")/counted.sh"
 cd "$top" || exit 1
-for program in bootmem bootaudit; do
+programs="bootmem bootmem61 bootaudit"
+for program in $programs; do
 	built "$program" >/dev/null || exit 2
 done
 make=${MAKE:-make}
@@ -27,27 +28,31 @@ installed() {
 
 # a tree without crates: none of what is installed is made of them
 mkdir -p "$work/tree/crates" "$work/root"
-cp -r Makefile README.md CHANGELOG.md CONTRIBUTING.md bootmem.1 bootaudit.1 bootmem.5 crates.txt docs examples tools "$work/tree" &&
-	cp bootmem bootaudit "$work/tree" || exit 1
+cp -r Makefile README.md CHANGELOG.md CONTRIBUTING.md bootmem.1 bootmem61.1 bootaudit.1 bootmem.5 crates.txt docs examples tools "$work/tree" &&
+	cp bootmem bootmem61 bootaudit "$work/tree" || exit 1
 root=$work/root/opt/it
 share=$root/share
 
 ok "make install" installed /opt/it
 is "make install says" "$(cat "$work/said")" ""
 there "the program" "$root/bin/bootmem" "$root/libexec/bootmem/explain" "$root/bin/bootmem-collect" "$share/man/man1/bootmem.1" "$share/man/man5/bootmem.5"
+there "the second profile" "$root/bin/bootmem61" "$share/man/man1/bootmem61.1" "$share/bash-completion/completions/bootmem61"
 there "the audit" "$root/bin/bootaudit" "$share/man/man1/bootaudit.1" "$share/bash-completion/completions/bootaudit"
 if command -v bash >/dev/null 2>&1; then
 	is "the installed completion" "$(bash -c '. "$1"; COMP_WORDS=(bootmem --sr); COMP_CWORD=1; _bootmem; echo "${COMPREPLY[*]}"' \
 		install.sh "$share/bash-completion/completions/bootmem" 2>/dev/null)" --srat
+	is "the installed completion of bootmem61" "$(bash -c '. "$1"; COMP_WORDS=(bootmem61 --cl); COMP_CWORD=1; _bootmem; echo "${COMPREPLY[*]}"' \
+		install.sh "$share/bash-completion/completions/bootmem61" 2>/dev/null)" --claims
 	is "the installed completion of a tool" "$(PATH=$root/bin:$PATH bash -c '. "$1"; COMP_WORDS=(bootmem-draw --tit); COMP_CWORD=1
 		_bootmem_tool bootmem-draw; echo "${COMPREPLY[*]}"' install.sh "$share/bash-completion/completions/bootmem-draw" 2>/dev/null)" --title
 	is "the words of bootmem behind it" "$(PATH=$root/bin:$PATH bash -c '. "$1"; COMP_WORDS=(bootmem-draw -- --sr); COMP_CWORD=2
 		_bootmem_tool bootmem-draw; echo "${COMPREPLY[*]}"' install.sh "$share/bash-completion/completions/bootmem-draw" 2>/dev/null)" --srat
 fi
 is "the first run" "$("$root/bin/bootmem" --report map "$share/bootmem/examples/first/zp.bin")" "$(cat examples/first/map.txt)"
+is "the first run of bootmem61" "$("$root/bin/bootmem61" --report map "$share/bootmem/examples/first/zp.bin")" "$(cat examples/first/map.txt)"
 
 # the installed commands: --help and --version are theirs, all else is the program's, with one more line after status 2 and 3
-for program in bootmem bootaudit; do
+for program in $programs; do
 	there "$program" "$root/libexec/bootmem/$program"
 	ok "the proved $program" cmp "$program" "$root/libexec/bootmem/$program"
 	is "$program --help" "$("$root/bin/$program" --help 2>&1)" "$(cat "tools/$program.help")"
@@ -58,15 +63,25 @@ done
 for option in $(sed -n 's/^option \([^ ]*\).*/--\1/p' tools/bootmem_tools/words.txt); do
 	ok "bootmem --help tells of $option" grep -q "^ *$option " tools/bootmem.help
 done
-is "bootmem --help tells of the reports" "$(tr '\n' ' ' <tools/bootmem.help | sed 's/.* reports: \(.*\) exit status.*/\1/' | tr -s ' ' | sed 's/ $//')" \
-	"$(sed -n 's/^report //p' tools/bootmem_tools/words.txt | paste -s -d ' ')"
+for option in $(sed -n 's/^option\(61\)* \([^ ]*\).*/--\2/p' tools/bootmem_tools/words.txt); do
+	ok "bootmem61 --help tells of $option" grep -q "^ *$option " tools/bootmem61.help
+done
 
-# answers STATUS LINES WORD..: the installed bootmem ends with the status, writes nothing, and says these lines
+# reports_told PROGRAM: the names of reports that its help has
+reports_told() {
+	tr '\n' ' ' <"tools/$1.help" | sed 's/.* reports: \(.*\) exit status.*/\1/' | tr -s ' ' | sed 's/ $//'
+}
+is "bootmem --help tells of the reports" "$(reports_told bootmem)" "$(sed -n 's/^report //p' tools/bootmem_tools/words.txt | paste -s -d ' ')"
+is "bootmem61 --help tells of the reports" "$(reports_told bootmem61)" "$(sed -n 's/^report\(61\)* //p' tools/bootmem_tools/words.txt | paste -s -d ' ')"
+
+# answers STATUS LINES WORD..: the installed program, bootmem unless another one is set, ends with the status, writes nothing, and says
+# these lines
+program=bootmem
 answers() {
 	wanted="$1: $2"
 	shift 2
-	out=$("$root/bin/bootmem" "$@" 2>"$work/err")
-	is "bootmem $*" "$?: $(cat "$work/err")$out" "$wanted"
+	out=$("$root/bin/$program" "$@" 2>"$work/err")
+	is "$program $*" "$?: $(cat "$work/err")$out" "$wanted"
 }
 answers 2 "bootmem: usage
 bootmem: no zero page is named: bootmem [OPTION].. ZEROPAGE; 'bootmem --help' lists the options"
@@ -77,6 +92,19 @@ bootmem: $work/none: it doesn't exist" "$work/none"
 answers 3 "bootmem: cannot read $work
 bootmem: $work: it is a folder" "$work"
 answers 5 "bootmem: zeropage: wrong length" /dev/null
+answers 2 "bootmem: usage
+bootmem: --claims: no such option; bootmem61 has it" --claims early zp.bin
+program=bootmem61
+answers 2 "bootmem61: usage
+bootmem61: no zero page is named: bootmem61 [OPTION].. ZEROPAGE; 'bootmem61 --help' lists the options"
+answers 2 "bootmem61: usage
+bootmem61: --report claim: no such report; did you mean claims?" --report claim zp.bin
+answers 3 "bootmem61: cannot read $work/none
+bootmem61: $work/none: it doesn't exist" --claims "$work/none" "$share/bootmem/examples/first/zp.bin"
+answers 5 "bootmem61: zeropage: wrong length" /dev/null
+echo sections >"$work/early"
+answers 5 "bootmem61: claims: line 1: form" --claims "$work/early" "$share/bootmem/examples/first/zp.bin"
+program=bootmem
 is "a word with blanks, and the program's standard input" "$("$root/bin/bootmem" --report map "--cmdline=/dev/stdin" \
 	"$share/bootmem/examples/first/zp.bin" </dev/null)" "$(cat examples/first/map.txt)"
 is "a full output" "$("$root/bin/bootmem" --report map examples/first/zp.bin 2>&1 >/dev/full; echo $?)" "bootmem: cannot write
@@ -94,7 +122,7 @@ is "the first audit" "$("$root/bin/bootaudit" "$work/map" "$work/owners" "$work/
 
 # what the pages point to: documents, machines, commands, places under the prefix, links
 documents="$share/doc/bootmem/README.md $share/doc/bootmem/TOOLS.md $share/doc/bootmem/RECIPES.md"
-pages="$share/man/man1/bootmem.1 $share/man/man1/bootaudit.1 $share/man/man5/bootmem.5 $documents"
+pages="$share/man/man1/bootmem.1 $share/man/man1/bootmem61.1 $share/man/man1/bootaudit.1 $share/man/man5/bootmem.5 $documents"
 for page in $pages; do
 	name=$(basename "$page")
 	sed 's/\\-/-/g' "$page" >"$work/page"
@@ -171,7 +199,7 @@ is "the version of the tools" "$(sed -n 's/^VERSION = "\(.*\)"$/\1/p' tools/boot
 version=$(sed -n 's/^VERSION := //p' Makefile)
 is "the version of CHANGELOG.md" "$(sed -n 's/^## \([0-9.]*\), [0-9-]*$/\1/p' CHANGELOG.md | head -n 1)" "$version"
 is "the date of the newest changes" "$(sed -n "s/^## $version, //p" CHANGELOG.md)" "$(sed -n 's/^\.TH BOOTMEM 1 \([^ ]*\) .*/\1/p' bootmem.1)"
-for page in bootmem.1 bootaudit.1 bootmem.5; do
+for page in bootmem.1 bootmem61.1 bootaudit.1 bootmem.5; do
 	is "the version of $page" "$(sed -n 's/^\.TH .*"bootmem \([0-9.]*\)".*/\1/p' "$page")" "$version"
 done
 for target in $(sed -n 's/^\.PHONY: all //p' Makefile); do
@@ -190,15 +218,15 @@ is "what make uninstall leaves with MANDIR" "$(find "$work/root" ! -type d | hea
 touch -d '+1 hour' "$work/tree/crates.txt"
 ok "make install with newer sources" installed /opt/it
 is "what it says of them" "$(cat "$work/said")" \
-	"$(for program in bootmem bootaudit; do
+	"$(for program in $programs; do
 		echo "$program: some sources are newer than ./$program, which is installed as it is; 'make $program' builds it anew"
 	done)"
-for program in bootaudit bootmem; do
+for program in bootaudit bootmem61 bootmem; do
 	rm "$work/tree/$program"
-	[ "$program" = bootmem ] || {
-		ok "make install PROGRAMS=bootmem without bootaudit" installed /opt/one PROGRAMS=bootmem
+	[ "$program" != bootmem61 ] || {
+		ok "make install PROGRAMS=bootmem without the others" installed /opt/one PROGRAMS=bootmem
 		there "one program" "$work/root/opt/one/bin/bootmem" "$work/root/opt/one/libexec/bootmem/bootmem" "$work/root/opt/one/bin/bootmem-json"
-		is "the other program" "$(find "$work/root/opt/one" -name bootaudit)" ""
+		is "the other programs" "$(find "$work/root/opt/one" -name bootaudit -o -name bootmem61)" ""
 	}
 	installed /opt/none >"$work/out" 2>"$work/err"
 	is "make install without $program" "$([ $? -ne 0 ] && grep -c "there is no ./$program to install" "$work/err")" 1

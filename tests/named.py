@@ -26,7 +26,7 @@ TOOLCHAIN = {"START-HERE.md", "START.md", "CONTRACTS.md", "SHORTER_PROOFS.md", "
 KERNEL = {"e820.c", "memblock.c", "page_alloc.c", "setup.c", "sparse.c", "srat.c", "numa.c", "mm/numa.c", "mm/numa_memblks.c",
           "kernel/crash_reserve.c", "kernel-parameters.txt"}
 # What an installation, a build or a reader's machine has.
-ELSEWHERE = {"./bootmem", "./bootaudit", "crates/*/out", "libexec/bootmem", "share/bootmem", "proc/", "sys/"}
+ELSEWHERE = {"./bootmem", "./bootmem61", "./bootaudit", "crates/*/out", "libexec/bootmem", "share/bootmem", "proc/", "sys/"}
 PATH = re.compile(r"[\w.*-]+(?:/[\w.*-]*)+|[\w*-]+\.(?:antt|json|md|py|rt|sh|txt|c|h)")
 # What stands for many names.
 PLACEHOLDER = re.compile(r"NAME|FILE|CRATE|FUNCTION|PREFIX|^[A-Z]/|^X[A-Z]|^t_view$|_$")

@@ -21,6 +21,14 @@ from documents import TOP, read
 
 # the wrong bodies that a promise names, in the order of the boot: these never go
 PROMISED = {
+    # the profile of Linux 6.1
+    "boot_model/extra-own-own_profile_rounds",
+    "boot_stages/added-added_by_run-rounded_before_partial_frames_count",
+    "boot_stages/later-run_stages-claims_ids_forgotten",
+    "boot_stages/later-run_stages-early_claims_after_the_nodes",
+    "crash_kernel/request-bounded_size_for_total-range_after_the_refused_one",
+    "crash_kernel/request-rounded_total-rounded_down",
+    "zone_spans/hull-add_hull_spans-hull_of_all_nodes_so_far",
     # the firmware's map
     "e820_model/run-join-later_entry_wins",
     "boot_stages/map-append_and_sanitise-edits_act_on_unsettled_claims",

@@ -1,7 +1,7 @@
 #!/bin/sh
 # real_boots.sh [PROGRAM]: runs the program over every machine of examples/ and compares its reports byte for byte with
-# the texts that the kernel's own log confirms: map.txt, memory.txt, nodes.txt, zones.txt, crash.txt, and replay/script.txt, the
-# boot's early allocations, each address of which is the kernel's own.
+# the texts that the kernel's own log confirms: map.txt, memory.txt, nodes.txt, zones.txt, crash.txt, and replay/script.txt, the boot's
+# early allocations, each address of which is the kernel's own.
 # Prints a line for each difference, how many texts of each report agree, how many answers and addresses the replays that
 # agree have, which files no report reads, and 'N passed, M failed' at its end. A text that is missing is a failure, too.
 . "$(dirname "$0")/counted.sh"

@@ -30,7 +30,7 @@ SCRIPTS = {"pins.py": [], "rooms.py": [], "named.py": [], "definitions.py": [], 
            "library.sh": ["PROGRAM"]}
 SOURCES = ["pins.py", "rooms.py", "named.py", "definitions.py", "words"]
 NEEDED = {"library.sh": ["libbootmem.a"], "audits.sh": ["bootaudit"],
-          "install.sh": ["bootmem", "bootaudit"], "shown.sh": ["bootaudit"]}
+          "install.sh": ["bootmem", "bootmem61", "bootaudit"], "shown.sh": ["bootmem61", "bootaudit"]}
 
 
 class Result(unittest.TextTestResult):

@@ -1,11 +1,11 @@
 #!/bin/sh
 # shown.sh [PROGRAM [FILE..]]: runs the commands that the documents show, and compares what they print with what is shown, byte
-# for byte. bootaudit lies beside PROGRAM. The documents are README.md, the manual pages and some of docs/ and examples/, or the files that are named.
+# for byte. bootmem61 and bootaudit lie beside PROGRAM. The documents are README.md, the manual pages and some of docs/ and examples/, or the files that are named.
 #
 # A command stands behind '$ ' in an indented block of a .md file, or between .nf and .fi of a manual page; what follows
 # it, up to the next one, is its output and its standard error as they come. A here-document belongs to its command, and so
 # does the line behind one that ends with a backslash or a bar. Each block begins at the top of a copy of the repository's examples and
-# tools, with the programs as ./bootmem and ./bootaudit and on the PATH; files that an earlier block of the same document made are still there.
+# tools, with the programs as ./bootmem, ./bootmem61 and ./bootaudit and on the PATH; files that an earlier block of the same document made are still there.
 # A block whose first line has no '$ ' shows no command and isn't run: `plain` names each that may be so, another one fails.
 #
 # What a command needs of the machine is stood in for by `stand_in`, and none of it is read from the machine that runs the test.
@@ -15,8 +15,9 @@
 . "$(dirname "$0")/counted.sh"
 program=$(built "${1:-$top/bootmem}") || exit 2
 [ $# -eq 0 ] || shift
+program61=$(built "$(dirname "$program")/bootmem61") || exit 2
 audit=$(built "$(dirname "$program")/bootaudit") || exit 2
-[ $# -gt 0 ] || set -- "$top/README.md" "$top/docs/RECIPES.md" "$top/bootmem.1" "$top/bootaudit.1" "$top/bootmem.5" "$top/docs/TOOLS.md" "$top/examples/README.md"
+[ $# -gt 0 ] || set -- "$top/README.md" "$top/docs/RECIPES.md" "$top/bootmem.1" "$top/bootmem61.1" "$top/bootaudit.1" "$top/bootmem.5" "$top/docs/TOOLS.md" "$top/examples/README.md"
 machine=$work/machine
 without=0
 # a make that runs the test isn't the one that a command calls
@@ -81,7 +82,7 @@ stand_in() {
 # machine that isn't here
 plain() {
 	case $1 in
-	'bootmem [--la57] '* | 'bootaudit [--la57] '*) ;;
+	'bootmem [--la57] '* | 'bootmem61 [--claims '* | 'bootaudit [--la57] '*) ;;
 	'bootmem --cmdline cmdline --kernel 0x1000000,0x2c58000 zp.bin') ;;
 	# the bodies of two tests, which library.sh runs
 	'let page = zero_page('* | 'page = inputs.zero_page('*) ;;
@@ -149,7 +150,7 @@ for document; do
 	mkdir "$shown" "$copy" || exit 1
 	# without crates none is newer than the program, so 'make run' runs it as it is
 	mkdir "$copy/crates" && cp -r "$top/examples" "$top/tools" "$top/Makefile" "$top/crates.txt" "$copy" &&
-		cp "$program" "$copy/bootmem" && cp "$audit" "$copy/bootaudit" && stand_in "$copy" || exit 1
+		cp "$program" "$copy/bootmem" && cp "$program61" "$copy/bootmem61" && cp "$audit" "$copy/bootaudit" && stand_in "$copy" || exit 1
 	: >"$shown/plain"
 	blocks "$document" | split "$shown"
 	block=1

@@ -2,7 +2,8 @@
 the machines of examples/, and how comparisons are counted and reported.
 
 `tests/run.py PROGRAM` runs all of them; so does `python3 -m unittest discover -s tests`, with
-the program that BOOTMEM_TESTED names, else ./bootmem.
+the program that BOOTMEM_TESTED names, else ./bootmem. The program for boots of Linux 6.1 is the
+one that BOOTMEM61 names, else ./bootmem61.
 """
 
 import os
@@ -19,6 +20,8 @@ from bootmem_tools import inputs  # noqa: E402
 from bootmem_tools.inputs import entry_bytes, sealed  # noqa: E402,F401  those that import this use it
 
 PROGRAM = os.path.abspath(os.environ.get("BOOTMEM_TESTED") or os.path.join(TOP, "bootmem"))
+# the program that tools run for a boot of Linux 6.1
+PROGRAM61 = os.path.abspath(os.environ.get("BOOTMEM61") or os.path.join(TOP, "bootmem61"))
 EXAMPLES = os.path.join(TOP, "examples")
 MIB, GIB = 1 << 20, 1 << 30
 # the machines whose command line is kept
@@ -85,23 +88,24 @@ def ran(command, given=b"", folder=None, variables=None):
 def tool(name, *words, given="", folder=None, variables=None):
     """Status, standard output and standard error of a tool, for the program under test."""
     given = given.encode() if isinstance(given, str) else given
-    status, out, err = ran([os.path.join(TOP, "tools", name), *words], given, folder, {"BOOTMEM": PROGRAM, **(variables or {})})
+    status, out, err = ran([os.path.join(TOP, "tools", name), *words], given, folder,
+                           {"BOOTMEM": PROGRAM, "BOOTMEM61": PROGRAM61, **(variables or {})})
     return status, out.decode(), err.decode()
 
 
-def program(folder, *words):
+def program(folder, *words, path=PROGRAM):
     """What the program prints; nothing if it doesn't end with status 0."""
-    status, out, _ = ran([PROGRAM, *words], folder=folder)
+    status, out, _ = ran([path, *words], folder=folder)
     return out.decode() if status == 0 else ""
 
 
-def run_over(files, words):
-    """Status, standard output and standard error of the program over these files, by their
-    names."""
+def run_over(files, words, program=PROGRAM):
+    """Status, standard output and standard error of a program, the one under test if none is
+    named, over these files, by their names."""
     with tempfile.TemporaryDirectory() as folder:
         for name, held in files.items():
             write(os.path.join(folder, name), held)
-        status, out, err = ran([PROGRAM, *words], folder=folder)
+        status, out, err = ran([program, *words], folder=folder)
     Counted.last += f" with {', '.join(f'{name} of {len(held)} bytes' for name, held in files.items())}"
     return status, out.decode(), err.decode()
 

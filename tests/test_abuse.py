@@ -8,7 +8,7 @@ import subprocess
 import time
 import unittest
 
-from support import MACHINE, PROGRAM, TOP, Case, Counted, bytes_of, command_text, example, text_of, write, zero_page
+from support import MACHINE, PROGRAM, PROGRAM61, TOP, Case, Counted, bytes_of, command_text, example, text_of, write, zero_page
 
 MAP = text_of(example("first", "map.txt"))
 LOG = "BIOS-provided physical RAM map:\nBIOS-e820: [mem 0x0-0x9fbff] usable\nBIOS-e820: [mem 0x100000-0x7fdffff] usable\n"
@@ -68,7 +68,7 @@ class Abuse(Case):
         command, begun = [os.path.join(TOP, "tools", name), *words], time.monotonic()
         Counted.last = command_text(command, self.work)
         done = subprocess.run(command, stdin=given or subprocess.DEVNULL, stdout=subprocess.PIPE, stderr=subprocess.PIPE, cwd=self.work,
-                              env={**os.environ, "BOOTMEM": PROGRAM}, timeout=10 * SECONDS, check=False)
+                              env={**os.environ, "BOOTMEM": PROGRAM, "BOOTMEM61": PROGRAM61}, timeout=10 * SECONDS, check=False)
         return done.returncode, done.stdout.decode("utf-8", "replace"), done.stderr.decode("utf-8", "replace"), time.monotonic() - begun
 
     def is_refused(self, name, words, status, given=None):

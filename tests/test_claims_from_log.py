@@ -53,14 +53,14 @@ def dump_lines(table, ranges):
     return lines
 
 
-def asked_lines(words, place):
-    """The kernel's lines for an allocation of a script, which got this place."""
+def asked_lines(words, place, caller):
+    """The kernel's lines for an allocation of a script, which got this place, by the function that asked."""
     size, align = int(words[2]), int(words[3])
     rest = dict(zip(words[4::2], words[5::2]))
     answer = call_line("memblock_reserve", place, size, "memblock_alloc_range_nid")
     if (size, align, list(rest)) == (0x2B000, 64, ["node"]):
         return [answer, f"[    0.000000] NODE_DATA({rest['node']}) allocated [mem {place:#x}-{place + size - 1:#x}]\n"]
-    window = f"from={int(rest.get('min', '0'), 16):#018x} max_addr={int(rest.get('max', '0'), 16):#018x} some_function+0x1/0x2"
+    window = f"from={int(rest.get('min', '0'), 16):#018x} max_addr={int(rest.get('max', '0'), 16):#018x} {caller}+0x1/0x2"
     what = "memblock_alloc_exact_nid_raw" if words[-1] == "exact" else "memblock_alloc_try_nid"
     node = f" nid={rest.get('node', '-1')}" if "node" in rest or "max" not in rest else ""
     what = what if node else "memblock_phys_alloc_range"
@@ -73,8 +73,14 @@ def first_dump(reserves, kernel):
     return [(base, size + length) if first == base + size else (first, length) for first, length in reserves]
 
 
-def claims_log_of(name):
-    """What a kernel with memblock=debug logs of the claims of a machine's replay."""
+def some_function(words):
+    """A name for whatever asked for an allocation."""
+    return "some_function"
+
+
+def claims_log_of(name, caller_of=some_function):
+    """What a kernel with memblock=debug logs of the claims of a machine's replay; `caller_of` names the function that asked for
+    an allocation, by its words."""
     memory, nodes = replay_memory(name)
     kernel = replay_lines(name, "words")[0].split()[1]
     script = [line.split() for line in replay_lines(name, "script")]
@@ -88,7 +94,7 @@ def claims_log_of(name):
     lines += dump_lines("reserved", first_dump([(int(words[2], 16), int(words[3], 16)) for words in script[:first]], kernel))
     for number, words in enumerate(script[first:], first + 1):
         if words[0] == "alloc":
-            lines += asked_lines(words, int(answers[number][3:], 16))
+            lines += asked_lines(words, int(answers[number][3:], 16), caller_of(words))
         elif words[0] == "reserve":
             freed = script[number:number + 1] == [["free", words[1]]]
             lines.append(call_line("memblock_phys_free" if freed else "memblock_reserve", int(words[2], 16), int(words[3], 16), "some_function"))

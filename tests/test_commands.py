@@ -14,6 +14,8 @@ from test_where import WHERE
 
 VERSION = re.search(r"^VERSION := (.*)$", text_of(os.path.join(TOP, "Makefile")), re.MULTILINE).group(1)
 
+PROGRAM61 = os.path.join(TOP, "bootmem61")
+
 
 def shown_examples(name):
     """The commands under `example:` or `examples:` of a tool's --help."""
@@ -76,6 +78,9 @@ class Commands(Case):
         commands = self.path("bin")
         os.makedirs(commands)
         os.symlink(PROGRAM, os.path.join(commands, "bootmem"))
+        has61 = os.path.exists(PROGRAM61)
+        if has61:
+            os.symlink(PROGRAM61, os.path.join(commands, "bootmem61"))
         shutil.copy(example("q35-2g-shortlog", "log"), self.work)  # with all lines, and one node
         write(os.path.join(commands, "dmesg"), f"#!/bin/sh\ncat '{self.work}/log'\n".encode())
         os.chmod(os.path.join(commands, "dmesg"), 0o755)
@@ -94,6 +99,8 @@ class Commands(Case):
             shutil.copytree(example("pc-128m"), os.path.join(folder, "host1"))
             for command in shown_examples(name):
                 ran += 1
+                if command.startswith("bootmem61 ") and not has61:
+                    continue
                 done = subprocess.run(["sh", "-c", command], stdin=subprocess.DEVNULL, stdout=subprocess.PIPE, stderr=subprocess.PIPE,
                                       cwd=folder, env={**os.environ, "BOOTMEM": "", "PATH": commands + os.pathsep + os.environ["PATH"]},
                                       check=False)
@@ -101,7 +108,7 @@ class Commands(Case):
                 wanted = 4 if "512M,high" in command else 1 if name == "bootmem-diff" else 0
                 self.check(f"example: {command}", (done.returncode, done.stderr.decode()), (wanted, ""))
                 self.check(f"example: {command}: it prints or writes", bool(done.stdout) != bool(re.search("--output|--html| > ", command)), True)
-        self.check("examples of --help", ran, 20)
+        self.check("examples of --help", ran, 22)
 
     def test_examples_of_a_folder(self):
         """The commands that --help of each tool shows run in a folder that bootmem-collect gathered, and print or write."""

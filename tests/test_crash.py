@@ -6,7 +6,7 @@ import re
 import subprocess
 import unittest
 
-from support import (BOOTS, EXAMPLES, GIB, MIB, PROGRAM, TOP, Case, example, has_file, machine_of, memory_of, srat, text_of, tool, words_of, write,
+from support import (BOOTS, EXAMPLES, GIB, MIB, PROGRAM61, TOP, Case, example, has_file, machine_of, memory_of, srat, text_of, tool, words_of, write,
                      zero_page)
 from bootmem_tools import crash as crash_module
 
@@ -101,8 +101,24 @@ class Crash(Case):
         self.check("crash, a range that bootmem reads as the kernel does",
                    (status, out.startswith("size   crashkernel=1G-4G:192M,4G-:256M, 256M here, fits at ")), (0, True))
         self.check("crash, no range", crash("q35-1g", "--raw", "--size", "2G-:64M")[:2],
-                   (1, "size   crashkernel=2G-:64M, nothing here, doesn't fit\n       none of its ranges has this machine's total memory\n"))
+                   (1, "size   crashkernel=2G-:64M, nothing here, doesn't fit\n       none of its ranges gives a size for this machine's total memory\n"))
         self.check("crash, ranges and high", crash("q35-1g", "--size", "1G-:64M,high")[:2], (2, ""))
+        # without --raw the program picks, and refuses a size that isn't below total memory
+        nothing = f"nothing here, doesn't fit\n       {crash_module.NOTHING}\n"
+        for size, wanted in (
+            ("512M-1G:64M,1G-2G:192M,2G-:256M", "192M here, fits at 0x0000000033000000"),
+            ("2G-:64M", nothing),
+            ("512M-:1G", nothing),
+            ("512M-:1023M", "doesn't fit\n"),
+            ("1G-:64M@128M", "64M here, fits at 0x0000000008000000"),
+        ):
+            status, out, _ = crash("q35-1g", "--size", size)
+            self.check(f"crash by ranges {size}", (status, wanted in out),
+                       (int("fits at" not in wanted), True))
+        write(self.path("line"), b"crashkernel=512M-:1G crashkernel=64M,high\n")
+        _, out, err = crash("q35-1g", "--cmdline", self.path("line"))
+        self.check("crash, ranges that are refused, and high", (out.splitlines()[-1].startswith(
+            "line   crashkernel=512M-:1G crashkernel=64M,high, 64M here, fits at "), err), (True, ""))
 
     def test_several(self):
         """Several machines, as text and as objects; one with trouble doesn't end the others."""
@@ -160,7 +176,7 @@ class Crash(Case):
         """The greatest size is found in a few boots, also where the maps behind the area have no place for themselves: each next size fails."""
         for size, most in ((16 * GIB, 8), (1000 * GIB, 10)):
             write(self.path("zp"), zero_page(machine_of(size)))
-            own = crash_module.Machine(crash_module.read_words(["--kernel", "16M,52M", "--program", PROGRAM, self.path("zp")]))
+            own = crash_module.Machine(crash_module.read_words(["--kernel", "16M,52M", "--program", PROGRAM61, self.path("zp")]))
             self.addCleanup(own.files.close)
             texts, _ = own.run("", ["map", "nodes", "memory", "journal"])
             for suffix in ("", ",high"):
@@ -175,7 +191,7 @@ class Crash(Case):
         master, slave = os.openpty()
         with os.fdopen(master, "rb", buffering=0) as terminal:
             done = subprocess.run([os.path.join(TOP, "tools", "bootmem-crash"), "--kernel", "16M,52M", "zp.bin"], stdout=subprocess.DEVNULL,
-                                  stderr=slave, cwd=example("q35-1g"), env={**os.environ, "BOOTMEM": PROGRAM}, check=False)
+                                  stderr=slave, cwd=example("q35-1g"), env={**os.environ, "BOOTMEM61": PROGRAM61}, check=False)
             os.close(slave)
             shown = terminal.read(65536)
         self.check("crash, progress", (done.returncode, b"bootmem-crash: boot 1: crashkernel=" in shown, shown.endswith(b"\r\x1b[K")),

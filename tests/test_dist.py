@@ -13,12 +13,13 @@ import unittest
 
 from support import PROGRAM, TOP, Case, bytes_of, last_line, ran, text_of, write
 
-AUDIT = os.path.join(TOP, "bootaudit")
+OTHERS = [os.path.join(TOP, name) for name in ("bootmem61", "bootaudit")]
 FIRST_MAP = os.path.join(TOP, "examples/first/map.txt")
-SOURCES = ["Makefile", "README.md", "CHANGELOG.md", "CONTRIBUTING.md", "bootmem.1", "bootaudit.1",
-           "bootmem.5", "crates.txt", ".gitignore", "docs", "examples", "tools", "include",
+SOURCES = ["Makefile", "README.md", "CHANGELOG.md", "CONTRIBUTING.md", "bootmem.1", "bootmem61.1",
+           "bootaudit.1", "bootmem.5", "crates.txt", ".gitignore", "docs", "examples", "tools", "include",
            "bindings"]
-BUILT = {"bootmem": "commit 1111111111aa; kit first-kit", "bootaudit": "commit 2222222222bb; kit b",
+BUILT = {"bootmem": "commit 1111111111aa; kit first-kit",
+         "bootmem61": "commit 4444444444dd; kit d", "bootaudit": "commit 2222222222bb; kit b",
          "libbootmem": "commit 3333333333cc; kit c"}
 VERSION = re.findall(r"^VERSION := (.*)$", text_of(os.path.join(TOP, "Makefile")), re.MULTILINE)[0]
 SECONDS = 1767323045  # the time of the only commit
@@ -57,7 +58,8 @@ def make_tree(tree):
     for command in (["git", "init", "-q"], ["git", "add", "."], COMMIT):
         ran(command, folder=tree, variables={"GIT_COMMITTER_DATE": f"{SECONDS} +0000"})
     shutil.copy(PROGRAM, os.path.join(tree, "bootmem"))
-    shutil.copy(AUDIT, os.path.join(tree, "bootaudit"))
+    for path in OTHERS:
+        shutil.copy(path, tree)
     for path in glob.glob(os.path.join(TOP, "libbootmem.[as]*")):
         shutil.copy(path, tree, follow_symlinks=False)
     for name, text in BUILT.items():
@@ -81,7 +83,7 @@ def built_lines(library):
     return [f"bootmem {VERSION}", *(f"{name}: {BUILT[name]}" for name in names)]
 
 
-@unittest.skipUnless(os.path.exists(AUDIT), "there is no ./bootaudit ('make bootaudit')")
+@unittest.skipUnless(all(map(os.path.exists, OTHERS)), "there is no ./bootmem61 or no ./bootaudit ('make')")
 @unittest.skipUnless(shutil.which("git") and shutil.which("make"), "there is no git or no make")
 class Packed(Case):
     """What `make dist` and `make deb` make."""
@@ -132,10 +134,10 @@ class Packed(Case):
                    {(0, 0, SECONDS)})
         self.check("sorted", names, sorted(names, key=lambda name: name.split("/")))
         wanted = ["install.sh", "README", "BUILD", "SHA256SUMS", "share/man/man5/bootmem.5"]
-        for command in ["bootmem", "bootaudit", "bootmem-collect", *COMMANDS]:
+        for command in ["bootmem", "bootmem61", "bootaudit", "bootmem-collect", *COMMANDS]:
             wanted += [f"bin/{command}", f"share/man/man1/{command}.1",
                        f"share/bash-completion/completions/{command}"]
-        wanted += ["libexec/bootmem/bootmem", "libexec/bootmem/bootaudit"]
+        wanted += [f"libexec/bootmem/{name}" for name in ("bootmem", "bootmem61", "bootaudit")]
         for folder, pattern in (("share/bootmem", "examples/*.bin"), ("share/doc", "docs/*.md")):
             kept = ran(["git", "ls-files", pattern], folder=self.tree)[1].decode().split()
             wanted += [f"{folder}/{re.sub('^docs', 'bootmem', name)}" for name in kept]
@@ -182,6 +184,7 @@ class Packed(Case):
         self.check("the map", text_of(self.path("map")), text_of(FIRST_MAP))
         self.check("bootaudit", self.runs(prefix, "bootaudit", "map", "owners", "blocks"),
                    (0, "sound\n"))
+        self.check("bootmem61", self.runs(prefix, "bootmem61", "--report", "map", page), (0, text_of(FIRST_MAP)))
         os.symlink(f"{prefix}/bin/bootmem", self.path("link"))
         self.check("by a link", ran([self.path("link"), "--report", "map", page])[:2],
                    (0, bytes_of(self.path("map"))))
@@ -208,7 +211,7 @@ class Packed(Case):
     def test_version(self):
         """--version and BUILD name the commit and the kit."""
         top = self.unpacked()
-        for name in ("bootmem", "bootaudit"):
+        for name in ("bootmem", "bootmem61", "bootaudit"):
             self.check(f"{name} --version", self.runs(top, name, "--version"),
                        (0, f"{name} {VERSION} ({BUILT[name]})\n"))
         lines = text_of(os.path.join(top, "BUILD")).splitlines()
@@ -231,8 +234,8 @@ class Packed(Case):
         self.has("a changed file", out, f"{'-'.join(self.top.split('-')[:3])}-changed-")
         with tarfile.open(os.path.join(tree, last_line(out))) as archive:
             names = [name.partition("/")[2] for name in archive.getnames()]
-        self.check("one program", [name in names for name in ("bin/bootmem", "bin/bootaudit")],
-                   [True, False])
+        self.check("one program", [name in names for name in ("bin/bootmem", "bin/bootmem61", "bin/bootaudit")],
+                   [True, False, False])
 
     def test_refused(self):
         """Without a program, or with one that is older than the sources, nothing is made."""
@@ -260,7 +263,7 @@ class Packed(Case):
                    not self.library)
         package = os.path.join(tree, last_line(out))
         ran(["dpkg-deb", "-x", package, root])
-        for name in ("bootmem", "bootaudit"):
+        for name in ("bootmem", "bootmem61", "bootaudit"):
             self.check(f"{name} --version", self.runs(f"{root}/usr", name, "--version"),
                        (0, f"{name} {VERSION} ({BUILT[name]})\n"))
         self.check("BUILD", text_of(f"{root}/usr/share/doc/bootmem/BUILD").splitlines(),

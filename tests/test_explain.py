@@ -6,7 +6,7 @@ import unittest
 
 from support import MACHINE, PROGRAM, TOP, Case, bytes_of, example, ran, rows_of, unsealed, write, zero_page
 from bootmem_tools import explain
-from bootmem_tools.words import OPTIONS
+from bootmem_tools.words import BOOTMEM61, OPTIONS
 
 # Words, and what is said of them; the program ends with 2 for each.
 USAGE = rows_of("""
@@ -47,7 +47,21 @@ one two | two: a second zero page, after one; only one may be named
 --make 1 | --make 1: a number from 2 to 3,000, in decimal digits
 --make 3 zp | zp: --make takes the place of a zero page; leave one of them out
 --make 3 --e820ext ext | --e820ext: --make takes the place of an extension; leave one of them out
+--claims early zp | --claims: no such option; bootmem61 has it
+--report crash,claims zp | --report crash,claims: claims: no such report; bootmem61 has it
 """)
+USAGE61 = rows_of("""
+ | no zero page is named: bootmem61 [OPTION].. ZEROPAGE; 'bootmem61 --help' lists the options
+--claim early zp | --claim: no such option; did you mean --claims?
+--claims early --claims late zp | --claims: given twice; each option may stand once
+--claims | --claims: its value is missing: --claims FILE
+--claims --srat zp | --claims --srat: a value doesn't begin with -; if it is meant, write --claims=--srat
+--claims early | no zero page is named: bootmem61 [OPTION].. ZEROPAGE; 'bootmem61 --help' lists the options
+--report claim zp | --report claim: no such report; did you mean claims?
+--report map,Claims zp | --report map,Claims: Claims: names of reports are in lower case: claims
+--make 3 zp | zp: --make takes the place of a zero page; leave one of them out
+""")
+BUILT61 = os.path.join(TOP, "bootmem61")
 AUDIT = rows_of("""
  | 0 names; three reports are needed: bootaudit [--la57] MAP OWNERS BLOCKS
 a b | 2 names; three reports are needed: bootaudit [--la57] MAP OWNERS BLOCKS
@@ -79,6 +93,17 @@ class Explained(Case):
         self.check("65 ranges", (ran([PROGRAM, "--mirror", many, "zp"])[0], explain.explain("bootmem", 2, ["--mirror", many, "zp"])),
                    (2, f"--mirror {many}: 65 ranges; at most 64"))
 
+    def test_usage61(self):
+        """Words of bootmem61; the program is there only where it was built."""
+        for text, why in USAGE61:
+            if os.path.exists(BUILT61):
+                self.check(f"bootmem61 {text}", ran([BUILT61, *split(text)])[::2], (2, b"bootmem61: usage\n"))
+            self.check(f"bootmem61 {text}: why", explain.explain("bootmem61", 2, split(text)), why)
+        for text, why in USAGE[1:-2]:
+            self.check(f"bootmem61 {text}: as bootmem", explain.explain("bootmem61", 2, split(text)), why)
+        self.check("each option without its value, or twice", [name for name in BOOTMEM61.options
+                                                               if explain.explain("bootmem61", 2, [f"--{name}"] * 2) is None], [])
+
     def test_audit(self):
         """Words of bootaudit; the program is there only where it was built."""
         audit = os.path.join(TOP, "bootaudit")
@@ -98,6 +123,10 @@ class Explained(Case):
                                  (["--srat", "none", "--cmdline=folder", "zp"], "folder", "it is a folder")):
             status, _, err = ran([os.path.join(TOP, "tools", "bootmem-explain"), "bootmem", "3", *words], folder=self.work)
             self.check(f"{words}: why", (status, err.decode()), (0, f"bootmem: {name}: {why}\n"))
+        for words, name in ((["--claims", "folder", "--script", "none", "zp"], "none: it doesn't exist"),
+                            (["--pages", "none", "--claims", "folder", "zp"], "folder: it is a folder")):
+            status, _, err = ran([os.path.join(TOP, "tools", "bootmem-explain"), "bootmem61", "3", *words], folder=self.work)
+            self.check(f"bootmem61 {words}: claims are read after the script", (status, err.decode()), (0, f"bootmem61: {name}\n"))
         self.check("an audit", ran([os.path.join(TOP, "tools", "bootmem-explain"), "bootaudit", "3", "--la57", "zp", "folder", "none"],
                                    folder=self.work)[2], b"bootaudit: folder: it is a folder\n")
         if os.getuid():

@@ -8,7 +8,7 @@ import shutil
 import unittest
 
 from schema import SCHEMA, fits
-from support import EXAMPLES, GIB, MIB, PROGRAM, Case, bytes_of, example, tool, write, zero_page
+from support import EXAMPLES, GIB, MIB, PROGRAM61, Case, bytes_of, example, tool, write, zero_page
 from bootmem_tools import inputs
 
 # Free frames are fewer than with --raw by what the kernels' logs have: 1,152 frames of the log buffer and its companions, 17 of brk, and
@@ -40,7 +40,7 @@ class Fleet(Case):
         self.check("fleet --columns --json", tool("bootmem-fleet", "--columns", "--json", names[0], folder=EXAMPLES)[:2], (2, ""))
         status, out, err = tool("bootmem-fleet", "examples", folder=os.path.dirname(EXAMPLES))
         self.check("fleet: a folder of folders", (status, out.split("\t")[1:3], err.splitlines()[0]),
-                   (1, ["3", "bootmem: cannot read zp.bin"],
+                   (1, ["3", "bootmem61: cannot read zp.bin"],
                     "bootmem-fleet: examples: it has no zp.bin, but its folders have: name these, as by examples/*/"))
         status, out, err = tool("bootmem-fleet", "--json", "--jobs", "2", *sorted(os.listdir(EXAMPLES)), folder=EXAMPLES)
         rows = [json.loads(line) for line in out.splitlines()]
@@ -56,7 +56,7 @@ class Fleet(Case):
                    (1, "", [["3", "bootmem: cannot read zp.bin", "-"], ["5", "bootmem: cmdline: word 2: mem", "-"], ["2", "no folder", "-"]]))
         status, out, err = tool("bootmem-fleet", "--kernel", "16M,32M", "empty", "bad", "none", folder=self.work)
         self.check("fleet: trouble", (status, err, [line.split("\t")[1:3] for line in out.splitlines()]),
-                   (1, "", [["3", "bootmem: cannot read zp.bin"], ["0", "-"], ["2", "no folder"]]))
+                   (1, "", [["3", "bootmem61: cannot read zp.bin"], ["0", "-"], ["2", "no folder"]]))
         for words, wanted in ((("--cmdline-drop", "mem"), "none"), (("--cmdline-drop", "mem", "--cmdline-add", "crashkernel=512M,high"),
                                                                    "0x000000001f000000..0x000000003effffff"),
                               (("--cmdline-drop", "mem", "--cmdline-add", "crashkernel=2G,high"), "no area")):
@@ -92,7 +92,7 @@ class Fleet(Case):
         self.check("fleet: an image in a hole", err, "bootmem-fleet: bad: --kernel 0xc0000000,32M: the map has no RAM at "
                    "0x00000000c0000000-0x00000000c1ffffff, so the image can't lie there whole; is it the place on another machine, or of "
                    "another boot (KASLR)?\n")
-        if b"__asan_init" in bytes_of(PROGRAM):
+        if b"__asan_init" in bytes_of(PROGRAM61):
             return  # a sanitizer's program takes its own time
         for number in range(FOLDERS):
             os.symlink(example("q35-8g-numa2"), self.path(f"host{number}"))

@@ -14,6 +14,7 @@ from support import (
     LOW,
     MIB,
     PROGRAM,
+    PROGRAM61,
     RAM,
     RESERVED,
     TOP,
@@ -47,10 +48,12 @@ from bootmem_tools import (
     linux_srat,
 )
 from bootmem_tools.direct_map import PMD, PUD, DirectMap, Free
+from bootmem_tools.tool import Trouble
 
 FRAME = 4096
 NODE_DATA = re.compile(r"NODE_DATA\((\d+)\) allocated \[mem 0x(\w+)-0x(\w+)\]")
 SETUP_DATA, BOOT_SERVICES = "memblock_x86_reserve_range_setup_data", "efi_reserve_boot_services"
+PAGE_TABLES = "alloc_low_pages"
 # The kernel functions whose claims bootmem-linux makes as a log has them.
 LOGGED = (
     "efi_memattr_init",
@@ -70,8 +73,9 @@ efi_reserve_boot_services | 413
 alloc_low_pages | 110
 setup_log_buf | 132
 numa_alloc_distance | 1
+relocate_initrd | 7
 bootmem: low-1m | 95
-bootmem: initrd | 47
+bootmem: initrd | 40
 bootmem: node-data | 64
 bootmem: crash | 20
 bootmem: roots | 47
@@ -154,9 +158,38 @@ def is_node_data(words):
     return words[0] == "alloc" and words[2:5] == ["176128", "64", "node"]
 
 
+# A line of --explain: the range of a `reserve`, or the size of an `alloc` and its place, what it is
+# and the kernel function.
+EXPLAINED = re.compile(
+    r"claim: (?:reserve \d+ (?P<base>0x\w+) (?P<bytes>0x\w+): done"
+    r"|alloc \d+ (?P<size>\d+) \d+(?: \w+ \w+)*: at (?P<place>0x\w{16})): .* \((?P<rule>\w+)\)$",
+    re.MULTILINE,
+)
+
+
+def claims_in(err):
+    """The claims that bootmem61 made, by the lines of --explain: first byte, the one past the last,
+    and the kernel function. Of a line with several page tables each is a claim."""
+    found = []
+    for match in EXPLAINED.finditer(err):
+        first = int(match["base"] or match["place"], 16)
+        size = int(match["bytes"], 16) if match["bytes"] else int(match["size"])
+        each = FRAME if match["rule"] == PAGE_TABLES else size
+        found += [(at, at + each, match["rule"]) for at in range(first, first + size, each)]
+    return found
+
+
+def claims_by_rule(err):
+    """The same by kernel function."""
+    found = collections.defaultdict(list)
+    for first, end, rule in claims_in(err):
+        found[rule].append((first, end))
+    return found
+
+
 class Boot:
     """A machine's boot by bootmem-linux: its status and error, its claims with their rules, the
-    owners, and memory without early claims."""
+    owners, and memory."""
 
     def __init__(self, name, *more):
         self.status, owners, self.err = tool(
@@ -170,12 +203,7 @@ class Boot:
             folder=example(name),
         )
         memory = program(example(name), "--report", "memory", *words_of(name))
-        self.claims = [
-            (int(first, 16), int(last, 16) + 1, rule)
-            for first, last, rule in re.findall(
-                r"claim: (0x\w+)-(0x\w+) .*\((\w+)\)$", self.err, re.MULTILINE
-            )
-        ]
+        self.claims = claims_in(self.err)
         self.owners = [
             (int(first, 16), int(last, 16) + 1, owner)
             for first, last, owner in re.findall(
@@ -328,7 +356,12 @@ class Linux(Case):
         an earlier claim: these stay free. A kept part of a descriptor, a descriptor of one frame
         and one outside memory are claimed, as are all if the map has only such."""
         name, log = "ovmf-2g-tpm", text_of(example("ovmf-2g-tpm", "log"))
-        theirs = re.findall(rf"memblock_reserve: \[(0x\w+)-(0x\w+)\] {BOOT_SERVICES}\+", log)
+        theirs = {
+            (int(first, 16), int(last, 16) + 1)
+            for first, last in re.findall(
+                rf"memblock_reserve: \[(0x\w+)-(0x\w+)\] {BOOT_SERVICES}\+", log
+            )
+        }
         map_data = bytes_of(example(name, "efi.bin"))
         words = [word for word in words_of(name) if word not in ("--efi", "efi.bin")]
         # the descriptor of EFI's memory attributes, which the kernel leaves free
@@ -338,10 +371,9 @@ class Linux(Case):
             write(self.path("efi"), map_data + more)
             options = ["--explain", "--report", "crash", "--efi", self.path("efi")]
             _, out, err = tool("bootmem-linux", *options, *words, folder=example(name))
-            ours = re.findall(rf"claim: (0x\w+)-(0x\w+) .*\({BOOT_SERVICES}\)", err)
-            lacking = len(set(ours) - set(theirs))
-            self.check(f"owned, {what}: claims that the log lacks", lacking, over)
-            self.check(f"owned, {what}: the log's claims", set(theirs) <= set(ours), True)
+            ours = set(claims_by_rule(err)[BOOT_SERVICES])
+            self.check(f"owned, {what}: claims that the log lacks", len(ours - theirs), over)
+            self.check(f"owned, {what}: the log's claims", theirs <= ours, True)
             said = f"{first:#018x}-{last:#018x} stay free" in err
             self.check(f"owned, {what}: it is said", said, not over)
             self.check(f"owned, {what}: the crash area", "0x0000000073000000.." in out, True)
@@ -427,9 +459,10 @@ class Linux(Case):
             (["--pages", "4K"], 0x11000, 498),
         ):
             err = tool("bootmem-linux", *more, *words, folder=self.work)[2]
-            place = f"0x0000000005000000-{0x5000000 + brk - 1:#018x} brk"
-            self.has(f"linux {more}: brk", err, place)
-            self.check(f"linux {more}: page tables", err.count("page table of"), tables)
+            found = claims_by_rule(err)
+            wanted = [(0x5000000, 0x5000000 + brk)]
+            self.check(f"linux {more}: brk", found["reserve_brk"], wanted)
+            self.check(f"linux {more}: page tables", len(found[PAGE_TABLES]), tables)
 
     def test_as_linux(self):
         """Tools that run the program for their user's words take --as-linux, and the words are those of bootmem-linux then."""
@@ -444,7 +477,9 @@ class Linux(Case):
             self.check(f"where --as-linux {place}", (status, out.splitlines()[-1] == "early    brk 0x0000000004a00000-0x0000000004a10fff, "
                                                      "claimed by reserve_brk"), (0, early))
         status, out, _ = tool("bootmem-draw", "--text", *words, folder=folder)
-        self.check("draw --as-linux", (status, "0x73000000  |                  crash 128 MiB" in out), (0, True))
+        self.check("draw --as-linux: status", status, 0)
+        self.check("draw --as-linux: the area", re.findall(r"^(\w+) .*crash 128 MiB$", out, re.MULTILINE), ["0x73000000"])
+        self.has("draw --as-linux: an early claim", out, "boot services, type 4 128 KiB")
         for name, more in (("json", []), ("draw", ["--text"]), ("where", ["1M"])):
             self.check(f"{name} --as-linux, a text", tool(f"bootmem-{name}", *more, "--as-linux", "reports", folder=folder)[:2], (2, ""))
             self.check(f"{name} --as-linux, no page size", tool(f"bootmem-{name}", *more, "--as-linux", "--", "--pages", "3M", "zp.bin",
@@ -489,10 +524,10 @@ class Linux(Case):
             took.append(time)
             self.check(
                 "linux, 3,172 entries",
-                (status, out.splitlines()[0], err.count("page table") > 1000),
-                (0, "runs 3177", True),
+                (status, out.splitlines()[0], len(claims_by_rule(err)[PAGE_TABLES]) > 1000),
+                (0, "runs 3173", True),
             )
-            if b"__asan_init" in bytes_of(PROGRAM):
+            if b"__asan_init" in bytes_of(PROGRAM61):
                 return  # a sanitizer's program takes its own time
         bound = max(0.5, 10 * min(starts))
         self.check(f"linux, 3,172 entries: {min(took)} s, at most {bound}", min(took) < bound, True)
@@ -568,7 +603,7 @@ class Linux(Case):
         status, out, said = self.linux("--report", "map", "--kernel", "16M,17M", "zp")
         self.check(
             "linux: an image outside RAM",
-            (status, len(said), "0x0000000002111000..0x000000000212ffff 1 usable" in out),
+            (status, len(said), "..0x000000000212ffff 1 usable" in out),
             (0, 1, True),
         )
         write(self.path("efi"), inputs.efi_map([(7, GIB, 256, 0x4000F), (7, 2 * GIB, 256, 0xF)]))
@@ -587,11 +622,11 @@ class Linux(Case):
                 (lines == wanted, len(lines) // 2),
             )
         self.make(machine_of(GIB), line="memmap=exactmap memmap=640K@0 memmap=511M@1M -- x")
-        _, out, _ = self.linux("--report", "map", "--cmdline", "line", "zp")
-        self.check(
-            "linux: a user map keeps the claims",
-            "0x0000000003000000..0x0000000003010fff 2 reserved" in out,
-            True,
+        _, out, _ = self.linux("--report", "owners", "--cmdline", "line", "zp")
+        self.has(
+            "linux: a user map and a claim",
+            out,
+            "0x0000000003000000..0x0000000003010fff script 4000000000\n",
         )
         for bad, why in (
             (["--nonsense"], "--nonsense: no such option"),
@@ -601,7 +636,7 @@ class Linux(Case):
             (["--srat", "none", "zp"], "none: it doesn't exist"),
             (["."], ".: it is a folder"),
         ):
-            theirs = ran([PROGRAM, *bad], folder=self.work)
+            theirs = ran([PROGRAM61, *bad], folder=self.work)
             ours = tool("bootmem-linux", *bad, folder=self.work)
             self.check(
                 f"linux {bad}",
@@ -744,10 +779,7 @@ class Told(Case):
     def linux(self, *words):
         """The claims of a run over the test's files by their kernel function, its status and output."""
         status, out, err = tool("bootmem-linux", "--explain", *words, folder=self.work)
-        found = collections.defaultdict(list)
-        for first, last, rule in re.findall(r"claim: (0x\w+)-(0x\w+) .*\((\w+)\)$", err, re.MULTILINE):
-            found[rule].append((int(first, 16), int(last, 16) + 1))
-        return found, status, out, err
+        return claims_by_rule(err), status, out, err
 
     def test_log(self):
         """All nodes of setup_data, ACPI tables and EFI's tables are claimed if a log tells them; descriptors of boot services with such a
@@ -768,9 +800,9 @@ class Told(Case):
         self.check("log: boot services", found[BOOT_SERVICES], [(0x3E900000, 0x3E910000)])
         self.check("log: what is left unknown", ("nodes of setup_data" in err, "tables of ACPI" in err, "a frame each" in err),
                    (False, False, True))
-        self.has("log: an ACPI table is taken out", out, "0x000000003ff10000..0x000000003ff12fff 2 reserved")
+        self.has("log: the map stays whole", out, "0x0000000030100020..0x000000003ffdefff 1 usable\n")
         found, _, _, err = self.linux(*words)
-        self.check("no log", (found[SETUP_DATA], found["acpi_reserve_initial_tables"], found[BOOT_SERVICES]),
+        self.check("no log", (found[SETUP_DATA], found["acpi_reserve_initial_tables"], sorted(found[BOOT_SERVICES])),
                    ([(0x30001000, 0x30001010)], [], [(0x3E400000, 0x3E500000), (0x3E900000, 0x3E910000), (0x3EA00000, 0x3EA10000)]))
         self.check("no log: what is unknown", ("nodes of setup_data" in err, "tables of ACPI" in err, "--log tells it" in err),
                    (True, True, True))
@@ -783,14 +815,14 @@ class Told(Case):
             self.check(f"setup_data from {first} on", list(linux_log.nodes_of(pieces, first)), wanted)
 
     def test_type(self):
-        """RAM of a node has type 128 in the inputs before claims are cut out, as bootmem-live compares them."""
+        """RAM of a node has type 128, and the node is claimed, byte by byte."""
         page = bytearray(inputs.zero_page(machine_of(GIB)))
         struct.pack_into("<Q", page, linux_claims.SETUP_DATA, 0x30001000)
         write(self.path("zp"), bytes(page))
-        with as_linux.prepared(PROGRAM, ["--kernel", "64M,16M", self.path("zp")], as_linux.Settings()) as boot:
-            self.has("a node's type", program(self.work, "--report", "map", *boot.read), "0x0000000030001000..0x000000003000100f 128 ")
-            self.has("a node is claimed whole", program(self.work, "--report", "map", *boot.words),
-                     "0x0000000030001000..0x0000000030001fff 2 reserved")
+        with as_linux.prepared(PROGRAM61, ["--kernel", "64M,16M", self.path("zp")], as_linux.Settings()) as boot:
+            out = program(self.work, "--report", "map,owners", *boot.words, path=PROGRAM61)
+            self.has("a node's type", out, "0x0000000030001000..0x000000003000100f 128 ")
+            self.has("a node is claimed", out, "0x0000000030001000..0x000000003000100f script 4000000000\n")
 
     def test_cma(self):
         """cma= lies as low as it can above 4 GiB, else as high as it can below node data, in whole 2 MiB; the crash area comes after it."""
@@ -842,11 +874,48 @@ class Told(Case):
         for line, place, moves in (("mem=512M", 496 * MIB, True), ("mem=800M", 768 * MIB, False)):
             write(self.path("line"), line)
             _, _, out, err = self.linux("--report", "owners", "--kernel", "64M,16M", "--cmdline", "line", "zp")
-            self.has(f"the initrd, {line}", out, f"{place:#018x}..{place + 16 * MIB - 1:#018x} initrd\n")
+            owner = "script 4000000001" if moves else "initrd"
+            self.has(f"the initrd, {line}", out, f"{place:#018x}..{place + 16 * MIB - 1:#018x} {owner}\n")
+            self.check(f"its old place, {line}", f" {768 * MIB:#018x}.." in out, not moves)
             self.check(f"it moves, {line}", f"it moves to {place:#x} (relocate_initrd)" in err, moves)
         write(self.path("line"), "mem=512M")
         _, _, out, _ = self.linux("--report", "owners", "--kernel", "64M,16M", "--cmdline", "line", "zp")
         self.has("node data", out, f"{496 * MIB - 0x2B000:#018x}..{496 * MIB - 1:#018x} node-data 0\n")
+
+    def test_growth(self):
+        """200 boot services apart from each other make the reserved table grow, twice. It then lies
+        in a gap, unless each gap is shorter than the table: then one range isn't claimed, which is
+        said."""
+        write(self.path("zp"), inputs.zero_page(machine_of(GIB)))
+        words = ["--report", "tables", "--kernel", "64M,16M", "--efi", "efi", "zp"]
+        for gap, refused in ((16, 0), (1, 1)):
+            last, pages = 0x3FFDF000, 32 - gap
+            places = [last - (200 - number) * 32 * FRAME for number in range(200)]
+            write(self.path("efi"), inputs.efi_map([(3, place, pages, 15) for place in places]))
+            found, status, out, err = self.linux(*words)
+            self.check(f"gaps of {gap} pages: status", status, 0)
+            self.check(f"gaps of {gap} pages: claims", len(found[BOOT_SERVICES]), 200 - refused)
+            self.check(f"gaps of {gap} pages: it is said", err.count("boot services, type 3 isn't claimed: "), refused)
+            self.has(f"gaps of {gap} pages: the table", out, " room 256 records ")
+
+    def test_claims_file(self):
+        """The file of early claims: a form for each kind of claim. The tool's own users can't name
+        one, and one that is too long is refused."""
+        claim = linux_claims.Claim
+        for made, lines in (
+            (claim(4096, 8192, "x", "f"), ["reserve 4000000000 0x1000 0x1000"]),
+            (claim(4096, 8192, "x", "f", 8, 0, 1 << 32), ["alloc 4000000000 4096 8 max 0x100000000"]),
+            (claim(4096, 8192, "x", "f", 64, 16, 99), ["alloc 4000000000 4096 64 min 0x10 max 0x63"]),
+            (claim(4096, 8192, "x", "f", is_freed=True), ["reserve 4000000000 0x1000 0x1000", "free 4000000000"]),
+        ):
+            self.check(f"{made}", [line for line, _ in linux_claims.file_lines([made])], lines)
+        write(self.path("zp"), inputs.zero_page(machine_of(GIB)))
+        status, out, err = tool("bootmem-linux", "--claims", "own", "zp", folder=self.work)
+        self.check("a file of the user's", (status, out, "writes that file itself" in err), (2, "", True))
+        line = "x" * 1023
+        self.check("the longest file", len(as_linux.claims_file([line] * 1024)), MIB)
+        with self.assertRaises(Trouble):
+            as_linux.claims_file([line] * 1024 + [""])
 
     def test_gigantic(self):
         """nogbpages forbids pages of 1 GiB: each GiB then has a table, of which brk has room for 16 with the upper ones."""

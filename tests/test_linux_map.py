@@ -7,9 +7,10 @@ import struct
 import unittest
 
 from support import (
-    GIB, LOW, MIB, PROGRAM, RAM, RESERVED, Case, entries_of, extension, machine_of, program, ran,
+    GIB, LOW, MIB, PROGRAM61, RAM, RESERVED, Case, entries_of, extension, machine_of, program, ran,
     tool, write
 )
+from test_linux import claims_by_rule
 from bootmem_tools import as_linux, inputs, linux_claims, linux_log, linux_map
 
 TOP = 1 << 64
@@ -49,16 +50,16 @@ class Map(Case):
             words = ["--report", "crash", "--kernel", "64M,16M", *self.make(machine_of(GIB),
                                                                             "crashkernel=64M",
                                                                             [one, SERVICES])]
-            status, _, theirs = ran([PROGRAM, *words], folder=self.work)
+            status, _, theirs = ran([PROGRAM61, *words], folder=self.work)
             is_far = said is not None and "beyond" in said
             self.check(f"{what}: the program", (status, theirs), (5,
-                                                                  b"bootmem: efi: descriptor 0 too far\n") if is_far else (0, b""))
+                                                                  b"bootmem61: efi: descriptor 0 too far\n") if is_far else (0, b""))
             status, out, err = self.linux("--explain", *words)
             left = re.findall(r"descriptor (\d+) of EFI's memory map, at 0x(\w+): (.*), so it is left out \((\w+)\)", err)
             self.check(f"{what}: left out", (status, left), (0, [("0", f"{one[1]:016x}", said,
                                                                   RULE)] if said else []))
-            self.has(f"{what}: the others are claimed", err,
-                     "claim: 0x000000003e400000-0x000000003e4fffff boot services, type 4")
+            self.check(f"{what}: the others are claimed",
+                       claims_by_rule(err)["efi_reserve_boot_services"], [(0x3E400000, 0x3E500000)])
             self.has(f"{what}: the area", out, "crash at 0x000000003")
         far = [(7, TOP - 4096 * place, 9, 15) for place in range(1, 7)]
         _, _, err = self.linux(*self.make(machine_of(GIB), "quiet", [*far[:3], SERVICES,
@@ -125,15 +126,14 @@ class Map(Case):
             self.check(f"{what}: EFI's map is added", [one for one in added if one not in lines],
                        [])
             self.check(f"{what}: outside the image", kept in lines, True)
-            # brk has 17 frames from the image's end on, which are cut out of memory
             self.check(f"{what}: up to its end",
-                       any(one.startswith("0x0000000002111000..") and one.endswith(" 1 usable")
-                           for one in lines), True)
+                       any(one.endswith("..0x000000000212ffff 1 usable") for one in lines), True)
             self.check(f"{what}: the rest of the line", lines[-1],
                        "crash at 0x0000000000400000..0x00000000007fffff")
             self.check(f"{what}: the place", "the map has no RAM at" in err, False)
-            alone = program(self.work, "--report", "map", *IMAGE, *words)
-            self.check(f"{what}: the program alone", "0x0000000002111000.." in alone, False)
+            alone = program(self.work, "--report", "map", *IMAGE, *words, path=PROGRAM61)
+            self.check(f"{what}: the program alone", (bool(alone), "..0x000000000212ffff" in alone),
+                       (True, False))
 
     def test_image_in_table(self):
         """The table that is made: as many entries as there are, in the zero page and an
@@ -158,7 +158,7 @@ class Map(Case):
         words = self.make(spread, "add_efi_memmap", [(7, GIB, 256, 15)])
         status, out, _ = self.linux("--report", "map", *IMAGE, *words)
         wanted = [f"\n{base:#018x}.." for base, _, _ in spread[1:]] + ["\n0x0000000040000000..",
-                                                                       "\n0x0000000002111000..0x000000000212ffff 1 usable\n"]
+                                                                       "..0x000000000212ffff 1 usable\n"]
         self.check("142 runs and the image", (status, [one for one in wanted if one not in out]),
                    (0, []))
 
@@ -187,8 +187,8 @@ class Nodes(Case):
     def runs(self, words, settings, folder=None):
         """The runs of type 128 in the inputs as they are read: the first byte of each and the one
         past its last."""
-        with as_linux.prepared(PROGRAM, words, settings, folder) as boot:
-            out = program(self.work, "--report", "map", *boot.read)
+        with as_linux.prepared(PROGRAM61, words, settings, folder) as boot:
+            out = program(self.work, "--report", "map", *boot.words, path=PROGRAM61)
         return [(int(first, 16), int(last, 16) + 1) for first,
                 last in re.findall(r"(0x\w+)\.\.(0x\w+) 128 ", out)]
 
@@ -244,8 +244,8 @@ class Nodes(Case):
             write(self.path("host", name), data)
         _, _, err = tool("bootmem-linux", "--explain", "--log", "log", "--kernel", "64M,16M",
                          "zp.bin", folder=self.path("host"))
-        self.check("by --log", re.findall(r"claim: 0x0*(\w+)-\w+ setup_data", err),
-                   ["30001000", "30100000"])
+        nodes = claims_by_rule(err)["memblock_x86_reserve_range_setup_data"]
+        self.check("by --log", nodes, [(0x30001000, 0x3000102C), (0x30100000, 0x30100020)])
         frees = []
         for log in (LOG, None):
             if log is None:

@@ -8,7 +8,7 @@ import subprocess
 import sys
 import unittest
 
-from support import EXAMPLES, PROGRAM, TOP, Case, bytes_of, example, ran, tool, write
+from support import EXAMPLES, PROGRAM, PROGRAM61, TOP, Case, bytes_of, example, ran, tool, write
 
 COLLECT = os.path.join(TOP, "tools", "collect.sh")
 ZONES = "Node 0, zone   Normal\n        spanned  1\n        present  1\nNode 1, zone   Normal\n"
@@ -35,7 +35,8 @@ class Next(Case):
         self.check("the next command", next_of(err), [wanted])
         if next_of(err) != [wanted]:
             return None
-        tools = {"PATH": f"{TOP}/tools:{os.environ['PATH']}", "BOOTMEM": PROGRAM}
+        tools = {"PATH": f"{TOP}/tools:{os.environ['PATH']}", "BOOTMEM": PROGRAM,
+                 "BOOTMEM61": PROGRAM61}
         return ran(["sh", "-c", wanted], folder=self.work, variables=tools)[0]
 
     def test_page(self):
@@ -119,11 +120,15 @@ class Next(Case):
                         self.path("site", "bootmem_tools"))
         top = self.path("a clone")
         command = f"make -C {shlex.quote(top)} bootmem"
+        command61, raw = f"{command}61", ["--raw"]
         code = "import sys; from bootmem_tools import crash, tool; sys.argv = ['crash', *sys.argv[1:]]; tool.run_tool('bootmem-crash', crash.main, 2)"
-        for place, words, wanted in (("a clone/tools", [], [command]), ("site", [], []),
-                                     ("site", ["--program", f"{top}/bootmem"], [command]),
+        for place, words, wanted in (("a clone/tools", raw, [command]), ("site", raw, []),
+                                     ("a clone/tools", [], [command61]), ("site", [], []),
+                                     ("site", [*raw, "--program", f"{top}/bootmem"], [command]),
+                                     ("site", ["--program", f"{top}/bootmem61"], [command61]),
                                      ("a clone/tools", ["--program", "/nowhere"], [])):
-            variables = {"PYTHONPATH": self.path(place), "PATH": self.path("none"), "BOOTMEM": ""}
+            variables = {"PYTHONPATH": self.path(place), "PATH": self.path("none"), "BOOTMEM": "",
+                         "BOOTMEM61": ""}
             status, out, err = ran([sys.executable, "-c", code, *words,
                                     example("q35-1g", "zp.bin")], folder=self.work,
                                    variables=variables)

@@ -1,4 +1,4 @@
-"""The words of tools/bootmem_tools/words.txt are those of the program: its definitions have the
+"""The words of tools/bootmem_tools/words.txt are those of the programs: their definitions have the
 same options, reports and inputs, the program takes each and no other, and so have README.md, the
 manual pages, docs/FORMATS.md, the tools' grammar and what the completions for bash answer."""
 
@@ -14,6 +14,9 @@ from support import MACHINE, PROGRAM, TOP, Case, example, run_over, text_of, zer
 OPTIONS = sorted(f"--{name}" for name in words.OPTIONS)
 AUDIT = sorted(f"--{name}" for name in words.AUDIT_OPTIONS)
 REPORTS = sorted(words.REPORTS)
+OPTIONS61 = sorted(f"--{name}" for name in words.BOOTMEM61.options)
+REPORTS61 = sorted(words.BOOTMEM61.reports)
+PROGRAM61 = os.path.join(TOP, "bootmem61")
 # A value that each option takes, but those for files, which get bytes that no input may have: the
 # line of the fault names the input.
 VALUES = {"RANGES": "64M,16M", "BASE,SIZE": "0x1000000,0x3400000", "LIST": "map", "N": "3"}
@@ -57,10 +60,12 @@ class Words(Case):
     def test_definitions(self):
         """The definitions by which the program is proved have these words, in this order."""
         self.check("options of Grammar.antt", codes_in("program_args", "Grammar", r"^options =\n(.*?)∷ \[\]"), list(words.OPTIONS))
+        self.check("options of bootmem61 in Grammar.antt", codes_in("program_args", "Grammar", r"^options61 = (.*?)$"),
+                   [name for name in words.BOOTMEM61.options if name not in words.OPTIONS])
         self.check("flags of Grammar.antt", re.findall(r'codes "([a-z0-9-]+)", SetTrue', text("crates/program_args/specs/Grammar.antt")),
                    [name for name, value in words.OPTIONS.items() if not value])
-        self.check("reports of Report.antt", codes_in("debugfs_reports", "Report", r"^(report_name reports.*?)$"), list(words.REPORTS))
-        self.check("inputs of Input.antt", codes_in("boot_inputs", "Input", r"^(input_word inputs.*?)$"), list(words.INPUTS))
+        self.check("reports of Report.antt", codes_in("debugfs_reports", "Report", r"^(report_name reports.*?)$"), list(words.BOOTMEM61.reports))
+        self.check("inputs of Input.antt", codes_in("boot_inputs", "Input", r"^(input_word inputs.*?)$"), list(words.BOOTMEM61.inputs))
         self.check("options of bootaudit's Args.antt", codes_in("boot_audit", "Args", r"^(read_audit_args .*?)(?:\n\n|\Z)"), AUDIT)
 
     @unittest.skipUnless(os.access(PROGRAM, os.X_OK), "there is no program: it isn't asked for its words")
@@ -81,9 +86,51 @@ class Words(Case):
         named = [name for name, value in words.OPTIONS.items() if value == "FILE"]
         self.check("the inputs are the zero page and the options' files", sorted(words.INPUTS), sorted(["zeropage", *named]))
 
+    @unittest.skipUnless(os.access(PROGRAM61, os.X_OK), "there is no ./bootmem61: it isn't asked for its words")
+    def test_program61(self):
+        """bootmem61 takes each of its options and reports, names its inputs in its own order, and takes no word with a letter more."""
+        files = {"zp": zero_page(MACHINE), "faulty": b"mem=x"}
+        for name, value in words.BOOTMEM61.options.items():
+            given = [] if not value else [VALUES.get(value, "faulty")]
+            page = [] if name == "make" else ["zp"]
+            status, _, line = run_over(files, [f"--{name}", *given, *page], PROGRAM61)
+            wanted = (5, f"bootmem61: {name}: ") if value == "FILE" else (0, "")
+            self.check(f"bootmem61 --{name}", (status, line[:len(wanted[1])]), wanted)
+            self.check(f"bootmem61 --{name}x", run_over(files, [f"--{name}x", *given, *page], PROGRAM61), (2, "", "bootmem61: usage\n"))
+        for name in words.BOOTMEM61.reports:
+            self.check(f"bootmem61 --report {name}", run_over(files, ["--report", name, "zp"], PROGRAM61)[::2], (0, ""))
+            self.check(f"bootmem61 --report {name}x", run_over(files, ["--report", f"{name}x", "zp"], PROGRAM61), (2, "", "bootmem61: usage\n"))
+        # of several faulty files the first in the order of the inputs is named
+        named = [name for name in words.BOOTMEM61.inputs if name != "zeropage"]
+        for place, name in enumerate(named):
+            given = [word for other in reversed(named[place:]) for word in (f"--{other}", "faulty")]
+            self.check(f"bootmem61: {name} before those after it", run_over(files, [*given, "zp"], PROGRAM61)[2].split(":")[1:2], [f" {name}"])
+
+    @unittest.skipUnless(os.access(PROGRAM, os.X_OK), "there is no program: it isn't asked for its words")
+    def test_words61(self):
+        """bootmem has neither the option nor the report of bootmem61."""
+        files = {"zp": zero_page(MACHINE), "early": b""}
+        for given in (["--claims", "early"], ["--report", "claims"], ["--report", "map,claims"]):
+            self.check(f"bootmem {given}", run_over(files, [*given, "zp"]), (2, "", "bootmem: usage\n"))
+
+    def test_help(self):
+        """The help of bootmem61 has the lines on options and reports that bootmem's has, and those of its own words."""
+        lines, more = ([line for line in text("tools", f"{name}.help").splitlines() if line.startswith("  ")] for name in ("bootmem", "bootmem61"))
+        self.check("lines of bootmem.help that bootmem61.help lacks", [line for line in lines[1:] if line not in more], [])
+        self.check("lines that only bootmem61.help has", [line.split()[0] for line in more[1:] if line not in lines], ["--claims", "claims"])
+
+    def test_documents61(self):
+        """The manual page of bootmem61 and FORMATS.md have its options, and the page its reports."""
+        self.check("SYNOPSIS of bootmem61.1", options_in(section("bootmem61", "SYNOPSIS")), OPTIONS61)
+        self.check("OPTIONS of bootmem61.1", set(marked_options("bootmem61")) - set(OPTIONS), set(OPTIONS61) - set(OPTIONS))
+        self.check("grammar of bootmem61 in docs/FORMATS.md", synopsis("bootmem61", "docs", "FORMATS.md"), ["--claims"])
+        for name in set(REPORTS61) - set(REPORTS):
+            self.check(f"FORMATS.md: the report {name}", f"\n## The report `{name}`\n" in text("docs", "FORMATS.md"), True)
+            self.check(f"bootmem61.1: the report {name}", f"\n.SS {name}\n" in text("bootmem61.1"), True)
+
     def test_documents(self):
         """Manual pages and FORMATS.md have the options and the reports, and README no others."""
-        self.check("options of README.md", set(re.findall(r"(?<= )--[a-z0-9-]+", text("README.md"))) - set(OPTIONS), set())
+        self.check("options of README.md", set(re.findall(r"(?<= )--[a-z0-9-]+", text("README.md"))) - set(OPTIONS61), set())
         self.check("SYNOPSIS of bootmem.1", options_in(section("bootmem", "SYNOPSIS")), OPTIONS)
         self.check("OPTIONS of bootmem.1", marked_options("bootmem"), OPTIONS)
         self.check("grammar of docs/FORMATS.md", synopsis("bootmem", "docs", "FORMATS.md"), OPTIONS)
@@ -97,7 +144,7 @@ class Words(Case):
 
     def test_tools(self):
         """The tools' grammar has a table for each report."""
-        self.check("reports of the grammar", sorted(grammar.GRAMMAR), REPORTS)
+        self.check("reports of the grammar", sorted(grammar.GRAMMAR), sorted(REPORTS61))
 
 
 @unittest.skipUnless(shutil.which("bash"), "there is no bash: what the completions answer isn't tried")
@@ -106,8 +153,10 @@ class Completions(Case):
 
     def completed(self, program, *line):
         """The proposals, sorted."""
-        script = '. "$1"; shift; COMP_WORDS=("$@"); COMP_CWORD=$(($# - 1)); "_$1"; printf "%s\\n" "${COMPREPLY[@]}"'
-        done = subprocess.run(["bash", "-c", script, "test_words.py", os.path.join(TOP, "tools", f"{program}.bash-completion"), program, *line],
+        # bootmem61 has the file and the function of bootmem
+        script = '. "$1"; shift; COMP_WORDS=("$@"); COMP_CWORD=$(($# - 1)); "_${1%61}"; printf "%s\\n" "${COMPREPLY[@]}"'
+        file = os.path.join(TOP, "tools", f"{program.removesuffix('61')}.bash-completion")
+        done = subprocess.run(["bash", "-c", script, "test_words.py", file, program, *line],
                               stdout=subprocess.PIPE, stderr=subprocess.DEVNULL, cwd=example("first"), check=False)
         return sorted(set(done.stdout.decode().split()))
 
@@ -118,6 +167,10 @@ class Completions(Case):
                              (["--report", "=", "z"], ["zonelists", "zones"]), (["--cmdline", "z"], ["zp.bin"]),
                              (["--script", "=", "z"], ["zp.bin"]), (["--report", "map", "z"], ["zp.bin"]), (["--make", ""], [])):
             self.check(f"bootmem {' '.join(line)}", self.completed("bootmem", *line), wanted)
+        for line, wanted in ((["--"], OPTIONS61), (["--c"], ["--claims", "--cmdline"]), (["--report", ""], REPORTS61),
+                             (["--report", "crash,c"], ["crash,claims", "crash,crash"]), (["--claims", "z"], ["zp.bin"]),
+                             (["--claims", "=", "z"], ["zp.bin"]), (["--make", ""], [])):
+            self.check(f"bootmem61 {' '.join(line)}", self.completed("bootmem61", *line), wanted)
         for line, wanted in ((["--"], AUDIT), (["--la57", "z"], ["zp.bin"]), (["zp.bin", "--"], [])):
             self.check(f"bootaudit {' '.join(line)}", self.completed("bootaudit", *line), wanted)
 

@@ -15,6 +15,7 @@ log=$top/crates/$crate/out/build.log
 mkdir -p "$top/crates/$crate/out"
 case $crate in
 bootaudit) cost="some minutes" ;;
+bootmem61_cli) cost="some 35 minutes of processor time, and little if bootmem is built" ;;
 *) cost="some 35 minutes of processor time, and 10 minutes or more" ;;
 esac
 echo "$program: proving and building it; the first time this takes $cost" >&2

@@ -29,7 +29,9 @@ package() {
 }
 
 "$make" --no-print-directory install DESTDIR="$root" PREFIX=/usr
-strip --strip-unneeded --remove-section=.comment --remove-section=.note "$root/usr/libexec/bootmem/bootmem" "$root/usr/libexec/bootmem/bootaudit"
+for program in bootmem bootmem61 bootaudit; do
+	strip --strip-unneeded --remove-section=.comment --remove-section=.note "$root/usr/libexec/bootmem/$program"
+done
 doc=$root/usr/share/doc/bootmem
 # a Debian change log, and the change log that a user reads
 {
@@ -71,8 +73,10 @@ boot-time memory set-up of x86-64 Linux 6.1, proved
  memory: from the bytes of the firmware's tables and the kernel's command line
  to the free blocks of the buddy lists. It answers which addresses are RAM,
  whether a crash area fits and where, which node and zone each range has, who
- holds what, and which frames are free. bootaudit says of such reports, saved
- from another machine or another program, whether memory was conserved.
+ holds what, and which frames are free. bootmem61 answers by the rules of Linux
+ 6.1 for the size of a crash area and for the borders of zones. bootaudit says
+ of such reports, saved from another machine or another program, whether memory
+ was conserved.
  .
  bootmem was built from $(cat bootmem.built 2>/dev/null || echo "a commit and with a kit that nothing names").
 END

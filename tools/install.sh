@@ -2,14 +2,14 @@
 # install.sh install|tools|uninstall DESTDIR PREFIX MANDIR: puts the built program, the tools, the manual pages, the documents and the
 # examples under DESTDIR, or the tools alone, or removes what it put there. 'make install' and 'make uninstall' call it.
 #
-#   PREFIX/bin                bootmem and bootaudit, short scripts over the programs (tools/command.sh), the tools that are there, and tools/collect.sh as bootmem-collect
+#   PREFIX/bin                bootmem, bootmem61 and bootaudit, short scripts over the programs (tools/command.sh), the tools that are there, and tools/collect.sh as bootmem-collect
 #   PREFIX/libexec/bootmem    the proved programs, as they were built, and explain, which the scripts start after a refusal
 #   MANDIR/man1, MANDIR/man5  the manual pages; those of the tools are made of their --help, where they run
 #   PREFIX/share/doc/bootmem  the documents, and BUILD: the commit and the kit of programs and library
 #   PREFIX/lib/python3*/*-packages/bootmem_tools  the Python package of the tools: in the folder there that python3 looks into, if it
 #                             looks into one, else in lib/python3/dist-packages, which the installed tools name
 #   PREFIX/share/bootmem      the machines of examples/, words.txt for the completions, and what --help of the programs prints
-#   PREFIX/share/bash-completion/completions  a file for bootmem, for bootaudit, and one for the tools, under the name of each
+#   PREFIX/share/bash-completion/completions  a file for bootmem and bootmem61, one for bootaudit, and one for the tools, under the name of each
 #   PREFIX/lib, PREFIX/include  where libbootmem.a is there: the library, its header and lib/pkgconfig/bootmem.pc, and in
 #                             PREFIX/share/bootmem/bindings what calls it; VERSION is that of the library
 set -eu
@@ -22,19 +22,22 @@ lib=$2$3/lib
 include=$2$3/include
 share=$2$3/share
 man=$2$4
+all_programs="bootmem bootmem61 bootaudit"
+# those that are installed
+chosen=${PROGRAMS:-$all_programs}
 tools="bootmem-draw bootmem-where bootmem-diff bootmem-live zp-from-log"
 tools="$tools bootmem-line bootmem-crash bootmem-linux"
 tools="$tools bootmem-fleet bootmem-json claims-from-log free-lists boot-example"
 
 uninstall() {
-	for tool in bootmem bootaudit bootmem-collect $tools; do
+	for tool in $all_programs bootmem-collect $tools; do
 		rm -f "$bin/$tool"
 	done
-	for tool in bootmem-collect $tools; do
+	for tool in $all_programs bootmem-collect $tools; do
 		rm -f "$man/man1/$tool.1"
 	done
-	rm -f "$man/man1/bootmem.1" "$man/man1/bootaudit.1" "$man/man5/bootmem.5"
-	for word in bootmem bootaudit bootmem-tools bootmem-collect $tools; do
+	rm -f "$man/man5/bootmem.5"
+	for word in $all_programs bootmem-tools bootmem-collect $tools; do
 		rm -f "$share/bash-completion/completions/$word"
 	done
 	rm -f "$lib"/libbootmem.a "$lib"/libbootmem.so* "$lib/pkgconfig/bootmem.pc" "$include/bootmem.h"
@@ -64,7 +67,7 @@ built() {
 # build_file: the version, and the commit and the kit of all that was built
 build_file() {
 	echo "bootmem $VERSION"
-	for name in ${PROGRAMS:-bootmem bootaudit}; do
+	for name in $chosen; do
 		echo "$name: $(built "$name")"
 	done
 	[ ! -f libbootmem.a ] || echo "libbootmem: $(built libbootmem)"
@@ -73,7 +76,7 @@ build_file() {
 # programs PREFIX: the proved programs as they are, the scripts that hand them their words, and BUILD
 programs() {
 	install -d "$libexec"
-	for program in ${PROGRAMS:-bootmem bootaudit}; do
+	for program in $chosen; do
 		install -m 755 "$program" "$libexec"
 		sed "s|@PROGRAM@|$program|g; s|@PREFIX@|$1|g; s|@VERSION@|$VERSION|; s|@BUILT@|$(built "$program")|" \
 			tools/command.sh >"$bin/$program"
@@ -149,19 +152,21 @@ install_all() {
 	install -d "$bin" "$man/man1" "$man/man5" "$share/doc/bootmem" "$share/bootmem/examples"
 	programs "$1"
 	tools "$1"
-	for program in ${PROGRAMS:-bootmem bootaudit}; do
-		[ -f "tools/$program.bash-completion" ] || continue
-		install -d "$share/bash-completion/completions"
-		install -m 644 "tools/$program.bash-completion" "$share/bash-completion/completions/$program"
-	done
 	completions=$share/bash-completion/completions
+	install -d "$completions"
+	for program in $chosen; do
+		# one file has the words of bootmem and of bootmem61
+		install -m 644 "tools/${program%61}.bash-completion" "$completions/$program"
+	done
 	install -m 644 tools/bootmem-tools.bash-completion "$completions/bootmem-tools"
 	for tool in bootmem-collect $tools; do
 		ln -sf bootmem-tools "$completions/$tool"
 	done
 	# the completions read the words there
 	install -m 644 tools/bootmem_tools/words.txt "$share/bootmem/words.txt"
-	install -m 644 bootmem.1 bootaudit.1 "$man/man1"
+	for program in $all_programs; do
+		install -m 644 "$program.1" "$man/man1"
+	done
 	install -m 644 bootmem.5 "$man/man5/bootmem.5"
 	for tool in bootmem-collect $tools; do
 		if "$bin/$tool" --help >/dev/null 2>&1; then

@@ -27,10 +27,10 @@ show_time() {
 crate=$1
 shift
 case $crate in
-bootmem_cli) name_of_program=bootmem ;;
+*_cli) name_of_program=${crate%_cli} ;;
 *) name_of_program=$crate ;;
 esac
-echo "$name_of_program: an unproved build; 'make bootmem' gives the proved program" >&2
+echo "$name_of_program: an unproved build; 'make $name_of_program' gives the proved program" >&2
 copies=$(mktemp -d)
 trap 'rm -rf "$copies"' EXIT
 given=$#

@@ -1,5 +1,5 @@
-"""A boot's inputs prepared as Linux 6.1 reads them, with what it claims before its crash area taken
-out of memory: what bootmem-linux does, for other tools, too."""
+"""A boot's inputs prepared as Linux 6.1 reads them, and its early claims as a file of bootmem61:
+what bootmem-linux does, for other tools, too."""
 
 from __future__ import annotations
 
@@ -39,7 +39,7 @@ FILE = tool.Kind("input of bootmem", 64 << 20, is_text=False)
 SOFT = str(inputs.SOFT_RESERVED)
 MIRRORED = 0x10000  # EFI_MEMORY_MORE_RELIABLE
 MADE = ("log_buf_len", "cma", "hugetlb_cma")  # options whose claims are made here
-SPLIT = "as_linux"  # the folder of the inputs before claims are cut out
+OPTIONS = {name: value for name, value in words.BOOTMEM61.options.items() if name != "claims"}
 
 
 class Settings(NamedTuple):
@@ -55,16 +55,16 @@ class Settings(NamedTuple):
 
 
 class Prepared(NamedTuple):
-    """The program's words for a boot as Linux makes it.
+    """The words of bootmem61 for a boot as Linux makes it.
 
-    `read` are those for the inputs as the kernel reads them, and `words` the same with early
-    claims cut out of memory. `texts` has the reports map, memory and nodes of the first, empty if
-    the program refuses them. `line` is the command line of the second, `claims` what is cut out,
-    and `said` what was changed or assumed, or can't be known, a line each. `place` is the note of
-    an image that doesn't lie in RAM of the map, or None."""
+    `core` are those of them that decide what the kernel claims early, without reports and scripts.
+    `texts` has the reports map, memory and nodes, empty if the program refuses the inputs. `line`
+    is the command line, `claims` the early claims, and `said` what was changed or assumed, or
+    can't be known, a line each. `place` is the note of an image that doesn't lie in RAM of the
+    map, or None."""
 
-    read: list[str]
     words: list[str]
+    core: list[str]
     texts: Texts
     line: str
     claims: list[linux_claims.Claim]
@@ -171,9 +171,11 @@ def read_program_words(rest: list[str]) -> Given | None:
             pages.append(word)
             continue
         name, mark, value = word[2:].partition("=")
-        if name not in words.OPTIONS or name in options:
+        if name == "claims":
+            raise tool.Trouble(f"--claims: {LINUX} writes that file itself; --script takes more", 2)
+        if name not in OPTIONS or name in options:
             return None
-        if words.OPTIONS[name] and not mark:
+        if OPTIONS[name] and not mark:
             value = next(left, "")
         options[name] = value
     return Given(options, pages[0]) if len(pages) == 1 else None
@@ -200,10 +202,6 @@ class Boot:
         self.claims: list[linux_claims.Claim] = []
         self.said: list[str] = []
         self.place: str | None = None
-        self.restored: direct_map.Span = (
-            0,
-            0,
-        )  # the image with brk, if words of the line make it RAM
         pair = ranges.parse_pair(given.options.get("kernel", ""))
         self.image = (pair[0], sum(pair)) if pair else IMAGE
 
@@ -215,27 +213,29 @@ class Boot:
         """Keeps what was changed or assumed, or can't be known."""
         self.said.append(f"{kind}: {what}")
 
-    def write(self, name: str, data: bytes, part: str = "") -> str:
-        """Writes an input into a part of the folder, and returns its path."""
-        os.makedirs(os.path.join(self.work, part), exist_ok=True)
-        path = os.path.join(self.work, part, name)
+    def write(self, name: str, data: bytes) -> str:
+        """Writes an input into the folder, and returns its path."""
+        path = os.path.join(self.work, name)
         with open(path, "wb") as file:
             file.write(data)
         return path
 
-    def words(self, with_rest: bool, part: str = "") -> list[str]:
-        """Returns the program's words for the prepared inputs, which are written into a part of
-        the folder; without the rest only those that the tool's own runs need."""
+    def words(self, with_rest: bool) -> list[str]:
+        """Returns the program's words for the prepared inputs, which are written into the folder;
+        without the rest only those that the tool's own runs need."""
         found = []
         for name, value in self.given.options.items():
             if name in READ:
                 if name in self.files and (with_rest or name != "slit"):
-                    found += [f"--{name}", self.write(name, self.files[name], part)]
+                    found += [f"--{name}", self.write(name, self.files[name])]
             elif with_rest or name in ("kernel", "la57", "mirror", "bottom-up"):
-                found += [f"--{name}"] + ([value] if words.OPTIONS[name] else [])
+                found += [f"--{name}"] + ([value] if OPTIONS[name] else [])
         for name in sorted(self.files.keys() - self.given.options.keys()):
-            found += [f"--{name}", self.write(name, self.files[name], part)]
-        return found + [self.write("zeropage", self.page, part)]
+            found += [f"--{name}", self.write(name, self.files[name])]
+        if self.claims:
+            lines = [line for line, _ in linux_claims.file_lines(self.claims)]
+            found += ["--claims", self.write("claims", claims_file(lines))]
+        return found + [self.write("zeropage", self.page)]
 
     def read_extension(self) -> None:
         """Drops a far entry of the extension with what follows, and a part of an entry
@@ -268,7 +268,7 @@ class Boot:
             else []
         )
         total = command_line.total_by(self.program, base + [self.write("zeropage", self.page)])
-        reading = command_line.read_line(self.files.get("cmdline", b""), total)
+        reading = command_line.read_line(self.files.get("cmdline", b""), total, by_ranges=True)
         for change in reading.changes:
             self.say("changed", f"the line: {change}")
         for note in reading.notes:
@@ -352,21 +352,20 @@ class Boot:
             ),
         )
 
-    def mark_setup_data(self) -> list[str]:
-        """Returns the program's words for the inputs as they are read, in which RAM of
-        setup_data's nodes has type 128 (e820__reserve_setup_data)."""
-        held_line, held = self.line, self.files.get("cmdline")
-        if self.texts and linux_claims.has_setup_data(self.page):
-            nodes = linux_claims.setup_data(self.machine(), linux_claims.initrd_of(self.page))
-            self.add_words(
-                [f"memmap={one.end - one.first:#x}%{one.first:#x}-1+128" for one in nodes]
+    def mark_setup_data(self) -> None:
+        """Gives RAM of setup_data's nodes type 128 (e820__reserve_setup_data)."""
+        if not linux_claims.has_setup_data(self.page):
+            return
+        line = self.line
+        nodes = linux_claims.setup_data(self.machine(), linux_claims.initrd_of(self.page))
+        self.add_words([f"memmap={one.end - one.first:#x}%{one.first:#x}-1+128" for one in nodes])
+        if len(self.line) > command_line.LONGEST:
+            self.line = line
+            self.keep_line()
+            self.say(
+                "unknown",
+                "the type of setup_data's nodes: the line has no room for words that set it",
             )
-        found = self.words(True, SPLIT)
-        self.line = held_line
-        self.files.pop("cmdline", None)
-        if held is not None:
-            self.files["cmdline"] = held
-        return found
 
     def read_srat(self) -> None:
         """Reads the SRAT as the kernel does."""
@@ -430,7 +429,6 @@ class Boot:
         self.add_words(
             [f"memmap={end - first:#x}%{first:#x}", f"memmap={end - first:#x}@{first:#x}"]
         )
-        self.restored = first, end
         return self.run()
 
     def settle_map(self, first: int, end: int) -> None:
@@ -491,35 +489,21 @@ class Boot:
         )
 
     def claim(self) -> None:
-        """Takes what the kernel claims early out of memory."""
+        """Makes what the kernel claims early."""
         machine = self.machine()
         outcome = linux_claims.early_claims(machine)
         self.claims = outcome.claims
-        cut = linux_claims.frames_to_cut(outcome.claims, machine.memory)
-        if outcome.moved:
+        moved = next((one for one in self.claims if one.rule == linux_claims.MOVES), None)
+        if moved:
             self.say(
                 "changed",
-                f"the initrd isn't mapped whole: it moves to {outcome.moved:#x} (relocate_initrd)",
+                f"the initrd isn't mapped whole: it moves to {moved.first:#x} ({moved.rule})",
             )
-            self.page = linux_claims.move_initrd(self.page, outcome.moved)
-        verdicts = [
-            one.fields["name"]
-            for one in read_lines("nodes", self.texts["nodes"])
-            if one.kind == "numa"
-        ]
-        if (
-            "uncovered" in verdicts and "srat" in self.files
-        ):  # less memory could change the verdict
-            self.say(
-                "changed", "the SRAT leaves memory uncovered, so it isn't used: it is left out"
-            )
-            del self.files["srat"]
-        self.take_away(cut)
         self.claim_areas(machine, outcome)
 
     def claim_areas(self, machine: linux_claims.Machine, outcome: linux_claims.Outcome) -> None:
-        """Takes the areas of cma= and hugetlb_cma= out of memory, if the kernel has them: they
-        come after node data."""
+        """Claims the areas of cma= and hugetlb_cma=, if the kernel has them. They come after node
+        data, which has the highest places, so claiming them before it moves nothing."""
         if not linux_cma.is_asked(self.line):
             return
         if not self.settings.cma:
@@ -540,51 +524,27 @@ class Boot:
         for one in spans("owners", texts["owners"]):
             if one.name.startswith("node-data"):
                 free.claim(one.first, one.last + 1)
-        found = [
-            linux_claims.Claim(*span, what, rule)
-            for span, what, rule in linux_cma.areas(
-                self.line,
-                free,
-                linux_cma.nodes_of(machine.memory, spans("nodes", texts["nodes"])),
-                outcome.mapped,
-                machine.largest == direct_map.PUD,
-            )
-        ]
+        areas = linux_cma.areas(
+            self.line,
+            free,
+            linux_cma.nodes_of(machine.memory, spans("nodes", texts["nodes"])),
+            outcome.mapped,
+            machine.largest == direct_map.PUD,
+        )
         if "hugetlb_cma=" in self.line and machine.largest != direct_map.PUD:
             self.say(
                 "assumed", "no pages of 1 GiB, so hugetlb_cma= claims nothing; --pages 1G if it has"
             )
-        self.claims = self.claims + found
-        self.take_away(linux_claims.frames_to_cut(found, machine.memory))
+        self.claims += [linux_claims.Claim(*span, what, rule) for span, what, rule in areas]
 
-    def take_away(self, cut: list[direct_map.Span]) -> None:
-        """Takes these ranges out of memory: by entries of the extension, or by words where the
-        line forgets or changes entries."""
-        by_line = [
-            one
-            for one in cut
-            if "exactmap" in self.line or one[0] < self.restored[1] and self.restored[0] < one[1]
-        ]
-        if by_line:
-            self.add_words([f"memmap={end - first:#x}${first:#x}" for first, end in by_line])
-        data = self.files.get("e820ext", bytes(16))
-        entries = inputs.entries_of(data[16:])
-        entries += [
-            (first, end - first, inputs.RESERVED)
-            for first, end in cut
-            if (first, end) not in by_line
-        ]
-        if not entries:
+    def check_claims(self) -> None:
+        """Says which early claims the program can't make. Only a table that grew can be in the way,
+        so few claims aren't looked at."""
+        if len(self.claims) < linux_claims.FEW:
             return
-        if len(entries) > inputs.EXTENSION_ROOM:
-            raise tool.Trouble(
-                (
-                    f"{len(entries)} entries with the early claims: an extension has"
-                    f" {inputs.EXTENSION_ROOM} at most"
-                ),
-                2,
-            )
-        self.files["e820ext"] = inputs.extension(entries)
+        for line, claim, answer in answered(self.program, self.words(False), self.claims):
+            if answer and answer != "done" and not answer.startswith("at "):
+                self.say("unknown", f"{claim.what} isn't claimed: {line}: {answer} ({claim.rule})")
 
     def explain(self) -> None:
         """Says what was assumed and can't be known."""
@@ -676,6 +636,34 @@ def is_valid_slit(table: bytes) -> bool:
     )
 
 
+def claims_file(lines: Sequence[str]) -> bytes:
+    """Returns a claims file of these lines.
+
+    # Errors
+    A Trouble if it is longer than the program reads.
+    """
+    data = "".join(f"{line}\n" for line in lines).encode()
+    if len(data) > linux_claims.LONGEST:
+        raise tool.Trouble(
+            f"the early claims have {len(data)} bytes as lines: a claims file has"
+            f" {linux_claims.LONGEST} at most",
+            2,
+        )
+    return data
+
+
+def answered(
+    program: str, core: Sequence[str], claims: Sequence[linux_claims.Claim]
+) -> Iterator[tuple[str, linux_claims.Claim, str]]:
+    """Yields the lines of the claims file, each with its claim and the program's answer, which is
+    empty if the boot stops."""
+    status, text, _ = runner.call_program(program, ["claims"], core)
+    answers = [line.partition(": ")[2] for line in text.splitlines()] * (status == 0)
+    made = linux_claims.file_lines(claims)
+    for (line, claim), answer in zip(made, answers or [""] * len(made)):
+        yield line, claim, answer
+
+
 def prepare(boot: Boot) -> Prepared:
     """Returns the program's words for the boot as the kernel makes it; if the program refuses the
     inputs, without early claims."""
@@ -685,11 +673,11 @@ def prepare(boot: Boot) -> Prepared:
     boot.read_efi()
     boot.read_srat()
     boot.read_slit()
-    runs = boot.run() and boot.restore_image()
-    read = boot.mark_setup_data()
-    if runs:
+    if boot.run() and boot.restore_image():
+        boot.mark_setup_data()
         try:
             boot.claim()
+            boot.check_claims()
         except direct_map.Exhausted:
             boot.say(
                 "unknown",
@@ -699,8 +687,10 @@ def prepare(boot: Boot) -> Prepared:
                 ),
             )
         boot.explain()
-    claimed = boot.words(True)
-    return Prepared(read, claimed, boot.texts, boot.line, boot.claims, boot.said, boot.place)
+    all_words, core = boot.words(True), boot.words(False)
+    return Prepared(
+        all_words, core, boot.texts, boot.line, boot.claims, boot.said, boot.place
+    )
 
 
 def refuse_itself(program: str) -> None:
@@ -719,7 +709,7 @@ def prepared(
     Files of the prepared inputs are there until the context ends."""
     refuse_itself(program)
     given = read_program_words(list(program_words))
-    untouched = Prepared(list(program_words), list(program_words), {}, "", [], [])
+    untouched = Prepared(list(program_words), [], {}, "", [], [])
     with tempfile.TemporaryDirectory() as work:
         try:
             boot = Boot(settings, given, program, work, folder) if given else None
@@ -730,14 +720,15 @@ def prepared(
 
 def lines_of(boot: Prepared) -> list[str]:
     """Returns what is to be known of a prepared boot, a line each."""
-    note = notes.srat_note(notes.value_in(boot.read, "--srat"), boot.texts)
+    note = notes.srat_note(notes.value_in(boot.words, "--srat"), boot.texts)
     return boot.said + ([note] if note else [])
 
 
 def why_failed(status: int, said: str, given: Sequence[str]) -> str | None:
-    """Returns why the program refused these words, or couldn't read a file; None if it said more than one line itself, as the installed command
-    does, or if the words don't tell."""
-    return explain.explain("bootmem", status, given) if said.count("bootmem: ") == 1 else None
+    """Returns why the program refused these words, or couldn't read a file; None if it said more
+    than one line itself, as the installed command does, or if the words don't tell."""
+    name = runner.name_in(said)
+    return explain.explain(name, status, given) if said.count(f"{name}: ") == 1 else None
 
 
 def explained(failure: runner.Failed, names: Sequence[str], given: Sequence[str]) -> tool.Trouble:
@@ -745,14 +736,16 @@ def explained(failure: runner.Failed, names: Sequence[str], given: Sequence[str]
     why = why_failed(failure.ended, failure.said, ["--report", ",".join(names), *given])
     if not why:
         return failure
-    return tool.Trouble(f"{failure}; {why}", next_command=next_for(failure.ended, given))
+    name = runner.name_in(failure.said)
+    return tool.Trouble(f"{failure}; {why}", next_command=next_for(failure.ended, name, given))
 
 
-def next_for(status: int, given: Sequence[str]) -> str | None:
-    """Returns the command that makes the file that the program couldn't read, or None."""
+def next_for(status: int, name: str, given: Sequence[str]) -> str | None:
+    """Returns the command that makes the file that the program of this name couldn't read, or
+    None."""
     if status != explain.UNREADABLE:
         return None
-    return next_step.for_missing(explain.files_of("bootmem", given))
+    return next_step.for_missing(explain.files_of(name, given))
 
 
 def run_explained(program: str, names: Sequence[str], given: Sequence[str]) -> Texts:
@@ -768,11 +761,12 @@ def run_explained(program: str, names: Sequence[str], given: Sequence[str]) -> T
 
 
 def run_for(
-    name: str, program: str, names: Sequence[str], given: Sequence[str], is_linux: bool
+    name: str, named: str | None, names: Sequence[str], given: Sequence[str], is_linux: bool
 ) -> tuple[Texts, list[linux_claims.Claim]]:
     """Returns the reports of these names for its user's words, for a tool of this name, and the
-    claims that are cut out of memory: none unless the boot is to be as Linux makes it. What is to
-    be known of the boot is said on standard error."""
+    early claims: none unless the boot is to be as Linux makes it. `named` is the program that the
+    words name. What is to be known of the boot is said on standard error."""
+    program = runner.find_program(named, runner.LINUX if is_linux else runner.OWN)
     if not is_linux:
         try:
             return runner.run_for(name, program, names, given), []

@@ -15,6 +15,8 @@ from bootmem_tools.ranges import Range, common, joined, without
 NAME = "claims-from-log"
 USAGE = """claims-from-log --e820ext EXT [--over OLD] [--script SCRIPT [--places]]
                        [--kernel BASE,SIZE] [LOG]
+       claims-from-log --claims CLAIMS [--script SCRIPT [--places]]
+                       [--kernel BASE,SIZE] [LOG]
        claims-from-log --replay FOLDER [--kernel BASE,SIZE] [LOG]"""
 ABOUT = """Makes inputs of bootmem from what a kernel logged with memblock=debug on its command line. A kernel claims more than
 bootmem does; what it claimed before the crash area becomes an extension, whose entries of type 2 lie over the zero
@@ -28,6 +30,10 @@ OLD is the extension that the machine has already; its entries come first. In SC
 the kernel asked for it, so that it finds its place anew where other words move it; with --places it is a line `reserve`
 of the place that it had. A line # names the function that asked.
 
+With --claims what was claimed before the crash area becomes a file for bootmem61 instead of an extension: a line
+`reserve` for each place, byte for byte and in the log's order. Then no memory is taken away, so nodes and zones stay. A
+claim between the nodes' data and the crash area (cma=) is made before the nodes, too, at its place.
+
 --replay writes a whole boot into FOLDER instead: a zero page of the log's memory, an SRAT with its nodes, and every claim
 as one script; `words` has the words for bootmem, and `places` the lines of the report script that have a place, as the
 kernel's own log has them.
@@ -39,6 +45,8 @@ exit status: 0; 1 if the log lacks it; 2 for words that aren't those above.
 examples:
   dmesg | claims-from-log --e820ext early.bin --script later
   bootmem --report crash --cmdline cmdline --e820ext early.bin zp.bin
+  claims-from-log --claims early log
+  bootmem61 --report crash --cmdline cmdline --claims early zp.bin
   claims-from-log --replay again log"""
 
 MIB = ranges.MIB
@@ -277,11 +285,21 @@ def give_back(number: int, place: Range, live: dict[int, Range]) -> list[str]:
     return [reserve_line(number, place), f"free {number}"]
 
 
-def later_script(claims: Iterable[Claim], places: bool) -> list[str]:
-    """Returns the lines of the script for the claims after the crash area."""
-    lines, before = ["sections"], None
-    live: dict[int, Range] = {}
-    for number, claim in enumerate(claims, 1):
+def early_script(log: Log, early: Iterable[Claim], image: Range, live: dict[int, Range]) -> list[str]:
+    """Returns the lines of early claims: a reservation of each place that was claimed before the crash area and that bootmem61 doesn't
+    claim by itself. `live` gets what they leave claimed."""
+    held = joined(log.reserved)
+    for first, last in [(0, MIB - 1), image, *log.tables, *log.soft] + ([log.initrd] if log.initrd else []):
+        held = without(held, first, last)
+    live.update(enumerate(held, 1))
+    lines = ["# before memory is added"] + [reserve_line(number, place) for number, place in live.items()]
+    return lines + claim_lines([claim for claim in early if claim.caller != "alloc_node_data"], True, live)
+
+
+def claim_lines(claims: Iterable[Claim], places: bool, live: dict[int, Range]) -> list[str]:
+    """Returns the lines of a script for claims. `live` has the claims that earlier lines left, and gets those of these lines."""
+    lines, before = [], None
+    for number, claim in enumerate(claims, max(live, default=0) + 1):
         if claim.caller != before:
             lines.append(f"# {claim.caller}")
             before = claim.caller
@@ -295,6 +313,11 @@ def later_script(claims: Iterable[Claim], places: bool) -> list[str]:
         if claim.place:
             live[number] = claim.place
     return lines
+
+
+def later_script(claims: Iterable[Claim], places: bool, live: dict[int, Range]) -> list[str]:
+    """Returns the lines of the script for the claims after the crash area; `live` has what early claims left."""
+    return ["sections"] + claim_lines(claims, places, live)
 
 
 def replay_script(log: Log, image: Range, rooms: Iterable[Range]) -> tuple[list[str], Places]:
@@ -398,17 +421,32 @@ def old_entries(path: str) -> list[inputs.Entry]:
     return [(base, size, kind) for base, size, kind in struct.iter_unpack("<QQI", data[16:])]
 
 
-def write_parts(log: Log, image: Range, given: argparse.Namespace) -> None:
-    """Writes the extension and the script, and prints the words for bootmem."""
-    early, later = split_claims(log)
+def extension_of(log: Log, early: Iterable[Claim], image: Range, given: argparse.Namespace) -> bytes:
+    """Returns the extension that takes the memory of early claims away, after the entries of the one that is there.
+
+    # Errors
+    Trouble: an extension has no room for them.
+    """
     entries = old_entries(given.over) if given.over else []
     entries += [(first, last + 1 - first, inputs.RESERVED) for first, last in early_ranges(log, early, image)]
     if len(entries) > inputs.EXTENSION_ROOM:
         raise tool.Trouble(f"{len(entries)} entries: an extension has {inputs.EXTENSION_ROOM} at most")
-    words = ["--kernel", kernel_text(image), "--e820ext", given.e820ext]
-    files = {given.e820ext: inputs.extension(entries)}
+    return inputs.extension(entries)
+
+
+def write_parts(log: Log, image: Range, given: argparse.Namespace) -> None:
+    """Writes the extension or the early claims, and the script, and prints the words for bootmem or bootmem61."""
+    early, later = split_claims(log)
+    live: dict[int, Range] = {}
+    words = ["--kernel", kernel_text(image)]
+    if given.claims:
+        files = {given.claims: text_of(early_script(log, early, image, live))}
+        words += ["--claims", given.claims]
+    else:
+        files = {given.e820ext: extension_of(log, early, image, given)}
+        words += ["--e820ext", given.e820ext]
     if given.script:
-        files[given.script] = text_of(later_script(later, given.places))
+        files[given.script] = text_of(later_script(later, given.places, live))
         words += ["--script", given.script]
     tool.write_files(files)
     print(" ".join(words))
@@ -419,17 +457,20 @@ def read_words(words: list[str]) -> argparse.Namespace:
     parser = tool.new_parser(NAME, USAGE, ABOUT, EPILOG)
     parser.add_argument("log", metavar="LOG", nargs="?", default="-", help="the kernel's log; without it standard input")
     parser.add_argument("--e820ext", metavar="EXT", help="the file of the extension: what was claimed before the crash area")
+    parser.add_argument("--claims", metavar="CLAIMS", help="the file of early claims for bootmem61: what was claimed before the crash area")
     parser.add_argument("--over", metavar="OLD", help="the extension that the machine has already")
     parser.add_argument("--script", metavar="SCRIPT", help="the file of the script: what was claimed later")
     parser.add_argument("--places", action="store_true", help="the script reserves the places that the log tells")
     parser.add_argument("--replay", metavar="FOLDER", help="write a whole boot into FOLDER")
     parser.add_argument("--kernel", metavar="BASE,SIZE", help="where the kernel's image lies")
     given = parser.parse_args(words)
-    parts = (given.e820ext, given.over, given.script, given.places or None)
+    parts = (given.e820ext, given.claims, given.over, given.script, given.places or None)
     if given.replay is not None and any(part is not None for part in parts):
         parser.error("--replay and the words of an extension at once")
-    if given.replay is None and given.e820ext is None:
-        parser.error("--e820ext with the file of the extension, or --replay with a folder")
+    if given.replay is None and given.e820ext is None and given.claims is None:
+        parser.error("--e820ext with the file of the extension, --claims with that of early claims, or --replay with a folder")
+    if given.claims is not None and (given.e820ext is not None or given.over is not None):
+        parser.error("--claims and the words of an extension at once")
     if given.places and given.script is None:
         parser.error("--places without --script")
     if given.kernel is not None:
@@ -443,7 +484,7 @@ def read_words(words: list[str]) -> argparse.Namespace:
 def main(words: list[str]) -> int:
     """Writes what the words ask for."""
     given = read_words(words)
-    tool.refuse_over([path for path in (given.e820ext, given.script) if path], [given.log, *([given.over] if given.over else [])])
+    tool.refuse_over([path for path in (given.e820ext, given.claims, given.script) if path], [given.log, *([given.over] if given.over else [])])
     text = re.sub(r"\x1b\[[0-9;]*[mK]", "", tool.read_text(given.log, kind=tool.LOG))
     lines = last_boot(text.splitlines())
     log = read_log(lines)
@@ -451,7 +492,7 @@ def main(words: list[str]) -> int:
     if image is None:
         image = 16 * MIB, 48 * MIB - 1
         tool.complain(NAME, "the log doesn't tell where the kernel's image lies: 16 MiB to 48 MiB is assumed; --kernel names the place")
-    if any("Command line:" in line and "exactmap" in line for line in lines) and given.replay is None:
+    if any("Command line:" in line and "exactmap" in line for line in lines) and given.e820ext is not None:
         tool.complain(NAME, "the command line has exactmap, which forgets the extension's entries, too")
     if given.replay is not None:
         write_replay(log, image, given.replay)

@@ -23,6 +23,7 @@ FILE = tool.Kind("command line", 1 << 20, is_text=False)
 TOP = ranges.TOP
 LOW_LEAST = 256 << 20  # the low part without a form `S,low` (reserve_crashkernel_low)
 KEY = "crashkernel="
+BY_RANGES = -1  # the size of the plain form if the program picks it from ranges
 NAMES = ("mem", "memmap", "crashkernel", "numa")
 EFI = "add_efi_memmap"  # with any value, and without one (setup_add_efi_memmap)
 
@@ -376,10 +377,11 @@ def round_up(total: int) -> int:
     return -(-total // ROUND) * ROUND
 
 
-def kernel_crash(raw: str, words: Sequence[Word], total: Totals) -> tuple[Crash, Places, Faults]:
+def kernel_crash(raw: str, words: Sequence[Word], total: Totals,
+                 kept: str = "") -> tuple[Crash, Places, Faults]:
     """Returns what the raw line says of the crash area (parse_crashkernel, reserve_crashkernel);
     for each form where its value is in the raw line; and by this place why the kernel ignores
-    it, if it does."""
+    it, if it does. `kept` are ranges that the program picks from as the kernel does."""
     plain = 0, 0
     said: dict[str, int] = {}
     places: Places = {}
@@ -393,6 +395,8 @@ def kernel_crash(raw: str, words: Sequence[Word], total: Totals) -> tuple[Crash,
         try:
             if suffix:
                 said[form] = suffixed(raw, place, suffix)
+            elif kept:
+                plain = BY_RANGES, 0
             elif ":" in raw[place:end]:
                 plain = ranged(raw, place, round_up(total().kernel))
             else:
@@ -427,9 +431,11 @@ def asks_for_area(text: str) -> bool:
 
 
 def asked(size: int, base: int, high: int, low: int | None, default: int) -> Crash:
-    """Returns what is asked for: the form high counts if the plain one has no size, and a low
-    part only if one of them has."""
-    if size:
+    """Returns what is asked for: the form high counts if the plain one has no size, or may have
+    none, and a low part only if one of them has."""
+    if size == BY_RANGES:
+        base = 0
+    elif size:
         high = 0
     elif high:
         base = 0
@@ -471,8 +477,25 @@ def program_plain(value: str) -> tuple[list[Sized], int] | None:
     return None if place is None else (found, place)
 
 
-def program_crash(words: Iterable[Word], total: Totals) -> Crash | None:
-    """Returns what bootmem takes the words for, or None if it refuses one."""
+def kept_ranges(raw: str, words: Iterable[Word]) -> str:
+    """Returns the last plain form of the raw line if it has ranges of total memory, and bootmem61
+    takes the same form of the words; else an empty text. To bootmem61 `0-:S` is S alone, which it
+    compares with no total, so that form isn't one of these."""
+    place, end = last_crash(raw, "") or (0, 0)
+    text, own = raw[place:end], ""
+    parsed = program_plain(text) if ":" in text else None
+    if parsed is None or parsed[0][0][:2] == (0, None):
+        return ""
+    for word in words:
+        name, value = program_word(word.text)
+        if name == "crashkernel" and not (value or "").endswith((",high", ",low")):
+            own = (value or "") if word.start <= place < word.start + len(word.text) else ""
+    return text if own == text else ""
+
+
+def program_crash(words: Iterable[Word], total: Totals, kept: str = "") -> Crash | None:
+    """Returns what bootmem takes the words for, or None if it refuses one; `kept` are ranges from
+    which the program picks as the kernel does."""
     found: list[Sized] = []
     base = 0
     said: dict[str, int] = {}
@@ -489,15 +512,20 @@ def program_crash(words: Iterable[Word], total: Totals) -> Crash | None:
             found, base = plain
         else:
             return None
+    if kept:
+        return asked(BY_RANGES, 0, said.get("high", 0), said.get("low"), LOW_LEAST)
     have = total().bootmem if any(one[:2] != (0, None) for one in found) else 0
     size = next((size for start, end, size in found if start <= have and (end is None or have < end)), 0)
     return asked(size, base if size else 0, said.get("high", 0), said.get("low"), LOW_LEAST)
 
 
-def crash_words(crash: Crash) -> dict[str, str]:
-    """Returns the words that ask bootmem for this area, by the form whose value they have."""
+def crash_words(crash: Crash, kept: str) -> dict[str, str]:
+    """Returns the words that ask bootmem for this area, by the form whose value they have; `kept`
+    are ranges that stay."""
     found = {}
-    if crash.size:
+    if kept:
+        found["plain"] = f"{KEY}{kept}"
+    elif crash.size:
         found["plain"] = f"crashkernel={size_text(crash.size)}" + (f"@{size_text(crash.base)}" if crash.base else "")
     if crash.high:
         found["high"] = f"crashkernel={size_text(crash.high)},high"
@@ -506,13 +534,15 @@ def crash_words(crash: Crash) -> dict[str, str]:
     return found
 
 
-def crash_said(raw: str, words: Sequence[Word], texts: list[str], total: Totals, changes: list[str]) -> list[str]:
+def crash_said(raw: str, words: Sequence[Word], texts: list[str], total: Totals, changes: list[str],
+               by_ranges: bool = False) -> list[str]:
     """Returns the texts with `crashkernel=` as the kernel reads it, and the words that are added
-    after them."""
-    wanted, places, faults = kernel_crash(raw, words, total)
-    if program_crash(words, total) == wanted:
+    after them. `by_ranges` says that the program picks from ranges as the kernel does."""
+    kept = kept_ranges(raw, words) if by_ranges else ""
+    wanted, places, faults = kernel_crash(raw, words, total, kept)
+    if program_crash(words, total, kept) == wanted:
         return []
-    found = crash_words(wanted)
+    found = crash_words(wanted, kept)
     for index, word in enumerate(words):
         if program_word(word.text)[0] != "crashkernel":
             continue
@@ -587,10 +617,12 @@ def distance(one: str, two: str) -> int:
     return row[-1]
 
 
-def read_line(data: bytes, total: Callable[[str], Total] | None = None) -> Reading:
+def read_line(data: bytes, total: Callable[[str], Total] | None = None,
+              by_ranges: bool = False) -> Reading:
     """Returns a line that bootmem reads as the kernel reads the file's bytes. `total` gives
     total memory, of type Total, for a line without `crashkernel=`; it is called where a size
-    depends on it."""
+    depends on it. `by_ranges` says that the program is bootmem61, which picks from ranges as the
+    kernel does, so that well-formed ones stay."""
     changes: list[str] = []
     raw = raw_line(data)
     if len(raw) > LONGEST:
@@ -600,7 +632,7 @@ def read_line(data: bytes, total: Callable[[str], Total] | None = None) -> Readi
     words, end = words_of(line)
     texts = options_said(words, changes)
     others = " ".join(text for word, text in zip(words, texts) if text and program_word(word.text)[0] != "crashkernel")
-    more = crash_said(raw, words, texts, functools.lru_cache(None)(lambda: total_for(total, others)), changes)
+    more = crash_said(raw, words, texts, functools.lru_cache(None)(lambda: total_for(total, others)), changes, by_ranges)
     if changes:
         line = " ".join([text for text in texts + more if text] + ([line[end:]] if line[end:] else []))
     return Reading(line, [shown(said) for said in changes], [shown(said) for said in words_noted(words)])

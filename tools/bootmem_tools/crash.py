@@ -27,13 +27,13 @@ and where it would lie; what the machine's own line asks for; and for each SIZE 
 and who cuts it."""
 EPILOG = f"""FOLDER is what bootmem-collect (collect.sh) gathered of a machine; or a zero page is named, and the other files by the
 options, which count before those of FOLDER. SIZE is S, S@BASE, S,high or A-B:S,.. as in crashkernel=; of
-ranges the one counts that the kernel picks by total memory. The tool replaces crashkernel= of the line, except a form S,low, by what it tries.
+ranges the one counts that Linux 6.1 picks by total memory. The tool replaces crashkernel= of the line, except a form S,low, by what it tries.
 
-The inputs are read as that kernel reads them, and what it claims before the area is taken out of memory, as bootmem-linux
-does; what was changed or assumed, or can't be known, is said. With --raw the program reads the inputs itself, and nothing
+The inputs are read as that kernel reads them, and what it claims before the area is claimed, as bootmem-linux does;
+what was changed or assumed, or can't be known, is said. With --raw the program reads the inputs itself, and nothing
 more is claimed than bootmem claims.
 
-{runner.FINDING}
+{runner.FINDING_RAW}
 
 Of several machines each has a line == with its name; --json prints an object for each instead (FORMATS.md of the documents: "Crash areas as
 JSON").
@@ -55,6 +55,7 @@ MAP = 2 << 20  # bytes of the page structures of a section
 # the program's options for files, and the names that a folder has for them
 FILES = (("cmdline", "cmdline"), ("e820ext", "e820ext.bin"), ("srat", "srat.bin"), ("slit", "slit.bin"), ("efi", "efi.bin"))
 
+NOTHING = "none of its ranges gives a size for this machine's total memory"
 RANGES = re.compile(r"^crashkernel=[^@]*-[^@]*:")  # a size by ranges of total memory
 
 # A claim: its first and last byte, and its owner.
@@ -104,12 +105,13 @@ class Machine:
     """A machine's boot as Linux makes it, or as the program reads it, apart from what its line asks for of the crash
     area. Its files are there until the context ends.
 
-    `words` are the program's for the boot without a line, `line` is its line, `read` are the words for the inputs
-    before `claims` are cut out of memory, and `said` is what was changed or assumed."""
+    `words` are the program's for the boot without a line, `early` are its early claims by their owners
+    in the reports, and `said` is what was changed or assumed."""
 
     def __init__(self, given: argparse.Namespace) -> None:
         folder = given.machine if os.path.isdir(given.machine) else None
-        self.program = os.path.abspath(runner.find_program(given.program))
+        name = runner.OWN if given.raw else runner.LINUX
+        self.program = os.path.abspath(runner.find_program(given.program, name))
         if folder:
             next_step.refuse_pageless(NAME, folder)
         self.page = os.path.join(folder, "zp.bin") if folder else given.machine
@@ -126,15 +128,15 @@ class Machine:
             named["slit"] = None  # it moves no memory
         words = [word for name, path in named.items() if path for word in (f"--{name}", path)]
         words += (["--kernel", self.kernel] if self.kernel else []) + [self.page]
+        self.said: list[str] = []
+        self.early: dict[str, linux_claims.Claim] = {}
         if self.is_raw:
-            self.read, self.said, self.claims = words, [], []
             data = command_line.read_file(named["cmdline"]) if named["cmdline"] else b""
             line = command_line.raw_line(data)
         else:
             prepared = self.files.enter_context(as_linux.prepared(self.program, words, given.settings))
-            self.read, self.said, self.claims, line = prepared.read, prepared.said, prepared.claims, prepared.line
-            self.place = prepared.place
-            words = prepared.words
+            self.early, self.said = linux_claims.by_owner(prepared.claims), prepared.said
+            self.place, words, line = prepared.place, prepared.words, prepared.line
         self.words = without_line(words)
         self.split_line(line)
 
@@ -168,6 +170,12 @@ class Machine:
             path = os.path.join(work, "line")
             command_line.write_line(path, " ".join(self.rest + ([asked] if asked else []) + [self.behind]))
             return runner.run_or_stop(self.program, names, ["--cmdline", path] + self.words)
+
+    def claimed(self, texts: reports.Texts) -> list[Claim]:
+        """Returns who has what when the kernel looks for the area. An early claim is named by what it
+        is for."""
+        return [(first, last, self.early[owner].what if owner in self.early else owner)
+                for first, last, owner in claims(texts["journal"])]
 
     def tried(self, asked: str) -> Tried:
         """Returns the outcome of asking for an area."""
@@ -247,18 +255,15 @@ def parts_outside(one: Claim, item: reports.Span) -> Iterator[Claim]:
         yield max(first, item.last + 1), last, owner
 
 
-def gaps(memory: Iterable[reports.Span], claimed: Iterable[Claim], low: int, high: int,
-         cut: Sequence[linux_claims.Claim] = ()) -> Iterator[Gap]:
-    """Yields the gaps of memory from `low` on and below `high`; the claims `cut` lie beside memory, out of which they are
-    taken."""
+def gaps(memory: Iterable[reports.Span], claimed: Iterable[Claim], low: int,
+         high: int) -> Iterator[Gap]:
+    """Yields the gaps of memory from `low` on and below `high`."""
     memory, claimed = list(memory), list(claimed)
-    cut_below = {-(-one.end // ranges.FRAME) * ranges.FRAME: one.what for one in cut}
-    cut_above = {one.first // ranges.FRAME * ranges.FRAME: one.what for one in cut}
     starts, ends = {record.first for record in memory}, {record.last + 1 for record in memory}
     for record in memory:
         cuts = [(first, last, owner) for first, last, owner in claimed if first <= record.last and record.first <= last]
-        below = "another node" if record.first in ends else cut_below.get(record.first, "the start of memory")
-        above = "another node" if record.last + 1 in starts else cut_above.get(record.last + 1, "the end of memory")
+        below = "another node" if record.first in ends else "the start of memory"
+        above = "another node" if record.last + 1 in starts else "the end of memory"
         start = record.first
         for first, last, owner in cuts + [(record.last + 1, record.last, above)]:
             if start < first:
@@ -282,7 +287,8 @@ def room(gap: Gap) -> int:
 
 def gap_text(own: Machine, texts: reports.Texts, low: int, high: int, where: str) -> str:
     """Returns the greatest gap of a window, and who cuts it."""
-    found = max(gaps(reports.spans("memory", texts["memory"]), claims(texts["journal"]), low, high, own.claims), key=room, default=None)
+    memory = reports.spans("memory", texts["memory"])
+    found = max(gaps(memory, own.claimed(texts), low, high), key=room, default=None)
     if found is None or room(found) == 0:
         return f"{where} there is no gap at a multiple of 16 MiB"
     return (f"{where} the greatest gap has room for {room(found) // MIB}M: {ranges.range_text(found.first, found.last)}, "
@@ -293,8 +299,8 @@ def taken_text(own: Machine, texts: reports.Texts, asked: str) -> str:
     """Returns who has bytes of the place that the line asks for."""
     said = command_line.program_plain(asked.split("crashkernel=")[-1])
     parts, base = said if said and len(said[0]) == 1 else ([], 0)
-    claimed = claims(texts["journal"]) + [(one.first, one.end - 1, one.what) for one in own.claims]
-    owners = [owner for first, last, owner in claimed if parts and first < base + parts[0][2] and base <= last]
+    owners = [owner for first, last, owner in own.claimed(texts)
+              if parts and first < base + parts[0][2] and base <= last]
     if owners:
         names = sorted(set(owners))
         return f"of the place {' and '.join(names)} {'has' if len(names) == 1 else 'have'} bytes"
@@ -327,19 +333,26 @@ def without_stop(said: str) -> str:
 
 
 def outcome(own: Machine, head: str, asked: str, picked: str | None = None) -> Outcome:
-    """Returns the outcome of asking for an area, by what is picked of its ranges if it has some."""
+    """Returns the outcome of asking for an area, by what is picked of its ranges if the tool picks
+    it, and not the program."""
     what = asked if picked is None else picked
-    if not what:
-        return Outcome(head, asked, "nothing", [], ["none of its ranges has this machine's total memory"])
-    tried = own.tried(what)
-    return Outcome(head, asked, picked and picked[len("crashkernel="):], tried.ranges, [] if tried.ranges else list(reasons(own, what, tried)))
+    tried = own.tried(what) if what else Tried([], "none")
+    if tried.why == "none":
+        return Outcome(head, asked, "nothing", [], [NOTHING])
+    size = picked and picked[len("crashkernel="):]
+    if picked is None and RANGES.search(asked) and tried.ranges:
+        first, last = tried.ranges[-1]
+        size = command_line.size_text(last + 1 - first)
+    why = [] if tried.ranges else list(reasons(own, what, tried))
+    return Outcome(head, asked, size, tried.ranges, why)
 
 
 def picked_of(own: Machine, asked: str) -> str | None:
-    """Returns what the kernel picks of a size by ranges of total memory, an empty text if no range has it; None of another size."""
-    if not RANGES.search(asked):
+    """Returns what the kernel picks of a size by ranges of total memory, an empty text if no range
+    has it; None of another size, and if the program picks as the kernel does."""
+    if not own.is_raw or not RANGES.search(asked):
         return None
-    total = command_line.total_by(own.program, without_line(own.read))(" ".join(own.rest + [asked]))
+    total = command_line.total_by(own.program, own.words)(" ".join(own.rest + [asked]))
     try:
         size, base = command_line.ranged(asked, asked.index("=") + 1, command_line.round_up(total.kernel))
     except command_line.Malformed:
@@ -359,14 +372,13 @@ def greatest_of(own: Machine, texts: reports.Texts, form: str, suffix: str, firs
 
 
 def warnings(own: Machine, texts: reports.Texts) -> Iterator[str]:
-    """Yields what a reader should know before believing the answers; the reports are those of the inputs as they are
-    read."""
+    """Yields what a reader should know before believing the answers, by the reports of the boot."""
     yield from own.said
     if own.next_command:
         yield machine.NO_SRAT
     if own.is_raw and own.kernel is None:
         yield runner.ASSUMED
-    yield from (note for note in (own.place, *notes.notes_for(own.read, texts)) if note)
+    yield from (note for note in (own.place, *notes.notes_for(own.words, texts)) if note)
     if own.is_raw and machine.is_uefi(own.page):
         yield ("the firmware is UEFI: the kernel claims more before the area there, so it may lie lower "
                "(by 32 MiB in four boots), or find no place")
@@ -398,7 +410,7 @@ def answer(own: Machine, given: argparse.Namespace) -> bool:
     texts, stop = own.run("", ["map", "nodes", "memory", "journal"])
     if stop:
         raise tool.Trouble(f"the boot stops without a crash area: {without_stop(stop)}")
-    said = list(warnings(own, runner.run_program(own.program, ["map", "nodes"], own.read)))
+    said = list(warnings(own, texts))
     several = len(given.machines) > 1
     for note in said if not given.json else []:
         tool.complain(NAME, f"{given.machine}: {note}" if several else note)

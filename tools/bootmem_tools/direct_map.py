@@ -7,7 +7,7 @@ Addresses are in bytes, and a range is its first byte and the one past its last.
 from __future__ import annotations
 
 import bisect
-from typing import Iterable, Iterator
+from typing import Iterable, Iterator, NamedTuple
 
 from bootmem_tools.ranges import FRAME, GIB, MIB
 
@@ -89,6 +89,14 @@ class Free:
         return place
 
 
+class Table(NamedTuple):
+    """A page of memblock that became a page table: its place, and the window of the search."""
+
+    place: int
+    low: int
+    high: int
+
+
 class Exhausted(Exception):
     """No memory is left for a page table: the kernel panics (alloc_low_pages)."""
 
@@ -119,7 +127,7 @@ class DirectMap:
         ) = 0  # the window for pages of memblock (min_pfn_mapped, max_pfn_mapped)
         self.tables: set[tuple[int, int]] = set()
         self.large: set[int] = set()  # pages of 1 GiB, by number
-        self.pages: list[int] = []
+        self.pages: list[Table] = []
         self.mapped: list[Span] = []
 
     def add_page(self) -> None:
@@ -129,7 +137,7 @@ class DirectMap:
             return
         place = self.free.take(FRAME, FRAME, self.low, self.high) if self.low < self.high else 0
         if place:
-            self.pages.append(place)
+            self.pages.append(Table(place, self.low, self.high))
         elif not self.may_use_brk:
             raise Exhausted
 

@@ -10,7 +10,7 @@ import textwrap
 from typing import Iterator, Mapping, NoReturn, Sequence
 from xml.sax.saxutils import escape
 
-from bootmem_tools import as_linux, fold, page, ranges, reports, runner, tool
+from bootmem_tools import as_linux, fold, linux_claims, page, ranges, reports, runner, tool
 from bootmem_tools.columns import DRAWN, STRUCTURES, Column, Row, columns_of
 
 NAME = "bootmem-draw"
@@ -30,7 +30,7 @@ A picture is at most {MOST:,} pixels high: rows for which there is no room are f
 --to draw a part of memory."""
 EPILOG = f"""After -- come the words of the program, without --report; the tool runs it with --report {','.join(DRAWN)}.
 
-With --as-linux the boot is drawn as Linux 6.1 makes it (bootmem-linux), without the memory that it claims early.
+With --as-linux the boot is drawn as Linux 6.1 makes it (bootmem-linux), with what it claims early among the owners.
 
 Otherwise the tool reads the text of reports from FILE, or from standard input if there is none or it is -; those of
 {', '.join(DRAWN)} that are there are drawn. In a viewer that shows tool tips each row shows its exact range.
@@ -42,7 +42,7 @@ boots beside one another; what is the same in both is pale, and a list has what 
 A table keeps within $COLUMNS, or else the terminal's width, or else {tool.WIDTH}: columns without room there come in a table of
 their own below.
 
-{runner.FINDING}
+{runner.FINDING_AS_LINUX}
 
 exit status: 0; 1 if the reports couldn't be had or the picture not be written; 2 for words that aren't those above.
 
@@ -85,7 +85,8 @@ def read_words(words: list[str]) -> tuple[argparse.Namespace, Boots]:
     named = given.files or (["-"] if program_words is None else [])
     boots = [(tool.shown_name(file), reports.read_reports(file, behind=True)) for file in named]
     if program_words is not None:
-        found, _ = as_linux.run_for(NAME, runner.find_program(given.program), DRAWN, program_words, given.as_linux)
+        found, claims = as_linux.run_for(NAME, given.program, DRAWN, program_words, given.as_linux)
+        found["owners"] = linux_claims.named_owners(found["owners"], claims)
         boots.append((f"{as_linux.LINUX if given.as_linux else 'bootmem'} {' '.join(program_words)}", found))
     return given, boots
 

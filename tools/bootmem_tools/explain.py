@@ -1,4 +1,4 @@
-"""Why bootmem or bootaudit refused its words, couldn't read a file, or refused a table by its checksum: one line,
+"""Why bootmem, bootmem61 or bootaudit refused its words, couldn't read a file, or refused a table by its checksum: one line,
 which the installed commands print after the program's own.
 
 It is called as `explain PROGRAM STATUS WORDS`, and reads the words as the program's grammar has them. It never decides anything: the
@@ -12,7 +12,7 @@ import stat
 from typing import Iterable, NamedTuple, NoReturn, Sequence
 
 from bootmem_tools import command_line, ranges, tool
-from bootmem_tools.words import AUDIT_OPTIONS, INPUTS, OPTIONS, REPORTS
+from bootmem_tools.words import AUDIT_OPTIONS, COMMANDS, Command
 
 HELP = ("--help", "-h", "--version")
 FRAME = ranges.FRAME
@@ -49,8 +49,8 @@ def suggestion(word: str, known: Sequence[str], front: str = "") -> str:
     return f"did you mean {front}{near}?" if near else f"one of {', '.join(front + one for one in known)}"
 
 
-def split(words: Sequence[str]) -> Words:
-    """Splits the words.
+def split(command: Command, words: Sequence[str]) -> Words:
+    """Splits the words of a program.
 
     # Errors
     Refused for the first word that the grammar has no place for.
@@ -67,11 +67,11 @@ def split(words: Sequence[str]) -> Words:
         if not word.startswith("-") or word == "-":
             page = only_page(page, word)
             continue
-        name, value = read_option(word, rest)
+        name, value = read_option(command, word, rest)
         if name in values:
             raise Refused(f"--{name}: given twice; each option may stand once")
         values[name] = value
-        judge_value(name, value, words)
+        judge_value(command, name, value, words)
     return Words(values, page)
 
 
@@ -82,30 +82,36 @@ def only_page(page: str | None, name: str) -> str:
     return name
 
 
-def read_option(word: str, rest: list[str]) -> tuple[str, str]:
+def read_option(command: Command, word: str, rest: list[str]) -> tuple[str, str]:
     """Returns the name and the value of an option, and takes the value out of the rest if it is a word of its own."""
     if word in HELP:
         raise Refused(f"{word}: must be the first word")
     if not word.startswith("--"):
-        near = nearest(word[1:], OPTIONS)
+        near = nearest(word[1:], command.options)
         raise Refused(f"{word}: " + (f"did you mean --{near}?" if near else f"no option; a file of this name is given as ./{word}"))
     name, mark, value = word[2:].partition("=")
-    if name not in OPTIONS:
-        raise Refused(f"--{name}: no such option; {suggestion(name, list(OPTIONS), '--')}")
-    if not OPTIONS[name]:
+    if name not in command.options:
+        raise Refused(f"--{name}: no such option; {other_command(command, name) or suggestion(name, list(command.options), '--')}")
+    if not command.options[name]:
         if mark:
             raise Refused(f"{word}: --{name} has no value")
         return name, ""
     if mark:
         return name, value
     if not rest:
-        raise Refused(f"--{name}: its value is missing: --{name} {OPTIONS[name]}")
+        raise Refused(f"--{name}: its value is missing: --{name} {command.options[name]}")
     if rest[0].startswith("-") and rest[0] != "-":
         raise Refused(f"--{name} {rest[0]}: a value doesn't begin with -; if it is meant, write --{name}={rest[0]}")
     return name, rest.pop(0)
 
 
-def judge_value(name: str, value: str, words: Sequence[str]) -> None:
+def other_command(command: Command, name: str) -> str:
+    """Returns the program that has this option, or an empty text if none has it."""
+    others = [other.name for other in COMMANDS.values() if name in other.options and other is not command]
+    return f"{others[0]} has it" if others else ""
+
+
+def judge_value(command: Command, name: str, value: str, words: Sequence[str]) -> None:
     """Judges the value of an option.
 
     # Errors
@@ -113,7 +119,7 @@ def judge_value(name: str, value: str, words: Sequence[str]) -> None:
     """
     why = None
     if name == "report":
-        why = report_fault(value)
+        why = report_fault(command, value)
     elif name == "kernel":
         why = kernel_fault(value, 52 if "--la57" in words else 46)
     elif name == "mirror":
@@ -132,15 +138,16 @@ def mirror_fault(value: str) -> str | None:
     return next((why for why in map(range_fault, pieces) if why), None)
 
 
-def report_fault(value: str) -> str | None:
+def report_fault(command: Command, value: str) -> str | None:
     """Returns what is wrong with a list of reports, or None."""
     for name in value.split(","):
         if not name:
             return "an empty name; names have one comma between each two, and no blank"
-        if name not in REPORTS:
-            if name.lower() in REPORTS:
+        if name not in command.reports:
+            if name.lower() in command.reports:
                 return f"{name}: names of reports are in lower case: {name.lower()}"
-            return f"{name}: no such report; {suggestion(name, REPORTS)}"
+            others = [other.name for other in COMMANDS.values() if name in other.reports]
+            return f"{name}: no such report; {f'{others[0]} has it' if others else suggestion(name, command.reports)}"
     return None
 
 
@@ -192,17 +199,17 @@ def kernel_fault(text: str, width: int) -> str | None:
     return None
 
 
-def bootmem_fault(words: Sequence[str]) -> str:
-    """Returns why bootmem refuses the words."""
+def boot_fault(command: Command, words: Sequence[str]) -> str:
+    """Returns why bootmem or bootmem61 refuses the words."""
     try:
-        found = split(words)
+        found = split(command, words)
     except Refused as why:
         return str(why)
     if "make" in found.values:
         if found.page is not None:
             return f"{found.page}: --make takes the place of a zero page; leave one of them out"
         return "--e820ext: --make takes the place of an extension; leave one of them out"
-    return "no zero page is named: bootmem [OPTION].. ZEROPAGE; 'bootmem --help' lists the options"
+    return f"no zero page is named: {command.name} [OPTION].. ZEROPAGE; '{command.name} --help' lists the options"
 
 
 def audit_fault(words: Sequence[str]) -> str:
@@ -225,12 +232,13 @@ def files_of(program: str, words: Sequence[str]) -> list[str]:
     """Returns the names of the files that the program reads, in its order."""
     if program == "bootaudit":
         return [word for word in words if word != "--la57"]
+    command = COMMANDS[program]
     try:
-        found = split(words)
+        found = split(command, words)
     except Refused:
         return []
     named = {**found.values, "zeropage": found.page}
-    return [name for name in (named.get(each) for each in INPUTS) if name is not None]
+    return [name for name in (named.get(each) for each in command.inputs) if name is not None]
 
 
 def unreadable(path: str) -> str | None:
@@ -263,11 +271,11 @@ def missing(path: str) -> str:
     return f"there is no folder {folder}" if folder and not os.path.isdir(folder) else "it doesn't exist"
 
 
-def checksum_fault(words: Sequence[str]) -> str | None:
+def checksum_fault(command: Command, words: Sequence[str]) -> str | None:
     """Returns what the checksum of a table should be, or None if no table of the words has a wrong one. Only plain files of the length
     that they state are read."""
     try:
-        values = split(words).values
+        values = split(command, words).values
     except Refused:
         return None
     for name in TABLES:
@@ -290,9 +298,9 @@ def explain(program: str, status: int, words: Sequence[str]) -> str | None:
         for number, word in enumerate(words, 1):
             if any("\udc80" <= letter <= "\udcff" for letter in word):
                 return f"word {number} isn't UTF-8"
-        return bootmem_fault(words) if program == "bootmem" else audit_fault(words)
-    if status == MALFORMED and program == "bootmem":
-        return checksum_fault(words)
+        return boot_fault(COMMANDS[program], words) if program in COMMANDS else audit_fault(words)
+    if status == MALFORMED and program in COMMANDS:
+        return checksum_fault(COMMANDS[program], words)
     for path in files_of(program, words) if status == UNREADABLE else []:
         why = unreadable(path)
         if why:

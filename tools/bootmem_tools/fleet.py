@@ -46,7 +46,7 @@ examples) with the place of the kernel's image; without it the tool assumes 16 M
 If it has log, with the kernel's log from the boot's start on, the tool takes from it what
 bootmem-linux --log does, except with --raw.
 
-The inputs are read as that kernel reads them, and what it claims before the crash area is taken out of memory, as
+The inputs are read as that kernel reads them, and what it claims before the crash area is claimed, as
 bootmem-linux does; --verbose prints what was changed or assumed, or can't be known, of each machine. With --raw the
 program reads the inputs itself, and nothing more is claimed than bootmem claims.
 
@@ -55,7 +55,7 @@ is told once on standard error.
 
 --json prints one JSON object a line instead (FORMATS.md of the documents: "A fleet as JSON").
 
-{runner.FINDING}
+{runner.FINDING_RAW}
 
 exit status: 0 if each run ended with 0, 1 if one didn't, 2 for words that aren't those above, 3 if each run ended with 0 and
 Linux 6.1 is known to panic on a machine, 5 if none of this and WORDS of --cmdline-add ask for a
@@ -223,11 +223,10 @@ def run_folder(folder: str, plan: Plan, words: list[str], kernel: list[str]) -> 
 def boot_folder(folder: str, plan: Plan, words: list[str], kernel: list[str]) -> Answer:
     """Returns the answer for one folder by its boot with these words."""
     if plan.is_raw:
-        return answer_for(folder, kernel, run(folder, plan, ASKED, words), as_linux.Prepared(words, words, {}, "", [], []))
+        return answer_for(folder, kernel, run(folder, plan, ASKED, words), [], None)
     with as_linux.prepared(plan.program, words, plan.settings, folder) as prepared:
-        names = ["summary", "crash"] if prepared.texts else ASKED
-        outcome = run(folder, plan, names, prepared.words)
-        return answer_for(folder, kernel, outcome, prepared)
+        outcome = run(folder, plan, ASKED, prepared.words)
+        return answer_for(folder, kernel, outcome, prepared.said, prepared.place)
 
 
 def greatest_of(folder: str, plan: Plan, line: str | None, kernel: str | None) -> objects.Object:
@@ -243,22 +242,18 @@ def greatest_of(folder: str, plan: Plan, line: str | None, kernel: str | None) -
         return {form: crash.greatest(own, texts, suffix)[0] for form, suffix in FORMS.items()}
 
 
-def answer_for(folder: str, kernel: list[str], outcome: tuple[int, str, reports.Texts], prepared: as_linux.Prepared) -> Answer:
-    """Returns the answer for the outcome of a folder's boot. If claims are cut out of memory, what is told of the map is that of the
-    inputs before."""
+def answer_for(folder: str, kernel: list[str], outcome: tuple[int, str, reports.Texts],
+               said: list[str], place: str | None) -> Answer:
+    """Returns the answer for the outcome of a folder's boot, with what is said of its inputs and of
+    the image's place."""
     status, line, texts = outcome
-    read, said = prepared.texts, prepared.said
     if status != 0:
         return Answer(row_of(folder, status, line, None), not kernel, said)
-    whole = {**texts, **read}
-    why = next(machine.panics(whole), None)
+    why = next(machine.panics(texts), None)
     line = f"Linux 6.1 panics: {why}" if why else line
-    found = objects.as_object(whole)
-    if read:
-        memory = [one.last + 1 - one.first for one in reports.spans("memory", read["memory"])]
-        found["summary"].update(runs=len(read["map"]), usable=sum(memory) // ranges.FRAME)
-    note = prepared.place or notes.place_note(notes.value_in(kernel, "--kernel"), whole)
-    return Answer(row_of(folder, 0, line, found), not kernel, said, why is not None, note)
+    note = place or notes.place_note(notes.value_in(kernel, "--kernel"), texts)
+    row = row_of(folder, 0, line, objects.as_object(texts))
+    return Answer(row, not kernel, said, why is not None, note)
 
 
 def row_of(folder: str, status: int, line: str, found: objects.Object | None) -> objects.Object:
@@ -364,7 +359,8 @@ def say_first(given: argparse.Namespace, plan: Plan) -> None:
 def main(words: list[str]) -> int:
     """Prints a line for each folder; the status says whether each run ended with 0."""
     given = read_words(words)
-    program, add = os.path.abspath(runner.find_program(given.program)), given.cmdline_add
+    named = runner.find_program(given.program, runner.OWN if given.raw else runner.LINUX)
+    program, add = os.path.abspath(named), given.cmdline_add
     asks = command_line.asks_for_area(add or "")
     plan = Plan(program, add, given.cmdline_drop, given.kernel, given.raw, given.settings,
                 given.greatest, asks)

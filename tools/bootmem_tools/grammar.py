@@ -130,6 +130,8 @@ def compiled(form: str) -> re.Pattern[str]:
     return re.compile(re.sub(r"<([a-z_]+(?::[^>]+)?)>", field, form.replace("..", r"\.\.")))
 
 
+GRAMMAR["claims"] = GRAMMAR["script"]  # of bootmem61
+
 ROWS = {name: {kind: compiled(form) for kind, form in rows.items()}
         for name, rows in GRAMMAR.items()}
 

@@ -6,7 +6,7 @@ import json
 from typing import NoReturn
 
 from bootmem_tools import as_linux, objects, reports, runner, tool
-from bootmem_tools.words import REPORTS
+from bootmem_tools.words import BOOTMEM61, REPORTS
 
 NAME = "bootmem-json"
 USAGE = """bootmem-json [--compact] [--report NAME] [FILE]
@@ -23,7 +23,7 @@ Otherwise the tool reads the text of reports from FILE, or from standard input i
 without its line `== NAME` is known by its first line; --report NAME names it if that may be another's (reserved, which
 looks like memory, pages like script, pagesinfo like buddyinfo, or a text without a line).
 
-{runner.FINDING}
+{runner.FINDING_AS_LINUX}
 
 exit status: 0; 1 if the reports couldn't be had; 2 for words that aren't those above.
 
@@ -48,12 +48,13 @@ def read_words(words: list[str]) -> tuple[bool, reports.Texts]:
         parser.error("--as-linux without words after --")
     names = given.report.split(",") if given.report is not None else None
     for name in names or []:
-        if name not in REPORTS:
-            parser.error(f"{name}: no report: one of {', '.join(REPORTS)}")
+        if name not in BOOTMEM61.reports:
+            parser.error(f"{name}: no report: one of {', '.join(BOOTMEM61.reports)}")
     if program_words is not None:
         if given.file is not None:
             parser.error("a FILE and words after -- at once")
-        texts, _ = as_linux.run_for(NAME, runner.find_program(given.program), names or WANTED, program_words, given.as_linux)
+        wanted = names or WANTED
+        texts, _ = as_linux.run_for(NAME, given.program, wanted, program_words, given.as_linux)
         return given.compact, texts
     if names is None:
         return given.compact, reports.read_reports(given.file or "-", behind=True)

@@ -1,17 +1,18 @@
 """What Linux 6.1 claims before its crash area and bootmem doesn't, made from a machine's inputs in
-the kernel's order.
+the kernel's order, as lines of a claims file of bootmem61.
 
 Each claim is a function of inputs that are there; what the inputs don't tell is left out and
-said. Addresses are in bytes, and a range is its first byte and the one past its last."""
+said. A line tells the program how much, how aligned and in which window; the program finds the
+place. Addresses are in bytes, and a range is its first byte and the one past its last."""
 
 from __future__ import annotations
 
 import re
 import struct
-from typing import Iterable, Iterator, NamedTuple, Sequence
+from typing import Iterator, NamedTuple, Sequence
 
 from bootmem_tools import inputs, linux_log
-from bootmem_tools.direct_map import DirectMap, Free, Span, down, is_within, united, up
+from bootmem_tools.direct_map import DirectMap, Free, Span, Table, down, is_within, united, up
 from bootmem_tools.ranges import FRAME, MIB, parse_size
 
 BRK = 17 * FRAME  # what brk has in use when it is claimed: page tables, and a page for DMI's texts
@@ -30,16 +31,36 @@ SETUP_DATA, EFI_INFO, LOAD_FLAGS = 0x250, 0x1C0, 0x211  # places in the zero pag
 KASLR_FLAG = 2
 BOOT_SERVICES, LOADER_DATA, CONVENTIONAL = (3, 4), 2, 7  # types of EFI descriptors
 SPECIFIC_PURPOSE, RUNTIME = 0x40000, 1 << 63  # EFI_MEMORY_SP, EFI_MEMORY_RUNTIME
+MOVES = "relocate_initrd"  # moves an initrd that isn't mapped whole
+FIRST_ID = 4_000_000_000  # of the early claims; lower IDs are left to the user's script
+LONGEST = 1 << 20  # bytes of a claims file
+FEW = 100  # so many claims make no table of 128 records grow
 
 
 class Claim(NamedTuple):
     """A range that the kernel claims: its first byte and the one past its last, what it is, and
-    the function that claims it."""
+    the function that claims it.
+
+    If `align` isn't 0, the kernel searches for the place from `low` on and below `high`, and the
+    range is the one that it finds here. A range that `is_freed` is given back at once."""
 
     first: int
     end: int
     what: str
     rule: str
+    align: int = 0
+    low: int = 0
+    high: int = 0
+    is_freed: bool = False
+
+    def lines(self, number: int) -> list[str]:
+        """Returns the lines of a claims file that make the claim under this ID."""
+        if not self.align:
+            lines = [f"reserve {number} {self.first:#x} {self.end - self.first:#x}"]
+            return lines + [f"free {number}"] * self.is_freed
+        low = f" min {self.low:#x}" if self.low else ""
+        window = f"{low} max {self.high:#x}"
+        return [f"alloc {number} {self.end - self.first} {self.align}{window}"]
 
 
 class Descriptor(NamedTuple):
@@ -75,13 +96,37 @@ class Machine(NamedTuple):
 
 
 class Outcome(NamedTuple):
-    """The claims in the kernel's order, the new place of an initrd that moves, what is free then,
-    and the end of what is mapped."""
+    """The claims in the kernel's order, what is free then, and the end of what is mapped."""
 
     claims: list[Claim]
-    moved: int | None
     free: Free
     mapped: int
+
+
+def file_lines(claims: Sequence[Claim]) -> list[tuple[str, Claim]]:
+    """Returns the lines of the claims file, each with the claim that it makes."""
+    return [
+        (line, claim)
+        for number, claim in enumerate(claims, FIRST_ID)
+        for line in claim.lines(number)
+    ]
+
+
+def by_owner(claims: Sequence[Claim]) -> dict[str, Claim]:
+    """Returns the claims by the owners that the program's reports name for them."""
+    return {f"script {number}": claim for number, claim in enumerate(claims, FIRST_ID)}
+
+
+def named_owners(lines: Sequence[str], claims: Sequence[Claim]) -> list[str]:
+    """Returns the lines of the report `owners`, in which what an early claim is for takes the place
+    of its ID."""
+    early = by_owner(claims)
+
+    def named(match: re.Match[str]) -> str:
+        """Returns what the owner is."""
+        return early[match.group()].what if match.group() in early else match.group()
+
+    return [re.sub(r"script \d+$", named, line) for line in lines]
 
 
 def read_descriptors(data: bytes) -> list[Descriptor]:
@@ -237,7 +282,8 @@ def fixed_claims(machine: Machine, initrd: Span | None) -> list[Claim]:
     # boot services are looked at before the first MiB is claimed whole
     early = [(0, 64 << 10), *own_ranges(machine, initrd)[1:]]
     early += [(one.first, one.end) for one in claims]
-    return claims + list(boot_services(machine, early))
+    # From the top down, so that a table that grows at the top of memory lies in no later range.
+    return claims + list(boot_services(machine, early))[::-1]
 
 
 def early_claims(machine: Machine) -> Outcome:
@@ -256,44 +302,54 @@ def early_claims(machine: Machine) -> Outcome:
         machine.memory, free, brk, machine.largest, machine.has_five_levels, is_random
     )
     tables.make(machine.end)
-    what = "a page table of the direct map"
-    claims += [Claim(place, place + FRAME, what, "alloc_low_pages") for place in tables.pages]
+    claims += table_claims(tables.pages)
     for size, what in zip(log_sizes(machine.line), LOG_PARTS):
         claims += placed(free, size, LOG_ALIGN, tables.high, what, "setup_log_buf")
-    moved = move_from(machine, free, tables, initrd) if initrd else None
+    if initrd:
+        claims += move_from(machine, free, tables, initrd)
     for name, span in machine.told.acpi:
         free.claim(*span)
         claims.append(Claim(*span, f"the ACPI table {name}", "acpi_reserve_initial_tables"))
     if machine.domains:
         size, what = machine.domains**2, "the distances of the SLIT"
         claims += placed(free, size, FRAME, tables.high, what, "numa_alloc_distance")
-    return Outcome(claims, moved, free, tables.high)
+    return Outcome(claims, free, tables.high)
 
 
-def move_from(machine: Machine, free: Free, tables: DirectMap, initrd: Span) -> int | None:
-    """Returns the new place of an initrd that the direct map lacks in part, and gives its old one
-    back (reserve_initrd, relocate_initrd); None if it stays, or finds no place."""
+def table_claims(pages: Sequence[Table]) -> Iterator[Claim]:
+    """Yields the claims of page tables. Tables of one window that lie one below the other are one
+    claim, since a search for all of them finds the same frames."""
+    rest = list(pages)
+    while rest:
+        top, window = rest[0].place, rest[0][1:]
+        count = 1
+        while rest[count : count + 1] == [Table(top - count * FRAME, *window)]:
+            count += 1
+        what = "a page table" if count == 1 else f"{count} page tables"
+        first, what = rest[count - 1].place, f"{what} of the direct map"
+        yield Claim(first, top + FRAME, what, "alloc_low_pages", FRAME, *window)
+        del rest[:count]
+
+
+def move_from(
+    machine: Machine, free: Free, tables: DirectMap, initrd: Span
+) -> Iterator[Claim]:
+    """Yields the new place of an initrd that the direct map lacks in part, and its old one, which
+    is given back (reserve_initrd, relocate_initrd); nothing if it stays or finds no place."""
     if is_within(united(tables.mapped), *initrd):  # pfn_range_is_mapped
-        return None
-    moved = free.take(initrd[1] - initrd[0], FRAME, 0, tables.high)
+        return
+    what = "the initrd's new place"
+    moved = list(placed(free, initrd[1] - initrd[0], FRAME, tables.high, what, MOVES))
+    if not moved:
+        return
+    yield from moved
     near = [one for one in machine.memory if one[0] < initrd[1] and initrd[0] < one[1]]
     free.release((max(low, initrd[0]), min(high, initrd[1])) for low, high in near)
-    return moved or None
+    yield Claim(*initrd, "the initrd's old place", MOVES, is_freed=True)
 
 
 def placed(free: Free, size: int, align: int, high: int, what: str, rule: str) -> Iterator[Claim]:
     """Yields the claim of an allocation from the top down; none if it finds no place."""
     place = free.take(size, align, 0, high)
     if place:
-        yield Claim(place, place + size, what, rule)
-
-
-def frames_to_cut(claims: Iterable[Claim], memory: Sequence[Span]) -> list[Span]:
-    """Returns the memory of these claims in whole frames, ascending."""
-    whole = united((max(down(one.first, FRAME), MIB), up(one.end, FRAME)) for one in claims)
-    return united(
-        (max(low, first), min(high, end))
-        for low, high in whole
-        for first, end in memory
-        if low < end and first < high
-    )
+        yield Claim(place, place + size, what, rule, align, 0, high)

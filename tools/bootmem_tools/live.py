@@ -32,8 +32,8 @@ more: the addresses of /proc/iomem are 0 for others, and ACPI's SRAT can't be re
 lies is taken from /proc/iomem, or from FOLDER, unless there is --kernel. What is gathered is removed at the end, or
 kept by --keep, with all that it is compared with.
 
-The inputs are read as Linux 6.1 reads them, and for the crash area what that kernel claims before it is taken out of
-memory, as bootmem-linux does; pages of the direct map are 1 GiB large if the processor has them. With --raw the program
+The inputs are read as Linux 6.1 reads them, and what that kernel claims before its crash area is claimed, as
+bootmem-linux does; pages of the direct map are 1 GiB large if the processor has them. With --raw the program
 reads the inputs itself. A zone is compared by the kernel's own rule: the hull of its node's memory, cut by the zone's
 borders.
 
@@ -45,7 +45,7 @@ A line begins with
   differs  it differs in another way
   passed   it can't be compared, and why
 
-{runner.FINDING}
+{runner.FINDING_RAW}
 
 exit status: 0 if nothing differs except in a known way, 1 if something does, 2 if nothing could be compared, and
 for words that aren't those above.
@@ -76,6 +76,7 @@ class Finding(NamedTuple):
     text: str
 
 
+COMPARED = ["map", "zones", "nodes", "crash"]
 DOMAINS = 1024  # MAX_NUMNODES: a domain number of this or more has the kernel drop the SRAT
 BOOT_DATA, RUNTIME = 4, 1 << 63  # EFI_BOOT_SERVICES_DATA, EFI_MEMORY_RUNTIME
 
@@ -356,14 +357,12 @@ def settings_for(given: argparse.Namespace, folder: str) -> tuple[as_linux.Setti
 
 
 def told_by_linux(given: argparse.Namespace, folder: str) -> Told:
-    """Returns what is said of the machine in the folder for a boot as Linux 6.1 makes it: its crash area goes by the early claims, all
-    else by the inputs before claims are cut out of memory."""
+    """Returns what is said of the machine in the folder for a boot as Linux 6.1 makes it."""
     words = folder_words(given, folder)
     settings, more = settings_for(given, folder)
     slit = ["--slit", "slit.bin"] if os.path.exists(os.path.join(folder, "slit.bin")) else []
     with as_linux.prepared(given.program, slit + words, settings, folder) as prepared:
-        texts = runner.run_program(given.program, ["map", "zones", "nodes"], prepared.read, folder)
-        texts.update(runner.run_program(given.program, ["crash"], prepared.words, folder))
+        texts = runner.run_program(given.program, COMPARED, prepared.words, folder)
         noted = [said for said in (prepared.place, *prepared.said) if said]
     return Told(" ".join([as_linux.LINUX, *more, *slit, *words]), words, texts, noted)
 
@@ -373,7 +372,7 @@ def told_by_program(given: argparse.Namespace, folder: str, with_srat: bool = Tr
     words = folder_words(given, folder)
     if not with_srat:
         del words[words.index("--srat"):words.index("--srat") + 2]
-    texts = runner.run_program(given.program, ["map", "zones", "nodes", "crash"], words, folder)
+    texts = runner.run_program(given.program, COMPARED, words, folder)
     return Told(f"bootmem {' '.join(words)}", words, texts, [])
 
 
@@ -448,7 +447,8 @@ def main(words: list[str]) -> int:
     """Prints the findings and their numbers; the status says whether the kernel differs in a way
     that isn't known."""
     given = read_words(words)
-    given.program = os.path.abspath(runner.find_program(given.program))
+    name = runner.OWN if given.raw else runner.LINUX
+    given.program = os.path.abspath(runner.find_program(given.program, name))
     as_linux.refuse_itself(given.program)
     with tempfile.TemporaryDirectory() as temporary:
         folder = given.folder or given.keep or temporary

@@ -9,6 +9,7 @@ from typing import Sequence
 
 from bootmem_tools import kernel_log, log_srat, tool
 
+PROGRAMS = ("bootmem", "bootmem61")  # what the tools run, each a target of the repository
 PACKAGE = os.path.dirname(os.path.realpath(__file__))
 # What bootmem-collect writes only for root, and what it writes for everyone.
 ROOT_FILES = ("srat.bin", "slit.bin", "efi.bin", "kernel")
@@ -32,10 +33,10 @@ def make(target: str) -> str | None:
 def make_named(program: str) -> str | None:
     """Returns the command that makes the program of this path, if it is that of a repository."""
     folder, name = os.path.split(os.path.abspath(program))
-    is_one = name == "bootmem" and os.path.isfile(os.path.join(folder, "tools", "collect.sh"))
-    if not is_one or os.path.exists(program):
+    is_clone = os.path.isfile(os.path.join(folder, "tools", "collect.sh"))
+    if name not in PROGRAMS or not is_clone or os.path.exists(program):
         return None
-    return f"make -C {shlex.quote(folder)} bootmem"
+    return f"make -C {shlex.quote(folder)} {name}"
 
 
 def collect(folder: str, is_root: bool = False) -> str:

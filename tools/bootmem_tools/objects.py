@@ -180,7 +180,7 @@ def of_summary(lines: Iterator[Line]) -> Value:
 MAKERS: dict[str, Callable[[Iterator[Line]], Value]] = {
     "options": of_options, "nodes": of_nodes, "memory": of_records, "reserved": of_records,
     "owners": of_owners, "journal": of_journal, "crash": of_crash, "sections": of_sections,
-    "script": of_script, "tables": of_tables, "buddyinfo": of_buddyinfo, "pages": of_script,
+    "script": of_script, "claims": of_script, "tables": of_tables, "buddyinfo": of_buddyinfo, "pages": of_script,
     "pagesinfo": of_buddyinfo, "zonelists": of_zonelists, "summary": of_summary,
 }
 

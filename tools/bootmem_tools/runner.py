@@ -1,4 +1,4 @@
-"""Runs of the program bootmem: finding it, and its reports for words."""
+"""Runs of the programs bootmem and bootmem61: finding them, and their reports for words."""
 
 from __future__ import annotations
 
@@ -17,26 +17,31 @@ STOPPED = 6  # the status of a boot that stops
 PLACELESS = {"map", "options", "nodes"}  # reports that don't go by the kernel's place
 ASSUMED = ("the kernel's place isn't known, so 16 MiB to 48 MiB is assumed; "
            "--kernel BASE,SIZE tells it")
+OWN, LINUX = "bootmem", "bootmem61"  # the programs: the second has the profile of Linux 6.1
 FINDING = ("The program is --program, else $BOOTMEM, else the installed one of this tool, else bootmem "
            "on the PATH.")
+FINDING61 = ("The program is bootmem61: --program, else $BOOTMEM61, else the installed one of this "
+             "tool, else the one on the PATH.")
+FINDING_RAW = FINDING61[:-1] + "; with --raw it is bootmem, which BOOTMEM names."
+FINDING_AS_LINUX = FINDING[:-1] + "; with --as-linux it is bootmem61, which BOOTMEM61 names."
 # The reports of a run, with the program's line if the boot stops.
 Stopped = tuple[Texts, Optional[str]]
 
 
-def add_program(parser: argparse.ArgumentParser) -> None:
-    """Adds the option that names the program."""
-    parser.add_argument("--program", metavar="P", help="the program bootmem; see below")
+def add_program(parser: argparse.ArgumentParser, name: str = OWN) -> None:
+    """Adds the option that names the program of this name."""
+    parser.add_argument("--program", metavar="P", help=f"the program {name}; see below")
 
 
-def find_program(named: str | None = None) -> str:
-    """Returns the path of the program: the named one, else $BOOTMEM, else one beside the tools
-    or above them in a clone, else on the PATH.
+def find_program(named: str | None = None, name: str = OWN) -> str:
+    """Returns the path of the program of this name: the named one, else $BOOTMEM or $BOOTMEM61,
+    else one beside the tools or above them in a clone, else on the PATH.
 
     # Errors
     A Trouble if there is none, or if the named one can't be run.
     """
     tools = os.path.dirname(os.path.dirname(os.path.realpath(__file__)))
-    chosen = named or os.environ.get("BOOTMEM")
+    chosen = named or os.environ.get(name.upper())
     if chosen:
         found = shutil.which(chosen)
         if found is None:
@@ -44,17 +49,22 @@ def find_program(named: str | None = None) -> str:
             raise Trouble(f"{chosen}: no program that can be run", next_command=command)
         return found
     here = os.path.dirname(os.path.realpath(sys.argv[0]))
-    beside = [os.path.join(here, "..", "libexec", "bootmem", "bootmem"), os.path.join(here, "bootmem")]
+    beside = [os.path.join(here, "..", "libexec", "bootmem", name), os.path.join(here, name)]
     if os.path.basename(tools) == "tools":
-        beside.append(os.path.join(os.path.dirname(tools), "bootmem"))
+        beside.append(os.path.join(os.path.dirname(tools), name))
     for path in beside:
         if os.path.isfile(path) and os.access(path, os.X_OK):
             return path
-    found = shutil.which("bootmem")
+    found = shutil.which(name)
     if found is None:
-        raise Trouble("there is no program bootmem beside this tool or on the PATH; "
-                      "--program or BOOTMEM names it", next_command=next_step.make("bootmem"))
+        raise Trouble(f"there is no program {name} beside this tool or on the PATH; "
+                      f"--program or {name.upper()} names it", next_command=next_step.make(name))
     return found
+
+
+def name_in(said: str) -> str:
+    """Returns the name of the program that said this on standard error."""
+    return LINUX if said.startswith(f"{LINUX}: ") else OWN
 
 
 def call_program(program: str, names: Sequence[str], words: Sequence[str],
@@ -117,7 +127,7 @@ def run_or_stop(program: str, names: Sequence[str], words: Sequence[str],
     """
     status, text, said = call_program(program, names, words, folder)
     if status == STOPPED:
-        return {}, said[len("bootmem: "):] if said.startswith("bootmem: ") else said
+        return {}, said.removeprefix(f"{name_in(said)}: ")
     if status != 0:
         raise Failed(status, said)
     return texts_of(names, text), None

@@ -26,7 +26,7 @@ kernel function that does.
 Otherwise the tool reads the text of these reports from FILE, or from standard input if there is none or it is -; it says nothing of a
 report that isn't there. A page structure has 64 bytes: the map of a section, of 2 MiB, has 32,768 of them.
 
-{runner.FINDING}
+{runner.FINDING_AS_LINUX}
 
 exit status: 0; 1 if the reports couldn't be had; 2 for words that aren't those above.
 
@@ -36,7 +36,8 @@ examples:
 
 
 def read_words(words: list[str]) -> tuple[int, reports.Texts, list[linux_claims.Claim]]:
-    """Returns the address, the reports that the words ask for, and the claims that are cut out of their memory."""
+    """Returns the address, the reports that the words ask for, and the early claims of their
+    boot."""
     own, program_words = tool.split_words(words)
     parser = tool.new_parser(NAME, USAGE, ABOUT, EPILOG)
     parser.add_argument("address", metavar="ADDRESS", help="what to tell of: 0x100000, 1048576, 1M")
@@ -56,7 +57,7 @@ def read_words(words: list[str]) -> tuple[int, reports.Texts, list[linux_claims.
         return address, reports.read_reports(given.file or "-", behind=True), []
     if given.file is not None:
         parser.error("a FILE and words after -- at once")
-    return address, *as_linux.run_for(NAME, runner.find_program(given.program), WANTED, program_words, given.as_linux)
+    return address, *as_linux.run_for(NAME, given.program, WANTED, program_words, given.as_linux)
 
 
 def last_step(steps: Spans, address: int) -> reports.Span | None:
@@ -136,9 +137,12 @@ def main(words: list[str]) -> int:
         raise tool.Trouble(f"none of the reports {', '.join(WANTED)} is there")
     for word, text in answer_lines(address, found):
         print(f"{word:<8} {text}")
-    for one in claims:
-        if one.first <= address < one.end:
-            print(f"{'early':<8} {one.what} {ranges.range_text(one.first, one.end - 1)}, claimed by {one.rule}")
+    early = linux_claims.by_owner(claims)
+    for holder in ranges.at(found["owners"], address) if early else []:
+        if holder.name in early:
+            one = early[holder.name]
+            place = ranges.range_text(*holder[:2])
+            print(f"{'early':<8} {one.what} {place}, claimed by {one.rule}")
     return 0
 
 

@@ -1,8 +1,9 @@
-"""The words of bootmem and bootaudit, as words.txt beside this module lists them."""
+"""The words of bootmem, bootmem61 and bootaudit, as words.txt beside this module lists them."""
 
 from __future__ import annotations
 
 import os
+from typing import NamedTuple
 
 PATH = os.path.join(os.path.dirname(os.path.abspath(__file__)), "words.txt")
 
@@ -22,3 +23,26 @@ OPTIONS = read_words("option")  # the options of bootmem with what their value i
 REPORTS = tuple(read_words("report"))
 INPUTS = tuple(read_words("input"))
 AUDIT_OPTIONS = tuple(read_words("audit"))
+
+
+class Command(NamedTuple):
+    """The words of a program: its name, its options with what their value is, its reports, and its inputs in the order in which it reads
+    them."""
+
+    name: str
+    options: dict[str, str]
+    reports: tuple[str, ...]
+    inputs: tuple[str, ...]
+
+
+def inputs61() -> tuple[str, ...]:
+    """Returns the inputs of bootmem61: those of bootmem, and each of its own after the one that it follows."""
+    found = list(INPUTS)
+    for name, before in read_words("input61").items():
+        found.insert(found.index(before) + 1, name)
+    return tuple(found)
+
+
+BOOTMEM = Command("bootmem", OPTIONS, REPORTS, INPUTS)
+BOOTMEM61 = Command("bootmem61", {**OPTIONS, **read_words("option61")}, REPORTS + tuple(read_words("report61")), inputs61())
+COMMANDS = {command.name: command for command in (BOOTMEM, BOOTMEM61)}
