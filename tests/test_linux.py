@@ -478,7 +478,7 @@ class Linux(Case):
                                                      "claimed by reserve_brk"), (0, early))
         status, out, _ = tool("bootmem-draw", "--text", *words, folder=folder)
         self.check("draw --as-linux: status", status, 0)
-        self.check("draw --as-linux: the area", re.findall(r"^(\w+) .*crash 128 MiB$", out, re.MULTILINE), ["0x73000000"])
+        self.check("draw --as-linux: the area", re.findall(r"^ *(0x\w+) .*crash 128 MiB", out, re.MULTILINE), ["0x73000000"])
         self.has("draw --as-linux: an early claim", out, "boot services, type 4 128 KiB")
         for name, more in (("json", []), ("draw", ["--text"]), ("where", ["1M"])):
             self.check(f"{name} --as-linux, a text", tool(f"bootmem-{name}", *more, "--as-linux", "reports", folder=folder)[:2], (2, ""))
