@@ -130,8 +130,8 @@ class Machine:
         words += (["--kernel", self.kernel] if self.kernel else []) + [self.page]
         self.said: list[str] = []
         self.early: dict[str, linux_claims.Claim] = {}
+        data = command_line.read_file(named["cmdline"]) if named["cmdline"] else b""
         if self.is_raw:
-            data = command_line.read_file(named["cmdline"]) if named["cmdline"] else b""
             line = command_line.raw_line(data)
         else:
             prepared = self.files.enter_context(as_linux.prepared(self.program, words, given.settings))
