@@ -135,8 +135,8 @@ fn expect_with_claims(
     let mut files = MemFiles::new(files_of(alloc, held)?, Vec::from_slice(alloc, failing)?);
     let begun = Inputs::without_files(alloc, Width::Bits46, KERNEL);
     match read_inputs_with_claims(alloc, &mut files, &ALL, begun) {
-        Ok((inputs, claims)) => assert!(rt;
-            want == Ok((inputs.lines.as_slice(), claims.as_slice())),
+        Ok(given) => assert!(rt;
+            want == Ok((given.0.lines.as_slice(), given.1.as_slice())),
             "lines, fetch {failing:?}"
         ),
         Err(error) => assert!(rt;
@@ -264,21 +264,23 @@ fn refused_claims_are_the_last(rt: HostRuntime) -> Result<(), Fail> {
     Ok(())
 }
 
+const PEEK: Line = Line {
+    number: 1,
+    act: Act::Peek { at: 0x1000, len: 4 },
+};
+
+const FREE: Line = Line {
+    number: 2,
+    act: Act::Free { id: 7 },
+};
+
 /// The lines of early claims are those of a script, except `sections`.
 #[test]
 fn lines_of_claims(rt: HostRuntime) -> Result<(), Fail> {
-    let free = Line {
-        number: 2,
-        act: Act::Free { id: 7 },
-    };
-    let peek = Line {
-        number: 1,
-        act: Act::Peek { at: 0x1000, len: 4 },
-    };
     let rows: [(&[u8], Result<&[Line], ScriptFault>); 11] = [
         (b"", Ok(&[])),
-        (b"# sections\nfree 7\n", Ok(&[free])),
-        (b"peek 0x1000 4\r\n\tfree 7", Ok(&[peek, free])),
+        (b"# sections\nfree 7\n", Ok(&[FREE])),
+        (b"peek 0x1000 4\r\n\tfree 7", Ok(&[PEEK, FREE])),
         (b"sections", Err(ScriptFault::BadLine { line: 1 })),
         (
             b"free 1\n\tsections \r\n",

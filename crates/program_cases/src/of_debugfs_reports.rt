@@ -1,14 +1,9 @@
 //! The reports of a boot whose map has two adjacent runs of one type. A boot never makes such a
-//! map, but a caller may pass one. Also the report of early claims, and lists that name it.
+//! map, but a caller may pass one. Also lists that name the report of early claims.
 
 ghost use Rattle.address_runs.specs.Ascend.{Ascend};
 
-use crate::common::{FIRST_PAGE, KERNEL, booted, file, machine, put_entries, run};
-use bm_base::Width;
-use bm_io::MemFiles;
-use boot_inputs::{Input, Names, read_inputs_with_claims};
-use boot_model::{Extra, Inputs, Profile};
-use boot_stages::boot_with;
+use crate::common::{FIRST_PAGE, booted, machine, run};
 use debugfs_reports::{
     REPORTS, REPORTS_WITH_CLAIMS, Report, are_names_of, are_reports, render, reports_in,
     reports_named_in,
@@ -68,64 +63,6 @@ fn runs_that_touch(rt: HostRuntime) -> Result<(), Fail> {
     assert!(rt; map.as_slice() == MAP.as_bytes());
     let summary = render(alloc, Report::Summary, &booted)?;
     assert!(rt; summary.as_slice() == SUMMARY.as_bytes());
-    Ok(())
-}
-
-/// The names of a script and of early claims. There are no other files.
-#[derive(Clone, Copy)]
-struct BothScripts;
-
-impl Names for BothScripts {
-    ghost use Rattle.std.specs.Prelude.{Some, None, codes};
-    ghost use Rattle.boot_inputs.specs.declared.input.Input.TheVariants as inputs;
-
-    ghost named = { λ both input. elim input [
-      | inputs.Script ↦ Some (codes "script")
-      | inputs.Claims ↦ Some (codes "claims")
-      | other ↦ None
-    ] };
-
-    fn of(&self, input: Input) -> Option<&str> {
-        match input {
-            Input::Script => Some("script"),
-            Input::Claims => Some("claims"),
-            _ => None,
-        }
-    }
-}
-
-/// Three early claims: one that the script frees, one with an ID that isn't live, and one with an
-/// ID that is live already.
-const CLAIMS: &[u8] = b"reserve 1 0x200000 0x1000\nfree 2\nreserve 1 0x300000 0x1000\n";
-
-/// Two lines with an empty line between them. The ID of the first is an early claim's.
-const SCRIPT: &[u8] = b"free 1\n\nfree 1\n";
-
-/// `claims` prints the outcomes of the early claims, and `script` those of the script. The numbers
-/// of lines are those of their own files.
-#[test]
-fn claims_of_a_boot(rt: HostRuntime) -> Result<(), Fail> {
-    let alloc = rt.alloc();
-    let script = file(alloc, "script", SCRIPT)?;
-    let claims = file(alloc, "claims", CLAIMS)?;
-    let mut files = MemFiles::new(vec![in alloc; script, claims]?, Vec::new(alloc));
-    let mut begun = Inputs::without_files(alloc, Width::Bits46, KERNEL);
-    put_entries(&mut begun, Vec::from_slice(alloc, &machine())?);
-    let Ok((inputs, claims)) = read_inputs_with_claims(alloc, &mut files, &BothScripts, begun)
-    else {
-        return Err("a file is refused".into());
-    };
-    let extra = Extra {
-        profile: Profile::own(),
-        claims,
-    };
-    let Ok(booted) = boot_with(alloc, &extra, inputs) else {
-        return Err("the boot stops".into());
-    };
-    let text = render(alloc, Report::Claims, &booted)?;
-    assert!(rt; text.as_slice() == b"1: done\n2: unknown\n3: taken\n".as_slice());
-    let text = render(alloc, Report::Script, &booted)?;
-    assert!(rt; text.as_slice() == b"1: done\n3: unknown\n".as_slice());
     Ok(())
 }
 

@@ -79,14 +79,15 @@ fn compare(rt: &impl Abort, alloc: Global, held: &Held<'_>, rows: &[Row<'_>]) ->
 /// No call fails.
 const NONE: [&[u64]; 2] = [&[], &[]];
 
-// The last three claims are refused: the ID has a range, the ID has none, and no place fits. The
-// script frees the range of the first claim, and claims it again. It doesn't know the refused ID.
+// Each report has the line numbers of its own file. The last three claims are refused: the ID has
+// a range, the ID has none, and no place fits. The script frees the range of the first claim, and
+// claims it again. It doesn't know the refused ID.
 #[test]
 fn claims_and_script(rt: HostRuntime) -> Result<(), Fail> {
     let held = Held {
-        claims: b"alloc 1 64K 4K max 16M\nreserve 2 0x4000000 1M\nalloc 1 4K 4K\nfree 9\n\
+        claims: b"alloc 1 64K 4K max 16M\nreserve 2 0x4000000 1M\n\nalloc 1 4K 4K\nfree 9\n\
                   alloc 3 2G 4K\n",
-        script: b"free 1\nalloc 1 64K 4K max 16M\nfree 3\nfree 2\n",
+        script: b"free 1\n\n\nalloc 1 64K 4K max 16M\nfree 3\nfree 2\n",
         ..EMPTY
     };
     let words: &[&str] = &[
@@ -100,23 +101,23 @@ fn claims_and_script(rt: HostRuntime) -> Result<(), Fail> {
     let text = "== claims\n\
                 1: at 0x0000000000ff0000\n\
                 2: done\n\
-                3: taken\n\
-                4: unknown\n\
-                5: no gap\n\
+                4: taken\n\
+                5: unknown\n\
+                6: no gap\n\
                 == script\n\
                 1: done\n\
-                2: at 0x0000000000ff0000\n\
-                3: unknown\n\
-                4: done\n";
+                4: at 0x0000000000ff0000\n\
+                5: unknown\n\
+                6: done\n";
     let alone: &[&str] = &["--claims=cm", "--report=claims", "zp"];
-    let claims = "1: at 0x0000000000ff0000\n2: done\n3: taken\n4: unknown\n5: no gap\n";
+    let claims = "1: at 0x0000000000ff0000\n2: done\n4: taken\n5: unknown\n6: no gap\n";
     let without: &[&str] = &["--script=sc", "--report=claims,script", "zp"];
     let unknown = "== claims\n\
                    == script\n\
                    1: unknown\n\
-                   2: at 0x0000000000ff0000\n\
-                   3: unknown\n\
-                   4: unknown\n";
+                   4: at 0x0000000000ff0000\n\
+                   5: unknown\n\
+                   6: unknown\n";
     let rows: [Row<'_>; 3] = [
         (Program::Bootmem61, words, NONE, 0, text, ""),
         (Program::Bootmem61, alone, NONE, 0, claims, ""),
