@@ -17,11 +17,20 @@ exports="bootmem_run bootmem_map bootmem_crash bootmem_memory bootmem_nodes boot
 
 kit=$(dirname "$("$rt" doc)")
 
-# over_gate NAME..: the compiler's own call over the gate's libraries of these names and all others of the gate, as `rt lib` makes it over its own
+# place NAME: where the library of this name is, which is the gate's or, if no crate here has the name, the kit's
+place() {
+	if [ -d "$top/crates/$1" ]; then
+		echo "$top/crates/$1/out/rlib/$1.rlib"
+	else
+		echo "$kit/rlibs/$1.rlib"
+	fi
+}
+
+# over_gate NAME..: the compiler's own call over the libraries of these names and all others of the gate, as `rt lib` makes it over its own
 over_gate() {
 	cd "$crate"
 	for name in "$@"; do
-		set -- "$@" --extern "$name=$top/crates/$name/out/rlib/$name.rlib"
+		set -- "$@" --extern "$name=$(place "$name")"
 		shift
 	done
 	for below in "$top"/crates/*/out/rlib; do
@@ -38,7 +47,7 @@ status=0
 if [ "${2:-}" = gate ]; then
 	names=$(sed -n 's/^bootmem_c staticlib: //p' "$top/crates.txt")
 	for name in $names; do
-		[ -d "$top/crates/$name/out/rlib/$name.rlib" ] || exit 3
+		[ -d "$(place "$name")" ] || exit 3
 	done
 	# shellcheck disable=SC2086 # a word each
 	(over_gate $names) >"$log" 2>&1 || status=$?
