@@ -346,8 +346,7 @@ const BOTH: &str = "== map\n\
     0x0000000007fe0000..0x0000000007ffffff 2 reserved\n\
     0x00000000fffc0000..0x00000000ffffffff 2 reserved\n\
     == buddyinfo\n\
-    Node 0, zone      DMA      0      0      0      0      0      0      0      0      1      1    
-     3 \n\
+    Node 0, zone      DMA      0      0      0      0      0      0      0      0      1      1      3 \n\
     Node 0, zone    DMA32      1      1      1      1      0      1      0      1      1      0     19 \n";
 
 /// The first 176 of the 353 bytes of the first report.
