@@ -62,7 +62,8 @@ not_canonical = (
 
 -- the runs of all addresses below 2^64: one page of RAM; and no run if no address has a value
 equal_numbers_decide_equality : DecidesEquality {X = ℕ} (λ a b. a == b)
-equal_numbers_decide_equality = record { true_is_equal = λ a b h. grind (arith, nat_tests); equal_is_true = λ a b h. grind (arith, nat_tests) }
+equal_numbers_decide_equality =
+    record { true_is_equal = λ a b h. grind (arith, nat_tests); equal_is_true = λ a b h. grind (arith, nat_tests) }
 
 one_page : ℕ → Option ℕ
 one_page = value_at (run 0x1000 0x1000 1 ∷ [])

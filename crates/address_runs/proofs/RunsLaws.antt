@@ -134,7 +134,8 @@ before_longer x n v r (s ∷ ss) ends values before =
     (omega arith, λ touch equal. let at : run_end r ≡ s.base = omega arith in before.1 at (cc (values, equal)))
 
 -- putting an address and its value before a canonical list makes a canonical list
-AreRuns-prepend_address_some : {X : Type 0} (same : X → X → Bool) → DecidesEquality same → (x : ℕ) (v : X) (r : RunOf X) (rs : List (RunOf X))
+AreRuns-prepend_address_some : {X : Type 0} (same : X → X → Bool) → DecidesEquality same
+    → (x : ℕ) (v : X) (r : RunOf X) (rs : List (RunOf X))
     → AreRuns (r ∷ rs) → x + 1 ≤ r.base → AreRuns (prepend_address same x (Some v) (r ∷ rs))
 AreRuns-prepend_address_some same tells x v r rs runs start = by_test ((r.base == x + 1) && same v r.value) refl
   where
@@ -197,7 +198,8 @@ pub record IsRunsBetween {X : Type 0} (f : ℕ → Option X) (x n : ℕ) (rs : L
   pub within : (y : ℕ) → x ≤ y → y < x + n → value_at rs y ≡ f y
   pub past : (y : ℕ) → x + n ≤ y → value_at rs y ≡ None
 
-IsRunsBetween-prepend_address : {X : Type 0} (same : X → X → Bool) → DecidesEquality same → (f : ℕ → Option X) (x n : ℕ) (rs : List (RunOf X))
+IsRunsBetween-prepend_address : {X : Type 0} (same : X → X → Bool) → DecidesEquality same
+    → (f : ℕ → Option X) (x n : ℕ) (rs : List (RunOf X))
     → IsRunsBetween f (x + 1) n rs → IsRunsBetween f x (suc n) (prepend_address same x (f x) rs)
 IsRunsBetween-prepend_address {X} same tells f x n rs known = record {
   runs = AreRuns-prepend_address same tells x (f x) rs known.runs known.start;
@@ -229,7 +231,8 @@ pub from_runs : {X : Type 0} (same : X → X → Bool) → DecidesEquality same 
     → IsRunsBetween f x n (runs_from same f x n)
 unfolding runs_from
 from_runs same tells f zero x = record { runs = tt; start = tt; within = λ y above below_end. absurd (omega arith); past = λ y h. refl }
-from_runs same tells f (suc n) x = IsRunsBetween-prepend_address same tells f x n (runs_from same f (x + 1) n) (from_runs same tells f n (x + 1))
+from_runs same tells f (suc n) x =
+    IsRunsBetween-prepend_address same tells f x n (runs_from same f (x + 1) n) (from_runs same tells f n (x + 1))
 
 -- `runs_of` returns the runs of a function that has no value at or above 2^64
 pub runs_of_are_runs : {X : Type 0} (same : X → X → Bool) → DecidesEquality same → (f : ℕ → Option X) → ((x : ℕ) → 2 ^ 64 ≤ x → f x ≡ None)

@@ -13,7 +13,8 @@ pub glued_more : (front : List ℕ) (b : ℕ) (split : LinesAndRest) → glued (
 glued_more [] b split = refl
 glued_more (a ∷ front) b split = ap (lines_with_byte a) (glued_more front b split)
 
-glued_line : (front : List ℕ) (lines : List (List ℕ)) (left : List ℕ) → glued front (lines_with_newline (lines, left)) ≡ (front ∷ lines, left)
+glued_line : (front : List ℕ) (lines : List (List ℕ)) (left : List ℕ)
+    → glued front (lines_with_newline (lines, left)) ≡ (front ∷ lines, left)
 glued_line [] lines left = refl
 glued_line (a ∷ front) lines left = ap (lines_with_byte a) (glued_line front lines left)
 

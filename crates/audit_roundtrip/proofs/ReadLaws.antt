@@ -191,7 +191,8 @@ address_is n text rest found = by_front (rest_after (codes "0x") (take 18 text))
 
     by_digits : (ds : List ℕ) → rest_after (codes "0x") (take 18 text) ≡ Some ds → (right : Bool)
         → (length ds == 16) && list_all is_lower_hex ds ≡ right
-        → ◌≡◌ {A = Option (ℕ × List ℕ)} (if right then read_value_and_rest (drop 18 text) (number_of (take 18 text)) else None) (Some (n, rest))
+        → ◌≡◌ {A = Option (ℕ × List ℕ)} (if right then read_value_and_rest (drop 18 text) (number_of (take 18 text)) else None)
+        (Some (n, rest))
         → text ≡ hex_text n ++ rest
     by_digits ds is false test found = cc
     by_digits ds is true test found =
@@ -200,10 +201,12 @@ address_is n text rest found = by_front (rest_after (codes "0x") (take 18 text))
         let long : length ds ≡ 16 = (Decides-eqb (length ds) 16).0 parts.0 in
         let read : number_of (take 18 text) ≡ fit_in_u64 (digits_value 16 ds) (2 + length ds) =
         ap number_of front ∙ hex_number ds (glyphs_from ds parts.1) (omega (arith, long)) in
-        by_value ds front long parts.1 (nat_lt (digits_value 16 ds) (2 ^ 64)) refl (sym (ap (read_value_and_rest (drop 18 text)) read) ∙ found)
+        by_value ds front long parts.1 (nat_lt (digits_value 16 ds) (2 ^ 64)) refl
+        (sym (ap (read_value_and_rest (drop 18 text)) read) ∙ found)
 
     by_front : (found_front : Option (List ℕ)) → rest_after (codes "0x") (take 18 text) ≡ found_front
-        → ◌≡◌ {A = Option (ℕ × List ℕ)} (if are_sixteen_digits found_front then read_value_and_rest (drop 18 text) (number_of (take 18 text))
+        → ◌≡◌ {A = Option (ℕ × List ℕ)}
+        (if are_sixteen_digits found_front then read_value_and_rest (drop 18 text) (number_of (take 18 text))
         else None)
         (Some (n, rest))
         → text ≡ hex_text n ++ rest

@@ -58,7 +58,8 @@ module _ (given : InputsView) (told : BootedView) (ends : whole_boot given ≡ O
   map_types : (x k : ℕ) → value_at told.map x ≡ Some k → (0 < k) × (k < 2 ^ 32)
   map_types x k found =
       let of : IsReportOfBoot no_extra given told = is_told_of no_extra given told (own_told told given ends) in
-      let is : told.map ≡ map_of (claims given) = ap (λ (t : BootedView). t.map) (sym of.tells) ∙ (goes_on no_extra given of.made of.boots).map in
+      let is : told.map ≡ map_of (claims given) = ap (λ (t : BootedView). t.map) (sym of.tells)
+      ∙ (goes_on no_extra given of.made of.boots).map in
       let given_so : value_at (map_of (claims given)) x ≡ Some k = ap (λ (rs : List (RunOf ℕ)). value_at rs x) (sym is) ∙ found in
       elim (cases_lt x (2 ^ 64)) as (λ _. (0 < k) × (k < 2 ^ 32)) [
         | inl low ↦

@@ -34,7 +34,8 @@ runs_ascend (r ∷ []) runs = (tt, tt)
 runs_ascend (r ∷ (s ∷ ss)) runs = (runs.1.0, runs_ascend (s ∷ ss) runs.2)
 
 -- disjoint ranges below an end, none of them empty, are at most as many as there are bytes
-few_from : {X : Type 0} (end at : ℕ) (rs : List (RunOf X)) → at ≤ end → StartFrom at (map range_of_run rs) → AscendApart (map range_of_run rs)
+few_from : {X : Type 0} (end at : ℕ) (rs : List (RunOf X)) → at ≤ end → StartFrom at (map range_of_run rs)
+    → AscendApart (map range_of_run rs)
     → All (λ r. (0 < r.size) × (end_of (range_of_run r) ≤ end)) rs → at + length rs ≤ end
 few_from end at [] low start order all = omega (arith, low)
 few_from end at (r ∷ rs) low start order all =

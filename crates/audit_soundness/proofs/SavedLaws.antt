@@ -59,7 +59,8 @@ module _ (given : InputsView) (told : BootedView) (ends : whole_boot given ≡ O
 
   pub blocks_read : report_of block_in bytes_of_block (report_text reports.Blocks told) ≡ Ok (map line_of_block (booted_blocks told))
   blocks_read =
-      blocks_back (booted_blocks told) (blocks_few told.free (below no_extra given told (own_told told given ends))) (blocks_told given told ends)
+      blocks_back (booted_blocks told) (blocks_few told.free (below no_extra given told (own_told told given ends)))
+      (blocks_told given told ends)
       (blocks_ascend told.free)
 
   module _ (held : FileContents) (wanted : AuditArgsView) (is : AreSaved held wanted told) where

@@ -44,13 +44,16 @@ module _ (given : InputsView) (told : BootedView) (ends : whole_boot given ≡ O
   lines_conserved = record {
     frames = λ frame usable.
         kept_told frame (all_touched_or_in_one no_extra given told (own_told told given ends) frame
-        ((usable_mapped no_extra given told frame (own_told told given ends)).1 (told_usable (booted_address_limit told) told.map frame usable)));
+        ((usable_mapped no_extra given told frame (own_told told given ends)).1
+        (told_usable (booted_address_limit told) told.map frame usable)));
     others = λ frame some.
         (let has : 0 < count_blocks_with (booted_blocks told) frame =
         subst (λ (n : ℕ). 0 < n) (counted_told (booted_blocks told) frame) some in
         let free = no_other_in_a_block no_extra given told (own_told told given ends) frame has in (
-          usable_told (booted_address_limit told) told.map frame ((usable_mapped no_extra given told frame (own_told told given ends)).0 free.0),
+          usable_told (booted_address_limit told) told.map frame
+              ((usable_mapped no_extra given told frame (own_told told given ends)).0 free.0),
           untouched_told told.items (owner_runs_of told.items) runs frame free.1,
         ));
-    each = blocks_sound given told.items (booted_blocks told) (blocks_whole no_extra given told (own_told told given ends)) (blocks_maximal no_extra given told (own_told told given ends));
+    each = blocks_sound given told.items (booted_blocks told) (blocks_whole no_extra given told (own_told told given ends))
+        (blocks_maximal no_extra given told (own_told told given ends));
   }

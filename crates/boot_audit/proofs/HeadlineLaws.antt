@@ -168,6 +168,7 @@ pub conserved_sound : (accepted : Option AuditArgsView) (held : FileContents) â†
 conserved_sound accepted held kept =
     let good = good_lines held kept.wanted kept.lines kept.texts in
     let sound : verdict_for_args kept.wanted kept.lines â‰¡ verdicts.Sound =
-    conserved_says (address_limit_of kept.wanted.width) kept.lines.map_lines kept.lines.owners kept.lines.blocks (reach_near kept.wanted.width)
+    conserved_says (address_limit_of kept.wanted.width) kept.lines.map_lines kept.lines.owners kept.lines.blocks
+    (reach_near kept.wanted.width)
     (frames_ascend kept.lines.blocks good.0) good.1 kept.conserved in
     rw (kept.words, kept.texts, sound) refl

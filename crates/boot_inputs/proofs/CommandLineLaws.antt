@@ -17,7 +17,8 @@ word_first fault said b y other rest = grind arith
 word_other : (number : ℕ) (word : List ℕ × Option (List ℕ)) → ¬ IsErrOf (word_meaning number word) options.Memory
 word_other number word =
     let last = if bytes_eq word.0 (codes "add_efi_memmap") then Ok AddEfi else Ok (OfMap []) in
-    word_first (options.BadMem number) (option_map meaning_of_map_option (option_and_then mem_of word.1)) (bytes_eq word.0 (codes "mem")) _ (λ is.
+    word_first (options.BadMem number) (option_map meaning_of_map_option (option_and_then mem_of word.1))
+    (bytes_eq word.0 (codes "mem")) _ (λ is.
     cc is)
     (word_first (options.BadMemmap number) (option_and_then memmap_of word.1) (bytes_eq word.0 (codes "memmap")) _ (λ is. cc is)
     (word_first (options.BadCrash number) (option_and_then crash_of word.1) (bytes_eq word.0 (codes "crashkernel")) _ (λ is. cc is)

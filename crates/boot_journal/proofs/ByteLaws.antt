@@ -170,6 +170,7 @@ turn whole items i x found =
     ap (λ (is : List Item). label_after_all whole is x) apart ∙ rw add-one (trim_step whole (take i items) (drop (suc i) items) x plain)
 
 -- the end of the loop: the items after the last trim
-pub items_after_last_trim : (whole : Option LabelView) (items : List Item) (x : ℕ) → position is_trim items ≡ None → label_after_all whole items x
+pub items_after_last_trim : (whole : Option LabelView) (items : List Item) (x : ℕ) → position is_trim items ≡ None
+    → label_after_all whole items x
     ≡ label_after_items whole items x
 items_after_last_trim whole items x none = labels_after (same_marks_everywhere whole) items x (position_none items none)

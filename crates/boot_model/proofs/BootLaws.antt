@@ -98,7 +98,8 @@ goes_on extra given made ends =
     let judged_map = goes_by (judge_map given) (λ m. run_each_stage (later_stages extra given) m) made ends in
     let known = accepted_map_is_unchanged given judged_map.middle judged_map.first in
     record {
-      map = chain_keeps (λ (m : BootSoFar). m.map) (later_stages extra given) (later_keep extra given) judged_map.middle made judged_map.rest
+      map =
+          chain_keeps (λ (m : BootSoFar). m.map) (later_stages extra given) (later_keep extra given) judged_map.middle made judged_map.rest
           ∙ ap (λ (m : BootSoFar). m.map) known.0;
       fits = known.2;
       judged = known.1;
@@ -123,7 +124,8 @@ memory_lies (r ∷ rs) x runs =
     ]
 
 -- the runs of the map determine which frames are usable
-pub usable_lies : (extra : ExtraView) (given : InputsView) (made : BootSoFar) (frame : ℕ) → boot_with extra given ≡ Ok made → 4096 * frame + 4096 ≤ reach given
+pub usable_lies : (extra : ExtraView) (given : InputsView) (made : BootSoFar) (frame : ℕ) → boot_with extra given ≡ Ok made
+    → 4096 * frame + 4096 ≤ reach given
     → is_usable_frame (types_in_reach given) frame ≡ each_in (bytes_of_frame frame) (lies_in_memory made.map)
 unfolding is_usable_frame
 usable_lies extra given made frame ends low =
@@ -137,9 +139,11 @@ usable_lies extra given made frame ends low =
     rw (low_x, (goes_on extra given made ends).map) told))
 
 -- each address below 2^64 has in the map the type that the claims give it
-pub map_has_claimed_types : (extra : ExtraView) (given : InputsView) (made : BootSoFar) (x : ℕ) → boot_with extra given ≡ Ok made → x < 2 ^ 64
+pub map_has_claimed_types : (extra : ExtraView) (given : InputsView) (made : BootSoFar) (x : ℕ) → boot_with extra given ≡ Ok made
+    → x < 2 ^ 64
     → value_at made.map x ≡ kinds (claims given) x
-map_has_claimed_types extra given made x ends low = rw (goes_on extra given made ends).map ((map_between (claims given)).within x (omega arith) (omega arith))
+map_has_claimed_types extra given made x ends low =
+    rw (goes_on extra given made ends).map ((map_between (claims given)).within x (omega arith) (omega arith))
 
 -- a number of frames for which the boot doesn't stop is 1 to 2^32
 pub frames_within : (n : ℕ) → (if n == 0 then Some reasons.NoRam else (if nat_lt (2 ^ 32) n then Some (reasons.TooMuchRam n) else
@@ -150,8 +154,10 @@ frames_within n fine = grind (arith, nat_tests)
 -- a map that the boot accepts has 1 to 2^32 usable frames
 pub accepted_map_has_usable_frames : (extra : ExtraView) (given : InputsView) (made : BootSoFar) → boot_with extra given ≡ Ok made
     → (0 < usable_frames (types_in_reach given)) × (usable_frames (types_in_reach given) ≤ 2 ^ 32)
-accepted_map_has_usable_frames extra given made ends = frames_within (usable_frames (types_in_reach given)) (goes_on extra given made ends).judged
+accepted_map_has_usable_frames extra given made ends =
+    frames_within (usable_frames (types_in_reach given)) (goes_on extra given made ends).judged
 
 -- a map that the boot accepts fits in the kernel's table
-pub accepted_map_fits : (extra : ExtraView) (given : InputsView) (made : BootSoFar) → boot_with extra given ≡ Ok made → length made.map ≤ E820_MAX_ENTRIES
+pub accepted_map_fits : (extra : ExtraView) (given : InputsView) (made : BootSoFar) → boot_with extra given ≡ Ok made
+    → length made.map ≤ E820_MAX_ENTRIES
 accepted_map_fits extra given made ends = let known = goes_on extra given made ends in rw known.map (grind (arith, nat_tests, known.fits))

@@ -147,15 +147,19 @@ labels_keep extra given =
 memory_keep : (extra : ExtraView) (given : InputsView) → AllKeep held_by (drop 1 (later_stages extra given))
 memory_keep extra given =
     let before = by_labels _ (lines_labels given.kernel (lines_before_sections given.lines)) in
-    let behind = by_labels _ (lines_labels given.kernel (lines_after_sections given.lines)) in
-    (by_labels _ (claims_labels given.kernel extra.claims), (nodes_hold given, (by_labels _ (crash_labels extra.profile given), (before, (by_labels _ (section_labels given), (behind, tt))))))
+    let behind = by_labels _ (lines_labels given.kernel (lines_after_sections given.lines)) in (
+      by_labels _ (claims_labels given.kernel extra.claims),
+      (nodes_hold given, (by_labels _ (crash_labels extra.profile given), (before, (by_labels _ (section_labels given), (behind, tt))))),
+    )
 
 -- the stages after memory is made leave the limit as it is
 limit_keep : (extra : ExtraView) (given : InputsView) → AllKeep bound_by (drop 1 (later_stages extra given))
 limit_keep extra given =
     let before = lines_bound given.kernel (lines_before_sections given.lines) in
-    let behind = lines_bound given.kernel (lines_after_sections given.lines) in
-    (claims_bound given.kernel extra.claims, (nodes_bound given, (crash_bound extra.profile given, (before, (section_bound given, (behind, tt))))))
+    let behind = lines_bound given.kernel (lines_after_sections given.lines) in (
+      claims_bound given.kernel extra.claims,
+      (nodes_bound given, (crash_bound extra.profile given, (before, (section_bound given, (behind, tt))))),
+    )
 
 -- after the boot, which bytes are memory, and the limit, are as the stage left them that made
 -- memory

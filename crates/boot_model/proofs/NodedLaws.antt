@@ -124,7 +124,8 @@ claimed_known given lines first made judged ends =
 
 -- memory has its nodes after any later stages that leave its labels, for example at the end of the
 -- boot
-pub later_memory_has_nodes : (given : InputsView) (lines : List Line) (first made : BootSoFar) (rest : List Stage) → judge_map given ≡ Ok first
+pub later_memory_has_nodes : (given : InputsView) (lines : List Line) (first made : BootSoFar) (rest : List Stage)
+    → judge_map given ≡ Ok first
     → AllKeep labels_by rest
     → run_each_stage (memory_stage given ∷ claims_stage given.kernel lines ∷ nodes_stage given ∷ rest) first ≡ Ok made
     → IsMemoryWithNodes (reach given) (memory_of made.items)
@@ -141,4 +142,5 @@ pub noded_told : (extra : ExtraView) (given : InputsView) (made : BootSoFar) →
 unfolding boot_with
 noded_told extra given made ends =
     let judged = goes_by (judge_map given) (λ m. run_each_stage (later_stages extra given) m) made ends in
-    later_memory_has_nodes given extra.claims judged.middle made (drop 3 (later_stages extra given)) judged.first (labels_keep extra given) judged.rest
+    later_memory_has_nodes given extra.claims judged.middle made (drop 3 (later_stages extra given)) judged.first
+    (labels_keep extra given) judged.rest

@@ -64,7 +64,8 @@ parts-some : (s : Separators) (quoted : Bool) (text : List ℕ) → 0 < length (
 parts-some s quoted [] = omega arith
 parts-some s quoted (b ∷ bs) = by_test (separates s b && not quoted)
   where
-    by_test : (t : Bool) → 0 < length (if t then [] ∷ parts_from s quoted bs else prepend_byte b (parts_from s (quoted_after s quoted b) bs))
+    by_test : (t : Bool)
+        → 0 < length (if t then [] ∷ parts_from s quoted bs else prepend_byte b (parts_from s (quoted_after s quoted b) bs))
     by_test true = omega arith
     by_test false = front-some b (parts_from s (quoted_after s quoted b) bs)
 

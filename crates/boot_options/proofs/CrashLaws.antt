@@ -11,7 +11,8 @@ ranges_before kept None = None
 ranges_before kept (Some ranges) = Some (kept ++ ranges)
 
 -- the first range that remains becomes the last one that was read
-pub ranges_before-one : (kept : List CrashRange) (text : List ℕ) (texts : List (List ℕ)) (range : CrashRange) → crash_range_of text ≡ Some range
+pub ranges_before-one : (kept : List CrashRange) (text : List ℕ) (texts : List (List ℕ)) (range : CrashRange)
+    → crash_range_of text ≡ Some range
     → ranges_before (kept ++ range ∷ []) (crash_ranges_of texts) ≡ ranges_before kept (crash_ranges_of (text ∷ texts))
 ranges_before-one kept text texts range is = rw is (by_others (crash_ranges_of texts))
   where

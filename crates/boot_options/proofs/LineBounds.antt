@@ -58,7 +58,8 @@ pub fit-or_fault : (fault : OptionFault) (o : Option WordMeaning) → IsLineFaul
 fit-or_fault fault None numbered_map_options is = numbered_map_options
 fit-or_fault fault (Some said) numbered_map_options is = is
 
-pub fit-if : {A : Type 0} (P : A → Type 0) (t : Bool) (x y : Result A OptionFault) → IsSoundOrFault P x → IsSoundOrFault P y → IsSoundOrFault P (if t then x else y)
+pub fit-if : {A : Type 0} (P : A → Type 0) (t : Bool) (x y : Result A OptionFault) → IsSoundOrFault P x → IsSoundOrFault P y
+    → IsSoundOrFault P (if t then x else y)
 fit-if P true x y a b = a
 fit-if P false x y a b = b
 

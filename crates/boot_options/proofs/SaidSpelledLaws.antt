@@ -129,7 +129,8 @@ word-spelled number word said =
         }))
 
 -- a word has the meaning that it spells
-valued-read : (n : Name) (number : ℕ) (raw value : List ℕ) (said : WordMeaning) → Unquotes raw value → value_meaning n (Some value) ≡ Some said
+valued-read : (n : Name) (number : ℕ) (raw value : List ℕ) (said : WordMeaning) → Unquotes raw value
+    → value_meaning n (Some value) ≡ Some said
     → word_meaning number (name_value_of (text_of n ++ (61 ∷ raw))) ≡ Ok said
 valued-read n number raw value said unquotes says =
     rw (split_once-mark 61 (text_of n) raw (lacks_equals n), (unquoted_exactly raw value).1 unquotes) (by_name n says)
@@ -142,7 +143,8 @@ valued-read n number raw value said unquotes says =
 
 word-read : (number : ℕ) (word : List ℕ) (said : WordMeaning) → SpellsMeaning word said → word_meaning number (name_value_of word) ≡ Ok said
 word-read number word said (mem_word raw value option unquotes spells) =
-    valued-read mem number raw value (OfMap (option ∷ [])) unquotes (ap (option_map meaning_of_map_option) ((mem-exactly value option).1 spells))
+    valued-read mem number raw value (OfMap (option ∷ [])) unquotes
+    (ap (option_map meaning_of_map_option) ((mem-exactly value option).1 spells))
 word-read number word said (memmap_word raw value options unquotes spells) =
     valued-read memmap number raw value (OfMap options) unquotes
     (ap (option_map (λ ps. OfMap ps)) ((map_options-exactly value options).1 spells))

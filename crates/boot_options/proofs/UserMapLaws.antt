@@ -120,7 +120,8 @@ user_map_after_options [] m = m
 user_map_after_options (p ∷ ps) m = user_map_after_options ps (user_map_after_option p.0 p.1 m)
 
 pub user_map-map_options : (number : ℕ) (st : ReadingState) (ps : List MapOption) (behind : List (ℕ × MapOption))
-    → user_map_after_options behind (after_map_options number st ps).user_map ≡ user_map_after_options (numbered_map_options number ps behind) st.user_map
+    → user_map_after_options behind (after_map_options number st ps).user_map
+    ≡ user_map_after_options (numbered_map_options number ps behind) st.user_map
 user_map-map_options number st [] behind = refl
 user_map-map_options number st (p ∷ ps) behind = user_map-map_options number (after_map_option number st p) ps behind
 
@@ -145,7 +146,8 @@ wanted (Some exact) n m = Some (record { word = exact.0; wanting = 2 - exact.1 }
 
 -- counting the missing map options from the start of the line gives the same user map as counting
 -- them from the last `exactmap`
-pub user_map_after_options-wanted : (ps : List (ℕ × MapOption)) (m : Option UserMap) → user_map_after_options ps m ≡ wanted (last_exact ps) (count_adding ps) m
+pub user_map_after_options-wanted : (ps : List (ℕ × MapOption)) (m : Option UserMap)
+    → user_map_after_options ps m ≡ wanted (last_exact ps) (count_adding ps) m
 user_map_after_options-wanted [] None = refl
 user_map_after_options-wanted [] (Some m) =
     let same : m.wanting ≡ m.wanting - 0 = omega arith in

@@ -15,7 +15,8 @@ either_within true n m le = le
 either_within false n m le = omega arith
 
 run_within : (reach : ℕ) (r : RunOf ℕ) → added_by_run reach r ≤ min (run_end r) reach - r.base
-run_within reach r = either_within (is_memory (Some r.value)) (min (run_end r) reach - r.base) (min (run_end r) reach - r.base) (omega arith)
+run_within reach r =
+    either_within (is_memory (Some r.value)) (min (run_end r) reach - r.base) (min (run_end r) reach - r.base) (omega arith)
 
 added_from : (reach at : ℕ) (rs : List (RunOf ℕ)) → StartAtOrPast at rs → AreRuns rs → added_bytes reach rs ≤ reach - at
 added_from reach at [] start runs = omega arith

@@ -108,9 +108,11 @@ stand-by m store heads finish_boot first second first_stands second_stands noded
 }
 
 -- the results of the boot, from what the boot made and from what the handover reads
-pub finish_boot-by : (profile : Profile) (given : InputsView) (map : List (RunOf ℕ)) (m : MemblockView) (later : LaterResults) (ids : LiveView) (fills : List Fill)
+pub finish_boot-by : (profile : Profile) (given : InputsView) (map : List (RunOf ℕ)) (m : MemblockView) (later : LaterResults)
+    (ids : LiveView) (fills : List Fill)
     (items : List Item)
-    (heads : Heads) (spans with_memory : List Span) (frames : Frames) (lists : ZoneListsView) (answers : List PageAnswer) (after : PageState)
+    (heads : Heads) (spans with_memory : List Span) (frames : Frames) (lists : ZoneListsView) (answers : List PageAnswer)
+    (after : PageState)
     → m.kernel ≡ given.kernel → items ≡ m.journal.items → heads ≡ heads_of m.kernel m.journal.items
     → spans ≡ spans_by_rule profile.zones m.journal.items → with_memory ≡ spans_of_memory m.journal.items
     → frames ≡ handover_frames m.journal.items → lists ≡ zonelists_from_slit given.slit (nodes_view later.nodes).domains with_memory

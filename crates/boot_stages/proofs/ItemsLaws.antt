@@ -102,7 +102,8 @@ carries-wanting r i js old new exits some stays =
 pub change_writing_item-second : (r : Result (Unit {0}) Refusal) (i : Item) (js old mid new : List Item)
     → EndsAsChange {T = Unit {0}} (Ok tt) old mid (change_writing_item i) → EndsAsStage (items_with_growths js) refusal_for r mid new
     → EndsAsStage (items_with_growths (i ∷ js)) refusal_for r old new
-change_writing_item-second r i js old mid new ends rest = carries-second r (i ∷ []) js old mid new (carries-change (Ok tt) i old mid ends) rest
+change_writing_item-second r i js old mid new ends rest =
+    carries-second r (i ∷ []) js old mid new (carries-change (Ok tt) i old mid ends) rest
 
 pub change_writing_item-exit : (e : Refusal) (r : Result (Unit {0}) Refusal) (i : Item) (js old new : List Item) → r ≡ Err e
     → EndsAsChange {T = Unit {0}} (Err e) old new (change_writing_item i) → EndsAsStage (items_with_growths (i ∷ js)) refusal_for r old new

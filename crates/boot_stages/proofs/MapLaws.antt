@@ -92,16 +92,19 @@ ok_without_error_change f (Ok b) a is = let same : b ≡ a = cc in ap (λ (x : _
 ok_without_error_change f (Err e) a is = absurd (cc)
 
 -- a stop of the boot is a stop of the boot with its report
-pub boot_stop_is_reported : {X : Type 0} (view : X → BootedView) (extra : ExtraView) (given : InputsView) (answer : Result X Stop) (stop : Stop) → answer ≡ Err stop
+pub boot_stop_is_reported : {X : Type 0} (view : X → BootedView) (extra : ExtraView) (given : InputsView) (answer : Result X Stop)
+    (stop : Stop) → answer ≡ Err stop
     → (stop ≢ stops.Memory → map_error stop_of (boot_with extra given) ≡ Err stop)
     → Answers stops.Memory view answer (map_error stop_of (whole_boot_with extra given))
 boot_stop_is_reported view extra given answer stop is stops_so =
     rw is (λ other. stopped (boot_with extra given) (λ made. Ok (finish_boot_by extra.profile given made)) stop (stops_so other))
 
-pub boot_stops : (extra : ExtraView) (given : InputsView) (stop : Stop) → Answers stops.Memory (made_of given) (Err stop) (map_error stop_of (judge_map given))
+pub boot_stops : (extra : ExtraView) (given : InputsView) (stop : Stop)
+    → Answers stops.Memory (made_of given) (Err stop) (map_error stop_of (judge_map given))
     → stop ≢ stops.Memory → map_error stop_of (boot_with extra given) ≡ Err stop
 unfolding boot_with
-boot_stops extra given stop answers other = stopped (judge_map given) (λ made. run_each_stage (later_stages extra given) made) stop (answers other)
+boot_stops extra given stop answers other =
+    stopped (judge_map given) (λ made. run_each_stage (later_stages extra given) made) stop (answers other)
 
 -- if the boot goes on with the map, only the stages after it remain
 pub boot_is_later_stages : (extra : ExtraView) (given : InputsView) (made : BootSoFar) → map_error stop_of (judge_map given) ≡ Ok made

@@ -60,7 +60,8 @@ pub in_parts : (e : EarlyInputs) (map : List (RunOf ℕ))
     → items_before_memory e ++ (items_for_memory_of_map e map ++ limit_items (memory_end e.limit (value_at map))) ≡ early_items e map
 in_parts e map =
     let last : List Item = limit_items (memory_end e.limit (value_at map)) in
-    append_assoc (early_claims e.kernel e.initrd) (item.Limit ISA_END_ADDRESS ∷ direction_items e.upward) (items_for_memory_of_map e map ++ last)
+    append_assoc (early_claims e.kernel e.initrd) (item.Limit ISA_END_ADDRESS ∷ direction_items e.upward)
+    (items_for_memory_of_map e map ++ last)
     ∙ ap (λ (t : List Item). early_claims e.kernel e.initrd ++ (item.Limit ISA_END_ADDRESS ∷ (direction_items e.upward ++ t)))
     (append_assoc (items_of_map e.limit map) (item.Trim ∷ mirror_items e.mirrors) last)
 

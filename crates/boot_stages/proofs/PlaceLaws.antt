@@ -34,7 +34,8 @@ sections_in items = present (memory_of items)
 module _ (width : Width) where
   -- placing the sections that have memory ends as placing exactly this list of sections does
   from_present : (r : Result SectionPlaces StageStop) (old new : List Item) (sections : List Section) → sections ≡ sections_in old
-      → EndsAsStage (place_sections width sections) error_of_stage_cause r old new → EndsAsStage (place_present_sections width) error_of_stage_cause r old new
+      → EndsAsStage (place_sections width sections) error_of_stage_cause r old new
+      → EndsAsStage (place_present_sections width) error_of_stage_cause r old new
   unfolding place_present_sections
   from_present r old new sections is ends =
       ends-second (sections_in old) r error_of_stage_cause old old new (read_items_allocating sections_in) (place_sections width)
@@ -51,7 +52,8 @@ module _ (width : Width) where
 
   module _ (r : Result (Roots × Vec Placed Global) StageStop) (old new : List Item) (sections : List Section)
       (is : sections ≡ sections_in old) where
-    pub places-first : (e : StageStop) → r ≡ Err e → EndsAsStage {A = RootsView} (place_roots width sections) error_of_stage_cause (Err e) old new
+    pub places-first : (e : StageStop) → r ≡ Err e
+        → EndsAsStage {A = RootsView} (place_roots width sections) error_of_stage_cause (Err e) old new
         → EndsAsStage (place_present_sections width) error_of_stage_cause (places_view r) old new
     places-first e exits ends =
         rw exits (from_present (Err e) old new sections is
@@ -72,6 +74,7 @@ module _ (width : Width) where
       → EndsAsStage (place_present_sections width) error_of_stage_cause (Ok (placed_of table placed)) old new
   places-all old mid new sections table placed present_is first ends =
       from_present (Ok (placed_of table placed)) old new sections present_is
-      (ends-second table (Ok (placed_of table placed)) error_of_stage_cause old mid new (place_roots width sections) (behind_roots sections) first
+      (ends-second table (Ok (placed_of table placed)) error_of_stage_cause old mid new (place_roots width sections)
+      (behind_roots sections) first
       (ends-second placed (Ok (placed_of table placed)) error_of_stage_cause mid new new (place_maps sections)
       (λ p. return_value (placed_of table p)) ends (refl, refl)))

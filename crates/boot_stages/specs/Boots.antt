@@ -105,10 +105,12 @@ made_after_stages given map m later ids fills = record {
 -- The stages after the map ended as the definition says, with memblock `m` and the results `later`.
 -- The kernel's image is that of the inputs, and each byte of memory has the value that the journal
 -- and the fills of the scripts give it.
-pub record StagesEndWith (extra : ExtraView) (given : InputsView) (map : List (RunOf ℕ)) (m : MemblockView) (later : LaterResults) : Type 0 where
+pub record StagesEndWith (extra : ExtraView) (given : InputsView) (map : List (RunOf ℕ)) (m : MemblockView)
+    (later : LaterResults) : Type 0 where
   pub ids : LiveView
   pub fills : List Fill
-  pub come : run_each_stage (later_stages extra given) (begin_with_map map given.options) ≡ Ok (made_after_stages given map m later ids fills)
+  pub come : run_each_stage (later_stages extra given) (begin_with_map map given.options)
+      ≡ Ok (made_after_stages given map m later ids fills)
   pub kernel : m.kernel ≡ given.kernel
   pub holds : HasBytesOfHistory fills m
 

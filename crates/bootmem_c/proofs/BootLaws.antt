@@ -56,7 +56,8 @@ inputs_fit held wanted error fits = fits_after_boot error (read_boot_inputs held
 -- an error of the files is the one that the outcome has
 pub inputs_failed : {X : Type 0} (r : Result X NoInputs) (error : NoInputs) (old new : LentFilesView) (lent : List MemFileView)
     (wanted : BootmemArgsView)
-    → wanted.named inputs.Claims ≡ None → r ≡ Err error → old.files ≡ lent → FitsError input_place error (read_boot_inputs (file_bytes old.files) wanted)
+    → wanted.named inputs.Claims ≡ None → r ≡ Err error → old.files ≡ lent
+    → FitsError input_place error (read_boot_inputs (file_bytes old.files) wanted)
     → IsFileError (faults_at old) (faults_at new) wanted.named error
     → IfErr r (λ e. HasOutcomeReason e (bootmem_outcome (Some wanted) (file_bytes lent)))
 inputs_failed r error old new lent wanted own is same fits cause =

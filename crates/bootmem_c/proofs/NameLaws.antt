@@ -29,7 +29,8 @@ no_claims_after_steps make (Some s) (Some m) (Some k) (Some l) (Some r) each = e
 no_claims_by_values : (value : ArgValues) → HasNoClaims (args_by_values bootmem_args [] value)
 no_claims_by_values value =
     no_claims_after_steps _ (some_if (has_one_source value)) (made_entry_count (value (codes "make")))
-    (kernel_range_of (address_width_in value) (value (codes "kernel"))) (report_list_in [] value) (mirrors_of_value (value (codes "mirror")))
+    (kernel_range_of (address_width_in value) (value (codes "kernel"))) (report_list_in [] value)
+    (mirrors_of_value (value (codes "mirror")))
     (λ m k l r. refl)
 
 if_accepted : (accepted : Bool) (found : Option BootmemArgsView) → HasNoClaims found → HasNoClaims (if accepted then found else None)

@@ -134,7 +134,8 @@ line_ends old new read_args (failures.NoResult (errors.Reason reason)) l0 l1 own
     (fails_as old new read_args (errors.Reason reason) own cause fits)
 line_ends old new read_args (failures.NoResult errors.Memory) l0 l1 own written other empty not_short short told cause fits =
     absurd (other refl)
-line_ends old new read_args (failures.Output put.Failed) l0 l1 own written other empty not_short short told cause fits = absurd (written refl)
+line_ends old new read_args (failures.Output put.Failed) l0 l1 own written other empty not_short short told cause fits =
+    absurd (written refl)
 line_ends old new read_args (failures.Output put.Memory) l0 l1 own written other empty not_short short told cause fits = absurd (other refl)
 
 pub ran_line : (old new : LentFilesView) (read_args : Option BootmemArgsView) (l0 l1 : TextSinkView) (status : ℕ) → HasNoClaims read_args
@@ -144,7 +145,8 @@ pub ran_line : (old new : LentFilesView) (read_args : Option BootmemArgsView) (l
     → l1.text ≡ outcome_line read_args (bootmem_outcome read_args (file_bytes old.files))
 ran_line old new read_args l0 l1 status own unwritten empty not_short line some other short =
     let told = line some in
-    line_ends old new read_args told.0 l0 l1 own (λ four. no_rise (unwritten (told.1 ∙ four))) (λ seven. other (told.1 ∙ seven)) empty not_short
+    line_ends old new read_args told.0 l0 l1 own (λ four. no_rise (unwritten (told.1 ∙ four)))
+    (λ seven. other (told.1 ∙ seven)) empty not_short
     short told.2 told.3 told.4
 
 -- the words that were read and the lent files determine the same outcome as the call's words and

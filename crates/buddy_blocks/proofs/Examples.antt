@@ -90,8 +90,10 @@ one_row_examples = (
   λ goes. let touch = goes.touch in absurd (omega (arith, touch)),
 )
 
-row_examples : AreCanonicalRows (great_row 0 2 0 ∷ (great_row 2048 1 1 ∷ [])) × (AreCanonicalRows (great_row 0 2 0 ∷ (great_row 2048 1 0 ∷ [])) → ⊥)
-    × (AreCanonicalRows (great_row 0 0 0 ∷ []) → ⊥) × (AreCanonicalRows (record { order = 1; first = 2; count = 2; node = 0; zone = zone.Dma } ∷ []) → ⊥)
+row_examples : AreCanonicalRows (great_row 0 2 0 ∷ (great_row 2048 1 1 ∷ []))
+    × (AreCanonicalRows (great_row 0 2 0 ∷ (great_row 2048 1 0 ∷ [])) → ⊥)
+    × (AreCanonicalRows (great_row 0 0 0 ∷ []) → ⊥)
+    × (AreCanonicalRows (record { order = 1; first = 2; count = 2; node = 0; zone = zone.Dma } ∷ []) → ⊥)
 row_examples = (
   (omega arith, inl refl, one_row_examples.1, (omega arith, inl refl, tt, tt)),
   λ are. are.2 one_row_examples.0,

@@ -32,7 +32,8 @@ rows_put (q ∷ []) r some single ends are = (are.0, are.1, ends, (some, single,
 rows_put (q ∷ (p ∷ rs)) r some single ends are = (are.0, are.1, are.2, rows_put (p ∷ rs) r some single ends are.3)
 
 -- a run begins after a frame that isn't free, or is of another node
-pub ends_at_first : (f : Frames) (first end n : ℕ) (rs : List BlockRow) → IsWholeNodeRun f first end n → LastRowFulfils (LastFrameIsFree f) rs
+pub ends_at_first : (f : Frames) (first end n : ℕ) (rs : List BlockRow) → IsWholeNodeRun f first end n
+    → LastRowFulfils (LastFrameIsFree f) rs
     → LastRowFulfils (EndsAt first end n) rs
 ends_at_first f first end n rs run free =
     last_so (LastFrameIsFree f) (EndsAt first end n) rs

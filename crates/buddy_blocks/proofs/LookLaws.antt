@@ -146,7 +146,8 @@ listed_none f rs i all = at_drop_all (listed f) rs i all
 
 -- the block of a frame is found in the run that the code has looked up
 pub found_at : (rs : List (RunOf ℕ)) (i x o s : ℕ) (d r : RunOf ℕ) → r ≡ get_or rs i d → AreRuns rs → i < length rs → r.base ≤ x
-    → IsRestFrom (value_at rs) x (drop i rs) → o ≤ 10 → s ≡ 2 ^ o → SetFits r.base (run_end r) x s → IsGreatestFittingOrder r.base (run_end r) x o
+    → IsRestFrom (value_at rs) x (drop i rs) → o ≤ 10 → s ≡ 2 ^ o → SetFits r.base (run_end r) x s
+    → IsGreatestFittingOrder r.base (run_end r) x o
     → Some (record { order = o; first = x - x % s; node = r.value; zone = zone_of (x - x % s) }) ≡ block_of (value_at rs) x
 found_at rs i x o s d r is runs few above rest small size fits greatest =
     rw is (found_block rs i x o s d runs few (rw is at above) (looked_up rs i x d few rest) small size (rw is at fits) (rw is at greatest))

@@ -47,7 +47,8 @@ row_is (suc k) f n o s at z small size whole free found zones =
 
 -- the blocks of a row lie in the run: the first by the largest set that fits, the others since
 -- they are of the largest order
-in_a_row : (f : Frames) (first end n o s at k : ℕ) → IsWholeNodeRun f first end n → first ≤ at → 0 < k → at + k * s ≤ end → o ≤ 10 → s ≡ 2 ^ o
+in_a_row : (f : Frames) (first end n o s at k : ℕ) → IsWholeNodeRun f first end n → first ≤ at → 0 < k → at + k * s ≤ end → o ≤ 10
+    → s ≡ 2 ^ o
     → at % s ≡ 0 → SetFits first end at s → IsGreatestFittingOrder first end at o → ((o ≡ 10) ⊎ (k ≡ 1)) → (i : ℕ) → i < k
     → (f (at + i * s) ≡ Some n) × (greatest_free_order f (at + i * s) n 10 ≡ o)
 in_a_row f first end n o s at k run above some room small size whole fits greatest (inr one) i lt =

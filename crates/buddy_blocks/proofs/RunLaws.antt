@@ -63,7 +63,8 @@ start_whole first end at o s start small size fits =
     subst (λ (t : ℕ). at % t ≡ 0) (sym size) (start o small (subst (λ (t : ℕ). SetFits first end at t) size fits))
 
 -- the next block begins right after this one
-pub start_next : (first end at o s : ℕ) → at % s ≡ 0 → o ≤ 10 → s ≡ 2 ^ o → IsGreatestFittingOrder first end at o → FittingSetsBeginAt first end (at + s)
+pub start_next : (first end at o s : ℕ) → at % s ≡ 0 → o ≤ 10 → s ≡ 2 ^ o → IsGreatestFittingOrder first end at o
+    → FittingSetsBeginAt first end (at + s)
 start_next first end at o s whole few size greatest p small fits =
     let there : (at + s) % 2 ^ o ≡ 0 =
     ap (λ t. (at + t) % 2 ^ o) size ∙ add-mod_right at (2 ^ o) ∙ subst (λ (t : ℕ). at % t ≡ 0) size whole in

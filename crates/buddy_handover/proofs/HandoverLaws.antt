@@ -24,7 +24,8 @@ record_freed b ms reserved i n d f g ascend whole few is known put x =
     grind (arith, nat_tests, more, is, was, now)
 
 -- one more record of memory without a node frees nothing
-pub record_left : (b : ℕ) (ms : List (RunOf LabelView)) (reserved : Labels) (i : ℕ) (d : RunOf LabelView) (f : Frames) → AreAscendingBelow b ms
+pub record_left : (b : ℕ) (ms : List (RunOf LabelView)) (reserved : Labels) (i : ℕ) (d : RunOf LabelView) (f : Frames)
+    → AreAscendingBelow b ms
     → AreWholeFrames ms → i < length ms → (frames_of_record (get_or ms i d)).node ≡ None
     → ((x : ℕ) → f x ≡ unclaimed_frames (value_at (take i ms)) reserved x)
     → (x : ℕ) → f x ≡ unclaimed_frames (value_at (take (i + 1) ms)) reserved x

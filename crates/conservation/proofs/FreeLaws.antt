@@ -80,7 +80,8 @@ module _ (given : InputsView) (t : BootedView) (known : HasUsableMemory given t)
       ap valid_node one.1 ∙ rw low (sym one.1)
 
   -- a frame that is reported as free is usable, and no claim touches it
-  pub reported_frame_is_free : (b : Block) (frame : ℕ) → t.free frame ≡ Some b.node → zone_of frame ≡ b.zone → IsFreeFor given t.items b frame
+  pub reported_frame_is_free : (b : Block) (frame : ℕ) → t.free frame ≡ Some b.node → zone_of frame ≡ b.zone
+      → IsFreeFor given t.items b frame
   unfolding free_node_in
   reported_frame_is_free b frame told zone =
       let both : ℕ → Bool = λ x. is_some (memory_of t.items x) && is_none (reserved_labels (owner_of t.items) x) in

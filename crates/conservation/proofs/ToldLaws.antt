@@ -15,7 +15,8 @@ told_of : (extra : ExtraView) (given : InputsView) (answer : Result BootSoFar Ca
 told_of extra given (Ok made) t is ends = record { made = made; boots = is; tells = cc ends }
 told_of extra given (Err cause) t is ends = absurd (cc ends)
 
-pub is_told_of : (extra : ExtraView) (given : InputsView) (t : BootedView) → whole_boot_with extra given ≡ Ok t → IsReportOfBoot extra given t
+pub is_told_of : (extra : ExtraView) (given : InputsView) (t : BootedView) → whole_boot_with extra given ≡ Ok t
+    → IsReportOfBoot extra given t
 is_told_of extra given t ends = told_of extra given (boot_with extra given) t refl ends
 
 -- what holds of each boot's report by its profile and early claims holds of `bootmem`'s own

@@ -122,7 +122,8 @@ bios_trimmed_one c x j k one at_j at_k =
 pub finished_one : (entries extension : List Entry) (edits : List Edit) (added : List Entry) (x j k : ℕ)
     → final_claims entries extension edits added x j ≡ true → final_claims entries extension edits added x k ≡ true → j ≡ k
 finished_one entries extension edits added x j k at_j at_k =
-    let before : Claims = union_of_claims (after_edits edits (with_extension extension (zero_page_claims entries))) (claims_of_entries added) in
+    let before : Claims = union_of_claims (after_edits edits (with_extension extension (zero_page_claims entries)))
+    (claims_of_entries added) in
     bios_trimmed_one (settled_claims before) x j k (settled_one before x) at_j at_k
 
 -- if no entries of an EFI map are added, the final claims are those of the table after the edits,
@@ -294,7 +295,8 @@ types_claims (r ∷ rs) runs types =
     (runs.0, omega arith, known.1, known.2, types_claims rs runs.2 rest)
 
 -- the runs of a map that ends below 2^64 are valid claims
-pub runs_claims : (c : Claims) (rs : List (RunOf ℕ)) → IsRunsOf (kinds c) rs → ((x : ℕ) → 2 ^ 64 - 1 ≤ x → kinds c x ≡ None) → AreValidClaims rs
+pub runs_claims : (c : Claims) (rs : List (RunOf ℕ)) → IsRunsOf (kinds c) rs → ((x : ℕ) → 2 ^ 64 - 1 ≤ x → kinds c x ≡ None)
+    → AreValidClaims rs
 runs_claims c rs known none =
     types_claims rs known.runs (λ x k found.
     let here : kinds c x ≡ Some k = sym (known.each x) ∙ found in

@@ -87,7 +87,8 @@ interval_frame from until frame =
       | inr begun ↦ (elim (cases_lt until (4096 * frame + 4096)) as (λ _. goal) [
         | inl late ↦
             (let fails : inside (4096 * frame + 4095) ≡ false = grind (arith, nat_tests) in
-            let none : all_bytes inside frame ≡ false = all_bytes-fails inside frame (4096 * frame + 4095) (omega arith) (omega arith) fails in
+            let none : all_bytes inside frame ≡ false = all_bytes-fails inside frame (4096 * frame + 4095) (omega arith)
+            (omega arith) fails in
             none ∙ grind (arith, nat_tests))
         | inr ends ↦
             (let each : (x : ℕ) → 4096 * frame ≤ x → x < 4096 * frame + 4096 → inside x ≡ true = λ x low high. grind (arith, nat_tests) in

@@ -121,7 +121,8 @@ entries_same rs es =
 
 -- the parts of a valid claim are valid claims: they aren't empty, end below 2^64, and have types
 -- above 0
-pub AreClaims-claim_between : (from until kind : ℕ) → until < 2 ^ 64 → 0 < kind → kind < 2 ^ 32 → AreValidClaims (claim_between from until kind)
+pub AreClaims-claim_between : (from until kind : ℕ) → until < 2 ^ 64 → 0 < kind → kind < 2 ^ 32
+    → AreValidClaims (claim_between from until kind)
 AreClaims-claim_between from until kind space some small =
     elim (cases_Bool (nat_lt from until)) as (λ _. AreValidClaims (claim_between from until kind)) [
       | inl above ↦
@@ -134,7 +135,8 @@ abbrev pub IsType : Option ℕ → Type 0
 IsType None = Unit {0}
 IsType (Some kind) = (0 < kind) × (kind < 2 ^ 32)
 
-AreClaims-claim_between_if : (from until : ℕ) (kind : Option ℕ) → until < 2 ^ 64 → IsType kind → AreValidClaims (claim_between_if_typed from until kind)
+AreClaims-claim_between_if : (from until : ℕ) (kind : Option ℕ) → until < 2 ^ 64 → IsType kind
+    → AreValidClaims (claim_between_if_typed from until kind)
 AreClaims-claim_between_if from until None space type = tt
 AreClaims-claim_between_if from until (Some kind) space type = AreClaims-claim_between from until kind space type.0 type.1
 
@@ -149,7 +151,8 @@ pub AreClaims-cut_out : (range : RangeView) (meant instead : Option ℕ) (rs : L
     → AreValidClaims (cut_out range meant instead rs)
 AreClaims-cut_out range meant instead [] type claims = tt
 AreClaims-cut_out range meant instead (r ∷ rs) type claims =
-    are_append _ _ (are_append _ _ (are_append _ _ (AreClaims-claim_between r.base (min range.base (run_end r)) r.value (omega arith) claims.2 claims.3)
+    are_append _ _ (are_append _ _
+    (are_append _ _ (AreClaims-claim_between r.base (min range.base (run_end r)) r.value (omega arith) claims.2 claims.3)
     (AreClaims-claim_between_if (max range.base r.base) (min (end_of range) (run_end r)) (type_inside meant instead r.value) (omega arith)
     (inside_is_type meant instead r.value type claims.2 claims.3)))
     (AreClaims-claim_between (max (end_of range) r.base) (run_end r) r.value (omega arith) claims.2 claims.3))

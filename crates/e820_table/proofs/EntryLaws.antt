@@ -45,7 +45,8 @@ EntriesFit-first_entries start (suc n) bytes near =
     (EntriesFit-first_entries start n bytes (λ k below. near k (omega arith))) ends
 
 pub space_of_none : (start n : ℕ) (bytes : List ℕ) → first_far_entry start n bytes ≡ None → EntriesFit (first_entries start n bytes)
-space_of_none start n bytes none = EntriesFit-first_entries start n bytes (λ k below. none_far start 0 n k bytes none (omega arith) (omega arith))
+space_of_none start n bytes none =
+    EntriesFit-first_entries start n bytes (λ k below. none_far start 0 n k bytes none (omega arith) (omega arith))
 
 -- `first_entries` of n has n entries
 pub count_first : (start n : ℕ) (bytes : List ℕ) → length (first_entries start n bytes) ≡ n

@@ -68,12 +68,14 @@ abbrev AreClean : Result (List Line) (ℕ × ScriptLineFault) → Type 0
 AreClean (Ok lines) = All (λ l. CanBeRun l.act) lines
 AreClean (Err fault) = Unit {0}
 
-abbrev then_line : ℕ → Result (Option Act) ScriptLineFault → (Option Act → Result (List Line) (ℕ × ScriptLineFault)) → Result (List Line) (ℕ × ScriptLineFault)
+abbrev then_line : ℕ → Result (Option Act) ScriptLineFault → (Option Act → Result (List Line) (ℕ × ScriptLineFault))
+    → Result (List Line) (ℕ × ScriptLineFault)
 then_line number_in_word r rest =
     map_error (λ wrong. (number_in_word, wrong)) r >>= λ act. rest act >>= λ lines.
     Ok (cons_option (script_line_at script_lines number_in_word act) lines)
 
-line-clean : (number_in_word : ℕ) (r : Result (Option Act) ScriptLineFault) (rest : Result (List Line) (ℕ × ScriptLineFault)) → IsCleanLine r → AreClean rest →
+line-clean : (number_in_word : ℕ) (r : Result (Option Act) ScriptLineFault) (rest : Result (List Line) (ℕ × ScriptLineFault))
+    → IsCleanLine r → AreClean rest →
     AreClean (then_line number_in_word r (λ act. rest))
 line-clean number_in_word (Ok None) (Ok lines) clean known = known
 line-clean number_in_word (Ok (Some a)) (Ok lines) clean known =
@@ -106,7 +108,8 @@ none-once : (number_in_word : ℕ) (rest : Result (List Line) (ℕ × ScriptLine
 none-once number_in_word (Ok lines) once = once
 none-once number_in_word (Err fault) once = tt
 
-line-once : (number_in_word : ℕ) (r : Result (Option Act) ScriptLineFault) (rest : Bool → Result (List Line) (ℕ × ScriptLineFault)) → AreClean (rest true) →
+line-once : (number_in_word : ℕ) (r : Result (Option Act) ScriptLineFault) (rest : Bool → Result (List Line) (ℕ × ScriptLineFault))
+    → AreClean (rest true) →
     IsOnce (rest false) → IsOnce (then_line number_in_word r (λ act. rest (has_once_command script_lines false act)))
 line-once number_in_word (Ok None) rest clean once = none-once number_in_word (rest false) once
 line-once number_in_word (Ok (Some a)) rest clean once = elim (cases_Bool (is_sections a)) [

@@ -88,7 +88,8 @@ on_range_of_id s id act_effect = act_on_owned_range s id act_effect (range_of_id
 
 -- `free`: frees the whole range of the ID
 abbrev pub free_whole_range : ScriptState → ℕ → RangeView → LineEffect
-free_whole_range s id range = record { change = free_range range; answer = outcomes.Done; ids = without_id s.ids id; fill = None; takes = false }
+free_whole_range s id range =
+    record { change = free_range range; answer = outcomes.Done; ids = without_id s.ids id; fill = None; takes = false }
 
 abbrev pub free_effect : ScriptState → ℕ → LineEffect
 free_effect s id = on_range_of_id s id (free_whole_range s id)
@@ -104,7 +105,8 @@ keep_start_of_range s id keep range = record {
 }
 
 abbrev pub trim_whole_range : ScriptState → ℕ → ℕ → RangeView → LineEffect
-trim_whole_range s id keep range = if nat_le range.size keep then answer_only s outcomes.TooLargeKeep else keep_start_of_range s id keep range
+trim_whole_range s id keep range =
+    if nat_le range.size keep then answer_only s outcomes.TooLargeKeep else keep_start_of_range s id keep range
 
 abbrev pub trim_effect : ScriptState → ℕ → ℕ → LineEffect
 trim_effect s id keep = on_range_of_id s id (trim_whole_range s id keep)

@@ -226,7 +226,8 @@ in_row (suc k) o x n z b has = ⊎_elim
 lead_in_row : (r : BlockRow) → 0 < r.count → ListsBlock (blocks_of_row r) (first_block_of_row r)
 lead_in_row r some =
     let more : r.count ≡ suc (r.count - 1) = omega arith in
-    let here : ListsBlock (row_from r.order r.first r.node r.zone (suc (r.count - 1))) (first_block_of_row r) = unfold row_from in inl refl in
+    let here : ListsBlock (row_from r.order r.first r.node r.zone (suc (r.count - 1))) (first_block_of_row r) = unfold row_from
+    in inl refl in
     subst (λ (k : ℕ). ListsBlock (row_from r.order r.first r.node r.zone k) (first_block_of_row r)) (sym more) here
 
 lead_listed : (rs : List BlockRow) (b : Block) → AreCanonicalRows rs → ListsBlock (leads rs) b → ListsBlock (blocks_of_rows rs) b

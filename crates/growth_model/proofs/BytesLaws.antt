@@ -156,7 +156,8 @@ byte_outside_tables-append kernel fills items (i ∷ more) further x b =
     (append_assoc items (i ∷ []) more)
 
 -- after the last fill only moves write
-byte_outside_tables-beyond : (kernel : RangeView) (fills : List Fill) (items more : List Item) (x b : ℕ) → AreFillsUpTo (length items) fills →
+byte_outside_tables-beyond : (kernel : RangeView) (fills : List Fill) (items more : List Item) (x b : ℕ)
+    → AreFillsUpTo (length items) fills →
     byte_outside_tables kernel fills items more x b ≡ (if is_vacated kernel items more x then 0 else b)
 byte_outside_tables-beyond kernel fills items [] x b made = refl
 byte_outside_tables-beyond kernel fills items (i ∷ more) x b made =
@@ -171,7 +172,8 @@ byte_outside_tables-beyond kernel fills items (i ∷ more) x b made =
 
 -- the byte of the longer list is the byte of the first items, with the further items applied
 pub after-byte : (kernel : RangeView) (items more : List Item) (fills : List Fill) (x : ℕ) → AreFillsUpTo (length items) fills →
-    byte_after_items kernel items (items ++ more) x (byte_from_history kernel items fills x) ≡ byte_from_history kernel (items ++ more) fills x
+    byte_after_items kernel items (items ++ more) x (byte_from_history kernel items fills x)
+    ≡ byte_from_history kernel (items ++ more) fills x
 unfolding byte_from_history
 after-byte kernel items more fills x made =
     let old = byte_outside_tables kernel fills [] items x (byte_after_fills 0 fills x 0) in

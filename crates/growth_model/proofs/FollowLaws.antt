@@ -33,7 +33,8 @@ follows-along kernel items more longer f g goes each = record {
 }
 
 -- bytes that don't change follow a list of items that doesn't grow
-pub follows-still : (kernel : RangeView) (items : List Item) (m r : TableView) (f g : ℕ → ℕ) → m ≡ table_from_items which.Memory kernel items →
+pub follows-still : (kernel : RangeView) (items : List Item) (m r : TableView) (f g : ℕ → ℕ)
+    → m ≡ table_from_items which.Memory kernel items →
     r ≡ table_from_items which.Reserved kernel items → TablesAreEncoded m r f → ((x : ℕ) → g x ≡ f x) → Follows kernel items items f g
 follows-still kernel items m r f g first second spelled same =
     follows-along kernel items [] items f g (sym (append-nil items))

@@ -69,7 +69,8 @@ claim_range-quiet range who =
 pub free_range-quiet : (range : RangeView) → IsQuiet (free_range range)
 unfolding free_range
 free_range-quiet range =
-    quiet-then _ _ (quiet-grown which.Reserved max_records_added_by_split _ (reserved_growth-quiet range)) (written-quiet (item.Free range) refl)
+    quiet-then _ _ (quiet-grown which.Reserved max_records_added_by_split _ (reserved_growth-quiet range))
+    (written-quiet (item.Free range) refl)
 
 free_old_place-quiet : (room : ℕ) (old : Option ℕ) → IsQuiet (free_old_place (old_frames room old))
 free_old_place-quiet room None = record { each = λ items. tt }

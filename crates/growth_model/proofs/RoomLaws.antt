@@ -261,7 +261,8 @@ enough-added range items space fits ends =
 pub enough-labelled : (items : List Item) → IsInAddressSpace items → TablesHaveRoom items
     → HasRoomAfter which.Memory max_records_added_by_split memory_growth items
 enough-labelled items space fits =
-    room-behind which.Memory max_records_added_by_split memory_growth memory-well (few-two which.Memory) items (bounded-of which.Memory items space)
+    room-behind which.Memory max_records_added_by_split memory_growth memory-well (few-two which.Memory) items
+    (bounded-of which.Memory items space)
     (fits which.Memory)
 
 -- after one growth apart from an unclaimed range, the table has room for the range, since it is

@@ -49,7 +49,8 @@ claim-stands kernel r old new range who image small stands may ends =
     cuts-ends (Stands kernel) r old new (claim_range range who old) (claim-cuts kernel old range who image small stands may) ends
 
 pub free-stands : {T : Type 0} (kernel : RangeView) (r : Result T Refusal) (old new : List Item) (range : RangeView)
-    → Stands kernel old → HasFirstItem old → OverlapsNoTable kernel range old → EndsAsChange r old new (free_range range) → Stands kernel new
+    → Stands kernel old → HasFirstItem old → OverlapsNoTable kernel range old → EndsAsChange r old new (free_range range)
+    → Stands kernel new
 free-stands kernel r old new range stands begun away ends =
     stands-by kernel r old new (free_range range old) (free_range-cuts kernel old range away) stands begun ends
 
@@ -109,7 +110,8 @@ ends-more (Err refusal.NoGap) old new o ends = absurd ends
 ends-more (Err (refusal.NoGapForTable w room)) old new o ends = (items_of_steps o.steps, ends.1)
 ends-more (Err refusal.Memory) old new o ends = (items_of_steps (take ends.count o.steps), ends.stands)
 
-pub ends-begun : {T : Type 0} (r : Result T Refusal) (old new : List Item) (change : Change) → HasFirstItem old → EndsAsChange r old new change
+pub ends-begun : {T : Type 0} (r : Result T Refusal) (old new : List Item) (change : Change) → HasFirstItem old
+    → EndsAsChange r old new change
     → HasFirstItem new
 ends-begun r old new change begun ends =
     let more = ends-more r old new (change old) ends in subst HasFirstItem (sym more.1) (more-begun old more.0 begun)

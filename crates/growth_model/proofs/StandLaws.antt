@@ -64,7 +64,8 @@ length-spelled_table (r ∷ rs) (suc n) few =
     ∙ omega (arith, first, rest)
 
 spelled_here : (w : Which) (kernel : RangeView) (items : List Item) (f : ℕ → ℕ) (k : ℕ) → TablesAreClaimed kernel items →
-    TablesAreEncoded (table_from_items which.Memory kernel items) (table_from_items which.Reserved kernel items) f → k < 24 * room_of w items →
+    TablesAreEncoded (table_from_items which.Memory kernel items) (table_from_items which.Reserved kernel items) f
+    → k < 24 * room_of w items →
     get_or (encode_table (records_of w items) (room_of w items)) k 0 ≡ f (table_place w kernel items + k)
 spelled_here w kernel items f k placed spelled below =
     let place = table_place w kernel items in

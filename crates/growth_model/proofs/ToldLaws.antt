@@ -57,7 +57,8 @@ edit-told w old new records edited elsewhere first second =
 
 -- the bytes after a move of one table (`relocate`)
 pub move-told : (w : Which) (old new : TablesView) → ((x : ℕ) → covers (table_range_in w old) x ≡ true → byte_of new.store x ≡ 0) →
-    ((x : ℕ) → covers (table_range_in w new) x ≡ false → covers (table_range_in w old) x ≡ false → byte_of new.store x ≡ byte_of old.store x) →
+    ((x : ℕ) → covers (table_range_in w new) x ≡ false → covers (table_range_in w old) x ≡ false
+    → byte_of new.store x ≡ byte_of old.store x) →
     IsInStore new.memory new.store → IsInStore new.reserved new.store → (x : ℕ) →
     byte_of new.store x ≡ byte_with_tables new.memory new.reserved x (byte_without_table (table_in w old) x (byte_of old.store x))
 move-told w old new gone elsewhere first second =

@@ -36,7 +36,8 @@ byte_without_table t x b = if covers (bytes_of t) x then 0 else b
 -- the byte at address `x` with the tables that the items define: the byte of a table, or `b`
 -- outside both
 abbrev pub byte_with_item_tables : RangeView → List Item → ℕ → ℕ → ℕ
-byte_with_item_tables kernel items x b = byte_with_tables (table_from_items which.Memory kernel items) (table_from_items which.Reserved kernel items) x b
+byte_with_item_tables kernel items x b =
+    byte_with_tables (table_from_items which.Memory kernel items) (table_from_items which.Reserved kernel items) x b
 
 -- whether the item `i`, if it is written after `items`, moves a table away from address `x`
 abbrev pub is_vacated_by : RangeView → List Item → Item → ℕ → Bool

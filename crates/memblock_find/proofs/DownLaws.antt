@@ -23,7 +23,8 @@ look_bottom rs at begun = record {
 }
 
 -- between the end of the last record below the address and the address there is no label
-pub look_gap : (rs : List (RunOf LabelView)) (slot at : ℕ) → 0 < slot → ExactlyFirstBeginBelow at rs slot → run_end (nth_record rs (slot - 1)) < at
+pub look_gap : (rs : List (RunOf LabelView)) (slot at : ℕ) → 0 < slot → ExactlyFirstBeginBelow at rs slot
+    → run_end (nth_record rs (slot - 1)) < at
     → IsLookDown rs at (record { label = None; bound = run_end (nth_record rs (slot - 1)); slot = slot })
 look_gap rs slot at some begun under_at =
     let runs : AreRuns rs = begun.runs in
@@ -52,7 +53,8 @@ look_gap rs slot at some begun under_at =
     }
 
 -- in the last record that begins below the address, the label is the record's
-pub look_in : (rs : List (RunOf LabelView)) (slot at : ℕ) → 0 < slot → ExactlyFirstBeginBelow at rs slot → at ≤ run_end (nth_record rs (slot - 1))
+pub look_in : (rs : List (RunOf LabelView)) (slot at : ℕ) → 0 < slot → ExactlyFirstBeginBelow at rs slot
+    → at ≤ run_end (nth_record rs (slot - 1))
     → IsLookDown rs at (record { label = Some (nth_record rs (slot - 1)).value; bound = (nth_record rs (slot - 1)).base; slot = slot - 1 })
 look_in rs slot at some begun at_end =
     let runs : AreRuns rs = begun.runs in
@@ -132,7 +134,8 @@ among_all rs at count runs all = record {
 
 -- if the last of the first `count` records begins below the address, they are exactly those that
 -- do
-pub all_begun : (rs : List (RunOf LabelView)) (at count : ℕ) → OnlyFirstMayBegin at rs count → (0 < count → (nth_record rs (count - 1)).base < at)
+pub all_begun : (rs : List (RunOf LabelView)) (at count : ℕ) → OnlyFirstMayBegin at rs count
+    → (0 < count → (nth_record rs (count - 1)).base < at)
     → ExactlyFirstBeginBelow at rs count
 all_begun rs at count among last = record {
   runs = among.runs;

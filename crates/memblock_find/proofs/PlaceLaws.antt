@@ -167,7 +167,8 @@ best_of_stretch mirror memory reserved q from until label found (Some a) some wi
     }
 
 -- if the walk has come below the window without a place, there is none
-pub none_found : (mirror : Bool) (memory reserved : Labels) (q : Query) (at : ℕ) → 1 ≤ q.size → NoPlaceEndsBetween mirror memory reserved q at q.hi
+pub none_found : (mirror : Bool) (memory reserved : Labels) (q : Query) (at : ℕ) → 1 ≤ q.size
+    → NoPlaceEndsBetween mirror memory reserved q at q.hi
     → at ≤ max q.lo 4096 → top_place_in (record { mirror = mirror; up = false }) memory reserved q ≡ None
 none_found mirror memory reserved q at some past low =
     top_place_in-fails (record { mirror = mirror; up = false }) memory reserved q (λ b less.

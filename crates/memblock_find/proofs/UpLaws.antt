@@ -37,7 +37,8 @@ look_top rs slot at all small known =
     }
 
 -- up to the start of the next record there is no label
-pub look_hole : (rs : List (RunOf LabelView)) (slot at : ℕ) → slot < length rs → ExactlyFirstEndAtOrBelow at rs slot → at < (nth_record rs slot).base
+pub look_hole : (rs : List (RunOf LabelView)) (slot at : ℕ) → slot < length rs → ExactlyFirstEndAtOrBelow at rs slot
+    → at < (nth_record rs slot).base
     → (nth_record rs slot).base < 2 ^ 64
     → IsLookUp rs at (record { label = None; bound = (nth_record rs slot).base; slot = slot })
 look_hole rs slot at within ended before_base base_small =
@@ -70,7 +71,8 @@ look_hole rs slot at within ended before_base base_small =
     }
 
 -- inside the next record, the label is that of the record
-pub look_over : (rs : List (RunOf LabelView)) (slot at : ℕ) → slot < length rs → ExactlyFirstEndAtOrBelow at rs slot → (nth_record rs slot).base ≤ at
+pub look_over : (rs : List (RunOf LabelView)) (slot at : ℕ) → slot < length rs → ExactlyFirstEndAtOrBelow at rs slot
+    → (nth_record rs slot).base ≤ at
     → run_end (nth_record rs slot) < 2 ^ 64
     → IsLookUp rs at (record { label = Some (nth_record rs slot).value; bound = run_end (nth_record rs slot); slot = slot + 1 })
 look_over rs slot at within ended from_base end_small =

@@ -36,7 +36,8 @@ one_in_place b from i next rs ss r known left above some low is = (
 )
 
 -- if a record isn't in its place, the list doesn't ascend
-pub out_of_place : (b from i : ℕ) (rs ss : List (RunOf LabelView)) (r : RunOf LabelView) → Ascends from b (drop i rs) ↔ AreAscendingBelow b rs
+pub out_of_place : (b from i : ℕ) (rs ss : List (RunOf LabelView)) (r : RunOf LabelView)
+    → Ascends from b (drop i rs) ↔ AreAscendingBelow b rs
     → drop i rs ≡ r ∷ ss → (from ≤ r.base → 0 < r.size → run_end r ≤ b → ⊥) → AreAscendingBelow b rs → ⊥
 out_of_place b from i rs ss r known left fails ascend =
     let whole = rw left at (known.1 ascend) in fails whole.0 whole.1.0 whole.1.1

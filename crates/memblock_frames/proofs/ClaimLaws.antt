@@ -53,7 +53,8 @@ unclaimed_end rs i at x all passed above =
 
 -- between the records so far and the next, the table has no byte of a frame
 pub unclaimed_gap : (b : ℕ) (rs : List (RunOf LabelView)) (i at x : ℕ) (d : RunOf LabelView) (fs : RecordFrames) → AreAscendingBelow b rs
-    → i < length rs → fs ≡ frames_of_record (get_or rs i d) → OverlapOnlyBelow rs i at → at ≤ x → x < fs.first → is_unclaimed (value_at rs) x ≡ true
+    → i < length rs → fs ≡ frames_of_record (get_or rs i d) → OverlapOnlyBelow rs i at → at ≤ x → x < fs.first
+    → is_unclaimed (value_at rs) x ≡ true
 unclaimed_gap b rs i at x d fs ascend few is passed above before =
     let r : RunOf LabelView = get_or rs i d in
     let first : fs.first ≡ r.base / 4096 = ap (λ (g : RecordFrames). g.first) is in
@@ -64,7 +65,8 @@ unclaimed_gap b rs i at x d fs ascend few is passed above before =
 -- the table has a byte of each frame of the next record
 pub claimed_by : (b : ℕ) (rs : List (RunOf LabelView)) (i at x : ℕ) (d : RunOf LabelView) (fs : RecordFrames) → AreAscendingBelow b rs
     → i < length rs
-    → fs ≡ frames_of_record (get_or rs i d) → OverlapOnlyBelow rs i at → at ≤ x → fs.first ≤ x → x < fs.end → is_unclaimed (value_at rs) x ≡ false
+    → fs ≡ frames_of_record (get_or rs i d) → OverlapOnlyBelow rs i at → at ≤ x → fs.first ≤ x → x < fs.end
+    → is_unclaimed (value_at rs) x ≡ false
 claimed_by b rs i at x d fs ascend few is passed above from until =
     let r : RunOf LabelView = get_or rs i d in
     let some = (ascend_at b rs i d ascend few).0 in

@@ -23,7 +23,8 @@ pub tests_both : (first x end : ℕ) → (nat_le first x && nat_lt x end) ≡ tr
 tests_both first x end holds = grind (arith, nat_tests)
 
 -- the values of the records up to one, with the frames of that one
-pub node_more : (b : ℕ) (ms : List (RunOf LabelView)) (i x : ℕ) (d : RunOf LabelView) → AreAscendingBelow b ms → AreWholeFrames ms → i < length ms
+pub node_more : (b : ℕ) (ms : List (RunOf LabelView)) (i x : ℕ) (d : RunOf LabelView) → AreAscendingBelow b ms → AreWholeFrames ms
+    → i < length ms
     → node_of_frame (value_at (take (i + 1) ms)) x
     ≡ (if nat_le (frames_of_record (get_or ms i d)).first x
     && nat_lt x (frames_of_record (get_or ms i d)).end then (frames_of_record (get_or ms i d)).node

@@ -150,8 +150,10 @@ module _ {kernel : RangeView} {items : List Item} {t : TablesView} {at : AllocSe
       let few = few-kept kept w in subst (λ (s : TableView). length s.records ≤ s.room) (sym is) (omega (arith, few))
 
   -- the tables still match the items after one more item
-  kept-by : (i : Item) (to : AllocSettings) → RangeEndsInAddressSpace i → limit_after at.limit i ≡ to.limit → upward_after at.upward i ≡ to.upward
-      → u.memory ≡ table_from_items which.Memory kernel (items ++ i ∷ []) → u.reserved ≡ table_from_items which.Reserved kernel (items ++ i ∷ [])
+  kept-by : (i : Item) (to : AllocSettings) → RangeEndsInAddressSpace i → limit_after at.limit i ≡ to.limit
+      → upward_after at.upward i ≡ to.upward
+      → u.memory ≡ table_from_items which.Memory kernel (items ++ i ∷ [])
+      → u.reserved ≡ table_from_items which.Reserved kernel (items ++ i ∷ [])
       → length u.memory.records ≤ u.memory.room → length u.reserved.records ≤ u.reserved.room
       → ((w : Which) (place : ℕ) → moved_after w (moved_to w items) i ≡ Some place
       → place + round_up_to_frames (24 * room_after w (room_of w items) i) < 2 ^ 64) → TablesMatchItems kernel (items ++ i ∷ []) u to
@@ -166,7 +168,8 @@ module _ {kernel : RangeView} {items : List Item} {t : TablesView} {at : AllocSe
   }
 
   -- the tables still match the items after an edit of one table
-  kept-reserved : (i : Item) → IsQuiet i → RangeEndsInAddressSpace i → limit_after at.limit i ≡ at.limit → upward_after at.upward i ≡ at.upward
+  kept-reserved : (i : Item) → IsQuiet i → RangeEndsInAddressSpace i → limit_after at.limit i ≡ at.limit
+      → upward_after at.upward i ≡ at.upward
       → ((f : Labels) → table_after which.Memory f i ≡ f)
       → u.reserved ≡ record t.reserved { records = records_for (table_after which.Reserved (value_at t.reserved.records) i) }
       → u.memory ≡ t.memory → length (records_for (table_after which.Reserved (value_at t.reserved.records) i)) ≤ t.reserved.room
@@ -175,7 +178,8 @@ module _ {kernel : RangeView} {items : List Item} {t : TablesView} {at : AllocSe
       kept-by i at space limited directed (table-quiet which.Memory i quiet other same) (table-edited which.Reserved i quiet is)
       (few-stays which.Memory same) (rw is few) (far-quiet kept i quiet)
 
-  kept-memory : (i : Item) → IsQuiet i → RangeEndsInAddressSpace i → limit_after at.limit i ≡ at.limit → upward_after at.upward i ≡ at.upward
+  kept-memory : (i : Item) → IsQuiet i → RangeEndsInAddressSpace i → limit_after at.limit i ≡ at.limit
+      → upward_after at.upward i ≡ at.upward
       → ((f : Labels) → table_after which.Reserved f i ≡ f)
       → u.memory ≡ record t.memory { records = records_for (table_after which.Memory (value_at t.memory.records) i) }
       → u.reserved ≡ t.reserved → length (records_for (table_after which.Memory (value_at t.memory.records) i)) ≤ t.memory.room

@@ -16,7 +16,8 @@ use Rattle.memblock_grow.specs.Prepared.{moves_table_over, is_moved_over_by_tabl
 
 grown-append : (a b : List Item) (x : ℕ) → is_moved_over_by_table (a ++ b) x ≡ (is_moved_over_by_table a x || is_moved_over_by_table b x)
 grown-append [] b x = refl
-grown-append (i ∷ is) b x = rw (grown-append is b x) (sym (or_assoc (moves_table_over i x) (is_moved_over_by_table is x) (is_moved_over_by_table b x)))
+grown-append (i ∷ is) b x =
+    rw (grown-append is b x) (sym (or_assoc (moves_table_over i x) (is_moved_over_by_table is x) (is_moved_over_by_table b x)))
 
 -- the addresses that further items and a place prepare, in another order
 swap : (g h c s : Bool) → (h || (c || (g || s))) ≡ ((g || h) || (c || s))

@@ -114,7 +114,9 @@ parted_runs = record { base = 1; size = 1; value = owner.Kernel } ∷ (record { 
 
 runs_of_parted : owner_runs_of parted ≡ parted_runs
 unfolding owner_runs_of
-runs_of_parted = sym (runs_equal_runs_of same_owner same_owner_decides_equality (owner_of parted) parted_runs (λ x le. grind (arith, nat_tests)) (record {
-  runs = (omega arith, (omega arith, λ touch. absurd (omega arith)), (omega arith, tt, tt));
-  each = λ x. grind (arith, nat_tests);
-}))
+runs_of_parted =
+    sym (runs_equal_runs_of same_owner same_owner_decides_equality (owner_of parted) parted_runs
+    (λ x le. grind (arith, nat_tests)) (record {
+      runs = (omega arith, (omega arith, λ touch. absurd (omega arith)), (omega arith, tt, tt));
+      each = λ x. grind (arith, nat_tests);
+    }))

@@ -39,7 +39,8 @@ pub label_self : (a : LabelView) → same_label a a ≡ true
 label_self a = and_from (same_node_or_none a.node a.node) (same_bool a.mirror a.mirror) (node_self a.node) (switch_self a.mirror)
 
 pub same_label_decides_equality : DecidesEquality same_label
-same_label_decides_equality = record { true_is_equal = label_yes; equal_is_true = λ a b e. ap (λ (l : LabelView). same_label a l) (sym e) ∙ label_self a }
+same_label_decides_equality =
+    record { true_is_equal = label_yes; equal_is_true = λ a b e. ap (λ (l : LabelView). same_label a l) (sym e) ∙ label_self a }
 
 -- the owner with this variant and this number
 numbered : ℕ → ℕ → Owner
@@ -78,4 +79,5 @@ pub owner_self : (a : Owner) → same_owner a a ≡ true
 owner_self a = and_from _ _ (eq-eqb (variant_of a) _ refl) (eq-eqb (owner_number a) _ refl)
 
 pub same_owner_decides_equality : DecidesEquality same_owner
-same_owner_decides_equality = record { true_is_equal = owner_yes; equal_is_true = λ a b e. ap (λ (o : Owner). same_owner a o) (sym e) ∙ owner_self a }
+same_owner_decides_equality =
+    record { true_is_equal = owner_yes; equal_is_true = λ a b e. ap (λ (o : Owner). same_owner a o) (sym e) ∙ owner_self a }

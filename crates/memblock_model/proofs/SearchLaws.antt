@@ -125,7 +125,8 @@ fits_in-parts mirror memory reserved q a h =
       held = high.1;
       allowed = held.1;
       suited = allowed.1;
-      label = λ x above below. agree-yes same_label same_label_decides_equality (memory x) (memory a) (and_parts _ _ (each x above below)).0;
+      label =
+          λ x above below. agree-yes same_label same_label_decides_equality (memory x) (memory a) (and_parts _ _ (each x above below)).0;
       free = λ x above below. no_label (reserved x) (and_parts _ _ (each x above below)).1;
     }
 
@@ -340,7 +341,8 @@ pub best_place_in-fails : (up : Bool) (memory reserved : Labels) (q : Query)
     → best_place_in up memory reserved q ≡ None
 unfolding best_place_in
 best_place_in-fails up memory reserved q none =
-    rw (top_place_in-fails (record { mirror = true; up = up }) memory reserved q (λ b lt. fits_in-unmirrored_fails true memory reserved q b (none b lt)))
+    rw (top_place_in-fails (record { mirror = true; up = up }) memory reserved q
+    (λ b lt. fits_in-unmirrored_fails true memory reserved q b (none b lt)))
     (top_place_in-fails (record { mirror = false; up = up }) memory reserved q none)
 
 -- no place in mirrored memory has bytes with a plain label

@@ -129,7 +129,8 @@ few-pieces r f ends none =
     ∙ ap (λ (g : Labels). total (run_ends_at same_label g) 0 (2 ^ 64)) (value_at-records f none) in
     let is = pieces_are r f ends in
     let ended : total (run_ends_at same_label (gaps_in_range r plain_label f)) 0 (2 ^ 64) ≡ total (ends_at h) 0 (2 ^ 64) =
-    total-alike (run_ends_at same_label (gaps_in_range r plain_label f)) (ends_at h) 0 (2 ^ 64) (λ y above under. edge_bare (h y) (h (y + 1))) in
+    total-alike (run_ends_at same_label (gaps_in_range r plain_label f)) (ends_at h) 0 (2 ^ 64)
+    (λ y above under. edge_bare (h y) (h (y + 1))) in
     let begun = end_as_begun h (2 ^ 64) 0 in
     let few : total (begins_at h) 0 (2 ^ 64) ≤ total (λ y. run_ends_at same_label f y + one_right_below r.base y) 0 (2 ^ 64) =
     total-fewer (begins_at h) (λ y. run_ends_at same_label f y + one_right_below r.base y) 0 (2 ^ 64)

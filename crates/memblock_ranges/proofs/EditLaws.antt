@@ -26,9 +26,11 @@ pub cover_room : (rs : List (RunOf LabelView)) (r : RangeView) (v : LabelView) (
     length rs + uncovered_run_count r (value_at rs) ≤ room → HasRoomToEdit same_label (value_at rs) (cover_range r v (value_at rs)) room
 cover_room rs r v room known ends fits =
     let f = value_at rs in
-    let count : length rs ≡ total (run_ends_at same_label f) 0 (2 ^ 64) = all_ends same_label same_label_decides_equality rs known.runs known.within in
+    let count : length rs ≡ total (run_ends_at same_label f) 0
+    (2 ^ 64) = all_ends same_label same_label_decides_equality rs known.runs known.within in
     let more = pieces_are r f ends in
-    room_by same_label same_label_decides_equality f (cover_range r v f) (run_ends_at same_label (gaps_in_range r plain_label f)) (uncovered_run_count r f) room
+    room_by same_label same_label_decides_equality f (cover_range r v f) (run_ends_at same_label (gaps_in_range r plain_label f))
+    (uncovered_run_count r f) room
     (covered_edges same_label same_label_decides_equality r v plain_label f)
     (λ at le. let parts = total-split (run_ends_at same_label (gaps_in_range r plain_label f)) 0 at (2 ^ 64 - at) (2 ^ 64) at (omega arith)
     (omega arith) in

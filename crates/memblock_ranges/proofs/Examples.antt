@@ -154,7 +154,8 @@ bytes_examples = (refl, refl, refl)
 overlap : OverlapsTable both (record { base = 0x2FFEBFF; size = 1 })
 overlap = (which.Memory, (0x2FFEBFF, refl))
 
-node_examples : MayBeNodeField which.Memory 1024 × MayBeNodeField which.Memory 3 × MayBeNodeField which.Reserved 1024 × ¬ MayBeNodeField which.Reserved 3
+node_examples : MayBeNodeField which.Memory 1024 × MayBeNodeField which.Memory 3 × MayBeNodeField which.Reserved 1024
+    × ¬ MayBeNodeField which.Reserved 3
 node_examples = (omega arith, omega arith, refl, λ no. absurd (omega (arith, no)))
 
 no_nodes : ArePlainRecords [] × ¬ ArePlainRecords (first_run ∷ [])
@@ -164,7 +165,8 @@ no_nodes = (
       cc clash,
 )
 
-space_examples : RangeEndsInAddressSpace (item.Claim (record { base = 0x1000; size = 0x1000 }) owner.Kernel) × RangeEndsInAddressSpace item.Trim
+space_examples : RangeEndsInAddressSpace (item.Claim (record { base = 0x1000; size = 0x1000 }) owner.Kernel)
+    × RangeEndsInAddressSpace item.Trim
     × ¬ RangeEndsInAddressSpace (item.Free (record { base = 1; size = 2 ^ 64 }))
     × ¬ RangeEndsInAddressSpace (item.Mirror (record { base = 1; size = 2 ^ 64 }))
 space_examples = (omega arith, tt, (λ ends. absurd (omega (arith, ends))), λ ends. absurd (omega (arith, ends)))

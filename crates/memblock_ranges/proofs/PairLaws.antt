@@ -50,7 +50,8 @@ stays s t h same ready table =
 same_bytes_by : (s t : List ExtentView) (g h : Head) → part_kept_by_edits t h ≡ part_kept_by_edits s g → bytes_of_head h ≡ bytes_of_head g
 same_bytes_by s t g h kept = ap (λ (o : PartKeptByEdits). let r : RangeView = record { base = o.place; size = 24 * o.room } in r) kept
 
-edited_at : (s t : List ExtentView) (g h : Head) → part_kept_by_edits t h ≡ part_kept_by_edits s g → (x : ℕ) → covers (bytes_of_head g) x ≡ false
+edited_at : (s t : List ExtentView) (g h : Head) → part_kept_by_edits t h ≡ part_kept_by_edits s g → (x : ℕ)
+    → covers (bytes_of_head g) x ≡ false
     → byte_of t x ≡ byte_of s x
 edited_at s t g h kept x out =
     let e : (if covers (bytes_of_head h) x then 0 else byte_of t x) ≡ (if covers (bytes_of_head g) x then 0 else byte_of s x) =

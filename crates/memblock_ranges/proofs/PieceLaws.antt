@@ -28,7 +28,8 @@ stretch_ends same tells g from to v less stays =
     let quiet : total (run_ends_at same g) from inner ≡ 0 = total-quiet (run_ends_at same g) from inner
     (λ y above under. rw (stays y above (omega arith), stays (y + 1) (omega arith) (omega arith)) (run_ends_between-self same tells v)) in
     let one = total-next (run_ends_at same g) last 0 in
-    let rest : total (run_ends_at same g) (last + 1) 0 ≡ 0 = total-quiet (run_ends_at same g) (last + 1) 0 (λ y above under. absurd (omega arith)) in
+    let rest : total (run_ends_at same g) (last + 1) 0
+    ≡ 0 = total-quiet (run_ends_at same g) (last + 1) 0 (λ y above under. absurd (omega arith)) in
     let here : run_ends_at same g last ≡ run_ends_between same v (g to) = rw (stays last (omega arith) (omega arith), at_end) refl in
     omega (arith, parts, quiet, one, rest, here)
 

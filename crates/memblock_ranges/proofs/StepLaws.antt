@@ -26,7 +26,8 @@ pub untouched-items : (w : Which) (items : List Item) (i : Item) (old : List (Ru
 unfolding records_of
 untouched-items w items i old was same = was ∙ ap records_for (sym (table_of-push w items i ∙ same))
 
-after_within : (w : Which) (f : Labels) (i : Item) → RangeEndsInAddressSpace i → IsEmptyFrom (2 ^ 64) f → IsEmptyFrom (2 ^ 64) (table_after w f i)
+after_within : (w : Which) (f : Labels) (i : Item) → RangeEndsInAddressSpace i → IsEmptyFrom (2 ^ 64) f
+    → IsEmptyFrom (2 ^ 64) (table_after w f i)
 after_within which.Memory f (item.Mem range) ends none =
     amended_ends (λ carried. Some (unwrap_or carried plain_label)) range f (2 ^ 64) ends none
 after_within which.Memory f item.Trim ends none = nothing-trimmed (2 ^ 64) f none

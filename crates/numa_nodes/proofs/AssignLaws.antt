@@ -51,7 +51,8 @@ by-wanting items found =
 
 -- the stage ends as what follows the list of ranges
 by-listed : (r : Result NodesView StageStop) (old new : List Item) (found : SratNodesView)
-    → EndsAsStage (by_ranges found (ranges_in found old)) error_of_stage_cause r old new → EndsAsStage (assign_nodes_by found) error_of_stage_cause r old new
+    → EndsAsStage (by_ranges found (ranges_in found old)) error_of_stage_cause r old new
+    → EndsAsStage (assign_nodes_by found) error_of_stage_cause r old new
 unfolding assign_nodes_by
 by-listed r old new found rest =
     ends-second (ranges_in found old) r error_of_stage_cause old old new (read_items_allocating (ranges_in found)) (by_ranges found)
@@ -66,7 +67,8 @@ by-ranges e old new found was =
 
 -- how the stage ends after the ranges have got their nodes
 module _ (old mid : List Item) (found : SratNodesView)
-    (was : EndsAsStage {A = Unit {0}} (fold_steps set_block_node tt (node_ranges (limit_of old) found)) error_of_stage_cause (Ok tt) old mid) where
+    (was : EndsAsStage {A = Unit {0}} (fold_steps set_block_node tt (node_ranges (limit_of old) found)) error_of_stage_cause
+    (Ok tt) old mid) where
   by-behind : (r : Result NodesView StageStop) (new : List Item) → EndsAsStage (behind found tt) error_of_stage_cause r mid new
       → EndsAsStage (assign_nodes_by found) error_of_stage_cause r old new
   by-behind r new rest =
@@ -81,7 +83,8 @@ module _ (old mid : List Item) (found : SratNodesView)
       (ends-wanting nodes_in error_of_stage_cause mid))
 
   -- the data of those nodes is placed
-  by-data : (r : Result NodesView StageStop) (new : List Item) → EndsAsStage (place_data_of_nodes found (nodes_in mid)) error_of_stage_cause r mid new
+  by-data : (r : Result NodesView StageStop) (new : List Item)
+      → EndsAsStage (place_data_of_nodes found (nodes_in mid)) error_of_stage_cause r mid new
       → EndsAsStage (assign_nodes_by found) error_of_stage_cause r old new
   by-data r new rest =
       by-behind r new
@@ -94,7 +97,8 @@ module _ (old mid : List Item) (found : SratNodesView)
       (view_of_result (λ done. nodes_view_from_judgement found (nodes_with_memory (memory_of mid))) r) old new
   data-told (Ok done) new placed =
       by-data (Ok (nodes_view_from_judgement found (nodes_in mid))) new
-      (ends-second tt (Ok (nodes_view_from_judgement found (nodes_in mid))) error_of_stage_cause mid new new (fold_steps place_node_data tt (nodes_in mid))
+      (ends-second tt (Ok (nodes_view_from_judgement found (nodes_in mid))) error_of_stage_cause mid new new
+      (fold_steps place_node_data tt (nodes_in mid))
       (λ done. return_value (nodes_view_from_judgement found (nodes_in mid))) placed (refl, refl))
   data-told (Err e) new placed =
       by-data (Err e) new

@@ -76,7 +76,8 @@ set_block_node-memory : (b : NumaBlock) (items : List Item) → (set_block_node 
     ≡ relabel_range (range_of_run b) (with_node (Some b.value)) (memory_of items)
 unfolding set_range_node
 set_block_node-memory b items answered =
-    set_block_node-by (λ (is : List Item). memory_of is ≡ relabel_range (range_of_run b) (with_node (Some b.value)) (memory_of items)) b items
+    set_block_node-by (λ (is : List Item). memory_of is ≡ relabel_range (range_of_run b) (with_node (Some b.value)) (memory_of items)) b
+    items
     (node-item b items)
     (λ refused. absurd (refused (none-refused (growth items)
     (write_item (item.Node (range_of_run b) b.value) (items_after_change items (growth items))) (growth items).refused refl answered)))
@@ -104,7 +105,8 @@ set_block_node-limit : (b : NumaBlock) (items : List Item) → limit_of (items_a
 set_block_node-limit b items =
     let same = quiet-appended_limit items (growth items).steps (growth-quiet items) in
     set_block_node-by (λ (is : List Item). limit_of is ≡ limit_of items) b items
-    (fold-append limit_after 0 (append_groups items (growth items).steps) (item.Node (range_of_run b) b.value ∷ []) ∙ same) (λ refused. same)
+    (fold-append limit_after 0 (append_groups items (growth items).steps) (item.Node (range_of_run b) b.value ∷ []) ∙ same)
+    (λ refused. same)
 
 -- node data doesn't change memory
 quiet-data : (done : Unit {0}) (n : ℕ) → KeepsMemory (place_node_data done n)

@@ -16,7 +16,8 @@ use Rattle.numa_nodes.specs.Assignment.{place_node_data, node_data_request}
 pub record Turns {X : Type 0} (step : Unit {0} → X → StageStep StageCause (Unit {0})) (xs : List X) (i : ℕ)
     (old here : List Item) : Type 0 where
   pub ends : (r : Result (Unit {0}) StageStop) (new : List Item)
-      → EndsAsStage (fold_steps step tt (drop i xs)) error_of_stage_cause r here new → EndsAsStage (fold_steps step tt xs) error_of_stage_cause r old new
+      → EndsAsStage (fold_steps step tt (drop i xs)) error_of_stage_cause r here new
+      → EndsAsStage (fold_steps step tt xs) error_of_stage_cause r old new
 
 module _ {X : Type 0} {step : Unit {0} → X → StageStep StageCause (Unit {0})} {xs : List X} {i : ℕ} {old here : List Item}
     (turns : Turns step xs i old here) where
@@ -51,5 +52,6 @@ data-placed (Ok base) n here new q is was =
     ends-second base (Ok tt) error_of_stage_cause here new new (place_or_stop (what.NodeData n) (node_data_request n) (owner.NodeData n))
     (λ place. return_value tt) (rw is at was) (refl, refl)
 data-placed (Err e) n here new q is was =
-    ends-first e error_of_stage_cause here new (place_or_stop (what.NodeData n) (node_data_request n) (owner.NodeData n)) (λ place. return_value tt)
+    ends-first e error_of_stage_cause here new (place_or_stop (what.NodeData n) (node_data_request n) (owner.NodeData n))
+    (λ place. return_value tt)
     (rw is at was)

@@ -78,7 +78,8 @@ abbrev pub nodes_view : Nodes → NodesView
 nodes_view n = record { why = n.why; domains = n.domains.items; uncovered = n.uncovered; with_memory = n.with_memory.items }
 
 abbrev pub nodes_view_from_judgement : SratNodesView → List ℕ → NodesView
-nodes_view_from_judgement found nodes = record { why = found.why; domains = found.domains; uncovered = found.uncovered; with_memory = nodes }
+nodes_view_from_judgement found nodes =
+    record { why = found.why; domains = found.domains; uncovered = found.uncovered; with_memory = nodes }
 
 -- the steps that allocate the data of each node that has memory
 abbrev pub place_data_of_nodes : SratNodesView → List ℕ → StageStep StageCause NodesView

@@ -126,7 +126,8 @@ nothing_is (Some first) is = cc is
 
 -- each line keeps what is always true of the state
 pub kept_by : (b new : PagesView) (o : PageOutcome) (act : PageAct) → HasValidOrder act → IsValidPageState (page_state_of b)
-    → (let p : PageOutcome × PageState = (o, page_state_of new) in p) ≡ page_step (page_state_of b) act → IsValidPageState (page_state_of new)
+    → (let p : PageOutcome × PageState = (o, page_state_of new) in p) ≡ page_step (page_state_of b) act
+    → IsValidPageState (page_state_of new)
 kept_by b new o act small keeps is =
     subst (λ (s : PageState). IsValidPageState s) (sym (ap (λ (p : PageOutcome × PageState). p.1) is))
     (step_kept (page_state_of b) act small keeps)

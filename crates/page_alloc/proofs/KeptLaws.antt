@@ -95,7 +95,8 @@ had id i what held h is = elim (with_or_not id i) as (λ _. Had id i what held h
   | inl same ↦ record {
     either = inl (
       same,
-      let here : with_held_frames id what held i ≡ what = ap (with_held_frames id what held) (sym same) ∙ with_here id what held in sym here ∙ is,
+      let here : with_held_frames id what held i ≡ what = ap (with_held_frames id what held) (sym same) ∙ with_here id what held
+          in sym here ∙ is,
     );
   }
   | inr other ↦ record { either = inr (other, sym (with_there id i what held other) ∙ is) }

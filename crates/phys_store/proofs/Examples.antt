@@ -48,7 +48,8 @@ one_written =
     (λ k below. let none : k ≡ 0 = omega arith in rw none refl) beside).1
 
 -- two extents with a gap of one byte don't touch; extents without a gap do
-apart_examples : AreSortedAndApart 0 store × ¬ AreSortedAndApart 5 store × ¬ AreSortedAndApart 0 (low ∷ record { base = 7; bytes = 9 ∷ [] } ∷ [])
+apart_examples : AreSortedAndApart 0 store × ¬ AreSortedAndApart 5 store
+    × ¬ AreSortedAndApart 0 (low ∷ record { base = 7; bytes = 9 ∷ [] } ∷ [])
 apart_examples = (
   (omega arith, omega arith, omega arith, (omega arith, omega arith, omega arith, tt)),
   (λ no. absurd (omega (arith, no.0))),

@@ -42,7 +42,8 @@ outside_front p (suc n) (q ∷ ps) low high x out =
     rw off rest
 
 -- for an address below `h`, only the first n extents count if all others begin above `h`
-in_front : (e n h x : ℕ) (ps : List ExtentView) → AreSortedAndApart e ps → ((i : ℕ) → n ≤ i → i < length ps → h < (nth_extent ps i).base) → x < h →
+in_front : (e n h x : ℕ) (ps : List ExtentView) → AreSortedAndApart e ps
+    → ((i : ℕ) → n ≤ i → i < length ps → h < (nth_extent ps i).base) → x < h →
     byte_of (take n ps) x ≡ byte_of ps x
 in_front e zero h x [] apart above below = refl
 in_front e zero h x (q ∷ ps) apart above below =
@@ -189,7 +190,8 @@ hull_more ps r first behind from to apart count reach touches h =
 
 -- if the loop joins no further extent, it has joined exactly those that the range overlaps or
 -- touches
-pub hull_joins : (ps : List ExtentView) (r : RangeView) (first behind from to : ℕ) → AreSortedAndApart 0 ps → Hull ps r first behind from to →
+pub hull_joins : (ps : List ExtentView) (r : RangeView) (first behind from to : ℕ) → AreSortedAndApart 0 ps
+    → Hull ps r first behind from to →
     (behind < length ps → to < (nth_extent ps behind).base) → AreTouchedExtents ps first behind from to
 hull_joins ps r first behind from to apart h stop = record {
   order = h.order;

@@ -156,7 +156,8 @@ last_zero [] w x none = none
 last_zero (q ∷ ps) w x none = rw (last_zero ps w x none) refl
 
 -- taking an extent out of the list, and appending it in an extended form, changes no byte
-pub taken_out : (e : ℕ) (ps : List ExtentView) (i : ℕ) (p w none : ExtentView) → AreSortedAndApart e ps → i < length ps → get_or ps i p ≡ p →
+pub taken_out : (e : ℕ) (ps : List ExtentView) (i : ℕ) (p w none : ExtentView) → AreSortedAndApart e ps → i < length ps
+    → get_or ps i p ≡ p →
     length none.bytes ≡ 0 → (x : ℕ) → byte_of (w ∷ []) x ≡ byte_of (p ∷ []) x → byte_of (set ps i none ++ w ∷ []) x ≡ byte_of ps x
 taken_out e [] i p w none apart count there empty x same = absurd (omega arith)
 taken_out e (q ∷ ps) zero p w none apart count there empty x same =
@@ -186,7 +187,8 @@ same_bytes g h from n same =
 -- extending the largest of several extents, and copying the others into it, gives the one extent
 -- that replaces them all
 pub united : (es now ds new : List Extent) (p w none e : Extent) (f b k from to : ℕ) → AreSortedAndApart 0 (map extent_view es) →
-    AreTouchedExtents (map extent_view es) f b from to → from ≤ to → f ≤ k → k < b → p ≡ get_or es k p → now ≡ set (set es k w) k none → ds ≡ now →
+    AreTouchedExtents (map extent_view es) f b from to → from ≤ to → f ≤ k → k < b → p ≡ get_or es k p → now ≡ set (set es k w) k none
+    → ds ≡ now →
     extent_view w ≡ extent_with_bytes_of (extent_view p ∷ []) from to → length (extent_view none).bytes ≡ 0 →
     extent_view e ≡ extent_with_bytes_of (map extent_view (take (b - f) (drop f ds)) ++ extent_view w ∷ []) from to →
     new ≡ take f now ++ e ∷ drop b now → map extent_view new ≡ merge_extents (map extent_view es) f b from to
@@ -228,7 +230,8 @@ past_covering ps from to order = let long = length-bytes_at (byte_of ps) from (t
 
 -- the other extents lie in the extended extent, and so does the empty extent that is in its place
 -- in the list
-pub others_in : (es ds : List Extent) (none : Extent) (f b k from to : ℕ) → AreTouchedExtents (map extent_view es) f b from to → from ≤ to → k < b
+pub others_in : (es ds : List Extent) (none : Extent) (f b k from to : ℕ) → AreTouchedExtents (map extent_view es) f b from to
+    → from ≤ to → k < b
     →
     ds ≡ set es k none → none.base ≡ from → length (extent_view none).bytes ≡ 0 →
     (i : ℕ) → i < length (take (b - f) (drop f ds)) →

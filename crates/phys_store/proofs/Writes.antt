@@ -28,7 +28,8 @@ module _ (p q : ExtentView) (base : q.base ≡ p.base) (len : length q.bytes ≡
         omega (arith, low, base),
         omega (arith, some, len),
         omega (arith, small, base, len),
-        subst (λ m. AreSortedAndApart (m + 1) ps) (sym same_past) (subst (λ (s : ExtentView). AreSortedAndApart (end_of_extent s + 1) ps) there apart.3),
+        subst (λ m. AreSortedAndApart (m + 1) ps) (sym same_past)
+            (subst (λ (s : ExtentView). AreSortedAndApart (end_of_extent s + 1) ps) there apart.3),
       )
   apart-set e (r ∷ ps) (suc i) apart there = (apart.0, apart.1, apart.2, apart-set (end_of_extent r + 1) ps i apart.3 there)
 
@@ -47,7 +48,8 @@ module _ (p q : ExtentView) (base : q.base ≡ p.base) (len : length q.bytes ≡
   byte-set_other (r ∷ ps) (suc i) x there out = rw (byte-set_other ps i x there out) refl
 
 -- the extent with index `i` gets bytes that are those of `g` in one part, and unchanged elsewhere
-pub wrote-set : (ps : List ExtentView) (i : ℕ) (p q : ExtentView) (a n : ℕ) (g : ℕ → ℕ) → AreSortedAndApart 0 ps → i < length ps → get_or ps i p ≡ p
+pub wrote-set : (ps : List ExtentView) (i : ℕ) (p q : ExtentView) (a n : ℕ) (g : ℕ → ℕ) → AreSortedAndApart 0 ps → i < length ps
+    → get_or ps i p ≡ p
     →
     q.base ≡ p.base → length q.bytes ≡ length p.bytes → p.base ≤ a → a + n ≤ end_of_extent p →
     ((k : ℕ) → k < n → get_or q.bytes (a - p.base + k) 0 ≡ g k) →
@@ -85,7 +87,8 @@ pub mid-out : (k m : ℕ) (xs ys : List ℕ) (j : ℕ) → length ys ≡ m → k
 mid-out k m xs ys j len within off = grind (arith, places, nat_tests)
 
 -- overwriting the bytes of a range in the extent that has the range is a write of the range
-pub wrote-mid : (es : List Extent) (a n i : ℕ) (e : Extent) (g : ℕ → ℕ) (k m : ℕ) (xs ys : List ℕ) → AreSortedAndApart 0 (map extent_view es)
+pub wrote-mid : (es : List Extent) (a n i : ℕ) (e : Extent) (g : ℕ → ℕ) (k m : ℕ) (xs ys : List ℕ)
+    → AreSortedAndApart 0 (map extent_view es)
     → Holds es a n i e →
     k ≡ e.front + (a - e.base) → m ≡ n → xs ≡ e.bytes.items → length ys ≡ n → ((j : ℕ) → j < n → get_or ys j 0 ≡ g j) →
     let new = set es i (record { base = e.base; front = e.front; bytes = with_items e.bytes (put_mid k m xs ys) }) in
@@ -124,7 +127,8 @@ filled k m xs ys b within is =
     )
 
 -- copying one range of an extent to another range of it is a write of the second range
-pub wrote-copied : (es : List Extent) (a n i : ℕ) (e d : Extent) (from to count source target m : ℕ) → AreSortedAndApart 0 (map extent_view es)
+pub wrote-copied : (es : List Extent) (a n i : ℕ) (e d : Extent) (from to count source target m : ℕ)
+    → AreSortedAndApart 0 (map extent_view es)
     → Holds es a n i e →
     a ≤ from → a ≤ to → from + count ≤ a + n → to + count ≤ a + n → d.base ≡ e.base → d.front ≡ e.front →
     length d.bytes.items ≡ length e.bytes.items →

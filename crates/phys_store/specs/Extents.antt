@@ -12,7 +12,8 @@ extent_view e = record { base = e.base; bytes = drop e.front e.bytes.items }
 -- above 2^64 - 1
 abbrev pub AreSortedAndApart : ℕ → List ExtentView → Type 0
 AreSortedAndApart e [] = Unit {0}
-AreSortedAndApart e (p ∷ ps) = (e ≤ p.base) × (0 < length p.bytes) × (p.base + length p.bytes < 2 ^ 64) × AreSortedAndApart (end_of_extent p + 1) ps
+AreSortedAndApart e (p ∷ ps) =
+    (e ≤ p.base) × (0 < length p.bytes) × (p.base + length p.bytes < 2 ^ 64) × AreSortedAndApart (end_of_extent p + 1) ps
 
 -- the extent with index `i`
 abbrev pub nth_extent : List ExtentView → ℕ → ExtentView
@@ -36,4 +37,5 @@ extent_with_bytes_of ps from to = record { base = from; bytes = bytes_at (byte_o
 -- the list with the extents from `first` to just before `behind` replaced by one, which has the
 -- addresses from `from` to below `to`
 abbrev pub merge_extents : List ExtentView → ℕ → ℕ → ℕ → ℕ → List ExtentView
-merge_extents ps first behind from to = take first ps ++ extent_with_bytes_of (take (behind - first) (drop first ps)) from to ∷ drop behind ps
+merge_extents ps first behind from to =
+    take first ps ++ extent_with_bytes_of (take (behind - first) (drop first ps)) from to ∷ drop behind ps

@@ -173,7 +173,8 @@ abbrev asked61 : List (List ℕ) → Option (List ℕ × Option (List ℕ))
 asked61 words = option_map (λ args. (args.list, args.claims)) (read_args61 words)
 
 -- the option and the report of `bootmem61`, which `bootmem` refuses
-claims_words : (asked61 (codes "--claims" ∷ codes "c" ∷ codes "--report=map,claims" ∷ codes "zp" ∷ []) ≡ Some (codes "map,claims", Some (codes "c")))
+claims_words : (asked61 (codes "--claims" ∷ codes "c" ∷ codes "--report=map,claims" ∷ codes "zp" ∷ [])
+    ≡ Some (codes "map,claims", Some (codes "c")))
     × (asked61 (codes "zp" ∷ []) ≡ Some (codes "buddyinfo", None))
     × (asked61 (codes "--claims=c" ∷ codes "--claims=c" ∷ codes "zp" ∷ []) ≡ None)
     × (is_faultless (codes "--claims=c" ∷ codes "zp" ∷ []) ≡ false)

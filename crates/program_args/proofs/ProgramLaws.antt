@@ -37,7 +37,8 @@ read_of_values : {V : Type 0} (read : ProgramArgsView → V) (further : List (Li
     → args_by_values read further value ≡ option_map read (args_by_values bootmem61_args further value)
 read_of_values read further value =
     read_of_steps read _ (some_if (has_one_source value)) (made_entry_count (value (codes "make")))
-    (kernel_range_of (address_width_in value) (value (codes "kernel"))) (report_list_in further value) (mirrors_of_value (value (codes "mirror")))
+    (kernel_range_of (address_width_in value) (value (codes "kernel"))) (report_list_in further value)
+    (mirrors_of_value (value (codes "mirror")))
 
 if_accepted : {V : Type 0} (read : ProgramArgsView → V) (accepted : Bool) (found : Option ProgramArgsView) (other : Option V)
     → other ≡ option_map read found → (if accepted then other else None) ≡ option_map read (if accepted then found else None)

@@ -79,9 +79,11 @@ pub failure_status_has_line : {W I A F C E : Type 0} (program : Program W I A) (
     → status ≢ 0 → status ≢ 8
     → (failure : Failure (Reason I F C)) × (status ≡ failure_status failure) × PutsLine errors err_old err_new (line failure)
     × FailureHasCause program before now accepted failure × IfSome holds (λ held. FitsFailure program failure (outcome held))
-failure_status_has_line program errors line before now accepted old new err_old err_new (Ok result) status is cause told holds outcome writes zero eight =
+failure_status_has_line program errors line before now accepted old new err_old err_new
+    (Ok result) status is cause told holds outcome writes zero eight =
     absurd (grind (arith, program.statuses))
-failure_status_has_line program errors line before now accepted old new err_old err_new (Err failure) status is cause told holds outcome writes zero
+failure_status_has_line program errors line before now accepted old new err_old err_new
+    (Err failure) status is cause told holds outcome writes zero
     eight =
     (failure, is, told, cause, grind (arith, writes))
 

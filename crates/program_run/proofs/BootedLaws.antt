@@ -24,7 +24,8 @@ use Rattle.program_run.specs.Stops.{reason_by_stop}
 
 -- the cause of a stop, other than out of memory, is the cause in the outcome
 stopped : {A : Type 0} (stop : Stop) (answer : Result A Cause) (next : A → Result (List ℕ) InputsReason)
-    → (stop ≢ stops.Memory → map_error stop_of answer ≡ Err stop) → FitsError input_place (reason_by_stop stop) (value_or_stopped answer >>= next)
+    → (stop ≢ stops.Memory → map_error stop_of answer ≡ Err stop)
+    → FitsError input_place (reason_by_stop stop) (value_or_stopped answer >>= next)
 stopped stop answer next stops_so = grind arith
 
 pub boot_stopped : (stop : Stop) (given : InputsView) (reports : List Report)

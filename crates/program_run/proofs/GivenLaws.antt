@@ -10,7 +10,8 @@ use Rattle.program_end.specs.Fetches.{Fetches, FitsError}
 use Rattle.program_end.specs.Program.{FileContents}
 
 fits_after : {X A B : Type 0} (view : X → B) (r : Result X NoInputs) (error : NoInputs) (said : Result A InputsReason) (next : A → B)
-    → IsErrAnd r (λ other. other ≡ error) → FitsError input_place error said → Fetches input_place view r (said >>= λ given. Ok (next given))
+    → IsErrAnd r (λ other. other ≡ error) → FitsError input_place error said
+    → Fetches input_place view r (said >>= λ given. Ok (next given))
 fits_after view r error said next is fits = grind arith
 
 pub given_none : {X A B : Type 0} (view : X → B) (r : Result X NoInputs) (error : NoInputs) (told : Option FileContents)

@@ -23,7 +23,8 @@ boot_fits error given answer text said is fits = grind arith
 
 -- a file that is reached when the inputs are read is reached by the outcome
 refused_after : {A T B : Type 0} (error : NoInputs) (said : Result A InputsReason) (boot : A → Result T Cause) (text : T → B)
-    → FitsError input_place error said → FitsError input_place error (said >>= λ given. value_or_stopped (boot given) >>= λ told. Ok (text told))
+    → FitsError input_place error said → FitsError input_place error
+    (said >>= λ given. value_or_stopped (boot given) >>= λ told. Ok (text told))
 refused_after error (Ok given) boot text fits = boot_fits error given (boot given) text (Ok given) refl fits
 refused_after error (Err reason) boot text fits = grind arith
 

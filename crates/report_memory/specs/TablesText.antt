@@ -12,7 +12,8 @@ use Rattle.report_memory.specs.OwnersText.{memblock_table_name}
 -- it has
 abbrev pub table_line : Which → Head → List ℕ
 table_line w head =
-    memblock_table_name w ++ codes " place " ++ hex_text head.place ++ codes " room " ++ decimal head.room ++ codes " records " ++ decimal head.count
+    memblock_table_name w ++ codes " place " ++ hex_text head.place ++ codes " room " ++ decimal head.room ++ codes " records "
+    ++ decimal head.count
     ++ codes "\n"
 
 abbrev pub tables_text : Heads → List ℕ

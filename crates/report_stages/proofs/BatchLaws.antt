@@ -16,7 +16,8 @@ use Rattle.report_stages.proofs.RowLaws.{lines, lines_append, lines_first, row_l
 use Rattle.bm_base.specs.Zones.{zone_name}
 
 -- the hexadecimal digits of a number in two parts, the lower of which has m digits
-hex_parts : (m k q r : ℕ) (rest : List ℕ) → r < 16 ^ m → prepend_hex_digits (m + k) (q * 16 ^ m + r) rest ≡ prepend_hex_digits k q (prepend_hex_digits m r rest)
+hex_parts : (m k q r : ℕ) (rest : List ℕ) → r < 16 ^ m
+    → prepend_hex_digits (m + k) (q * 16 ^ m + r) rest ≡ prepend_hex_digits k q (prepend_hex_digits m r rest)
 unfolding prepend_hex_digits
 hex_parts zero k q r rest small = let is : q * 16 ^ 0 + r ≡ q = omega (arith, small) in rw (zero-add, is) refl
 hex_parts (suc m) k q r rest small =
@@ -24,7 +25,8 @@ hex_parts (suc m) k q r rest small =
     let product : q * 16 ^ suc m ≡ q * 16 ^ m * 16 = rw (power, mul_assoc) refl in
     let higher : (q * 16 ^ suc m + r) / 16 ≡ q * 16 ^ m + r / 16 = omega (arith, product) in
     let last : (q * 16 ^ suc m + r) % 16 ≡ r % 16 = omega (arith, product) in
-    rw (suc-add m k, prepend_hex_digits, higher, last) (hex_parts m k q (r / 16) (digit_glyph false (r % 16) ∷ rest) (omega (arith, small, power)))
+    rw (suc-add m k, prepend_hex_digits, higher, last)
+    (hex_parts m k q (r / 16) (digit_glyph false (r % 16) ∷ rest) (omega (arith, small, power)))
 
 hex_append : (k n : ℕ) (rest : List ℕ) → prepend_hex_digits k n rest ≡ prepend_hex_digits k n [] ++ rest
 unfolding prepend_hex_digits
@@ -44,7 +46,8 @@ last_is q small =
     let here : 0 * 16 ^ 8 + q ≡ q = omega arith in
     let parts : prepend_hex_digits 16 q [] ≡ prepend_hex_digits 8 0 (prepend_hex_digits 8 q []) =
     ap (λ y. prepend_hex_digits 16 y []) (sym here) ∙ hex_parts 8 8 0 q [] (omega (arith, small)) in
-    let zeros : drop 10 (codes "0x" ++ prepend_hex_digits 8 0 (prepend_hex_digits 8 q [])) ≡ prepend_hex_digits 8 q [] = unfold prepend_hex_digits in refl in
+    let zeros : drop 10 (codes "0x" ++ prepend_hex_digits 8 0 (prepend_hex_digits 8 q []))
+    ≡ prepend_hex_digits 8 q [] = unfold prepend_hex_digits in refl in
     ap (λ t. drop 10 t) (sym (hex_sixteen q (omega (arith, small))) ∙ ap (λ t. codes "0x" ++ t) parts) ∙ zeros
 
 -- this and the next: writing one more digit, from the last to the first, and all eight digits
@@ -143,7 +146,8 @@ batch_put front new old i line xs below long eight eight_too is =
     (rw (batch_more i 0 front new, zero-add) (simp append_assoc))
 
 -- replacing the digits of line i, as the code does it
-pub renumber_one_line : (front new old held : List ℕ) (i size : ℕ) (xs : List ℕ) → i < 1024 → size ≡ length (batch_lines_from front old 0 1024)
+pub renumber_one_line : (front new old held : List ℕ) (i size : ℕ) (xs : List ℕ) → i < 1024
+    → size ≡ length (batch_lines_from front old 0 1024)
     → length new ≡ 8 → length old ≡ 8 → held ≡ new → xs ≡ batch_lines_from front new 0 i ++ batch_lines_from front old i (1024 - i)
     → put_mid ((i + 1) * (size / 1024) - 9 - 8) ((i + 1) * (size / 1024) - 9 - ((i + 1) * (size / 1024) - 9 - 8)) xs held
     ≡ batch_lines_from front new 0 (i + 1) ++ batch_lines_from front old (i + 1) (1024 - (i + 1))

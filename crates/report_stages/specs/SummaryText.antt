@@ -12,7 +12,8 @@ number_line word n = word ++ decimal n ++ codes "\n"
 
 -- the line of a table: the number of its records, and the number that it has room for
 abbrev pub fullness_line : Which → Fullness → List ℕ
-fullness_line w full = memblock_table_name w ++ codes " records " ++ decimal full.records ++ codes " room " ++ decimal full.room ++ codes "\n"
+fullness_line w full =
+    memblock_table_name w ++ codes " records " ++ decimal full.records ++ codes " room " ++ decimal full.room ++ codes "\n"
 
 abbrev pub summary_text : Summary → List ℕ
 summary_text s =

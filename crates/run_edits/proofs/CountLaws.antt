@@ -30,7 +30,8 @@ spikes_two r n =
 
 module _ {X : Type 0} where
   -- a function that ends at most n more runs than another has at most n more runs
-  total-more : (same : X → X → Bool) (f g : ℕ → Option X) (s : ℕ → ℕ) (few x n : ℕ) → ((y : ℕ) → run_ends_at same g y ≤ run_ends_at same f y + s y)
+  total-more : (same : X → X → Bool) (f g : ℕ → Option X) (s : ℕ → ℕ) (few x n : ℕ)
+      → ((y : ℕ) → run_ends_at same g y ≤ run_ends_at same f y + s y)
       → total s x n ≤ few
       → total (run_ends_at same g) x n ≤ total (run_ends_at same f) x n + few
   total-more same f g s few x n each some =
@@ -62,7 +63,8 @@ module _ {X : Type 0} where
   inside_edges same tells change (inl stays) None b = rw stays (omega arith)
   inside_edges same tells change (inl stays) (Some v) None = run_ends_between-few same (change (Some v)) (change None)
   inside_edges same tells change (inl stays) (Some v) (Some w) =
-      elim (cases_Bool (same v w)) as (λ _. run_ends_between same (change (Some v)) (change (Some w)) ≤ run_ends_between same (Some v) (Some w)) [
+      elim (cases_Bool (same v w)) as
+      (λ _. run_ends_between same (change (Some v)) (change (Some w)) ≤ run_ends_between same (Some v) (Some w)) [
         | inl equal ↦
             let is : change (Some v) ≡ change (Some w) = ap (λ (u : X). change (Some u)) (tells.true_is_equal v w equal) in
             rw (is, run_ends_between-self same tells (change (Some w))) (omega arith)
@@ -73,13 +75,16 @@ module _ {X : Type 0} where
   -- an edit makes at most one more run end right below the range, and one at its last address
   pub amended_edges : (same : X → X → Bool) → DecidesEquality same → (change : Option X → Option X) → EndsNoRun change
       → (r : RangeView) (f : ℕ → Option X) (x : ℕ)
-      → run_ends_at same (change_range change r f) x ≤ run_ends_at same f x + (one_right_below r.base x + one_right_below (r.base + r.size) x)
+      → run_ends_at same (change_range change r f) x ≤ run_ends_at same f x
+      + (one_right_below r.base x + one_right_below (r.base + r.size) x)
   amended_edges same tells change plain r f x =
-      let Few : Type 0 = run_ends_at same (change_range change r f) x ≤ run_ends_at same f x + (one_right_below r.base x + one_right_below (r.base + r.size) x) in
+      let Few : Type 0 = run_ends_at same (change_range change r f) x ≤ run_ends_at same f x
+      + (one_right_below r.base x + one_right_below (r.base + r.size) x) in
       elim (cases_Bool (covers r x)) as (λ _. Few) [
         | inl here ↦ elim (cases_Bool (covers r (x + 1))) as (λ _. Few) [
           | inl next ↦ let few = inside_edges same tells change plain (f x) (f (x + 1)) in rw (here, next) (omega (arith, few))
-          | inr out ↦ let few = run_ends_between-few same (change (f x)) (f (x + 1)) in rw (here, out, ends_here r x here out) (omega (arith, few))
+          | inr out ↦ let few =
+              run_ends_between-few same (change (f x)) (f (x + 1)) in rw (here, out, ends_here r x here out) (omega (arith, few))
         ]
         | inr before ↦ elim (cases_Bool (covers r (x + 1))) as (λ _. Few) [
           | inl next ↦ let few = run_ends_between-few same (f x) (change (f (x + 1))) in rw (before, next, begins_here r x before next)
@@ -94,16 +99,19 @@ module _ {X : Type 0} where
   uncovered_edges same r f x =
       elim (cases_Bool (covers r x)) as (λ _. run_ends_at same (uncover_range r f) x ≤ run_ends_at same f x + one_right_below r.base x) [
         | inl here ↦ rw here (omega arith)
-        | inr before ↦ elim (cases_Bool (covers r (x + 1))) as (λ _. run_ends_at same (uncover_range r f) x ≤ run_ends_at same f x + one_right_below r.base x) [
-          | inl next ↦ let few = run_ends_between-few same (f x) None in rw (before, next, begins_here r x before next) (omega (arith, few))
-          | inr out ↦ rw (before, out) (omega arith)
-        ]
+        | inr before ↦ elim (cases_Bool (covers r (x + 1)))
+            as (λ _. run_ends_at same (uncover_range r f) x ≤ run_ends_at same f x + one_right_below r.base x) [
+              | inl next ↦ let few =
+                  run_ends_between-few same (f x) None in rw (before, next, begins_here r x before next) (omega (arith, few))
+              | inr out ↦ rw (before, out) (omega arith)
+            ]
       ]
 
   -- covering a range makes no more run end, except at the end of a gap
   cover_at : (same : X → X → Bool) → DecidesEquality same → (v w : X) (here next : Bool) (a b : Option X)
       → run_ends_between same (if here then Some (unwrap_or a v) else a) (if next then Some (unwrap_or b v) else b)
-      ≤ run_ends_between same a b + run_ends_between same (if here && is_none a then Some w else None) (if next && is_none b then Some w else None)
+      ≤ run_ends_between same a b + run_ends_between same (if here && is_none a then Some w else None)
+      (if next && is_none b then Some w else None)
   cover_at same tells v w true true None None = rw (tells.equal_is_true v v refl, tells.equal_is_true w w refl) (omega arith)
   cover_at same tells v w true true None (Some q) = run_ends_between-few same (Some v) (Some q)
   cover_at same tells v w true true (Some p) None = run_ends_between-few same (Some p) (Some v)
@@ -153,21 +161,24 @@ module _ {X : Type 0} where
       → length (runs_of same (cover_range r v f)) ≤ length (runs_of same f) + length (runs_of same (gaps_in_range r w f))
   covered_length same tells r v w f ends none =
       let pieces = gaps_count_ends same tells r w f ends in
-      runs_of-adds_few same tells f (cover_range r v f) (run_ends_at same (gaps_in_range r w f)) (length (runs_of same (gaps_in_range r w f))) none
+      runs_of-adds_few same tells f (cover_range r v f) (run_ends_at same (gaps_in_range r w f))
+      (length (runs_of same (gaps_in_range r w f))) none
       (nothing-covered (2 ^ 64) r v f ends none)
       (covered_edges same tells r v w f) (omega (arith, pieces))
 
   pub uncovered_length : (same : X → X → Bool) → DecidesEquality same → (r : RangeView) (f : ℕ → Option X) → IsEmptyFrom (2 ^ 64) f
       → length (runs_of same (uncover_range r f)) ≤ length (runs_of same f) + 1
   uncovered_length same tells r f none =
-      runs_of-adds_few same tells f (uncover_range r f) (one_right_below r.base) 1 none (nothing-uncovered (2 ^ 64) r f none) (uncovered_edges same r f)
+      runs_of-adds_few same tells f (uncover_range r f) (one_right_below r.base) 1 none (nothing-uncovered (2 ^ 64) r f none)
+      (uncovered_edges same r f)
       (spikes_few r.base 0 (2 ^ 64))
 
   pub amended_length : (same : X → X → Bool) → DecidesEquality same → (change : Option X → Option X) → EndsNoRun change
       → (r : RangeView) (f : ℕ → Option X) → IsEmptyFrom (2 ^ 64) f
       → IsEmptyFrom (2 ^ 64) (change_range change r f) → length (runs_of same (change_range change r f)) ≤ length (runs_of same f) + 2
   amended_length same tells change plain r f none none_too =
-      runs_of-adds_few same tells f (change_range change r f) (λ x. one_right_below r.base x + one_right_below (r.base + r.size) x) 2 none none_too
+      runs_of-adds_few same tells f (change_range change r f)
+      (λ x. one_right_below r.base x + one_right_below (r.base + r.size) x) 2 none none_too
       (amended_edges same tells change plain r f) (spikes_two r (2 ^ 64))
 
   pub relabelled_length : (same : X → X → Bool) → DecidesEquality same → (r : RangeView) (change : X → X) (f : ℕ → Option X)

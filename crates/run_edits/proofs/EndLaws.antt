@@ -60,7 +60,8 @@ spikes_few b x (suc n) =
     elim (cases_Bool (x + 1 == b)) as (λ _. total (one_right_below b) x (suc n) ≤ 1) [
       | inl here ↦
           let is : x + 1 ≡ b = grind (arith, nat_tests) in
-          let rest : total (one_right_below b) (x + 1) n ≡ 0 = total-quiet (one_right_below b) (x + 1) n (λ y above under. let past : (y + 1 == b)
+          let rest : total (one_right_below b) (x + 1) n
+          ≡ 0 = total-quiet (one_right_below b) (x + 1) n (λ y above under. let past : (y + 1 == b)
           ≡ false = grind (arith, nat_tests) in rw past refl) in
           rw (here, rest) (omega arith)
       | inr other ↦ rw other (let rest : total (one_right_below b) (x + 1) n ≤ 1 = spikes_few b (x + 1) n in omega arith)
@@ -78,7 +79,8 @@ run_ends_between-few same (Some a) None = omega arith
 run_ends_between-few same (Some a) (Some b) = elim (cases_Bool (same a b)) as (λ _. run_ends_between same (Some a) (Some b) ≤ 1)
     [ inl equal ↦ rw equal (omega arith) | inr not ↦ rw not (omega arith) ]
 
-pub run_ends_between-other : {X : Type 0} (same : X → X → Bool) → DecidesEquality same → (v : X) (b : Option X) → b ≢ Some v → run_ends_between same (Some v) b ≡ 1
+pub run_ends_between-other : {X : Type 0} (same : X → X → Bool) → DecidesEquality same → (v : X) (b : Option X) → b ≢ Some v
+    → run_ends_between same (Some v) b ≡ 1
 run_ends_between-other same tells v None other = refl
 run_ends_between-other same tells v (Some w) other =
     elim (cases_Bool (same v w)) as (λ _. run_ends_between same (Some v) (Some w) ≡ 1) [
@@ -92,7 +94,8 @@ behind_run r [] runs = tt
 behind_run r (s ∷ ss) runs = let order = runs.1.0 in let some = runs.2.0 in omega arith
 
 -- no run ends at an address below the last one of the first run
-no_end_inside_run : {X : Type 0} (same : X → X → Bool) → DecidesEquality same → (r : RunOf X) (rs : List (RunOf X)) (y : ℕ) → AreRuns (r ∷ rs)
+no_end_inside_run : {X : Type 0} (same : X → X → Bool) → DecidesEquality same → (r : RunOf X) (rs : List (RunOf X)) (y : ℕ)
+    → AreRuns (r ∷ rs)
     → y + 1 < run_end r
     → run_ends_at same (value_at (r ∷ rs)) y ≡ 0
 no_end_inside_run same tells r rs y runs under =
@@ -133,7 +136,8 @@ length_ends {X} same tells (r ∷ rs) x n runs ends none =
     (λ y above under. rw (tail y above, tail (y + 1) (omega arith)) refl) in
     let others = length_ends same tells rs e rest runs.2 (behind_run r rs runs)
     (λ y far. sym (tail y (omega arith)) ∙ none y (omega arith)) in
-    let moved : total (run_ends_at same f) (e - 1 + 1) rest ≡ total (run_ends_at same f) e rest = ap (λ (y : ℕ). total (run_ends_at same f) y rest) at_end in
+    let moved : total (run_ends_at same f) (e - 1 + 1) rest
+    ≡ total (run_ends_at same f) e rest = ap (λ (y : ℕ). total (run_ends_at same f) y rest) at_end in
     omega arith
 
 -- in a list that is complete up to an address, a run that ends there has another value than the

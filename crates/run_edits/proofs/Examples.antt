@@ -51,6 +51,7 @@ edges_examples = (refl, refl)
 
 -- two runs end among the first ten addresses; `one_right_below` adds 1 if the address right below
 -- its argument is among those that are summed
-total_examples : (total (run_ends_at (λ m n. m == n) two_runs) 0 10 ≡ 2) × (total (one_right_below 5) 0 10 ≡ 1) × (total (one_right_below 5) 5 10 ≡ 0)
+total_examples : (total (run_ends_at (λ m n. m == n) two_runs) 0 10 ≡ 2) × (total (one_right_below 5) 0 10 ≡ 1)
+    × (total (one_right_below 5) 5 10 ≡ 0)
 unfolding total
 total_examples = (refl, refl, refl)

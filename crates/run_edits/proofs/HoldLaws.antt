@@ -5,7 +5,8 @@ use Rattle.std.proofs.lemmas.Bool.{cases_lt}
 use Rattle.address_runs.specs.Sweep.{HasValueBetween}
 
 module _ {X : Type 0} where
-  pub holds_so_far : (f : ℕ → Option X) (base until next : ℕ) (v : X) → f base ≡ Some v → HasValueBetween f base next (f base) → until ≤ next
+  pub holds_so_far : (f : ℕ → Option X) (base until next : ℕ) (v : X) → f base ≡ Some v → HasValueBetween f base next (f base)
+      → until ≤ next
       → (x : ℕ) → base ≤ x → x < until → f x ≡ Some v
   holds_so_far f base until next v first stays far x above under = stays x above (omega arith) ∙ first
 

@@ -21,7 +21,8 @@ module _ {X : Type 0} where
   -- there is room to edit f into g in one sweep: for each address, `room` is at least the number
   -- of g's runs below it plus the number of f's runs from it on
   abbrev pub HasRoomToEdit : (X → X → Bool) → (ℕ → Option X) → (ℕ → Option X) → ℕ → Type 0
-  HasRoomToEdit same f g room = (at : ℕ) → at ≤ 2 ^ 64 → total (run_ends_at same g) 0 at + total (run_ends_at same f) at (2 ^ 64 - at) ≤ room
+  HasRoomToEdit same f g room =
+      (at : ℕ) → at ≤ 2 ^ 64 → total (run_ends_at same g) 0 at + total (run_ends_at same f) at (2 ^ 64 - at) ≤ room
 
 -- 1 if the address is right below b, else 0
 abbrev pub one_right_below : ℕ → ℕ → ℕ

@@ -127,7 +127,8 @@ seen_on earlier false text act of is =
 length_on : (earlier : List (List ℕ)) (text : List ℕ) → length (earlier ++ (text ∷ [])) + 1 ≡ length earlier + 1 + 1
 length_on earlier text = rw (length-append earlier (text ∷ [])) refl
 
-abbrev read_on : ℕ → Result (Option Act) ScriptLineFault → (Option Act → Result (List Line) (ℕ × ScriptLineFault)) → Result (List Line) (ℕ × ScriptLineFault)
+abbrev read_on : ℕ → Result (Option Act) ScriptLineFault → (Option Act → Result (List Line) (ℕ × ScriptLineFault))
+    → Result (List Line) (ℕ × ScriptLineFault)
 read_on number first others = do
   act ← map_error (λ wrong. (number, wrong)) first
   lines ← others act
@@ -138,7 +139,8 @@ FirstOk number first others lines =
     (act : Option Act) × (left : List Line) × (first ≡ Ok act) × (others act ≡ Ok left)
     × (lines ≡ cons_option (script_line_at script_lines number act) left)
 
-first_ok : (number : ℕ) (first : Result (Option Act) ScriptLineFault) (others : Option Act → Result (List Line) (ℕ × ScriptLineFault)) (lines : List Line)
+first_ok : (number : ℕ) (first : Result (Option Act) ScriptLineFault) (others : Option Act → Result (List Line) (ℕ × ScriptLineFault))
+    (lines : List Line)
     → read_on number first others ≡ Ok lines → FirstOk number first others lines
 first_ok number (Err fault) others lines is = cc (is)
 first_ok number (Ok act) others lines is = behind (others act) refl
@@ -147,11 +149,13 @@ first_ok number (Ok act) others lines is = behind (others act) refl
     behind (Ok left) was = (act, left, refl, was, let read = (rw was at is) in cc (read))
     behind (Err fault) was = let read = (rw was at is) in cc (read)
 
-abbrev FirstFault : ℕ → Result (Option Act) ScriptLineFault → (Option Act → Result (List Line) (ℕ × ScriptLineFault)) → ℕ × ScriptLineFault → Type 0
+abbrev FirstFault : ℕ → Result (Option Act) ScriptLineFault → (Option Act → Result (List Line) (ℕ × ScriptLineFault))
+    → ℕ × ScriptLineFault → Type 0
 FirstFault number first others told = ((fault : ScriptLineFault) × (first ≡ Err fault) × (told ≡ (number, fault)))
     ⊎ ((act : Option Act) × (first ≡ Ok act) × (others act ≡ Err told))
 
-first_fault : (number : ℕ) (first : Result (Option Act) ScriptLineFault) (others : Option Act → Result (List Line) (ℕ × ScriptLineFault)) (told : ℕ × ScriptLineFault)
+first_fault : (number : ℕ) (first : Result (Option Act) ScriptLineFault) (others : Option Act → Result (List Line) (ℕ × ScriptLineFault))
+    (told : ℕ × ScriptLineFault)
     → read_on number first others ≡ Err told → FirstFault number first others told
 first_fault number (Err fault) others told is = inl (fault, refl, cc (is))
 first_fault number (Ok act) others told is = behind (others act) refl

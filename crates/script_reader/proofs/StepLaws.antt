@@ -33,17 +33,20 @@ words_spelled text = (words_exactly separators.Script text (words_in separators.
 abbrev pub ChecksExactly : {A : Type 0} → Type 0 → A → ScriptLineFault → Result A ScriptLineFault → Type 0
 ChecksExactly Good value_of_word fault r = (Good × (r ≡ Ok value_of_word)) ⊎ ((¬ Good) × (r ≡ Err fault))
 
-pub passed : {A : Type 0} {Good : Type 0} {v : A} {fault : ScriptLineFault} {r : Result A ScriptLineFault} → ChecksExactly Good v fault r → Good → r ≡ Ok v
+pub passed : {A : Type 0} {Good : Type 0} {v : A} {fault : ScriptLineFault} {r : Result A ScriptLineFault} → ChecksExactly Good v fault r
+    → Good → r ≡ Ok v
 passed judged good = elim judged [ inl is ↦ is.1 | inr bad ↦ absurd (bad.0 good) ]
 
-pub failed : {A : Type 0} {Good : Type 0} {v : A} {fault : ScriptLineFault} {r : Result A ScriptLineFault} → ChecksExactly Good v fault r → ¬ Good → r ≡ Err fault
+pub failed : {A : Type 0} {Good : Type 0} {v : A} {fault : ScriptLineFault} {r : Result A ScriptLineFault} → ChecksExactly Good v fault r
+    → ¬ Good → r ≡ Err fault
 failed judged bad = elim judged [ inl is ↦ absurd (bad is.0) | inr is ↦ is.1 ]
 
 -- a number: a size that takes its whole word and is within its limit
 abbrev IsWhole : List ℕ → Result (ℕ × ℕ) NumFault → Type 0
 IsWhole word r = (n : ℕ) × (r ≡ Ok (n, length word))
 
-whole_or : (word : List ℕ) (r : Result (ℕ × ℕ) NumFault) → ChecksExactly (IsWhole word r) (front_value r) wrong.Number (number_if_whole word r)
+whole_or : (word : List ℕ) (r : Result (ℕ × ℕ) NumFault)
+    → ChecksExactly (IsWhole word r) (front_value r) wrong.Number (number_if_whole word r)
 whole_or word (Err fault) = inr (λ is. cc (is.1), refl)
 whole_or word (Ok found) = by_test found.0 found.1 (found.1 == length word) refl
   where

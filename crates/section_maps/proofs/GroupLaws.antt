@@ -63,7 +63,8 @@ goes-first entry sections placed none = record {
   ends = λ r new h.
       let groups : List SectionGroup = groups_of sections in
       let no_placed : List Item → List Placed = λ items. [] in
-      ends-second [] r error_of_stage_cause entry entry new (read_items_allocating no_placed) (λ before. fold_steps place_section_group before groups)
+      ends-second [] r error_of_stage_cause entry entry new (read_items_allocating no_placed)
+      (λ before. fold_steps place_section_group before groups)
       (ends-listed no_placed error_of_stage_cause entry)
       (rw none at h);
 }
@@ -88,7 +89,8 @@ module _ {entry : List Item} {sections : List Section} {now : List Item} {placed
   front : (s : Section) (ss : List Section) → Goes entry sections now placed (s ∷ ss) → (r : Result (List Placed) StageStop)
       (new : List Item)
       → EndsAsStage
-      (fold_steps place_section_group placed (group_at s ss ∷ groups_of (drop (prefix_len (is_of s.node) ss) ss))) error_of_stage_cause r now new
+      (fold_steps place_section_group placed (group_at s ss ∷ groups_of (drop (prefix_len (is_of s.node) ss) ss)))
+      error_of_stage_cause r now new
       → EndsAsStage (place_maps sections) error_of_stage_cause r entry new
   front s ss goes r new h = goes.ends r new (rw (groups-next s ss) h)
 
@@ -104,7 +106,8 @@ module _ {entry : List Item} {sections : List Section} {now : List Item} {placed
   }
 
   pub goes-stops : (e : StageStop) (new : List Item) (rest : List Section) (d : Section) → 0 < length rest
-      → EndsAsStage {A = List Placed} (place_group placed (get_or rest 0 d) (take (own_part d rest) rest)) error_of_stage_cause (Err e) now new
+      → EndsAsStage {A = List Placed} (place_group placed (get_or rest 0 d) (take (own_part d rest) rest)) error_of_stage_cause
+      (Err e) now new
       → Goes entry sections now placed rest → EndsAsStage {A = List Placed} (place_maps sections) error_of_stage_cause (Err e) entry new
   goes-stops e new [] d some failed goes = absurd (omega arith)
   goes-stops e new (s ∷ ss) d some failed goes =

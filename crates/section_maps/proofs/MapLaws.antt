@@ -100,7 +100,8 @@ module _ (usage : ℕ) (before : List Placed) (first : Section) (sections : List
       → EndsAsStage {A = ℕ} (place_or_stop (what.Map first.number) q (owner.Map first.number)) error_of_stage_cause (Err e) old new
       → EndsAsStage {A = List Placed} (place_map_buffer usage before first sections) error_of_stage_cause (Err e) old new
   buffer-fails e new h =
-      ends-first e error_of_stage_cause old new one_buffer (λ map. return_value (before ++ consecutive_places usage map sections)) (rw asked at h)
+      ends-first e error_of_stage_cause old new one_buffer (λ map. return_value (before ++ consecutive_places usage map sections))
+      (rw asked at h)
 
   pub buffer-placed : (map : ℕ) (now : List Placed) (new : List Item) → now ≡ before ++ consecutive_places usage map sections
       → EndsAsStage (place_or_stop (what.Map first.number) q (owner.Map first.number)) error_of_stage_cause (Ok map) old new
@@ -119,7 +120,8 @@ module _ (usage : ℕ) (before : List Placed) (first : Section) (sections : List
       (buffer-fails e new h)
 
   pub buffer-each : (r : Result (List Placed) StageStop) (thing : What) (mid new : List Item)
-      → EndsAsStage {A = ℕ} (place_or_stop (what.Map first.number) q (owner.Map first.number)) error_of_stage_cause (Err (stop.NoPlace thing)) old mid
+      → EndsAsStage {A = ℕ} (place_or_stop (what.Map first.number) q (owner.Map first.number)) error_of_stage_cause
+      (Err (stop.NoPlace thing)) old mid
       → EndsAsStage (place_each_map usage before sections) error_of_stage_cause r mid new
       → EndsAsStage (maps_in usage before first sections) error_of_stage_cause r old new
   buffer-each r thing mid new h rest =

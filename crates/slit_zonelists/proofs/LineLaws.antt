@@ -40,7 +40,8 @@ zone_takes s id order zs (Some z) is none some =
     served_takes s id order z.node z.zone none (found_passes (has_block s order) zs z is)
 
 -- a request near a node needs memory too, if a zone in the list serves it
-pub near_takes : (k : ZoneListsView) (s : PageState) (id order node : ℕ) → s.held id ≡ None → IsSome (first_zone s order (zone_list_of k node))
+pub near_takes : (k : ZoneListsView) (s : PageState) (id order node : ℕ) → s.held id ≡ None
+    → IsSome (first_zone s order (zone_list_of k node))
     → NeedsMemory (page_step_by_distance k s (acts.Near id order node)).0
 near_takes k s id order node none some =
     subst (λ (o : Option Held). NeedsMemory (take_from_nearest s id order (zone_list_of k node) o).0) (sym none)

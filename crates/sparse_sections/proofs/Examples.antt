@@ -27,7 +27,8 @@ abbrev within_a_frame : Labels
 within_a_frame = value_at (record_at 0x1001 0xFFF 5 ∷ [])
 
 first_of_frames : (label_of_first_memory_frame two_frames 0 2 ≡ None) × (label_of_first_memory_frame two_frames 0 4 ≡ Some (of_node 5))
-    × (label_of_first_memory_frame two_frames 3 1 ≡ Some (of_node 5)) × (label_of_first_memory_frame two_frames 4 3 ≡ None) × (label_of_first_memory_frame within_a_frame 0 3 ≡ None)
+    × (label_of_first_memory_frame two_frames 3 1 ≡ Some (of_node 5)) × (label_of_first_memory_frame two_frames 4 3 ≡ None)
+    × (label_of_first_memory_frame within_a_frame 0 3 ≡ None)
 unfolding label_of_first_memory_frame
 first_of_frames = (refl, refl, refl, refl, refl)
 

@@ -62,7 +62,8 @@ label-some f a (suc n) k label few told = elim (cases_label (f (4096 * a))) [
 ]
 
 -- a section that is found has memory
-first-lowest : (f : Labels) (n node : ℕ) (label : LabelView) → IsConstantInFrames f → IsFirst f (32768 * n) 32768 label → label.node ≡ Some node
+first-lowest : (f : Labels) (n node : ℕ) (label : LabelView) → IsConstantInFrames f → IsFirst f (32768 * n) 32768 label
+    → label.node ≡ Some node
     → HasNodeOfLowestByte f (record { number = n; node = node })
 first-lowest f n node label frames first has =
     record {
@@ -76,7 +77,8 @@ first-lowest f n node label frames first has =
           frames x ∙ ap f e ∙ first.none (x / 4096 - 32768 * n) (omega (arith, first.within));
     }
 
-of-lowest : (f : Labels) (n : ℕ) (label : LabelView) (o : Option ℕ) → IsConstantInFrames f → IsFirst f (32768 * n) 32768 label → label.node ≡ o
+of-lowest : (f : Labels) (n : ℕ) (label : LabelView) (o : Option ℕ) → IsConstantInFrames f → IsFirst f (32768 * n) 32768 label
+    → label.node ≡ o
     → All (HasNodeOfLowestByte f) (section_if_on_node n o)
 of-lowest f n label None frames first has = All-nil (HasNodeOfLowestByte f)
 of-lowest f n label (Some node) frames first has =

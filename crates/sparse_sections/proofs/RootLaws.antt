@@ -93,18 +93,21 @@ place_roots-fail e width q sections old new request h =
 
 place_roots-behind : (r : Result RootsView StageStop) (table : ℕ) (width : Width) (q : Request) (sections : List Section)
     (old mid new : List Item)
-    → q ≡ cache_line_request (root_table_size_of width) None → EndsAsStage (place_or_stop what.Roots q owner.Roots) error_of_stage_cause (Ok table) old mid
+    → q ≡ cache_line_request (root_table_size_of width) None
+    → EndsAsStage (place_or_stop what.Roots q owner.Roots) error_of_stage_cause (Ok table) old mid
     → EndsAsStage (place_each_root sections
     >>= λ places. return_value (record { table = table; roots = places })) error_of_stage_cause r mid new
     → EndsAsStage (place_roots width sections) error_of_stage_cause r old new
 unfolding place_roots
 place_roots-behind r table width q sections old mid new request was h =
-    ends-second table r error_of_stage_cause old mid new (place_or_stop what.Roots (cache_line_request (root_table_size_of width) None) owner.Roots)
+    ends-second table r error_of_stage_cause old mid new
+    (place_or_stop what.Roots (cache_line_request (root_table_size_of width) None) owner.Roots)
     (λ table. place_each_root sections >>= λ places. return_value (record { table = table; roots = places }))
     (rw request at was) h
 
 pub place_roots-stop : (e : StageStop) (table : ℕ) (width : Width) (q : Request) (sections : List Section) (old mid new : List Item)
-    → q ≡ cache_line_request (root_table_size_of width) None → EndsAsStage (place_or_stop what.Roots q owner.Roots) error_of_stage_cause (Ok table) old mid
+    → q ≡ cache_line_request (root_table_size_of width) None
+    → EndsAsStage (place_or_stop what.Roots q owner.Roots) error_of_stage_cause (Ok table) old mid
     → EndsAsStage {A = List RootPlace} (place_each_root sections) error_of_stage_cause (Err e) mid new
     → EndsAsStage {A = RootsView} (place_roots width sections) error_of_stage_cause (Err e) old new
 place_roots-stop e table width q sections old mid new request was h =
@@ -114,7 +117,8 @@ place_roots-stop e table width q sections old mid new request was h =
 
 pub place_roots-all : (table : ℕ) (places : List RootPlace) (width : Width) (q : Request) (sections : List Section)
     (old mid new : List Item)
-    → q ≡ cache_line_request (root_table_size_of width) None → EndsAsStage (place_or_stop what.Roots q owner.Roots) error_of_stage_cause (Ok table) old mid
+    → q ≡ cache_line_request (root_table_size_of width) None
+    → EndsAsStage (place_or_stop what.Roots q owner.Roots) error_of_stage_cause (Ok table) old mid
     → EndsAsStage (place_each_root sections) error_of_stage_cause (Ok places) mid new
     → EndsAsStage (place_roots width sections) error_of_stage_cause (Ok (record { table = table; roots = places })) old new
 place_roots-all table places width q sections old mid new request was h =

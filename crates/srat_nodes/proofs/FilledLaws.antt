@@ -275,14 +275,16 @@ same_step r rs t us runs known same =
     }
 
 -- putting one more run before the joined runs, if there are any
-prepend_joined_step : (r : NumaBlock) (rs ts : List NumaBlock) → AreRuns (r ∷ rs) → IsFilledBy rs ts → IsFilledBy (r ∷ rs) (prepend_joined r ts)
+prepend_joined_step : (r : NumaBlock) (rs ts : List NumaBlock) → AreRuns (r ∷ rs) → IsFilledBy rs ts
+    → IsFilledBy (r ∷ rs) (prepend_joined r ts)
 prepend_joined_step r rs [] runs known =
     alone_step r rs [] runs known (runs.0, tt, tt)
     (λ x n around low_in from same. none-some n (known.complete around.high n (inl (high_given r rs x n around from))))
-prepend_joined_step r rs (t ∷ us) runs known = elim (cases_Bool (r.value == t.value)) as (λ _. IsFilledBy (r ∷ rs) (prepend_joined r (t ∷ us))) [
-  | inl equal ↦ rw equal (same_step r rs t us runs known (grind (arith, nat_tests)))
-  | inr differs ↦ rw differs (apart_step r rs t us runs known (grind (arith, nat_tests)))
-]
+prepend_joined_step r rs (t ∷ us) runs known =
+    elim (cases_Bool (r.value == t.value)) as (λ _. IsFilledBy (r ∷ rs) (prepend_joined r (t ∷ us))) [
+      | inl equal ↦ rw equal (same_step r rs t us runs known (grind (arith, nat_tests)))
+      | inr differs ↦ rw differs (apart_step r rs t us runs known (grind (arith, nat_tests)))
+    ]
 
 -- the joined runs have the values of the runs, with the gaps filled
 pub filled_by : (rs : List NumaBlock) → AreRuns rs → IsFilledBy rs (fill_gaps rs)

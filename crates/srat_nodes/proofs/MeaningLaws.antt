@@ -37,7 +37,8 @@ one_filled f x m n (inr around) (inl second) = sym (around.only x n (omega (arit
 one_filled f x m n (inr first) (inr second) = one_around f x m n first second
 
 -- the node of an address is the one that it belongs to
-node_at-belongs : (blocks : List NumaBlock) (x n : ℕ) → HaveOneNodePerAddress blocks → HaveAddresses blocks → belongs_to_node blocks n x ≡ true
+node_at-belongs : (blocks : List NumaBlock) (x n : ℕ) → HaveOneNodePerAddress blocks → HaveAddresses blocks
+    → belongs_to_node blocks n x ≡ true
     → node_at blocks x ≡ Some n
 unfolding node_at
 node_at-belongs blocks x n apart some had = by (first_node_among blocks x blocks) refl where
@@ -105,7 +106,8 @@ any_same : {X : Type 0} (p q : X → Bool) (xs : List X) → ((x : X) → IsIn x
 any_same p q [] same = refl
 any_same p q (x ∷ xs) same = rw (same x (inl refl), any_same p q xs (λ y member. same y (inr member))) refl
 
-has_frame : (blocks : List NumaBlock) (n x : ℕ) → BeginAndEndAtFrames blocks → belongs_to_node blocks n x ≡ belongs_to_node blocks n (frame_base x)
+has_frame : (blocks : List NumaBlock) (n x : ℕ) → BeginAndEndAtFrames blocks
+    → belongs_to_node blocks n x ≡ belongs_to_node blocks n (frame_base x)
 has_frame blocks n x framed =
     let held : is_in_block_of_node blocks n x ≡ is_in_block_of_node blocks n (frame_base x) = any_same _ _ blocks (λ b member.
     rw (in_frame b x (framed b member).0 (framed b member).1) refl) in
@@ -146,7 +148,8 @@ is_kept memory domains i (b ∷ bs) k member =
       | inr none ↦ is_kept memory domains (i + 1) bs k (rw none at member)
     ]
 
-framed_kept : (memory : ℕ → Bool) (domains : List ℕ) (bs : List SratBlock) → BeginAndEndAtFrames (numa_blocks_of (keep_blocks memory domains bs))
+framed_kept : (memory : ℕ → Bool) (domains : List ℕ) (bs : List SratBlock)
+    → BeginAndEndAtFrames (numa_blocks_of (keep_blocks memory domains bs))
 framed_kept memory domains bs c member =
     let found = kept_member (keep_blocks memory domains bs) c member in
     let kept = is_kept memory domains 0 bs found.0 found.1 in

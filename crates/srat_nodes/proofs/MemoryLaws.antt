@@ -17,7 +17,8 @@ use Rattle.srat_nodes.specs.Steps.{run_without_node, is_in_runs}
 use Rattle.srat_nodes.proofs.RestLaws.{run_without_node_gives_false}
 
 -- an address is in the runs of memory exactly if it is memory
-pub memory_runs_are_memory : (memory : List RangeView) (rs : List (RunOf Bool)) → IsRunsOf (overlay_runs option_or (map run_without_node memory)) rs
+pub memory_runs_are_memory : (memory : List RangeView) (rs : List (RunOf Bool))
+    → IsRunsOf (overlay_runs option_or (map run_without_node memory)) rs
     → (x : ℕ)
     → is_in_runs rs x ≡ is_in_any_range memory x
 memory_runs_are_memory memory rs known x =
@@ -77,7 +78,8 @@ first_misses rs i range r rest few is apart =
     sym (left.each y low) ∙ none_below r.base y (r ∷ drop (suc i) rs) left.runs (omega arith) lower)
 
 pub first_tells : (rs : List (RunOf Bool)) (i : ℕ) (range : RangeView) (r : RunOf Bool) → IsRestFrom (value_at rs) range.base (drop i rs)
-    → i < length rs → r ≡ get_or rs i r → (met : Bool) → (met ≡ true ↔ Meet (range_of_run r) range) → met ≡ meets_memory (is_in_runs rs) range
+    → i < length rs → r ≡ get_or rs i r → (met : Bool) → (met ≡ true ↔ Meet (range_of_run r) range)
+    → met ≡ meets_memory (is_in_runs rs) range
 first_tells rs i range r rest few is true tells = sym (first_meets rs i range r rest few is (tells.0 refl))
 first_tells rs i range r rest few is false tells =
     sym (first_misses rs i range r rest few is (λ met. true≢false (sym (tells.1 met))))

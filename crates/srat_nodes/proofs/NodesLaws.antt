@@ -19,7 +19,8 @@ use Rattle.srat_nodes.proofs.InListLaws.{IsIn, any_member, member_any, all_membe
 
 -- two blocks that share an address have the same node
 abbrev pub HaveOneNodePerAddress : List NumaBlock → Type 0
-HaveOneNodePerAddress blocks = (a b : NumaBlock) (x : ℕ) → IsIn a blocks → IsIn b blocks → lies_in a x ≡ true → lies_in b x ≡ true → a.value ≡ b.value
+HaveOneNodePerAddress blocks =
+    (a b : NumaBlock) (x : ℕ) → IsIn a blocks → IsIn b blocks → lies_in a x ≡ true → lies_in b x ≡ true → a.value ≡ b.value
 
 -- a member of a list without empty blocks isn't empty
 some_address : (blocks : List NumaBlock) (b : NumaBlock) → HaveAddresses blocks → IsIn b blocks → 0 < b.size
@@ -91,7 +92,8 @@ own_node blocks n a b c own member meeting =
     grind (arith, nat_tests, rw meeting at passes)
 
 -- a node that an address belongs to is that of a block there, or of a gap around it
-joined_around : (blocks : List NumaBlock) (n x : ℕ) → HaveOneNodePerAddress blocks → HaveAddresses blocks → is_in_gap_of_node blocks n x ≡ true
+joined_around : (blocks : List NumaBlock) (n x : ℕ) → HaveOneNodePerAddress blocks → HaveAddresses blocks
+    → is_in_gap_of_node blocks n x ≡ true
     → IsAround (value_at blocks) x n
 joined_around blocks n x apart some joined =
     let outer = any_member _ blocks joined in
@@ -120,7 +122,8 @@ joined_around blocks n x apart some joined =
           (met_at a.base (run_end b) found.block y found.lies above (omega arith));
     }
 
-pub has_filled : (blocks : List NumaBlock) (n x : ℕ) → HaveOneNodePerAddress blocks → HaveAddresses blocks → belongs_to_node blocks n x ≡ true
+pub has_filled : (blocks : List NumaBlock) (n x : ℕ) → HaveOneNodePerAddress blocks → HaveAddresses blocks
+    → belongs_to_node blocks n x ≡ true
     → IsFilled (value_at blocks) x n
 has_filled blocks n x apart some had = elim (cases_Bool (is_in_block_of_node blocks n x)) as (λ _. IsFilled (value_at blocks) x n) [
   | inl held ↦
@@ -161,7 +164,8 @@ lies_outside : (blocks : List NumaBlock) (n x at : ℕ) (b : Covers blocks at n)
 lies_outside blocks n x at b not_held = false_from_ne_true (lies_in b.block x) (λ lies.
     true≢false (sym (held_by blocks b.block n x b.member b.node lies) ∙ not_held))
 
-around_joins : (blocks : List NumaBlock) (n x : ℕ) → HaveOneNodePerAddress blocks → IsAround (value_at blocks) x n → is_in_block_of_node blocks n x ≡ false
+around_joins : (blocks : List NumaBlock) (n x : ℕ) → HaveOneNodePerAddress blocks → IsAround (value_at blocks) x n
+    → is_in_block_of_node blocks n x ≡ false
     → is_in_gap_of_node blocks n x ≡ true
 around_joins blocks n x apart around not_held =
     let a = given_by_block blocks around.low n around.at_low in
@@ -179,7 +183,8 @@ around_joins blocks n x apart around not_held =
     b.member (rw (eq-eqb b.block.value n b.node, between, own) refl) in
     member_any _ blocks a.block a.member (rw (eq-eqb a.block.value n a.node, inner) refl)
 
-filled_has : (blocks : List NumaBlock) (n x : ℕ) → HaveOneNodePerAddress blocks → IsFilled (value_at blocks) x n → belongs_to_node blocks n x ≡ true
+filled_has : (blocks : List NumaBlock) (n x : ℕ) → HaveOneNodePerAddress blocks → IsFilled (value_at blocks) x n
+    → belongs_to_node blocks n x ≡ true
 filled_has blocks n x apart (inl here) =
     let found = given_by_block blocks x n here in
     rw (held_by blocks found.block n x found.member found.node found.lies) refl

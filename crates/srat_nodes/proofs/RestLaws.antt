@@ -54,7 +54,8 @@ run_with_node-HaveAddresses (r ∷ rs) ss runs behind_some = (runs.0, run_with_n
 
 pub marked_runs-HaveAddresses : (memory : List RangeView) (joined : List NumaBlock) → NoMemoryIsEmpty memory → AreRuns joined
     → HaveAddresses (map run_with_node joined ++ map run_without_node memory)
-marked_runs-HaveAddresses memory joined some runs = run_with_node-HaveAddresses joined (map run_without_node memory) runs (run_without_node-HaveAddresses memory some)
+marked_runs-HaveAddresses memory joined some runs =
+    run_with_node-HaveAddresses joined (map run_without_node memory) runs (run_without_node-HaveAddresses memory some)
 
 -- node n for the value `false` (no node yet), and None for `true` or no value
 abbrev pub node_if_false : ℕ → Option Bool → Option ℕ
@@ -82,10 +83,12 @@ overlay_gives_uncovered memory joined n x =
       by false None = refl
 
 -- the runs without a node give their addresses node n
-uncovered_runs_with_node-value : (n : ℕ) (cs : List (RunOf Bool)) (x : ℕ) → AreRuns cs → value_at (uncovered_runs_with_node n cs) x ≡ node_if_false n (value_at cs x)
+uncovered_runs_with_node-value : (n : ℕ) (cs : List (RunOf Bool)) (x : ℕ) → AreRuns cs
+    → value_at (uncovered_runs_with_node n cs) x ≡ node_if_false n (value_at cs x)
 uncovered_runs_with_node-value n [] x runs = refl
 uncovered_runs_with_node-value n (c ∷ cs) x runs = by c.value (lies_in c x) refl refl (uncovered_runs_with_node-value n cs x runs.2) where
-  by : (v inside_c : Bool) → c.value ≡ v → lies_in c x ≡ inside_c → value_at (uncovered_runs_with_node n cs) x ≡ node_if_false n (value_at cs x)
+  by : (v inside_c : Bool) → c.value ≡ v → lies_in c x ≡ inside_c
+      → value_at (uncovered_runs_with_node n cs) x ≡ node_if_false n (value_at cs x)
       → value_at (uncovered_runs_with_node n (c ∷ cs)) x ≡ node_if_false n (value_at (c ∷ cs) x)
   by true true value lies rest =
       let none = none_below (run_end c) x cs runs.2 (rest_from c cs runs) (grind (arith, nat_tests)) in
@@ -102,16 +105,19 @@ uncovered_runs_with_node-first n cs d ds x runs is above under =
     sym (uncovered_runs_with_node-value n cs x runs) ∙ ap (λ (es : List NumaBlock). value_at es x) is ∙ rw (inside d x above under) refl
 
 -- the runs without a node are canonical: two that touched would be one run already
-uncovered_runs_with_node-start : (n at : ℕ) (cs : List (RunOf Bool)) (d : NumaBlock) (ds : List NumaBlock) → AreRuns cs → StartAtOrPast at cs
+uncovered_runs_with_node-start : (n at : ℕ) (cs : List (RunOf Bool)) (d : NumaBlock) (ds : List NumaBlock) → AreRuns cs
+    → StartAtOrPast at cs
     → AreRuns (uncovered_runs_with_node n cs)
     → uncovered_runs_with_node n cs ≡ d ∷ ds → at ≤ d.base
 uncovered_runs_with_node-start n at cs d ds runs start canonical is =
     let some : 0 < d.size = (subst (λ (es : List NumaBlock). AreRuns es) is canonical).0 in
-    let given : node_if_false n (value_at cs d.base) ≡ Some d.value = uncovered_runs_with_node-first n cs d ds d.base runs is (omega arith) (omega arith) in
+    let given : node_if_false n (value_at cs d.base)
+    ≡ Some d.value = uncovered_runs_with_node-first n cs d ds d.base runs is (omega arith) (omega arith) in
     le_of_suc-le-suc (lt_of_not-le (λ lower.
     none-some d.value (ap (node_if_false n) (sym (none_below at d.base cs runs start lower)) ∙ given)))
 
-uncovered_runs_with_node-before : (n : ℕ) (c : RunOf Bool) (cs : List (RunOf Bool)) → AreRuns (c ∷ cs) → c.value ≡ false → (es : List NumaBlock)
+uncovered_runs_with_node-before : (n : ℕ) (c : RunOf Bool) (cs : List (RunOf Bool)) → AreRuns (c ∷ cs) → c.value ≡ false
+    → (es : List NumaBlock)
     → uncovered_runs_with_node n cs
     ≡ es → AreRuns es
     → IsBefore (record { base = c.base; size = c.size; value = n }) es
@@ -141,11 +147,13 @@ pub left_runs : (memory : List RangeView) (joined : List NumaBlock) (n : ℕ) (c
     → IsRunsOf (node_if_uncovered (is_in_any_range memory) (value_at joined) n) (uncovered_runs_with_node n cs)
 left_runs memory joined n cs known = record {
   runs = uncovered_runs_with_node-runs n cs known.runs;
-  each = λ x. uncovered_runs_with_node-value n cs x known.runs ∙ ap (node_if_false n) (known.each x) ∙ overlay_gives_uncovered memory joined n x;
+  each = λ x. uncovered_runs_with_node-value n cs x known.runs ∙ ap (node_if_false n) (known.each x)
+      ∙ overlay_gives_uncovered memory joined n x;
 }
 
 -- one more run of the overlay, which is appended with node n if it has no node
-pub uncovered_runs_with_node-step : (n : ℕ) (before : List NumaBlock) (covered : List (RunOf Bool)) (i : ℕ) (c : RunOf Bool) → i < length covered → c
+pub uncovered_runs_with_node-step : (n : ℕ) (before : List NumaBlock) (covered : List (RunOf Bool)) (i : ℕ) (c : RunOf Bool)
+    → i < length covered → c
     ≡ get_or covered i c
     → (if c.value then before else before ++ run_of_node n c ∷ []) ++ uncovered_runs_with_node n (drop (i + 1) covered) ≡ before
     ++ uncovered_runs_with_node n (drop i covered)

@@ -50,7 +50,8 @@ list_wanted : EndsAsStage {E = StageCause} {A = ℕ} (read_items_allocating leng
 list_wanted = inr (refl, record { count = 0; short = omega arith; stands = refl })
 
 -- no other error is returned before a group
-other_error_cut : EndsAsStage {A = ℕ} (limited 0 5 >>= λ a. limited a 7) error_of_stage_cause (Err (stop.NoPlace what.Roots)) [] (item.Limit 5 ∷ [])
+other_error_cut : EndsAsStage {A = ℕ} (limited 0 5 >>= λ a. limited a 7) error_of_stage_cause (Err (stop.NoPlace what.Roots)) []
+    (item.Limit 5 ∷ [])
     → ⊥
 other_error_cut (inl told) = let wrong = told.1 in cc wrong
 other_error_cut (inr cut) = let wrong = cut.0 in cc wrong

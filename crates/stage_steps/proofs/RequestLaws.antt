@@ -85,13 +85,15 @@ module _ {A : Type 0} (first other : StageStep StageCause A) (old : List Item) w
   stopped_by e new place_or_stop (NoTablePlace w room) is same stands = rw is (inl (NoTablePlace w room, refl, same, stands))
 
   pub else-stops : (e : StageStop) (new : List Item) → ((thing : What) → e ≢ stop.NoPlace thing)
-      → EndsAsStage {A = A} first error_of_stage_cause (Err e) old new → EndsAsStage {A = A} (or_else first other) error_of_stage_cause (Err e) old new
+      → EndsAsStage {A = A} first error_of_stage_cause (Err e) old new
+      → EndsAsStage {A = A} (or_else first other) error_of_stage_cause (Err e) old new
   else-stops e new place_or_stop h = ⊎_elim
       (λ told. stopped_by e new place_or_stop told.0 told.1 told.2 told.3)
       (λ cut. inr (cut.0, cut_by new (first old).answer (first old).steps (other (items_after_step old (first old))) cut.1)) h
 
   -- the first step found no place, so both end as the other one
-  second_by : (r : Result A StageStop) (thing : What) (mid new : List Item) → EndsAsStage other error_of_stage_cause r mid new → (why : StageCause)
+  second_by : (r : Result A StageStop) (thing : What) (mid new : List Item) → EndsAsStage other error_of_stage_cause r mid new
+      → (why : StageCause)
       → (first old).answer ≡ Err why → stop.NoPlace thing ≡ error_of_stage_cause (Some why) → mid ≡ items_after_step old (first old)
       → EndsAsStage (or_else first other) error_of_stage_cause r old new
   second_by r thing mid new rest (NoTablePlace w room) is same stands = absurd (cc same)

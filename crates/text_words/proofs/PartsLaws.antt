@@ -19,7 +19,8 @@ prepend_to_first_part-nil [] = refl
 prepend_to_first_part-nil (p ∷ ps) = refl
 
 -- prepending a text and then a byte prepends both
-pub prepend_to_first_part-prepend_byte : (front : List ℕ) (b : ℕ) (ps : List (List ℕ)) → prepend_to_first_part front (prepend_byte b ps) ≡ prepend_to_first_part (front ++ (b ∷ [])) ps
+pub prepend_to_first_part-prepend_byte : (front : List ℕ) (b : ℕ) (ps : List (List ℕ))
+    → prepend_to_first_part front (prepend_byte b ps) ≡ prepend_to_first_part (front ++ (b ∷ [])) ps
 prepend_to_first_part-prepend_byte [] b [] = refl
 prepend_to_first_part-prepend_byte (a ∷ front) b [] = refl
 prepend_to_first_part-prepend_byte [] b (p ∷ ps) = refl
@@ -35,7 +36,8 @@ parts-end s false (a ∷ front) b rest is closed = rw is (ap (λ (part : List �
 -- any other byte belongs to the current part
 pub parts-more : (s : Separators) (quoted : Bool) (front : List ℕ) (b : ℕ) (rest : List ℕ)
     → separates s b && not quoted ≡ false
-    → prepend_to_first_part front (parts_from s quoted (b ∷ rest)) ≡ prepend_to_first_part (front ++ (b ∷ [])) (parts_from s (quoted_after s quoted b) rest)
+    → prepend_to_first_part front (parts_from s quoted (b ∷ rest))
+    ≡ prepend_to_first_part (front ++ (b ∷ [])) (parts_from s (quoted_after s quoted b) rest)
 parts-more s quoted front b rest stays = rw stays (prepend_to_first_part-prepend_byte front b (parts_from s (quoted_after s quoted b) rest))
 
 -- the end of the text ends the last part

@@ -58,12 +58,15 @@ below_1_gib = Some (record { first = 1; end = 262144 })
 -- hull doesn't touch has no span, also if the hull ends at its border
 part_examples : (hull_part 0 zone.Dma 3995 across_all ≡ Some (record { node = 0; zone = zone.Dma; start = 1; end = 4096; present = 3995 }))
     × (hull_part 0 zone.Dma32 0 across_all ≡ Some (record { node = 0; zone = zone.Dma32; start = 4096; end = 1048576; present = 0 }))
-    × (hull_part 0 zone.Normal 74565 across_all ≡ Some (record { node = 0; zone = zone.Normal; start = 1048576; end = 1123141; present = 74565 }))
-    × (hull_part 0 zone.Dma32 258048 below_1_gib ≡ Some (record { node = 0; zone = zone.Dma32; start = 4096; end = 262144; present = 258048 }))
+    × (hull_part 0 zone.Normal 74565 across_all
+    ≡ Some (record { node = 0; zone = zone.Normal; start = 1048576; end = 1123141; present = 74565 }))
+    × (hull_part 0 zone.Dma32 258048 below_1_gib
+    ≡ Some (record { node = 0; zone = zone.Dma32; start = 4096; end = 262144; present = 258048 }))
     × (hull_part 0 zone.Normal 0 below_1_gib ≡ None)
     × (hull_part 0 zone.Dma32 0 (Some (record { first = 1; end = 4096 })) ≡ None)
     × (hull_part 0 zone.Dma 0 (Some (record { first = 4096; end = 4097 })) ≡ None)
-    × (hull_part 0 zone.Dma 1 (Some (record { first = 4095; end = 4097 })) ≡ Some (record { node = 0; zone = zone.Dma; start = 4095; end = 4096; present = 1 }))
+    × (hull_part 0 zone.Dma 1 (Some (record { first = 4095; end = 4097 }))
+    ≡ Some (record { node = 0; zone = zone.Dma; start = 4095; end = 4096; present = 1 }))
 part_examples = (refl, refl, refl, refl, refl, refl, refl, refl)
 
 clamp_examples : (clamp_to_zone zone.Dma32 4095 ≡ 4096) × (clamp_to_zone zone.Dma32 4097 ≡ 4097)

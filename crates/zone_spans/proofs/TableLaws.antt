@@ -25,7 +25,8 @@ nothing_taken b ms i d ascend whole few x above =
     ap node_of_label (taken_none b ms i (4096 * x) d ascend few (omega (arith, above, base)))
 
 -- a record with a node adds a run; one without changes nothing
-pub taken_run : (b : ℕ) (ms : List (RunOf LabelView)) (i n : ℕ) (d : RunOf LabelView) → AreAscendingBelow b ms → AreWholeFrames ms → i < length ms
+pub taken_run : (b : ℕ) (ms : List (RunOf LabelView)) (i n : ℕ) (d : RunOf LabelView) → AreAscendingBelow b ms → AreWholeFrames ms
+    → i < length ms
     → (frames_of_record (get_or ms i d)).node ≡ Some n
     → frames_with_node_run (frames_of_record (get_or ms i d)).first (frames_of_record (get_or ms i d)).end n
     (node_of_frame (value_at (take i ms)))
@@ -37,7 +38,8 @@ taken_run b ms i n d ascend whole few is =
     grind (arith, node_more b ms i x d ascend whole few, is) in
     λ j x. same x j
 
-pub taken_left : (b : ℕ) (ms : List (RunOf LabelView)) (i : ℕ) (d : RunOf LabelView) → AreAscendingBelow b ms → AreWholeFrames ms → i < length ms
+pub taken_left : (b : ℕ) (ms : List (RunOf LabelView)) (i : ℕ) (d : RunOf LabelView) → AreAscendingBelow b ms → AreWholeFrames ms
+    → i < length ms
     → (frames_of_record (get_or ms i d)).node ≡ None
     → node_of_frame (value_at (take i ms)) ≡ node_of_frame (value_at (take (i + 1) ms))
 taken_left b ms i d ascend whole few is =

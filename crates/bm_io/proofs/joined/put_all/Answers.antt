@@ -26,7 +26,8 @@ returns-in_err-put_if_not_empty-clause-untouched g c = λ none.
     let bytes : c.as_slice.result.now ≡ g.P.AsSlice.items (get_or c.args.chunks.now l.chunk-index item.result) =
     c.as_slice.ensures ∙ ap g.P.AsSlice.items item.is in
     let parts = joined_at g.P.AsSlice.items c.args.chunks.now l.chunk-index item.result c.loop-chunk-test.true ∙ none in
-    c.put_if_not_empty.ensures.untouched (bytes ∙ both_empty_first _ _ (both_empty_second _ _ parts)) ∙ l.invariant.untouched (both_empty_first _ _ parts)
+    c.put_if_not_empty.ensures.untouched (bytes ∙ both_empty_first _ _ (both_empty_second _ _ parts))
+    ∙ l.invariant.untouched (both_empty_first _ _ parts)
 
 pub loop-chunk-preserved : goal.loop-chunk-preserved
 loop-chunk-preserved g c =

@@ -6,4 +6,5 @@ use Rattle.boot_audit.proofs.blocks.first_in_wrong_zone.Given as goal
 
 abbrev pub invariant-loop-index : goal.invariant-loop-index
 invariant-loop-index l =
-    first_line_passing (λ b. not (is_in_zone b)) (l.index + 1) (drop l.index l.blocks) ≡ first_line_passing (λ b. not (is_in_zone b)) 1 l.blocks
+    first_line_passing (λ b. not (is_in_zone b)) (l.index + 1) (drop l.index l.blocks)
+    ≡ first_line_passing (λ b. not (is_in_zone b)) 1 l.blocks

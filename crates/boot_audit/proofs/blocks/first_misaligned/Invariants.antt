@@ -6,4 +6,5 @@ use Rattle.boot_audit.proofs.blocks.first_misaligned.Given as goal
 
 abbrev pub invariant-loop-index : goal.invariant-loop-index
 invariant-loop-index l =
-    first_line_passing (λ b. not (is_aligned b)) (l.index + 1) (drop l.index l.blocks) ≡ first_line_passing (λ b. not (is_aligned b)) 1 l.blocks
+    first_line_passing (λ b. not (is_aligned b)) (l.index + 1) (drop l.index l.blocks)
+    ≡ first_line_passing (λ b. not (is_aligned b)) 1 l.blocks

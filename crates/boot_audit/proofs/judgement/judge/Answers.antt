@@ -6,7 +6,8 @@ use Rattle.boot_audit.proofs.judgement.judge.Goals as goal
 
 pub returns-in-Some-not_free-clause-near : goal.returns-in-Some-not_free-clause-near
 returns-in-Some-not_free-clause-near c =
-    least_near (is_in_block_but_not_free c.limit.result c.args.saved.now.map.items c.args.saved.now.owners.items c.args.saved.now.blocks.items)
+    least_near (is_in_block_but_not_free c.limit.result c.args.saved.now.map.items c.args.saved.now.owners.items
+    c.args.saved.now.blocks.items)
     (2 ^ 40) c.in-Some-not_free.frame (sym c.sweep-swept.ensures.not_free ∙ c.in-Some-not_free.is)
 
 pub returns-in-Some-lost-clause-near : goal.returns-in-Some-lost-clause-near

@@ -17,5 +17,6 @@ loop-rest-preserved c =
     let parts : parts_of_rest (Byte 44) (text_of c.loop-rest.rest) ≡ text ∷ texts = rw c.in-Some.is c.next_part.ensures.parts in (
       kept ++ range ∷ [],
       c.append_item.ensures kept c.loop-rest.invariant.1,
-      ranges_before-one kept text texts range is ∙ ap (λ (ts : List (List ℕ)). ranges_before kept (crash_ranges_of ts)) (sym parts) ∙ so_far,
+      ranges_before-one kept text texts range is
+          ∙ ap (λ (ts : List (List ℕ)). ranges_before kept (crash_ranges_of ts)) (sym parts) ∙ so_far,
     )

@@ -12,7 +12,8 @@ overflow_add-added c =
     let i = c.loop-run.run-index in
     let run = c.run-item.result in
     let kept : c.loop-run.added + added_bytes reach (drop i map) ≡ added_bytes reach map = c.loop-run.invariant in
-    let next : added_bytes reach (drop i map) ≡ added_bytes reach (get_or map i run ∷ drop (suc i) map) = ap (λ (rs : List (RunOf ℕ)). added_bytes reach rs) (drop-cons map i run c.loop-run-test.true) in
+    let next : added_bytes reach (drop i map) ≡ added_bytes reach (get_or map i run ∷ drop (suc i) map) = ap
+    (λ (rs : List (RunOf ℕ)). added_bytes reach rs) (drop-cons map i run c.loop-run-test.true) in
     let sum = added-cons reach (get_or map i run) (drop (suc i) map) in
     omega (
       arith,

@@ -58,7 +58,8 @@ returns-clause-told c = λ ids fills. (
     let reserved = c.requires.tables which.Reserved in
     let begins : page_state_of c.new-after.result ≡ first_page_state (node_of_free_frame c.in_ok-buddy.buddy) =
     c.new-after.ensures ∙ ap (λ (rs : List (RunOf ℕ)). first_page_state (value_at rs)) c.in_ok-copy.ensures in
-    finish_boot-by c.args.profile (inputs_view c.args.inputs) c.args.map.items c.args.memblock c.args.later ids fills _ _ _ _ _ _ _ _ c.requires.kernel
+    finish_boot-by c.args.profile (inputs_view c.args.inputs) c.args.map.items c.args.memblock c.args.later ids fills _ _ _ _ _ _ _ _
+    c.requires.kernel
     (ap (λ (j : JournalView). j.items) c.into_parts-store.ensures.journal) (cc)
     (c.in_ok-spans.ensures ∙ rule-told stands c.args.profile.zones) (c.in_ok-with_memory.ensures ∙ spans-told stands)
     (λ i frame. (c.in_ok-buddy.ensures frame ∙ free-told stands frame) i)

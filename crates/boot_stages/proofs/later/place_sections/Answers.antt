@@ -29,7 +29,8 @@ present-requires c =
     let told : All IsWholeFramesWithNode (records_of which.Memory items) =
     noded-records (memory_of items) (records_of which.Memory items) (noded-runs (2 ^ 52) items (omega arith) c.requires.noded)
     c.requires.noded in
-    subst (λ (rs : List (RunOf LabelView)). All IsWholeFramesWithNode rs) (sym (ap (λ (t : TableView). t.records) c.tables.ensures.memory)) told
+    subst (λ (rs : List (RunOf LabelView)). All IsWholeFramesWithNode rs)
+    (sym (ap (λ (t : TableView). t.records) c.tables.ensures.memory)) told
 
 pub returns-in_err-sections-clause-ends : goal.returns-in_err-sections-clause-ends
 returns-in_err-sections-clause-ends c =

@@ -35,7 +35,8 @@ pub returns-clause-ends : goal.returns-clause-ends
 returns-clause-ends c =
     let e : EarlyInputs = early_inputs (inputs_view c.args.inputs.now) in
     rw (← c.reach.ensures) (carries-second _ (items_of_map c.reach.result c.args.map.now) (item.Trim ∷ mirror_items e.mirrors) _ _ _
-    c.in_ok-add_map.ensures.ends (change_writing_item-second _ item.Trim (mirror_items e.mirrors) _ _ _ (refl, c.in_ok-trim.ensures.appends.0)
+    c.in_ok-add_map.ensures.ends
+    (change_writing_item-second _ item.Trim (mirror_items e.mirrors) _ _ _ (refl, c.in_ok-trim.ensures.appends.0)
     c.mirror_memory.ensures.ends))
 
 pub returns-clause-goes_on : goal.returns-clause-goes_on

@@ -41,4 +41,5 @@ returns-clause-ends c =
     (refl, c.in_ok-set_limit.ensures.appends.0) c.set_search_direction.ensures.ends)
 
 pub returns-clause-goes_on : goal.returns-clause-goes_on
-returns-clause-goes_on c = goes-then _ _ _ (limited (goal.at.returns-clause-goes_on c).After-set_limit) c.set_search_direction.ensures.goes_on
+returns-clause-goes_on c =
+    goes-then _ _ _ (limited (goal.at.returns-clause-goes_on c).After-set_limit) c.set_search_direction.ensures.goes_on

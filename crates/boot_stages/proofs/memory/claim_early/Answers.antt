@@ -32,7 +32,8 @@ claim-requires-2-clause-may c =
 
 pub returns-in_err-claim-2-clause-ends : goal.returns-in_err-claim-2-clause-ends
 returns-in_err-claim-2-clause-ends c =
-    rw (← c.range_below_address.ensures) (change_writing_item-second _ (item.Claim c.args.kernel owner.Kernel) _ _ _ _ c.in_ok-claim.ensures.ends
+    rw (← c.range_below_address.ensures)
+    (change_writing_item-second _ (item.Claim c.args.kernel owner.Kernel) _ _ _ _ c.in_ok-claim.ensures.ends
     (change_writing_item-exit c.in_err-claim-2.field-0.0 _ (item.Claim c.range_below_address.result owner.Low64K) _ _ _
     (exit _ _ c.from_residual-in_err-claim-2.ensures.1) c.in_err-claim-2.ensures.ends))
 
@@ -42,7 +43,8 @@ claim-requires-in-Some-clause-may c =
 
 pub returns-in-Some-clause-ends : goal.returns-in-Some-clause-ends
 returns-in-Some-clause-ends c =
-    rw (c.in-Some.is, ← c.range_below_address.ensures) (change_writing_item-second _ (item.Claim c.args.kernel owner.Kernel) _ _ _ _ c.in_ok-claim.ensures.ends
+    rw (c.in-Some.is, ← c.range_below_address.ensures)
+    (change_writing_item-second _ (item.Claim c.args.kernel owner.Kernel) _ _ _ _ c.in_ok-claim.ensures.ends
     (change_writing_item-second _ (item.Claim c.range_below_address.result owner.Low64K) _ _ _ _ c.in_ok-claim-2.ensures.ends
     (carries-change _ (item.Claim c.in-Some.range owner.Initrd) _ _ c.claim-in-Some.ensures.ends)))
 
@@ -54,7 +56,8 @@ returns-in-Some-clause-begun c =
 pub returns-in-None-clause-ends : goal.returns-in-None-clause-ends
 returns-in-None-clause-ends c =
     rw (c.in-None.is, ← c.range_below_address.ensures) (change_writing_item-second (Ok tt) (item.Claim c.args.kernel owner.Kernel) _ _ _ _
-    c.in_ok-claim.ensures.ends (carries-change (Ok tt) (item.Claim c.range_below_address.result owner.Low64K) _ _ c.in_ok-claim-2.ensures.ends))
+    c.in_ok-claim.ensures.ends
+    (carries-change (Ok tt) (item.Claim c.range_below_address.result owner.Low64K) _ _ c.in_ok-claim-2.ensures.ends))
 
 pub returns-in-None-clause-begun : goal.returns-in-None-clause-begun
 returns-in-None-clause-begun c = both_begun (goal.at.returns-in-None-clause-begun c).In_ok-claim-2

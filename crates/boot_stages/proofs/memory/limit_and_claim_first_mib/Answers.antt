@@ -15,8 +15,10 @@ returns-in_err-set_limit-clause-ends c =
 
 pub returns-clause-ends : goal.returns-clause-ends
 returns-clause-ends c =
-    rw (← c.range_below_address.ensures) (change_writing_item-second _ (item.Limit c.args.end) (item.Claim c.range_below_address.result owner.Low1M ∷ []) _ _ _
-    (refl, c.in_ok-set_limit.ensures.appends.0) (carries-change _ (item.Claim c.range_below_address.result owner.Low1M) _ _ c.claim.ensures.ends))
+    rw (← c.range_below_address.ensures)
+    (change_writing_item-second _ (item.Limit c.args.end) (item.Claim c.range_below_address.result owner.Low1M ∷ []) _ _ _
+    (refl, c.in_ok-set_limit.ensures.appends.0)
+    (carries-change _ (item.Claim c.range_below_address.result owner.Low1M) _ _ c.claim.ensures.ends))
 
 pub returns-clause-goes_on : goal.returns-clause-goes_on
 returns-clause-goes_on c =

@@ -29,7 +29,8 @@ returns-in_err-add_memory_of_map-clause-ends c =
     (exit _ _ c.from_residual-in_err-add_memory_of_map.ensures.1) c.in_err-add_memory_of_map.ensures.ends))
 
 pub returns-in_err-add_memory_of_map-clause-goes_on : goal.returns-in_err-add_memory_of_map-clause-goes_on
-returns-in_err-add_memory_of_map-clause-goes_on c = goes-then _ _ _ c.in_ok-claim_before_memory.ensures.goes_on c.in_err-add_memory_of_map.ensures.goes_on
+returns-in_err-add_memory_of_map-clause-goes_on c =
+    goes-then _ _ _ c.in_ok-claim_before_memory.ensures.goes_on c.in_err-add_memory_of_map.ensures.goes_on
 
 pub returns-clause-ends : goal.returns-clause-ends
 returns-clause-ends c =
@@ -45,8 +46,10 @@ returns-clause-ends c =
     c.end_of_memory-end.ensures ∙ ap (λ (t : TableView). end_of_last_run t.records) c.tables.ensures.memory
     ∙ table_end e map mid c.requires.runs first c.tables.ensures.within in
     rw (← in_parts e map) (carries-second _ (items_before_memory e) _ _ _ _ c.in_ok-claim_before_memory.ensures.ends
-    (carries-second _ (items_for_memory_of_map e map) _ _ mid _ c.in_ok-add_memory_of_map.ensures.ends (rw end at c.limit_and_claim_first_mib.ensures.ends)))
+    (carries-second _ (items_for_memory_of_map e map) _ _ mid _ c.in_ok-add_memory_of_map.ensures.ends
+    (rw end at c.limit_and_claim_first_mib.ensures.ends)))
 
 pub returns-clause-goes_on : goal.returns-clause-goes_on
 returns-clause-goes_on c =
-    goes-then _ _ _ (goes-then _ _ _ c.in_ok-claim_before_memory.ensures.goes_on c.in_ok-add_memory_of_map.ensures.goes_on) c.limit_and_claim_first_mib.ensures.goes_on
+    goes-then _ _ _ (goes-then _ _ _ c.in_ok-claim_before_memory.ensures.goes_on c.in_ok-add_memory_of_map.ensures.goes_on)
+    c.limit_and_claim_first_mib.ensures.goes_on

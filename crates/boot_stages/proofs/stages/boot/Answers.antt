@@ -17,7 +17,8 @@ use Rattle.boot_stages.proofs.stages.boot.Goals as goal
 use Rattle.boot_stages.proofs.stages.boot.Goals.{After-without_claims-extra}
 
 own_extra : (c : After-without_claims-extra) → extra_view c.without_claims-extra.result ≡ no_extra
-own_extra c = c.without_claims-extra.ensures ∙ ap (λ (p : Profile). let e : ExtraView = record { profile = p; claims = [] } in e) c.own.ensures
+own_extra c =
+    c.without_claims-extra.ensures ∙ ap (λ (p : Profile). let e : ExtraView = record { profile = p; claims = [] } in e) c.own.ensures
 
 own_report : (extra : ExtraView) (given : InputsView) (result : Result Booted Stop) → extra ≡ no_extra
     → Answers stops.Memory booted_view result (map_error stop_of (whole_boot_with extra given))
@@ -29,7 +30,8 @@ own_report extra given result is answers =
 -- what the bytes of a boot's result are
 abbrev HasBytes : ExtraView → InputsView → RangeView → Booted → Type 0
 HasBytes extra given kernel booted =
-    (made : BootSoFar) → boot_with extra given ≡ Ok made → (x : ℕ) → byte_of booted.store x ≡ byte_from_history kernel made.items made.fills x
+    (made : BootSoFar) → boot_with extra given ≡ Ok made → (x : ℕ)
+    → byte_of booted.store x ≡ byte_from_history kernel made.items made.fills x
 
 own_bytes : (extra : ExtraView) (given : InputsView) (kernel : RangeView) (result : Result Booted Stop) → extra ≡ no_extra
     → IfOk result (HasBytes extra given kernel)

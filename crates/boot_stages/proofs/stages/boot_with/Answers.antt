@@ -68,7 +68,8 @@ record Made (extra : ExtraView) (given : InputsView) (map : List (RunOf ℕ)) (m
   boots : boot_with extra given ≡ Ok (made_after_stages given map m later run.ids run.fills)
   noded : IsMemoryWithNodes (2 ^ 52) (memory_of m.journal.items)
 
-made : (c : In_ok-later) → Made (extra_view c.args.extra.now) (inputs_view c.args.inputs) c.in_ok-map.map.items c.run_stages.new.memblock c.in_ok-later.later
+made : (c : In_ok-later) → Made (extra_view c.args.extra.now)
+    (inputs_view c.args.inputs) c.in_ok-map.map.items c.run_stages.new.memblock c.in_ok-later.later
 made c =
     let extra : ExtraView = extra_view c.args.extra.now in
     let given : InputsView = inputs_view c.args.inputs in
@@ -120,24 +121,30 @@ returns-clause-bytes c = λ final ends x. (
     ∙ ap (λ (n : BootSoFar). byte_from_history given.kernel n.items n.fills x) is)
 
 pub returns-clause-each : goal.returns-clause-each
-returns-clause-each c = all_touched_or_in_one (extra_view c.args.extra.now) (inputs_view c.args.inputs) _ (ok_without_error_change stop_of _ _ (returns-clause-boots c))
+returns-clause-each c = all_touched_or_in_one (extra_view c.args.extra.now) (inputs_view c.args.inputs) _
+    (ok_without_error_change stop_of _ _ (returns-clause-boots c))
 
 pub returns-clause-others : goal.returns-clause-others
-returns-clause-others c = no_other_in_a_block (extra_view c.args.extra.now) (inputs_view c.args.inputs) _ (ok_without_error_change stop_of _ _ (returns-clause-boots c))
+returns-clause-others c = no_other_in_a_block (extra_view c.args.extra.now) (inputs_view c.args.inputs) _
+    (ok_without_error_change stop_of _ _ (returns-clause-boots c))
 
 pub returns-clause-whole : goal.returns-clause-whole
-returns-clause-whole c = blocks_whole (extra_view c.args.extra.now) (inputs_view c.args.inputs) _ (ok_without_error_change stop_of _ _ (returns-clause-boots c))
+returns-clause-whole c =
+    blocks_whole (extra_view c.args.extra.now) (inputs_view c.args.inputs) _ (ok_without_error_change stop_of _ _ (returns-clause-boots c))
 
 pub returns-clause-maximal : goal.returns-clause-maximal
-returns-clause-maximal c = blocks_maximal (extra_view c.args.extra.now) (inputs_view c.args.inputs) _ (ok_without_error_change stop_of _ _ (returns-clause-boots c))
+returns-clause-maximal c = blocks_maximal (extra_view c.args.extra.now) (inputs_view c.args.inputs) _
+    (ok_without_error_change stop_of _ _ (returns-clause-boots c))
 
 pub returns-clause-paged : goal.returns-clause-paged
 returns-clause-paged c =
-    all_in_one_or_held (extra_view c.args.extra.now) (inputs_view c.args.inputs) _ (ok_without_error_change stop_of _ _ (returns-clause-boots c)) c.args.inputs.orders_fit
+    all_in_one_or_held (extra_view c.args.extra.now) (inputs_view c.args.inputs) _
+    (ok_without_error_change stop_of _ _ (returns-clause-boots c)) c.args.inputs.orders_fit
 
 pub returns-clause-none_paged : goal.returns-clause-none_paged
 returns-clause-none_paged c =
-    no_other_in_one_or_held (extra_view c.args.extra.now) (inputs_view c.args.inputs) _ (ok_without_error_change stop_of _ _ (returns-clause-boots c)) c.args.inputs.orders_fit
+    no_other_in_one_or_held (extra_view c.args.extra.now) (inputs_view c.args.inputs) _
+    (ok_without_error_change stop_of _ _ (returns-clause-boots c)) c.args.inputs.orders_fit
 
 -- One of the inputs' facts is named wherever the inputs are dropped. The others are found.
 pub invariant_of-inputs-clause-entries_end : goal.invariant_of-inputs-clause-entries_end

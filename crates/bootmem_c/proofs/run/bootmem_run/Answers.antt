@@ -12,14 +12,16 @@ returns-clause-written c = λ zero.
     c.status_after_line-status.ensures.whole c.status_after_line-status.ensures.short (λ seven. omega (arith, zero, seven)) in
     taken_by (outcome_of c.args.words.now c.args.files.now) c.run_lent_files-ran.new.report.text c.args.out.now c.copy_text.new.out
     (c.run_lent_files-ran.ensures.written (sym ran.1 ∙ zero))
-    (subst (λ (text : List ℕ). CopiesText text c.args.out.now c.copy_text.new.out) (c.report_text_for_status.ensures.written zero) c.copy_text.ensures)
+    (subst (λ (text : List ℕ). CopiesText text c.args.out.now c.copy_text.new.out)
+    (c.report_text_for_status.ensures.written zero) c.copy_text.ensures)
 
 pub returns-clause-headline : goal.returns-clause-headline
 returns-clause-headline c = λ zero.
     let ran = whole_run c.run_lent_files-ran.new.line.is_short c.run_lent_files-ran.result c.status_after_line-status.result
     c.status_after_line-status.ensures.whole c.status_after_line-status.ensures.short (λ seven. omega (arith, zero, seven)) in (
       c.run_lent_files-ran.new.report.text,
-      subst (λ (text : List ℕ). CopiesText text c.args.out.now c.copy_text.new.out) (c.report_text_for_status.ensures.written zero) c.copy_text.ensures,
+      subst (λ (text : List ℕ). CopiesText text c.args.out.now c.copy_text.new.out)
+          (c.report_text_for_status.ensures.written zero) c.copy_text.ensures,
       c.run_lent_files-ran.ensures.headline (sym ran.1 ∙ zero),
     )
 

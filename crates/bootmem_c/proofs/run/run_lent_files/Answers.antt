@@ -50,7 +50,8 @@ returns-in-Ok-clause-line c = λ some other short.
     let was = read_args (bytes_of_words c.deref.result.now) in
     let said = bootmem_outcome was (file_bytes c.new.result.files) in
     let told = ran_line c.new.result c.run.new.files was c.args.line.now c.run.new.err c.run.result
-    (names_no_claims (bytes_of_words c.deref.result.now)) c.run.ensures.unwritten c.requires.no_line c.requires.not_short c.run.ensures.line some other short in
+    (names_no_claims (bytes_of_words c.deref.result.now)) c.run.ensures.unwritten c.requires.no_line c.requires.not_short
+    c.run.ensures.line some other short in
     let same : outcome_line was said ≡ call_line c.args.words.now c.args.files.now =
     ap (λ (a : Option BootmemArgsView). outcome_line a said) (asks c)
     ∙ ap (outcome_line (read_lent_args (lent_words c.args.words.now))) (is_outcome c)

@@ -32,7 +32,8 @@ loop-at-preserved c =
     let whole : at % s ≡ 0 = start_whole first end at o s c.loop-at.invariant.start e.small e.size e.fits in
     let long : k ≤ k * s = many k s o e.size in
     let v : ℕ = if_alike o (zone_of at) c.args.order c.args.zone in
-    let told : v ≡ cond c.has_order_and_zone.result 1 0 = alike_told c.has_order_and_zone.result o c.args.order (zone_of at) c.args.zone c.has_order_and_zone.ensures in
+    let told : v ≡ cond c.has_order_and_zone.result 1 0 = alike_told c.has_order_and_zone.result o c.args.order
+    (zone_of at) c.args.zone c.has_order_and_zone.ensures in
     let more : c.if-has_order_and_zone.total ≡ c.loop-at.total + k * v =
     elim c.if-has_order_and_zone.branch [
       | then-has_order_and_zone w ↦

@@ -9,7 +9,8 @@ invariant-loop-at l = record {
   above : l.first ≤ l.at;
   below : l.at ≤ l.end;
   start : FittingSetsBeginAt l.first l.end l.at;
-  listed : (f : Frames) → IsWholeNodeRun f l.first l.end l.node → l.blocks.items ≡ l.fn.blocks.items ++ blocks_from f l.first (l.at - l.first);
+  listed : (f : Frames) → IsWholeNodeRun f l.first l.end l.node
+      → l.blocks.items ≡ l.fn.blocks.items ++ blocks_from f l.first (l.at - l.first);
 }
 
 abbrev pub decreases-loop-at : goal.decreases-loop-at

@@ -13,8 +13,10 @@ invariant-loop-at l = record {
   start : FittingSetsBeginAt l.first l.end l.at;
   listed : (f : Frames) → IsWholeNodeRun f l.first l.end l.node
       → blocks_of_rows l.rows.items ≡ blocks_of_rows l.fn.rows.items ++ blocks_from f l.first (l.at - l.first);
-  longest : (f : Frames) → IsWholeNodeRun f l.first l.end l.node → LastRowFulfils (LastFrameIsFree f) l.fn.rows.items → AreCanonicalRows l.fn.rows.items
-      → LastRowFulfils (LastFrameIsFree f) l.rows.items × LastRowFulfils (EndsAt l.at l.end l.node) l.rows.items × AreCanonicalRows l.rows.items;
+  longest : (f : Frames) → IsWholeNodeRun f l.first l.end l.node → LastRowFulfils (LastFrameIsFree f) l.fn.rows.items
+      → AreCanonicalRows l.fn.rows.items
+      → LastRowFulfils (LastFrameIsFree f) l.rows.items × LastRowFulfils (EndsAt l.at l.end l.node) l.rows.items
+      × AreCanonicalRows l.rows.items;
 }
 
 abbrev pub decreases-loop-at : goal.decreases-loop-at

@@ -4,4 +4,5 @@ use Rattle.conservation.proofs.ToldLaws.{own_told}
 use Rattle.conservation.proofs.laws.usable_frames_are_touched_or_in_one_block.Goals as goal
 
 pub returns : goal.returns
-returns c = record { own = λ given t ends. all_touched_or_in_one no_extra given t (own_told t given ends); by_profile = all_touched_or_in_one }
+returns c =
+    record { own = λ given t ends. all_touched_or_in_one no_extra given t (own_told t given ends); by_profile = all_touched_or_in_one }

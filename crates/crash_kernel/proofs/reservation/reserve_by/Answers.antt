@@ -29,7 +29,8 @@ by_main : (c : In-Some-main_range) → c.total_memory-total.result ≡ memory_by
     ≡ claim_area c.in-Some.area (low_size (crash_option_view c.args.option.now))
     (Some c.in-Some-main_range.main) c.args.memblock.now.journal.items
 by_main c total =
-    main-at c.args.rule c.args.added c.args.memblock.now.journal.items (crash_option_view c.args.option.now) c.total_memory-total.result c.in-Some.area
+    main-at c.args.rule c.args.added c.args.memblock.now.journal.items
+    (crash_option_view c.args.option.now) c.total_memory-total.result c.in-Some.area
     (Some c.in-Some-main_range.main) total c.in-Some.ensures.area c.in-Some-main_range.ensures.range
 
 -- so it has a step
@@ -47,7 +48,8 @@ is_no_answer c total told = λ idle.
 pub returns-in_default-clause-ends : goal.returns-in_default-clause-ends
 returns-in_default-clause-ends c =
     let total = total_is (goal.at.returns-in_default-clause-ends c).After-total_memory-total in
-    rw (area-at c.args.rule c.args.added c.args.memblock.now.journal.items (crash_option_view c.args.option.now) c.total_memory-total.result None total
+    rw (area-at c.args.rule c.args.added c.args.memblock.now.journal.items
+    (crash_option_view c.args.option.now) c.total_memory-total.result None total
     c.in_default.ensures.area) (refl, refl)
 
 pub returns-in_default-clause-idle : goal.returns-in_default-clause-idle
@@ -60,7 +62,8 @@ pub returns-in_default-main_range-clause-ends : goal.returns-in_default-main_ran
 returns-in_default-main_range-clause-ends c =
     let total = total_is (goal.at.returns-in_default-main_range-clause-ends c).After-total_memory-total in
     rw (
-      main-at c.args.rule c.args.added c.args.memblock.now.journal.items (crash_option_view c.args.option.now) c.total_memory-total.result c.in-Some.area None total
+      main-at c.args.rule c.args.added c.args.memblock.now.journal.items
+          (crash_option_view c.args.option.now) c.total_memory-total.result c.in-Some.area None total
           c.in-Some.ensures.area c.in_default-main_range.ensures.range,
       c.search_failure.ensures,
     ) (refl, refl)

@@ -46,6 +46,7 @@ returns-in-Change-clause-same c =
 pub returns-in-Change-clause-claims : goal.returns-in-Change-clause-claims
 returns-in-Change-clause-claims c =
     let types : 0 < c.in-Change.to = (rw c.in-Change.is at c.requires.types).1 in
-    AreClaims-edited c.replace_with_cut-in-Change.result _ _ _ c.replace_with_cut-in-Change.ensures.ok c.replace_with_cut-in-Change.ensures.err
+    AreClaims-edited c.replace_with_cut-in-Change.result _ _ _ c.replace_with_cut-in-Change.ensures.ok
+    c.replace_with_cut-in-Change.ensures.err
     (AreClaims-cut_out c.in-Change.range (Some c.in-Change.from) (Some c.in-Change.to) c.args.claims.now.items (types, omega arith)
     c.requires.claims) c.requires.claims

@@ -12,7 +12,8 @@ invariant-loop-line l = record {
   begun : HasFirstItem l.mb.journal.items;
   kernel : l.mb.kernel ≡ l.fn.mb.kernel;
   reached : (fills : List Fill) → AreBytesFromHistory l.fn.mb.kernel l.fn.mb.journal.items fills (memblock_bytes l.fn.mb) →
-      MatchesScriptSoFar (script_after_lines (script_so_far l.fn.live l.fn.mb fills l.fn.answers.items) (take l.line-index l.lines)) l.live l.mb
+      MatchesScriptSoFar (script_after_lines (script_so_far l.fn.live l.fn.mb fills l.fn.answers.items) (take l.line-index l.lines))
+      l.live l.mb
       l.answers.items;
   room : vec_len l.answers + length l.lines ≤ vec_capacity l.answers + l.line-index;
   ready : StayPrepared l.fn.mb.tables.store l.mb.tables.store;

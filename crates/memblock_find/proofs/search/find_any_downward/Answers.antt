@@ -19,7 +19,8 @@ loop-cursor-init c =
     record {
       walk = c.start_walk_down-cursor.ensures.down;
       window = omega (arith, high);
-      past = subst (λ at. NoPlaceEndsBetween false (value_at t.memory) (value_at t.reserved) c.args.query.now at c.args.query.now.hi) (sym high)
+      past = subst (λ at. NoPlaceEndsBetween false (value_at t.memory) (value_at t.reserved) c.args.query.now at c.args.query.now.hi)
+          (sym high)
           (none_above false (value_at t.memory) (value_at t.reserved) c.args.query.now c.end_of_records-end.result c.requires.some behind);
     }
 

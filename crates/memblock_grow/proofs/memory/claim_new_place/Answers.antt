@@ -30,5 +30,6 @@ returns-in_err-prepare-clause-err c =
 
 pub returns-clause-err : goal.returns-clause-err
 returns-clause-err c =
-    claim-prepares c.claim.result (owner.Table which.Memory) (c.in_ok-check_claim.ensures.ok (owner.Table which.Memory)) c.claim.ensures.ends
+    claim-prepares c.claim.result (owner.Table which.Memory)
+    (c.in_ok-check_claim.ensures.ok (owner.Table which.Memory)) c.claim.ensures.ends
     (prepares-with c.in_ok-prepare.ensures.ready c.claim.ensures.prepared)

@@ -37,21 +37,24 @@ pub returns-in_err-set_block_nodes-clause-ends : goal.returns-in_err-set_block_n
 returns-in_err-set_block_nodes-clause-ends c =
     let p = err_from_is_err_and c.from_residual-in_err-set_block_nodes.result c.from_residual-in_err-set_block_nodes.ensures.1 in
     let are = ranges (goal.at.returns-in_err-set_block_nodes-clause-ends c).After-deref in
-    rw (p.1, p.2) (by-ranges c.in_err-set_block_nodes.field-0.0 c.args.memblock.now.journal.items c.set_block_nodes.new.memblock.journal.items
+    rw (p.1, p.2) (by-ranges c.in_err-set_block_nodes.field-0.0 c.args.memblock.now.journal.items
+    c.set_block_nodes.new.memblock.journal.items
     (srat_nodes_view c.args.found) (rw are at c.in_err-set_block_nodes.ensures.ends))
 
 pub returns-in_err-with_memory-clause-ends : goal.returns-in_err-with_memory-clause-ends
 returns-in_err-with_memory-clause-ends c =
     let p = err_from_is_err_and c.from_residual-in_err-with_memory.result c.from_residual-in_err-with_memory.ensures.1 in
     let are = ranges (goal.at.returns-in_err-with_memory-clause-ends c).After-deref in
-    rw (p.1, p.2) (data-wanting c.args.memblock.now.journal.items c.set_block_nodes.new.memblock.journal.items (srat_nodes_view c.args.found)
+    rw (p.1, p.2) (data-wanting c.args.memblock.now.journal.items c.set_block_nodes.new.memblock.journal.items
+    (srat_nodes_view c.args.found)
     (rw are at c.in_ok-set_block_nodes.ensures.ends))
 
 pub place_each_node_data-requires : goal.place_each_node_data-requires
 place_each_node_data-requires c =
     let old = c.args.memblock.now.journal.items in
     record {
-      begun = ends-begun (Ok tt) error_of_stage_cause old c.set_block_nodes.new.memblock.journal.items (fold_steps set_block_node tt c.deref.result.now)
+      begun = ends-begun (Ok tt) error_of_stage_cause old c.set_block_nodes.new.memblock.journal.items
+          (fold_steps set_block_node tt c.deref.result.now)
           c.requires.begun c.in_ok-set_block_nodes.ensures.ends;
     }
 
@@ -75,7 +78,8 @@ returns-clause-ends c =
     let are = ranges at.After-deref in
     let same = nodes at.After-deref-2 in
     rw (← c.deref-2.ensures.value, same) (data-told c.args.memblock.now.journal.items c.set_block_nodes.new.memblock.journal.items
-    (srat_nodes_view c.args.found) (rw are at c.in_ok-set_block_nodes.ensures.ends) (Ok tt) c.place_each_node_data.new.memblock.journal.items
+    (srat_nodes_view c.args.found) (rw are at c.in_ok-set_block_nodes.ensures.ends)
+    (Ok tt) c.place_each_node_data.new.memblock.journal.items
     (rw same at c.in_ok-place_each_node_data.ensures.ends))
 
 pub returns-clause-goes_on : goal.returns-clause-goes_on

@@ -31,7 +31,8 @@ loop-run-preserved c =
     let here = c.loop-run.memblock.journal.items in
     let mid = c.set_node_or_stop.new.memblock.journal.items in
     let run = c.run-item.result in
-    let was = subst (λ (b : NumaBlock). EndsAsStage {A = Unit {0}} (set_block_node tt b) error_of_stage_cause (Ok tt) here mid) c.run.view_is
+    let was = subst (λ (b : NumaBlock). EndsAsStage {A = Unit {0}} (set_block_node tt b) error_of_stage_cause (Ok tt) here mid)
+    c.run.view_is
     c.in_ok-set_node_or_stop.ensures.ends in
     record {
       begun = ends-begun (Ok tt) error_of_stage_cause here mid (set_block_node tt run) c.loop-run.invariant.begun was;

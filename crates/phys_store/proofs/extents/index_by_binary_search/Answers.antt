@@ -7,7 +7,8 @@ use Rattle.phys_store.proofs.extents.index_by_binary_search.Goals as goal
 
 pub returns-then-is_in_extent : goal.returns-then-is_in_extent
 returns-then-is_in_extent c =
-    first_has c.args.extents.now c.args.address c.first_extent_ending_at_or_above-i.result c.index-extents-i.result c.first_extent_ending_at_or_above-i.ensures.below
+    first_has c.args.extents.now c.args.address c.first_extent_ending_at_or_above-i.result c.index-extents-i.result
+    c.first_extent_ending_at_or_above-i.ensures.below
     c.if-i-extents.true c.index-extents-i.is (sym c.is_in_extent.ensures ∙ c.if-is_in_extent.true)
 
 pub returns-else-i-extents : goal.returns-else-i-extents

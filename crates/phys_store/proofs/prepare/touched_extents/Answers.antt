@@ -9,7 +9,8 @@ use Rattle.phys_store.proofs.prepare.touched_extents.Goals as goal
 use Rattle.phys_store.proofs.prepare.touched_extents.Goals.{After-index-extents-behind}
 
 -- the extents so far, and the addresses that they make up
-so_far : (c : After-index-extents-behind) → Hull (map extent_view c.args.extents.now) c.args.range c.first_extent_ending_at_or_above-first.result
+so_far : (c : After-index-extents-behind)
+    → Hull (map extent_view c.args.extents.now) c.args.range c.first_extent_ending_at_or_above-first.result
     c.loop-behind.behind c.loop-behind.low c.loop-behind.high
 so_far c =
     let i = c.loop-behind.invariant in record {
@@ -47,12 +48,14 @@ loop-behind-preserved c =
     let base : c.range.inside.base ≡ c.args.range.base = ap (λ (r : RangeView). r.base) c.range.view_is in
     let touches : (nth_extent (map extent_view es) b).base ≤ c.loop-behind.high = rw first
     (subst (λ (d : Extent). d.base ≤ c.loop-behind.high) (sym c.index-extents-behind.is) c.if-extents-behind.true) in
-    let reach : c.args.range.base ≤ end_of_extent (nth_extent (map extent_view es) c.first_extent_ending_at_or_above-first.result) = rw (← base)
+    let reach : c.args.range.base ≤ end_of_extent
+    (nth_extent (map extent_view es) c.first_extent_ending_at_or_above-first.result) = rw (← base)
     (c.first_extent_ending_at_or_above-first.ensures.reaches (omega (arith, i.order, c.loop-behind-test.true))) in
     let low : min c.loop-behind.low (nth_extent (map extent_view es) b).base ≡ c.min-low.result = rw is (sym c.min-low.ensures) in
     let high : max c.loop-behind.high (end_of_extent (nth_extent (map extent_view es) b)) ≡ c.max-high.result = rw is
     (ap (max c.loop-behind.high) (sym c.end_of_extent.ensures) ∙ sym c.max-high.ensures) in
-    let more = rw (low, high) at (hull_more (map extent_view es) c.args.range c.first_extent_ending_at_or_above-first.result b c.loop-behind.low
+    let more = rw (low, high) at
+    (hull_more (map extent_view es) c.args.range c.first_extent_ending_at_or_above-first.result b c.loop-behind.low
     c.loop-behind.high
     c.requires (omega (arith, long, c.loop-behind-test.true)) reach touches h) in
     record {
@@ -72,6 +75,7 @@ returns-else-extents-behind-clause-joins c =
     let es = c.args.extents.now in
     let b = c.loop-behind.behind in
     let h = so_far (goal.at.returns-else-extents-behind-clause-joins c).After-index-extents-behind in
-    hull_joins (map extent_view es) c.args.range c.first_extent_ending_at_or_above-first.result b c.loop-behind.low c.loop-behind.high c.requires h
+    hull_joins (map extent_view es) c.args.range c.first_extent_ending_at_or_above-first.result b c.loop-behind.low c.loop-behind.high
+    c.requires h
     (λ count. let first = nth_piece es b c.index-extents-behind.result c.loop-behind-test.true c.index-extents-behind.is in
     rw first (subst (λ (d : Extent). c.loop-behind.high < d.base) (sym c.index-extents-behind.is) c.if-extents-behind.false))

@@ -20,7 +20,8 @@ args_of-requires-clause-free c = ap is_simple_and_free c.in_ok-command.ensures �
 pub returns : goal.returns
 returns c =
     let words = bytes_of_words c.args.words.now in
-    let answers = subst (λ (app : App). Answers errors.Memory program_args_view c.args_of.result (or_refused (args_of bootmem61_args app [] words)))
+    let answers = subst (λ (app : App). Answers errors.Memory program_args_view c.args_of.result
+    (or_refused (args_of bootmem61_args app [] words)))
     c.in_ok-command.ensures c.args_of.ensures in
     answers_read program_args_view bootmem_args c.args_of.result (args_of bootmem61_args bootmem_command [] words) (read_args words)
     (read_of_words bootmem_args bootmem_command [] words) answers

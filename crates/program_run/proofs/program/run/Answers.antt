@@ -23,14 +23,16 @@ returns-clause-line g c = λ some.
     let wanted = read_args (bytes_of_words c.args.words.now) in
     let before = g.F.Files.faults c.args.files.now in
     let now = g.F.Files.faults end.new.files in
-    failure_status_has_line bootmem g.E.Sink (bootmem_failure_line wanted) before now wanted _ _ _ _ end.result _ c.exit_status.ensures end.ensures.cause
+    failure_status_has_line bootmem g.E.Sink
+    (bootmem_failure_line wanted) before now wanted _ _ _ _ end.result _ c.exit_status.ensures end.ensures.cause
     end.ensures.told _ (bootmem_outcome wanted) end.ensures.writes some
     (never_eight (λ (args : BootmemArgsView). args.named) end.result _ c.exit_status.ensures before now wanted end.ensures.cause)
 
 pub returns-clause-unread : goal.returns-clause-unread
 returns-clause-unread g c =
     let end = c.run_to_end-end in
-    ran_unread (λ (args : BootmemArgsView). args.named) end.result _ c.exit_status.ensures (g.F.Files.faults c.args.files.now) (g.F.Files.faults end.new.files) _
+    ran_unread (λ (args : BootmemArgsView). args.named) end.result _ c.exit_status.ensures (g.F.Files.faults c.args.files.now)
+    (g.F.Files.faults end.new.files) _
     end.ensures.cause
 
 pub returns-clause-refused : goal.returns-clause-refused

@@ -23,7 +23,8 @@ returns-clause-line g c = λ some.
     let wanted = read_args61 (bytes_of_words c.args.words.now) in
     let before = g.F.Files.faults c.args.files.now in
     let now = g.F.Files.faults end.new.files in
-    failure_status_has_line bootmem61 g.E.Sink (bootmem61_failure_line wanted) before now wanted _ _ _ _ end.result _ c.exit_status.ensures end.ensures.cause
+    failure_status_has_line bootmem61 g.E.Sink
+    (bootmem61_failure_line wanted) before now wanted _ _ _ _ end.result _ c.exit_status.ensures end.ensures.cause
     end.ensures.told _ (bootmem61_outcome wanted) end.ensures.writes some
     (never_eight named61 end.result _ c.exit_status.ensures before now wanted end.ensures.cause)
 

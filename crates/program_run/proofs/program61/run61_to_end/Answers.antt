@@ -23,7 +23,8 @@ returns-in-Ok-clause-told g c = rw (are_accepted _ _ c.in-Ok.ensures) c.put_end_
 
 pub returns-in-Err-clause-writes : goal.returns-in-Err-clause-writes
 returns-in-Err-clause-writes g c =
-    rw c.reason_by_args_error.ensures (words_fit (λ held wanted. bootmem61_outcome (Some wanted) held) (g.F.Files.holds c.args.files.now) _ c.in-Err.error c.in-Err.ensures)
+    rw c.reason_by_args_error.ensures (words_fit (λ held wanted. bootmem61_outcome (Some wanted) held)
+    (g.F.Files.holds c.args.files.now) _ c.in-Err.error c.in-Err.ensures)
 
 pub returns-in-Err-clause-cause : goal.returns-in-Err-clause-cause
 returns-in-Err-clause-cause g c =

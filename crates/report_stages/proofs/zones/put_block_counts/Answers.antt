@@ -13,7 +13,8 @@ returns-in_err-put_block_count c =
     let span = c.args.span.now in
     let l = c.loop-order in
     rw (err_from_is_err_and c.from_residual.result c.from_residual.ensures.1).1
-    (too_small _ _ _ _ _ _ _ _ (next_number (node_of_free_frame c.args.buddy.now) span.node span.zone l.order _ (omega arith) c.count.ensures)
+    (too_small _ _ _ _ _ _ _ _
+    (next_number (node_of_free_frame c.args.buddy.now) span.node span.zone l.order _ (omega arith) c.count.ensures)
     l.invariant.text l.invariant.room c.in_err-put_block_count.ensures)
 
 pub loop-order-preserved : goal.loop-order-preserved
@@ -22,7 +23,8 @@ loop-order-preserved c =
     let l = c.loop-order in
     let put = c.in_ok-put_block_count.ensures in
     record {
-      text = text_more _ _ _ _ _ _ (next_number (node_of_free_frame c.args.buddy.now) span.node span.zone l.order _ (omega arith) c.count.ensures)
+      text = text_more _ _ _ _ _ _
+          (next_number (node_of_free_frame c.args.buddy.now) span.node span.zone l.order _ (omega arith) c.count.ensures)
           l.invariant.text put.0;
       room = omega (arith, put.1);
     }

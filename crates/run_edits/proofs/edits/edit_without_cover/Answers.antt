@@ -20,7 +20,8 @@ edit_range-requires-clause-room g c =
     (g.T.Rows.list c.args.table.now) c.requires.runs c.requires.within in (
       same,
       tells,
-      room_by same tells f (change_range change r f) (λ x. one_right_below r.base x + one_right_below (r.base + r.size) x) 2 (g.T.Slots.room c.args.table.now)
+      room_by same tells f (change_range change r f) (λ x. one_right_below r.base x + one_right_below (r.base + r.size) x) 2
+          (g.T.Slots.room c.args.table.now)
           (amended_edges same tells change c.requires.change r f) (λ at le. spikes_two r at) (omega (arith, count, c.requires.room)),
     )
 

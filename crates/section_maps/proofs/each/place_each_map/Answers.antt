@@ -23,7 +23,8 @@ loop-section-preserved c =
     let now = c.loop-section.memblock.journal.items in
     let mid = c.place_map.new.memblock.journal.items in
     record {
-      goes = goes-next c.loop-section.section-index no_section mid c.in_ok-map.map c.push_placed_section.new.placed.items c.loop-section-test.true
+      goes = goes-next c.loop-section.section-index no_section mid c.in_ok-map.map c.push_placed_section.new.placed.items
+          c.loop-section-test.true
           c.loop-section.invariant.goes c.in_ok-map.ensures.ends c.push_placed_section.ensures.placed;
       usages = omega arith;
       len = omega arith;

@@ -13,4 +13,5 @@ returns-clause-first c = λ k s id order node z none is.
 
 pub returns-clause-none : goal.returns-clause-none
 returns-clause-none c = λ k s id order node none all.
-    ap (take_from_nearest s id order (zone_list_of k node)) none ∙ ap (take_from_zone s id order) (first_none s order (zone_list_of k node) all)
+    ap (take_from_nearest s id order (zone_list_of k node)) none
+    ∙ ap (take_from_zone s id order) (first_none s order (zone_list_of k node) all)

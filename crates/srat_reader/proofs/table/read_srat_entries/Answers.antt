@@ -37,7 +37,8 @@ loop-at-preserved c =
       behind_header = omega arith;
       sound = rw c.entry_length_at-at.ensures (no_fault_after_entry l.at bytes c.loop-at-test.true l.invariant.sound);
       processors = rw (c.entry_length_at-at.ensures, c.in_ok-append_srat_entry.ensures.processors, c.srat_entry_at.ensures)
-          (sym (values_from_entry (processor_domain_at bytes) l.at bytes l.srat.cpus.items c.loop-at-test.true whole) ∙ l.invariant.processors);
+          (sym (values_from_entry (processor_domain_at bytes) l.at bytes l.srat.cpus.items c.loop-at-test.true whole)
+          ∙ l.invariant.processors);
       blocks = rw (c.entry_length_at-at.ensures, c.in_ok-append_srat_entry.ensures.blocks, c.srat_entry_at.ensures)
           (sym (values_from_entry (srat_block_at bytes) l.at bytes l.srat.blocks.items c.loop-at-test.true whole) ∙ l.invariant.blocks);
     }

@@ -7,7 +7,8 @@ use Rattle.free_areas.proofs.areas.Areas.index_free_runs.Goals as goal
 
 pub loop-row-preserved : goal.loop-row-preserved
 loop-row-preserved c =
-    leads_more c.deref-row-items.result.now c.loop-row.row-index _ c.first_block_of_row.result c.loop-row.blocks.keys c.insert_block.new.blocks.keys
+    leads_more c.deref-row-items.result.now c.loop-row.row-index _ c.first_block_of_row.result c.loop-row.blocks.keys
+    c.insert_block.new.blocks.keys
     c.loop-row-test.true c.first_block_of_row.ensures c.loop-row.invariant c.in_ok-insert_block.ensures
 
 pub returns : goal.returns

@@ -21,8 +21,10 @@ returns-then-range-eq0-2-clause-table c =
     (no_edit (λ (carried : Option LabelView). None) c.args.range _ c.self.invariant.reserved_records (grind (arith, common_steps))))
 
 -- the memory table after the edit
-edit : (c : After-edit_without_cover) → AreTables c.edit_without_cover.new.table.store.now c.edit_without_cover.new.table.head.now c.self.inside.heads.reserved
-    × EditsTable c.self.inside.store c.edit_without_cover.new.table.store.now c.self.inside.heads.memory c.edit_without_cover.new.table.head.now
+edit : (c : After-edit_without_cover)
+    → AreTables c.edit_without_cover.new.table.store.now c.edit_without_cover.new.table.head.now c.self.inside.heads.reserved
+    × EditsTable c.self.inside.store c.edit_without_cover.new.table.store.now c.self.inside.heads.memory
+    c.edit_without_cover.new.table.head.now
     c.self.inside.heads.reserved
     (records_for (uncover_range c.args.range (value_at (records_of_head c.self.inside.store c.self.inside.heads.memory))))
 edit c =
@@ -38,7 +40,8 @@ returns-else-range-eq0-clause-table c = rw (← c.self.view_is, c.in-Memory.is) 
 
 pub returns-else-range-eq0-clause-other : goal.returns-else-range-eq0-clause-other
 returns-else-range-eq0-clause-other c =
-    rw (← c.self.view_is, c.in-Memory.is) (memory_edited _ _ _ _ _ _ c.self.invariant c.edit_without_cover.new.table.table c.edit_without_cover.ensures.keeps.2
+    rw (← c.self.view_is, c.in-Memory.is)
+    (memory_edited _ _ _ _ _ _ c.self.invariant c.edit_without_cover.new.table.table c.edit_without_cover.ensures.keeps.2
     (edited (λ (carried : Option LabelView). None) c.args.range _ _ c.self.invariant.memory_records
     (grind (arith, common_steps)) c.edit_without_cover.ensures.list)).1.other
 
@@ -50,14 +53,16 @@ returns-else-range-eq0-clause-ready c = rw (← c.self.view_is) (edit c).1.ready
 
 pub invariant_of-self-in-Reserved : goal.invariant_of-self-in-Reserved
 invariant_of-self-in-Reserved c =
-    (reserved_edited _ _ _ _ _ _ c.self.invariant c.edit_without_cover-in-Reserved.new.table.table c.edit_without_cover-in-Reserved.ensures.keeps.2
+    (reserved_edited _ _ _ _ _ _ c.self.invariant c.edit_without_cover-in-Reserved.new.table.table
+    c.edit_without_cover-in-Reserved.ensures.keeps.2
     (edited (λ (carried : Option LabelView). None) c.args.range _ _ c.self.invariant.reserved_records
     (grind (arith, common_steps)) c.edit_without_cover-in-Reserved.ensures.list)
     (plain_uncovered c.args.range _ c.self.invariant.reserved_records c.self.invariant.plain (grind (arith, common_steps)))).0
 
 pub returns-else-range-eq0-2 : goal.returns-else-range-eq0-2
 returns-else-range-eq0-2 c =
-    let e = (reserved_edited _ _ _ _ _ _ c.self.invariant c.edit_without_cover-in-Reserved.new.table.table c.edit_without_cover-in-Reserved.ensures.keeps.2
+    let e = (reserved_edited _ _ _ _ _ _ c.self.invariant c.edit_without_cover-in-Reserved.new.table.table
+    c.edit_without_cover-in-Reserved.ensures.keeps.2
     (edited (λ (carried : Option LabelView). None) c.args.range _ _ c.self.invariant.reserved_records
     (grind (arith, common_steps)) c.edit_without_cover-in-Reserved.ensures.list)
     (plain_uncovered c.args.range _ c.self.invariant.reserved_records c.self.invariant.plain (grind (arith, common_steps)))).1 in

@@ -14,7 +14,8 @@ returns-then-range-eq0-clause-memory c =
 pub invariant_of-self-2 : goal.invariant_of-self-2
 invariant_of-self-2 c =
     (memory_edited _ _ _ _ _ _ c.self.invariant c.edit_without_cover.new.table.table c.edit_without_cover.ensures.keeps.2
-    (edited (option_map with_mirror) c.args.range _ _ c.self.invariant.memory_records (grind (arith, common_steps)) c.edit_without_cover.ensures.list)).0
+    (edited (option_map with_mirror) c.args.range _ _ c.self.invariant.memory_records
+    (grind (arith, common_steps)) c.edit_without_cover.ensures.list)).0
 
 pub returns : goal.returns
 returns c =

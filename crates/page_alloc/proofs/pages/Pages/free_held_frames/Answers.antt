@@ -36,8 +36,10 @@ returns-clause-ok c =
     } =
     state_is (node_of_free_frame new.buddy) (with_set what.order what.first what.node (node_of_free_frame b.buddy)) (frames_held_by new.ids)
     (with_held_frames id None (frames_held_by b.ids))
-    c.in_ok-put_back.ensures.runs.each (λ q. changed id q None (frames_held_by b.ids) (frames_held_by new.ids q) (c.remove.ensures.updates.0 q)) in
-    subst (λ (d : PagesView). (outcomes.Done, page_state_of new) ≡ free_held_frames (page_state_of d) id (frames_held_by d.ids id)) c.self.view_is
+    c.in_ok-put_back.ensures.runs.each
+    (λ q. changed id q None (frames_held_by b.ids) (frames_held_by new.ids q) (c.remove.ensures.updates.0 q)) in
+    subst (λ (d : PagesView). (outcomes.Done, page_state_of new) ≡ free_held_frames (page_state_of d) id (frames_held_by d.ids id))
+    c.self.view_is
     (ap (λ (s : PageState). let p : PageOutcome × PageState = (outcomes.Done, s) in p) same
     ∙ sym (ap (free_held_frames (page_state_of b) id) is))
 
@@ -54,6 +56,7 @@ invariant_of-self-2 c =
     } =
     state_is (node_of_free_frame new.buddy) (with_set what.order what.first what.node (node_of_free_frame b.buddy)) (frames_held_by new.ids)
     (with_held_frames id None (frames_held_by b.ids))
-    c.in_ok-put_back.ensures.runs.each (λ q. changed id q None (frames_held_by b.ids) (frames_held_by new.ids q) (c.remove.ensures.updates.0 q)) in
+    c.in_ok-put_back.ensures.runs.each
+    (λ q. changed id q None (frames_held_by b.ids) (frames_held_by new.ids q) (c.remove.ensures.updates.0 q)) in
     let all = step_kept (page_state_of b) (acts.Give id) tt c.self.invariant in
     subst (λ (s : PageState). IsValidPageState s) (sym (same ∙ sym (ap (λ o. (free_held_frames (page_state_of b) id o).1) is))) all
