@@ -7,12 +7,12 @@ use Rattle.std.specs.Str.Parse.{digits_value}
 use Rattle.bm_base.specs.declared.size.NumFault.{NumFault}
 use Rattle.bm_base.specs.declared.size.NumFault.TheVariants.{NoDigits, TooLarge}
 
--- all digits of the base at the start of the text
+-- the bytes at the start of the text that are digits of the base, up to the first that isn't
 abbrev pub front_digits : ℕ → List ℕ → List ℕ
 front_digits radix [] = []
 front_digits radix (b ∷ bs) = if is_digit b radix then b ∷ front_digits radix bs else []
 
--- the value, in the base, of the digits at the start of the text
+-- the value of the digits of the base at the start of the text; 0 if there are none
 abbrev pub front_digits_value : ℕ → List ℕ → ℕ
 front_digits_value radix text = digits_value radix (front_digits radix text)
 
@@ -38,11 +38,12 @@ begins_with_digit (b ∷ bs) = is_digit b 10
 abbrev pub prefix_of : List ℕ → ℕ
 prefix_of text = if is_hexadecimal text then 2 else 0
 
--- the base of the number at the start of the text: 16, 8 or 10
+-- the base of the number at the start of the text: 16 if it begins with `0x` or `0X` and a
+-- hexadecimal digit, else 8 if it begins with `0`, else 10
 abbrev pub radix_of : List ℕ → ℕ
 radix_of text = if is_hexadecimal text then 16 else (if begins_with_zero text then 8 else 10)
 
--- the value of the number at the start of the text
+-- the value of the number at the start of the text, whose base is 16, 8 or 10 by its prefix
 abbrev pub number_value : List ℕ → ℕ
 number_value text = front_digits_value (radix_of text) (drop (prefix_of text) text)
 
@@ -50,8 +51,8 @@ number_value text = front_digits_value (radix_of text) (drop (prefix_of text) te
 abbrev pub number_end : List ℕ → ℕ
 number_end text = prefix_of text + length (front_digits (radix_of text) (drop (prefix_of text) text))
 
--- the factor that this byte means as a suffix, in upper or lower case, and its length 1; factor 1
--- and length 0 if the byte is no suffix
+-- what a byte means as the suffix of a size, in upper or lower case: its factor (2^10 for K up to
+-- 2^60 for E) and its length 1; factor 1 and length 0 if the byte is no suffix
 abbrev pub suffix_at : ℕ → ℕ × ℕ
 suffix_at b =
     if (b == 75) || (b == 107) then (2 ^ 10, 1) else
@@ -76,22 +77,24 @@ fit_in_u64 value taken = if nat_lt value (2 ^ 64) then Ok (value, taken) else Er
 abbrev pub with_suffix : ℕ → ℕ → ℕ × ℕ → Result (ℕ × ℕ) NumFault
 with_suffix value end suffix = fit_in_u64 (value * suffix.0) (end + suffix.1)
 
--- the value and the length in bytes of the number at the start of the text, without a suffix
+-- the value and the length in bytes of the number at the start of the text; a suffix isn't read.
+-- NoDigits if the text doesn't begin with a decimal digit, TooLarge if the value exceeds 2^64 - 1
 abbrev pub number_of : List ℕ → Result (ℕ × ℕ) NumFault
 number_of text = if begins_with_digit text then fit_in_u64 (number_value text) (number_end text) else Err NoDigits
 
 -- the value and the length in bytes of the size at the start of the text: a number and at most one
--- suffix
+-- suffix. NoDigits if the text doesn't begin with a decimal digit, TooLarge if the value exceeds
+-- 2^64 - 1
 abbrev pub size_of : List ℕ → Result (ℕ × ℕ) NumFault
 size_of text =
     if begins_with_digit text
     then with_suffix (number_value text) (number_end text) (suffix_of (drop (number_end text) text))
     else Err NoDigits
 
--- the whole text is a size of that value in bytes
+-- the whole text is read as a size of `n` bytes
 abbrev pub IsSize : List ℕ → ℕ → Type 0
 IsSize text n = size_of text ≡ Ok (n, length text)
 
--- the whole text is a number, without a suffix, of that value
+-- the whole text is read as the number `n`, which has no suffix
 abbrev pub IsNumber : List ℕ → ℕ → Type 0
 IsNumber text n = number_of text ≡ Ok (n, length text)

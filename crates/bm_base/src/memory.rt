@@ -4,7 +4,8 @@ ghost use Rattle.std.specs.Prelude.{◌≡◌, ◌+◌, ◌<◌, ◌≤◌, [], 
 
 use std::alloc::{AllocError, AllocFailed};
 
-/// The error if the program itself runs out of memory. No contract says when this happens.
+/// The error of a call if this program itself can't allocate memory. It says nothing about the
+/// memory of the machine whose boot is computed. No contract says when an allocation fails.
 #[derive(Clone, Copy, Debug, PartialEq, Eq)]
 pub struct Memory;
 
@@ -20,7 +21,7 @@ impl<T: Drop> From<AllocFailed<T>> for Memory {
     }
 }
 
-/// Appends an item to a list that has room for it, without allocating.
+/// Appends an item to a list, without allocating. The list's length must be below its capacity.
 pub fn push_within_capacity<T: Drop>(items: &mut Vec<T>, item: T)
     requires room { vec_len items.old < vec_capacity items.old }
     ensures items { items.new.items ≡ items.old.items ++ item ∷ [] }

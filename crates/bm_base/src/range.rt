@@ -44,8 +44,8 @@ impl Range {
         Some(Range { base, size })
     }
 
-    /// Returns the range from `from` to `until`, without `until`, or `None` if this range is
-    /// empty.
+    /// Returns the range of the addresses from `from` up to `until`, without `until`. Returns
+    /// `None` unless `from` is below `until`.
     pub fn between(from: u64, until: u64) -> Option<Range>
         ensures { SomeIff result (from < until) (record { base = from; size = until - from }) }
     {
@@ -73,8 +73,9 @@ impl Range {
         self.base <= address && address < self.end()
     }
 
-    /// Returns the whole frames of the range, or `None` if there are none. The start is rounded
-    /// up to a frame (`PFN_UP`), the end down (`PFN_DOWN`).
+    /// Returns the range of all frames that lie completely in this range, or `None` if there are
+    /// none. Its base is this range's base rounded up to a frame (`PFN_UP`), its end this range's
+    /// end rounded down to one (`PFN_DOWN`).
     pub fn whole_frames(&self) -> Option<Range>
         ensures { result ≡ frames_within self.now }
     {

@@ -7,25 +7,28 @@ ghost use Rattle.std.specs.Fmt.{decimal};
 ghost use Rattle.bm_base.specs.Size.{front_digits, front_digits_value, is_hexadecimal, begins_with_digit, radix_of, suffix_of, number_of, size_of, IsSize, IsNumber};
 ghost use Rattle.bm_base.specs.Spelling.{SpellsNumber, SpellsSize};
 
-/// Why no number can be read from the start of a text.
+/// The reason why no number or size can be read from the start of a text.
 #[derive(Clone, Copy, Debug, PartialEq, Eq)]
 pub enum NumFault {
     /// The text is empty, or its first byte isn't a decimal digit.
     NoDigits,
-    /// The value, including the suffix, exceeds 2^64 - 1.
+    /// The number, multiplied by the factor of its suffix, exceeds 2^64 - 1.
     TooLarge,
 }
 
-/// Reads the size at the start of `text` (`memparse`). Returns its value in bytes, and the number
-/// of bytes of `text` that spell it.
+/// Reads the size at the start of `text`, as `memparse` does. Returns its value in bytes, and the
+/// number of bytes of `text` that spell it.
 ///
 /// `0x` or `0X` before a hexadecimal digit begins a hexadecimal number, any other leading `0` an
-/// octal one. Other numbers are decimal. All digits that follow are read. One suffix may follow,
-/// in upper or lower case: K, M, G, T, P or E, for 2^10, 2^20 and so on up to 2^60.
+/// octal one. Other numbers are decimal. The number ends before the first byte that isn't a digit
+/// of its base. One suffix may follow, in upper or lower case: K, M, G, T, P or E multiplies the
+/// number by 2^10, 2^20 and so on up to 2^60.
 ///
 /// # Errors
 ///
-/// `NoDigits` if the first byte isn't a decimal digit, `TooLarge` if the size exceeds 2^64 - 1.
+/// `NoDigits` if the first byte isn't a decimal digit.
+///
+/// `TooLarge` if the size exceeds 2^64 - 1.
 pub fn read_size(text: &[u8]) -> Result<(u64, usize), NumFault>
     ensures value { result ≡ size_of text.now }
     ensures bound { IfOk result (λ found. found.1 ≤ length text.now) }
@@ -36,12 +39,18 @@ pub fn read_size(text: &[u8]) -> Result<(u64, usize), NumFault>
     Ok((value, end + taken))
 }
 
-/// Reads the number at the start of `text` (`simple_strtoull`). Returns its value, and the number
-/// of bytes of `text` that spell it. This is [`read_size`] without a suffix.
+/// Reads the number at the start of `text`, as `simple_strtoull` does. Returns its value, and the
+/// number of bytes of `text` that spell it.
+///
+/// `0x` or `0X` before a hexadecimal digit begins a hexadecimal number, any other leading `0` an
+/// octal one. Other numbers are decimal. The number ends before the first byte that isn't a digit
+/// of its base: of `4K` only the `4` is read.
 ///
 /// # Errors
 ///
-/// As for [`read_size`].
+/// `NoDigits` if the first byte isn't a decimal digit.
+///
+/// `TooLarge` if the number exceeds 2^64 - 1.
 pub fn read_number(text: &[u8]) -> Result<(u64, usize), NumFault>
     ensures value { result ≡ number_of text.now }
     ensures bound { IfOk result (λ found. found.1 ≤ length text.now) }
@@ -56,8 +65,8 @@ pub fn read_number(text: &[u8]) -> Result<(u64, usize), NumFault>
     Ok((value, prefix + count))
 }
 
-/// Law: the size or number at the start of a text depends only on the bytes before the first one
-/// that is neither a digit nor a letter. The decimal digits of a `u64` are read as that `u64`.
+/// Law: a byte that is neither a digit nor a letter ends a size or number. This byte and those
+/// after it don't change what is read. The decimal digits of a `u64` are read as that `u64`.
 pub fn spelled_sizes_are_read()
     ensures size { (text rest : List ℕ) (mark : ℕ) → is_digit mark 36 ≡ false →
         size_of (text ++ (mark ∷ rest)) ≡ size_of text }
@@ -66,9 +75,9 @@ pub fn spelled_sizes_are_read()
     ensures decimal { (n : ℕ) → n < 2 ^ 64 → IsSize (decimal n) n }
 {}
 
-/// Law: a whole text is read as a size or number exactly if it follows the grammar of
-/// `specs/Spelling.antt`. If only the start of a text is read, the start by itself gives the same
-/// value.
+/// Law: a whole text is read as the size or number n exactly if it is a spelling of n by the
+/// grammar of `specs/Spelling.antt`. If a size or number is read from the start of a longer text,
+/// its bytes alone are read as the same value.
 pub fn sizes_are_spelled()
     ensures size { (text : List ℕ) (n : ℕ) → IsSize text n ↔ SpellsSize text n }
     ensures number { (text : List ℕ) (n : ℕ) → IsNumber text n ↔ SpellsNumber text n }
@@ -101,7 +110,8 @@ fn is_hex(text: &[u8]) -> bool
     }
 }
 
-/// Returns the base of the number at the start of the text: 16, 8 or 10.
+/// Returns the base of the number at the start of the text: 16 if it begins with `0x` or `0X` and a
+/// hexadecimal digit, else 8 if it begins with `0`, else 10.
 fn radix_at(text: &[u8]) -> u32
     ensures value { result ≡ radix_of text.now }
     ensures lower_bound { 2 ≤ result }
@@ -116,8 +126,8 @@ fn radix_at(text: &[u8]) -> u32
     }
 }
 
-/// Returns the value of the digits of base `radix` at the start of the text, and how many there
-/// are, or `None` if the value exceeds 2^64 - 1.
+/// Reads the digits of base `radix` (2 to 36) at the start of the text. Returns their value and how
+/// many there are, both 0 if there are none. Returns `None` if the value exceeds 2^64 - 1.
 fn read_digits(text: &[u8], radix: u32) -> Option<(u64, usize)>
     requires lower_bound { 2 ≤ radix }
     requires upper_bound { radix ≤ 36 }
@@ -137,16 +147,17 @@ fn read_digits(text: &[u8], radix: u32) -> Option<(u64, usize)>
     Some((value, text.len()))
 }
 
-/// Returns the number `value` with one more digit on the right, in base `radix`, or `None` if the
-/// result exceeds 2^64 - 1.
+/// Returns `value * radix + digit`, which is `value` with one more digit on the right, or `None` if
+/// the result exceeds 2^64 - 1.
 fn with_digit(value: u64, radix: u64, digit: u64) -> Option<u64>
     ensures { SomeIff result (value * radix + digit < 2 ^ 64) (value * radix + digit) }
 {
     value.checked_mul(radix)?.checked_add(digit)
 }
 
-/// Returns the factor of the suffix at index `end` and its length in bytes, or 1 and 0 if there is
-/// no suffix.
+/// Reads the suffix of a size (K, M, G, T, P or E, in upper or lower case) at index `end` of the
+/// text. Returns its factor, from 2^10 to 2^60, and its length of 1 byte. Returns 1 and 0 if no
+/// suffix is there.
 fn read_suffix(text: &[u8], end: usize) -> (u64, usize)
     requires { end ≤ length text.now }
     ensures value { result ≡ suffix_of (drop end text.now) }

@@ -10,11 +10,11 @@ ghost use Rattle.bm_base.specs.Text.{hex_text, padded_decimal};
 
 use crate::memory::Memory;
 
-/// Appends a text.
+/// Appends the bytes of `text` to `out`.
 ///
 /// # Errors
 ///
-/// `Memory` if `out` can't grow; `out` is unchanged.
+/// `Memory` if `out` has too little room and can't grow. `out` is then unchanged.
 pub fn put_text(out: &mut Vec<u8>, text: &[u8]) -> Result<(), Memory>
     ensures puts { PutsText out.old out.new result text.now }
     ensures err { OnErr result (out.new.items ≡ out.old.items) }
@@ -23,12 +23,12 @@ pub fn put_text(out: &mut Vec<u8>, text: &[u8]) -> Result<(), Memory>
     Ok(())
 }
 
-/// Appends `0x` and 16 lower-case hexadecimal digits, as the kernel's log prints an address
-/// (`%#018llx`).
+/// Appends `value` to `out` as `0x` and 16 lower-case hexadecimal digits, as the kernel's log
+/// prints an address (`%#018llx`).
 ///
 /// # Errors
 ///
-/// `Memory` if `out` can't grow; `out` is unchanged.
+/// `Memory` if `out` has too little room and can't grow. `out` is then unchanged.
 pub fn put_hex(out: &mut Vec<u8>, value: u64) -> Result<(), Memory>
     ensures puts { PutsText out.old out.new result (hex_text value) }
     ensures err { OnErr result (out.new.items ≡ out.old.items) }
@@ -42,13 +42,13 @@ pub fn put_hex(out: &mut Vec<u8>, value: u64) -> Result<(), Memory>
     put_text(out, &text)
 }
 
-/// Appends a decimal number, padded on the left with spaces to `width` characters (`%*llu`). A
-/// number with more digits isn't cut. `width` must be at most 20, the number of digits of 2^64 -
-/// 1.
+/// Appends `value` to `out` in decimal, padded on the left with spaces to `width` characters
+/// (`%*llu`). A number with more digits isn't cut. `width` must be at most 20, the number of digits
+/// of 2^64 - 1.
 ///
 /// # Errors
 ///
-/// `Memory` if `out` can't grow; `out` is unchanged.
+/// `Memory` if `out` has too little room and can't grow. `out` is then unchanged.
 pub fn put_dec(out: &mut Vec<u8>, value: u64, width: u32) -> Result<(), Memory>
     requires { width ≤ 20 }
     ensures puts { PutsText out.old out.new result (padded_decimal width value) }
@@ -60,7 +60,8 @@ pub fn put_dec(out: &mut Vec<u8>, value: u64, width: u32) -> Result<(), Memory>
     put_text(out, &text[from..])
 }
 
-/// Returns the lower-case hexadecimal digit of `digit`, which must be below 16.
+/// Returns the ASCII character of the hexadecimal digit with the value `digit`, in lower case.
+/// `digit` must be below 16.
 fn hex_digit(digit: u64) -> u8
     requires { digit < 16 }
     ensures { result ≡ digit_glyph false digit }

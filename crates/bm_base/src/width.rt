@@ -2,8 +2,8 @@
 ghost use Rattle.std.specs.Prelude.{◌≡◌};
 ghost use Rattle.bm_base.specs.Width.{address_limit_of, root_table_size_of};
 
-/// The width of physical addresses (`MAX_PHYSMEM_BITS` of arch/x86/include/asm/sparsemem.h, which
-/// depends on `pgtable_l5_enabled`).
+/// The width of physical addresses in bits (`MAX_PHYSMEM_BITS` of arch/x86/include/asm/sparsemem.h,
+/// which depends on `pgtable_l5_enabled`).
 #[derive(Clone, Copy, Debug, PartialEq, Eq)]
 pub enum Width {
     /// Four levels of page tables: 46 bits, 64 TiB.
@@ -23,8 +23,9 @@ impl Width {
         }
     }
 
-    /// Returns the size in bytes of the kernel's table of section roots (`mem_section`): 8 bytes
-    /// for each of `NR_SECTION_ROOTS` roots, a root being 256 sections of 128 MiB.
+    /// Returns the size in bytes of the kernel's table of section roots (`mem_section`): 16 KiB or
+    /// 1 MiB. The table has 8 bytes for each of `NR_SECTION_ROOTS` roots, and a root covers 256
+    /// sections of 128 MiB.
     pub fn root_table(self) -> u64
         ensures { result ≡ root_table_size_of self }
     {

@@ -22,7 +22,7 @@ pub const MAX_DMA32_FRAME: u64 = 1_048_576;
 /// The greatest number of memory nodes (`MAX_NUMNODES`). The number of each node is below it.
 pub const MAX_NODES: u32 = 1024;
 
-/// Returns the zone of a frame, given the frame's number (`zone_sizes_init`).
+/// Returns the zone of the frame with the number `frame` (`zone_sizes_init`).
 pub fn zone_of(frame: u64) -> Zone
     ensures { result ≡ zone_of frame }
 {
