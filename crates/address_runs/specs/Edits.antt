@@ -5,29 +5,32 @@ use Rattle.std.specs.Option.{option_map}
 use Rattle.bm_base.specs.Range.{RangeView, covers}
 
 module _ {X : Type 0} where
-  -- applies the change to what each address of the range carries, which is `None` if it carries
-  -- nothing; the other addresses aren't changed
+  -- what an address carries after an edit that applies `change` to each address of the range. The
+  -- function `f` says what each address carried before. `None` means that an address carries
+  -- nothing.
   abbrev pub change_range : (Option X → Option X) → RangeView → (ℕ → Option X) → ℕ → Option X
   change_range change r f x = if covers r x then change (f x) else f x
 
-  -- gives the value to the addresses of the range that carry nothing (`memblock_add_range`)
+  -- the edit that gives the value to the addresses of the range that carry nothing
+  -- (`memblock_add_range`); the others keep what they carry
   abbrev pub cover_range : RangeView → X → (ℕ → Option X) → ℕ → Option X
   cover_range r v f x = change_range (λ carried. Some (unwrap_or carried v)) r f x
 
-  -- removes what the addresses of the range carry (`memblock_remove_range`)
+  -- the edit that removes what the addresses of the range carry (`memblock_remove_range`)
   abbrev pub uncover_range : RangeView → (ℕ → Option X) → ℕ → Option X
   uncover_range r f x = change_range (λ carried. None) r f x
 
-  -- changes what the addresses of the range carry; those that carry nothing still do
-  -- (`memblock_set_node`)
+  -- the edit that changes the values that addresses of the range carry; addresses that carry
+  -- nothing still do (`memblock_set_node`)
   abbrev pub relabel_range : RangeView → (X → X) → (ℕ → Option X) → ℕ → Option X
   relabel_range r change f x = change_range (option_map change) r f x
 
-  -- gives the value to all addresses of the range, whatever they carry
+  -- the edit that gives the value to all addresses of the range, whatever they carry
   abbrev pub replace_in_range : RangeView → X → (ℕ → Option X) → ℕ → Option X
   replace_in_range r v f x = change_range (λ carried. Some v) r f x
 
-  -- gives the value to the addresses of the range that carry nothing, and nothing to all others
+  -- gives the value to the addresses of the range that carry nothing by `f`, and `None` to all
+  -- other addresses
   abbrev pub gaps_in_range : RangeView → X → (ℕ → Option X) → ℕ → Option X
   gaps_in_range r v f x = if covers r x && is_none (f x) then Some v else None
 
@@ -38,6 +41,6 @@ module _ {X : Type 0} where
   agree same (Some a) None = false
   agree same (Some a) (Some b) = same a b
 
-  -- no address at or above `at` carries anything
+  -- by the function, no address at or above `at` carries anything
   abbrev pub IsEmptyFrom : ℕ → (ℕ → Option X) → Type 0
   IsEmptyFrom at f = (x : ℕ) → at ≤ x → f x ≡ None

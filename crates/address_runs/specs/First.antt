@@ -3,7 +3,8 @@ use Rattle.std.specs.Prelude.{◌≡◌, refl, Option, Some, None}
 use Rattle.std.specs.Option.{option_or}
 
 module _ {X : Type 0} where
-  -- joining by `option_or` keeps the first of two values. `None` is neutral, and joining is
+  -- `option_or` joins two values by keeping the first one, or the second if the first is `None`.
+  -- These three laws say that `None` changes no value, on either side, and that joining is
   -- associative.
   pub first_none : (v : Option X) → option_or None v ≡ v
   first_none v = refl

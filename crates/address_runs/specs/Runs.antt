@@ -10,7 +10,7 @@ pub record RunOf (X : Type 0) : Type 0 where
   pub size : ℕ
   pub value : X
 
--- the test decides whether two values are equal
+-- the test `same` is true exactly if both values are equal
 pub record DecidesEquality {X : Type 0} (same : X → X → Bool) : Type 0 where
   pub true_is_equal : (a b : X) → same a b ≡ true → a ≡ b
   pub equal_is_true : (a b : X) → a ≡ b → same a b ≡ true
@@ -34,12 +34,14 @@ module _ {X : Type 0} where
   value_at [] x = None
   value_at (r ∷ rs) x = if lies_in r x then Some r.value else value_at rs x
 
-  -- the list begins above the run's end, or at its end with another value
+  -- the run and the list make one longer list of runs: the list is empty, or it begins above the
+  -- run's end, or it begins at that end with another value
   abbrev pub IsBefore : RunOf X → List (RunOf X) → Type 0
   IsBefore r [] = Unit {0}
   IsBefore r (s ∷ ss) = (run_end r ≤ s.base) × (run_end r ≡ s.base → r.value ≢ s.value)
 
-  -- the list is canonical: it ascends, no run is empty, and no two runs can be merged
+  -- the list is canonical: it ascends without overlaps, no run is empty, and two runs that touch
+  -- have different values
   abbrev pub AreRuns : List (RunOf X) → Type 0
   AreRuns [] = Unit {0}
   AreRuns (r ∷ rs) = (0 < r.size) × IsBefore r rs × AreRuns rs
@@ -53,9 +55,9 @@ module _ {X : Type 0} where
   abbrev pub one_address : ℕ → X → RunOf X
   one_address x v = record { base = x; size = 1; value = v }
 
-  -- the runs with one more address and its value, given runs that begin above the address: the
-  -- first run is extended down to it, or it becomes a run of its own. Without a value, nothing
-  -- changes.
+  -- the runs after the address `x` has got a value, given the runs of the addresses above `x`. If
+  -- the first run begins at x + 1 and has the same value, it is extended down to `x`; else `x`
+  -- becomes a run of its own. If the value is `None`, the runs stay as they are.
   abbrev pub prepend_address : (X → X → Bool) → ℕ → Option X → List (RunOf X) → List (RunOf X)
   prepend_address same x None rs = rs
   prepend_address same x (Some v) [] = one_address x v ∷ []
@@ -64,11 +66,11 @@ module _ {X : Type 0} where
       then record { base = x; size = r.size + 1; value = v } ∷ rs
       else (one_address x v ∷ (r ∷ rs))
 
-  -- the runs of the n addresses from x on
+  -- the runs of the function `f` over the n addresses from x on
   unfoldable pub runs_from : (X → X → Bool) → (ℕ → Option X) → ℕ → ℕ → List (RunOf X)
   runs_from same f x zero = []
   runs_from same f x (suc n) = prepend_address same x (f x) (runs_from same f (x + 1) n)
 
-  -- the runs of a function over all addresses below 2^64
+  -- the runs of the function `f` over all addresses below 2^64
   unfoldable pub runs_of : (X → X → Bool) → (ℕ → Option X) → List (RunOf X)
   runs_of same f = runs_from same f 0 (2 ^ 64)

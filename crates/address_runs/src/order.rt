@@ -11,8 +11,9 @@ ghost use Rattle.address_runs.specs.Overlay.{HaveAddresses};
 
 use crate::stretch::Stretch;
 
-/// Returns whether the list of runs is still one with the record put before it: the list is empty,
-/// or the record ends below the first run, or touches it and has another value.
+/// Returns whether the record and `others`, a list of runs, make one longer list of runs: `others`
+/// is empty, or its first run begins above the record's end, or it begins at that end and has
+/// another value.
 fn is_before<S: Stretch>(stretch: &S, others: &[S]) -> bool
     ensures { IsTrue result ↔ IsBefore (S.run stretch.now) (map S.run others.now) }
 {
@@ -24,7 +25,8 @@ fn is_before<S: Stretch>(stretch: &S, others: &[S]) -> bool
     end < base || (end == base && !S::is_same(stretch.value(), next.value()))
 }
 
-/// Returns whether the records are a list of runs. None of them may be empty.
+/// Returns whether the records are a list of runs: they ascend without overlaps, and two that touch
+/// have different values. No record may be empty.
 pub fn are_runs<S: Stretch>(stretches: &[S]) -> bool
     requires { HaveAddresses (map S.run stretches.now) }
     ensures { IsTrue result ↔ AreRuns (map S.run stretches.now) }
@@ -39,8 +41,9 @@ pub fn are_runs<S: Stretch>(stretches: &[S]) -> bool
     true
 }
 
-/// Returns whether the runs of `first`, followed by those of `second`, are one list of runs: all
-/// of `second` lies above `first`, and no two runs can be merged.
+/// Returns whether the runs of `first`, followed by those of `second`, are one list of runs: all of
+/// `second` lies above `first`, and the last run of `first` and the first run of `second` can't be
+/// merged.
 pub fn are_apart<S: Stretch>(first: &[S], second: &[S]) -> bool
     requires first { AreRuns (map S.run first.now) }
     requires second { AreRuns (map S.run second.now) }
@@ -58,7 +61,8 @@ pub fn runs_are_unique<T>()
         rs ≡ ss }
 {}
 
-/// Law: `runs_of` returns the runs of every function that has no value at or above 2^64.
+/// Law: `runs_of` returns the list of runs of a function, if the function has no value at or above
+/// 2^64.
 pub fn runs_of_gives_the_runs<T>()
     ensures { (same : T → T → Bool) (f : ℕ → Option T) → DecidesEquality same →
         ((x : ℕ) → 2 ^ 64 ≤ x → f x ≡ None) → IsRunsOf f (runs_of same f) }

@@ -8,7 +8,7 @@ use crate::stretch::{Overlay, Stretch};
 use bm_base::Range;
 use std::marker::Model;
 
-/// A type of values that runs can carry: two values can be compared.
+/// A type that the values of runs may have. Two values can be compared.
 pub trait RunValue: Copy {
     /// Returns whether the values are equal.
     fn is_same(first: Self, second: Self) -> bool
@@ -31,7 +31,7 @@ impl RunValue for bool {
 /// the value of the first one holds.
 #[derive(Clone, Copy, Debug, PartialEq, Eq)]
 pub struct RunOf<V> {
-    /// The range.
+    /// The addresses that have the value.
     pub range: Range,
     /// The value of each address in the range.
     pub value: V,

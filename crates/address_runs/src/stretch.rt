@@ -9,7 +9,7 @@ ghost use Rattle.address_runs.specs.Runs.{RunOf};
 
 use bm_base::Range;
 
-/// A record of a range of addresses and the value of each of them.
+/// A record of a range of addresses and one value, which all of these addresses have.
 pub trait Stretch: Copy {
     /// The type of the values.
     type Value: Copy;
@@ -17,16 +17,16 @@ pub trait Stretch: Copy {
     // the record as a run, as contracts see it
     ghost run: { Self → RunOf Self.Value };
 
-    /// Makes a record of a range and a value.
+    /// Makes a record of a range of addresses and the value that they have.
     fn of(range: Range, value: Self::Value) -> Self
         ensures { run result ≡ record { base = range.base; size = range.size; value = value } };
 
-    /// Returns the range.
+    /// Returns the range of addresses.
     fn range(&self) -> Range
         ensures base { result.base ≡ (run self.now).base }
         ensures size { result.size ≡ (run self.now).size };
 
-    /// Returns the value.
+    /// Returns the value that the addresses have.
     fn value(&self) -> Self::Value
         ensures { result ≡ (run self.now).value };
 
@@ -41,8 +41,9 @@ pub trait Overlay: Stretch {
     ghost join_of: { Option Self.Value → Option Self.Value → Option Self.Value };
 
     /// Returns the value at an address that two records of a list may cover. `first` is the value
-    /// of the record that comes first in the list, `second` that of the other. `None` means that
-    /// the record does not cover the address; the other value then holds. Joining is associative.
+    /// of the record that comes first in the list, `second` that of the other record. A value is
+    /// `None` if its record doesn't cover the address; the other value is then returned. Joining is
+    /// associative.
     fn join(first: Option<Self::Value>, second: Option<Self::Value>) -> Option<Self::Value>
         ensures { result ≡ join_of first second };
 
