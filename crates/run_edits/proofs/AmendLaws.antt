@@ -51,7 +51,7 @@ module _ {X : Type 0} where
       → IsEmptyFrom at (change_range change r f)
   amended_ends change r f at ends none x le = amended_behind change r f x (omega arith) ∙ none x le
 
-  -- if the open run must be written and there is no free slot, there is room for one more record
+  -- if the current run must be written and there is no free slot, there is room for one more record
   pub room_here : (same : X → X → Bool) → DecidesEquality same
       → (f g : ℕ → Option X) (start from to : ℕ) (v : Option X) (rs : List (RunOf X))
       (write read room : ℕ) → HasRoomToEdit same f g room

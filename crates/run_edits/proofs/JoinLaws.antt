@@ -72,7 +72,7 @@ module _ {X : Type 0} where
             rw (none, append-nil xs) moved
       ]
 
-  -- when a value changes, the open run is written and another one opens
+  -- when a value changes, the current run is written and another one begins
   pub built_stretch : (g : ℕ → Option X) (start from until : ℕ) (v w : Option X) (xs : List (RunOf X)) → IsBuiltTo g from xs start v
       → g from ≡ w → v ≢ w → from ≤ until
       → HasValueBetween g from until w → IsBuiltTo g until (xs ++ stretch start from v) from w
@@ -99,7 +99,7 @@ module _ {X : Type 0} where
       value_append_none xs (r ∷ rs) x (none_behind r.base x (Some r.value) xs (ends_front xs rs r runs) above)
       ∙ rw (inside r x above under) refl
 
-  -- an edit that begins inside a run or exactly at its end starts with that run open
+  -- an edit that begins inside a run or exactly at its end starts with that run as the current one
   begun_in : (g : ℕ → Option X) (at : ℕ) (xs rs : List (RunOf X)) (r : RunOf X) → AreRuns (xs ++ r ∷ rs) → r.base < at → at ≤ run_end r
       → ((x : ℕ) → x < at → g x ≡ value_at (xs ++ r ∷ rs) x) → IsBuiltTo g at xs r.base (Some r.value)
   begun_in g at xs rs r runs lt le like =
@@ -126,7 +126,7 @@ module _ {X : Type 0} where
   ends_by at v [] ends = tt
   ends_by at v (x ∷ xs) ends = (omega arith, (λ touch. absurd (omega arith)), ends_by at v xs ends.1)
 
-  -- an edit that begins at any other address starts with no open run
+  -- an edit that begins at any other address starts without a current run
   begun_bare : (g : ℕ → Option X) (at : ℕ) (xs rs : List (RunOf X)) → AreRuns (xs ++ rs) → EndBelow at xs → StartAtOrPast at rs
       → ((x : ℕ) → x < at → g x ≡ value_at (xs ++ rs) x) → IsBuiltTo g at xs at None
   begun_bare g at xs rs runs ends starts like = record {

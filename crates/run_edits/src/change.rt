@@ -8,7 +8,8 @@ pub trait Change<V: Copy>: Copy {
     // what an address carries after the change, given what it carried before
     ghost makes: { Self → Option V → Option V };
 
-    /// Returns what an address carries after the change, given what it carried before.
+    /// Returns what an address carries after the change, given what it carried before. `None` means
+    /// that it carries nothing.
     fn apply(self, carried: Option<V>) -> Option<V>
         ensures { result ≡ makes self carried };
 }

@@ -19,8 +19,9 @@ use crate::slots::{Rows, Slots};
 use address_runs::{Stretch, agree};
 use bm_base::Range;
 
-/// The state of a sweep: the first `write` records are finished, those from index `read` on are
-/// still to be read, and a run with the value `value` is open since address `start`.
+/// The state of a sweep, which rewrites the table in place from the lowest address up. The first
+/// `write` records are finished, and those from index `read` on are still to be read. The current
+/// run began at address `start`, has the value `value` and isn't written yet.
 #[derive(Clone, Copy)]
 struct Sweep<V> {
     write: u64,
@@ -29,7 +30,8 @@ struct Sweep<V> {
     value: Option<V>,
 }
 
-/// Returns the state of a sweep that starts at the address.
+/// Returns the state of a sweep that starts at address `at`. The records that end below `at` are
+/// finished. A record that begins below `at` and ends at or above it is the current run.
 fn begin<S: Stretch, T: Rows<S>>(table: &T, at: u64) -> Sweep<S::Value>
     requires { AreRuns (T.list table.now) }
     ensures built { (g : ℕ → Option S.Value) →
@@ -51,8 +53,9 @@ fn begin<S: Stretch, T: Rows<S>>(table: &T, at: u64) -> Sweep<S::Value>
     }
 }
 
-/// Returns the start and the value of the run that is open at the address: those of the record at
-/// index `first` if it begins below the address, else the address and no value.
+/// Returns the start and the value of the run that ends at or goes on past address `at`: those of
+/// the record at index `first`, if that record begins below `at`, else `at` and `None`. `first`
+/// must be the index of the first record that ends at or above `at`.
 fn stretch_at<S: Stretch, T: Rows<S>>(table: &T, first: u64, at: u64) -> (u64, Option<S::Value>)
     requires runs { AreRuns (T.list table.now) }
     requires before { EndBelow at (take first (T.list table.now)) }
@@ -66,12 +69,13 @@ fn stretch_at<S: Stretch, T: Rows<S>>(table: &T, first: u64, at: u64) -> (u64, O
     }
 }
 
-/// Writes the run from `start` to `until` with the value at index `write`, unless the run is empty
-/// or has no value.
+/// Writes a record of the addresses from `start` up to `until`, without `until`, and of `value` at
+/// index `write`. Writes nothing if `until` isn't above `start`, or if `value` is `None`.
 ///
-/// The records before index `write` and those from index `read` on are kept; the slots between
-/// them are free. If no slot is free, the record is inserted. Returns the indices `write` and
-/// `read` after the call.
+/// The records before index `write` and those from index `read` on are kept; the slots between them
+/// are free. If there is no free slot, the record is inserted. Returns the indices `write` and
+/// `read` for the next call: `write` is one more if the record was written, and `read` if it was
+/// inserted.
 pub fn write_run<S: Stretch, T: Slots<S>>(
     table: &mut T,
     write: u64,
@@ -106,8 +110,8 @@ pub fn write_run<S: Stretch, T: Slots<S>>(
     }
 }
 
-/// Continues the sweep with `value` from address `from` on. If the open run has another value, it
-/// is written first.
+/// Continues the sweep with `value` from address `from` on. If the current run has another value,
+/// it is written up to `from`, and a new run begins there.
 fn advance<S: Stretch, T: Slots<S>>(
     table: &mut T,
     sweep: Sweep<S::Value>,
@@ -147,9 +151,11 @@ fn advance<S: Stretch, T: Slots<S>>(
     }
 }
 
-/// Applies any change to each address of the range. The table then holds the runs of the result.
-/// The range must not be empty. At each address that the sweep reaches, the table must have room
-/// for the new runs below it and the old runs above it.
+/// Applies a change to each address of the range. The table then holds the runs of the new values.
+///
+/// The range must not be empty. The table must have room during the whole sweep: for each address,
+/// the new runs whose last address is below it and the old runs whose last address is at or above
+/// it must together fit into the table.
 pub fn edit_range<S: Stretch, T: Slots<S>, C: Change<S::Value>>(
     table: &mut T,
     range: &Range,
@@ -189,10 +195,11 @@ pub fn edit_range<S: Stretch, T: Slots<S>, C: Change<S::Value>>(
     table.close(write, read - write);
 }
 
-/// Applies a change to each address of the range. The table then holds the runs of the result. The
-/// change must leave addresses that carry nothing as they are, or give all addresses the same, so
-/// it can't be a [`crate::Cover`]. The range must not be empty, and the table must have room for
-/// two more records.
+/// Applies a change to each address of the range. The table then holds the runs of the new values.
+///
+/// The change must leave addresses that carry nothing as they are, or give the same to all
+/// addresses; so it can't be a [`crate::Cover`]. The range must not be empty, and the table must
+/// have room for two more records.
 pub fn edit_without_cover<S: Stretch, T: Slots<S>, C: Change<S::Value>>(
     table: &mut T,
     range: &Range,

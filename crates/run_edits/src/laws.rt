@@ -7,9 +7,10 @@ ghost use Rattle.address_runs.specs.Edits.{cover_range, uncover_range, relabel_r
 
 use bm_base::Range;
 
-/// Law: an edit of a range adds few runs. Covering a range adds at most one run for each gap in it
-/// (`nr_new` in `memblock_add_range`). Uncovering a range adds at most one run. Relabelling or
-/// replacing in a range adds at most two.
+/// Law: an edit of a range adds few runs. Giving a value to the addresses that carry nothing adds
+/// at most one run for each gap in the range (`nr_new` in `memblock_add_range`). Removing values
+/// adds at most one run. Changing the values that are there, or giving all addresses one value,
+/// adds at most two.
 pub fn edits_add_few<T>()
     ensures cover { (same : T → T → Bool) (r : RangeView) (v w : T) (f : ℕ → Option T) →
         DecidesEquality same →

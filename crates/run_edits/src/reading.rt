@@ -11,7 +11,7 @@ use crate::slots::Rows;
 use address_runs::{Stretch, agree};
 use bm_base::Range;
 
-/// Returns the record at the index, or `None` past the last one.
+/// Returns the record at index `i`, or `None` if the table has no more than `i` records.
 pub(crate) fn peek<S: Stretch, T: Rows<S>>(table: &T, i: u64) -> Option<S>
     ensures record { MatchOption result (drop i (T.list table.now) ≡ [])
         (λ r. drop i (T.list table.now) ≡ S.run r ∷ drop (i + 1) (T.list table.now)) }
@@ -26,7 +26,8 @@ pub(crate) fn peek<S: Stretch, T: Rows<S>>(table: &T, i: u64) -> Option<S>
     }
 }
 
-/// Returns the index of the first record that ends at or above the address, by binary search.
+/// Returns the index of the first record that ends at or above the address, or the number of
+/// records if there is no such record. This is a binary search.
 pub(crate) fn first_ending_from<S: Stretch, T: Rows<S>>(table: &T, at: u64) -> u64
     requires { AreRuns (T.list table.now) }
     ensures before { EndBelow at (take result (T.list table.now)) }
@@ -67,8 +68,8 @@ pub fn skip_ended<S: Stretch, T: Rows<S>>(table: &T, read: u64, at: u64) -> u64
 }
 
 /// Returns what the address `from` carries, and the first address above it that carries something
-/// else (2^64 - 1 if no record is left). Reads the record at index `read`, the first one that ends
-/// above `from`.
+/// else (2^64 - 1 if there is no record at index `read`). `read` must be the index of the first
+/// record that ends above `from`.
 pub fn value_and_end<S: Stretch, T: Rows<S>>(
     table: &T,
     read: u64,
@@ -119,7 +120,7 @@ pub fn value_at<S: Stretch, T: Rows<S>>(table: &T, x: u64) -> Option<S::Value>
     value_and_end(table, read, x).0
 }
 
-/// Returns whether each address of the range carries the value.
+/// Returns whether each address of the range carries `value`. An empty range gives true.
 pub fn has_value_throughout<S: Stretch, T: Rows<S>>(
     table: &T,
     range: &Range,

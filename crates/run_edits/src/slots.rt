@@ -17,7 +17,7 @@ pub trait Rows<S: Stretch> {
     fn count(&self) -> u64
         ensures { result ≡ length (list self.now) };
 
-    /// Returns the record at the index, which is below the number of records.
+    /// Returns the record at index `i`, which must be below the number of records.
     fn get(&self, i: u64) -> S
         requires { i < length (list self.now) }
         ensures { S.run result ≡ get_or (list self.now) i (S.run result) };
@@ -29,17 +29,17 @@ pub trait Slots<S: Stretch>: Rows<S> {
     // the number of records that there is room for
     ghost room: { Self → ℕ };
 
-    // what of the table, apart from its records, stays the same when records are written
+    // what stays the same, apart from the records, between the table before and after a call
     ghost keeps: { Self → Self → Type 0 };
 
-    /// Overwrites the record at the index.
+    /// Overwrites the record at index `i`, which must be below the number of records.
     fn put(&mut self, i: u64, item: S)
         requires { i < length (Self.list self.old) }
         ensures list { Self.list self.new ≡ set (Self.list self.old) i (S.run item) }
         ensures keeps { keeps self.old self.new };
 
-    /// Inserts a record at the index; the records from that index on move up. There must be room
-    /// for it.
+    /// Inserts a record at index `i`. The records from index `i` on move up by one place. There
+    /// must be room for one more record.
     fn insert(&mut self, i: u64, item: S)
         requires within { i ≤ length (Self.list self.old) }
         requires room { length (Self.list self.old) < room self.old }
