@@ -8,15 +8,15 @@ use Rattle.e820_model.specs.declared.entry.Entry.{Entry}
 use Rattle.e820_model.specs.declared.entry.Edit.{Edit}
 use Rattle.e820_model.specs.declared.entry.Edit.TheVariants as edit
 
--- a set of types. Type 0 claims nothing, so it is in no set.
+-- a set of types: whether a type is in the set. Type 0 means no type, so it is in no set.
 abbrev pub Types : Type 0
 Types = ℕ → Bool
 
--- the claims of every address
+-- for each address, the set of types that claim it
 abbrev pub Claims : Type 0
 Claims = ℕ → Types
 
--- the claims if no address has any
+-- the claims of a table without entries: no type claims any address
 abbrev pub no_claims : Claims
 no_claims x k = false
 
@@ -34,16 +34,16 @@ abbrev pub claims_of_entries : List Entry → Claims
 claims_of_entries [] x k = false
 claims_of_entries (e ∷ es) x k = (is_covered_by e x && nat_lt 0 k && k == e.kind) || claims_of_entries es x k
 
--- the greatest type of the set that is below n, or 0 if the set has none there
+-- the greatest type below n in the set, or 0 if the set has no type below n
 unfoldable pub greatest_below : Types → ℕ → ℕ
 greatest_below s zero = 0
 greatest_below s (suc n) = if s n then n else greatest_below s n
 
--- the greatest type of the set, or 0 if the set is empty
+-- the greatest type of the set, or 0 if the set is empty; types are below 2^32
 unfoldable pub greatest_type : Types → ℕ
 greatest_type s = greatest_below s (2 ^ 32)
 
--- the type of an address: its greatest claim, or 0
+-- the type of an address: the greatest type that claims it, or 0 if no type does
 abbrev pub type_of : Claims → ℕ → ℕ
 type_of c x = greatest_type (c x)
 
@@ -51,7 +51,7 @@ type_of c x = greatest_type (c x)
 abbrev pub settled_claims : Claims → Claims
 settled_claims c x k = nat_lt 0 k && k == type_of c x
 
--- the union of both arguments: an address has the claims that either of them gives it
+-- the union of two tables' claims: an address has the claims that either of them gives it
 abbrev pub union_of_claims : Claims → Claims → Claims
 union_of_claims c d x k = c x k || d x k
 
@@ -65,7 +65,7 @@ after_edit (edit.Change range from to) c x k =
     if covers range x then ((c x from && k == to) || (c x k && not (k == from))) else c x k
 after_edit edit.Clear c x k = false
 
--- both types of the edit, or its only type, are above 0
+-- each type in the edit is above 0
 abbrev pub HasTypes : Edit → Type 0
 HasTypes (edit.Add range kind) = 0 < kind
 HasTypes (edit.Remove range kind) = 0 < kind
@@ -97,23 +97,25 @@ abbrev pub after_bios_trim : Claims → Claims
 after_bios_trim c =
     after_edit (edit.Remove bios_area E820_TYPE_RAM) (after_edit (edit.Change first_page E820_TYPE_RAM E820_TYPE_RESERVED) c)
 
--- step 1: the zero page's entries, settled (`e820__memory_setup`)
+-- the claims after step 1: those of the zero page's entries, of which each address keeps only the
+-- greatest (`e820__memory_setup`)
 abbrev pub zero_page_claims : List Entry → Claims
 zero_page_claims entries = settled_claims (claims_of_entries entries)
 
--- step 2: the extension's entries are added, and the table is settled
--- (`e820__memory_setup_extended`)
+-- the claims after step 2: those of the extension's entries are added, and each address keeps only
+-- its greatest claim (`e820__memory_setup_extended`)
 abbrev pub with_extension : List Entry → Claims → Claims
 with_extension extension c = settled_claims (union_of_claims c (claims_of_entries extension))
 
--- steps 3 to 5: the options' edits are applied in order, the entries of the firmware's EFI map are
--- added if an option asks for them (`do_add_efi_memmap`), and the table is settled
--- (`e820__finish_early_params`)
+-- the claims after steps 3 to 5: the options' edits are applied in order, the entries of the
+-- firmware's EFI map are added if an option asks for them (`do_add_efi_memmap`), and each address
+-- keeps only its greatest claim (`e820__finish_early_params`)
 abbrev pub with_options : List Edit → List Entry → Claims → Claims
 with_options edits added c = settled_claims (union_of_claims (after_edits edits c) (claims_of_entries added))
 
--- the claims of the final map: steps 1 to 5, then the BIOS ranges are trimmed. `added` is empty
--- unless there is an EFI map and an option asks for it
+-- the claims of the final map: the zero page's entries, then the extension's entries, the options'
+-- edits and the entries of the EFI map (`added`), and then RAM is trimmed in the areas of the BIOS.
+-- `added` is empty unless there is an EFI map and an option asks for it.
 abbrev pub final_claims : List Entry → List Entry → List Edit → List Entry → Claims
 final_claims entries extension edits added =
     after_bios_trim (with_options edits added (with_extension extension (zero_page_claims entries)))

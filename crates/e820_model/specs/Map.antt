@@ -8,11 +8,11 @@ use Rattle.e820_model.specs.Claims.{Claims, type_of}
 abbrev pub TypeAt : Type 0
 TypeAt = ℕ → Option ℕ
 
--- `Some` of a type above 0, and `None` for type 0, which is no type
+-- the type, or `None` for 0, which means no type
 abbrev pub type_unless_zero : ℕ → Option ℕ
 type_unless_zero k = if k == 0 then None else Some k
 
--- the type of each address, from its claims: the greatest one
+-- the type of each address: the greatest type that claims it, or `None` if no type does
 abbrev pub kinds : Claims → TypeAt
 kinds c x = type_unless_zero (type_of c x)
 
@@ -20,7 +20,7 @@ kinds c x = type_unless_zero (type_of c x)
 abbrev pub same_kind : ℕ → ℕ → Bool
 same_kind a b = a == b
 
--- the map: the runs of the types (what the kernel prints as `BIOS-e820: [mem ..]`)
+-- the map: the runs of addresses of one type (what the kernel prints as `BIOS-e820: [mem ..]`)
 unfoldable pub map_of : Claims → List (RunOf ℕ)
 map_of c = runs_of same_kind (kinds c)
 

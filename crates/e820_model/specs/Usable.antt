@@ -6,7 +6,7 @@ use Rattle.bm_base.specs.Frames.{bytes_of_frame}
 use Rattle.e820_model.specs.declared.entry.TheConstants.{E820_TYPE_RAM, E820_TYPE_RESERVED_KERN}
 use Rattle.e820_model.specs.Map.{TypeAt}
 
--- whether the type is RAM, or memory that is the kernel's (`e820__memblock_setup`)
+-- whether the type is memory: RAM, or memory that the kernel itself uses (`e820__memblock_setup`)
 abbrev pub is_memory : Option ℕ → Bool
 is_memory None = false
 is_memory (Some k) = k == E820_TYPE_RAM || k == E820_TYPE_RESERVED_KERN
@@ -16,16 +16,17 @@ unfoldable pub count_below : (ℕ → Bool) → ℕ → ℕ
 count_below p zero = 0
 count_below p (suc n) = if p n then count_below p n + 1 else count_below p n
 
--- the types of the addresses below the limit of physical addresses (`MAX_PHYSMEM_BITS`); others
--- have none
+-- the types of the addresses below `limit`, the end of the physical addresses (`MAX_PHYSMEM_BITS`);
+-- an address at or above it has none
 abbrev pub types_below : ℕ → TypeAt → TypeAt
 types_below limit f x = if nat_lt x limit then f x else None
 
--- a frame is usable if each of its bytes is memory (`memblock_trim_memory`)
+-- whether the frame is usable: each of its bytes is memory (`memblock_trim_memory`)
 unfoldable pub is_usable_frame : TypeAt → ℕ → Bool
 is_usable_frame f frame = each_in (bytes_of_frame frame) (λ x. is_memory (f x))
 
--- the number of usable frames, among the 2^52 frames of 64-bit addresses
+-- the number of usable frames, by the types of the addresses. There are 2^52 frames of 64-bit
+-- addresses.
 unfoldable pub usable_frames : TypeAt → ℕ
 usable_frames f = count_below (is_usable_frame f) (2 ^ 52)
 

@@ -7,20 +7,20 @@ ghost use Rattle.e820_model.specs.Map.{kinds, map_of};
 ghost use Rattle.e820_model.specs.declared.entry.Edit.{Edit as AnyEdit};
 ghost use Rattle.e820_model.specs.declared.entry.Entry.{Entry as AnyEntry};
 
-/// Law: the greatest type of a set is a member of the set, unless it is 0, which means that the
-/// set is empty. No member exceeds it.
+/// Law: no type of a set exceeds the set's `greatest_type`, which is a member of the set or 0.
+/// Types are below 2^32.
 pub fn greatest_is_greatest()
     ensures among { (s : Types) → 0 < greatest_type s → s (greatest_type s) ≡ true }
     ensures above { (s : Types) (k : ℕ) → k < 2 ^ 32 → s k ≡ true → k ≤ greatest_type s }
 {}
 
-/// Law: settling the claims (`e820__update_table`) changes no address's type, so settling more
-/// often than the kernel does makes no difference to types.
+/// Law: keeping only the greatest claim of each address (`e820__update_table`) changes no address's
+/// type. So doing this more often than the kernel does changes no types.
 pub fn settling_keeps_types()
     ensures { (c : Claims) (x : ℕ) → type_of (settled_claims c) x ≡ type_of c x }
 {}
 
-/// Law: an address of the final map has at most one claim.
+/// Law: in the final map, an address is claimed by at most one type.
 pub fn final_claims_are_single()
     ensures { (entries extension : List AnyEntry) (edits : List AnyEdit) (added : List AnyEntry)
         (x j k : ℕ) →
@@ -29,8 +29,9 @@ pub fn final_claims_are_single()
         j ≡ k }
 {}
 
-/// Law: if no entries of an EFI map are added, the final claims are those of the table after the
-/// options' edits, settled (`e820__update_table`) and trimmed (`trim_bios_range`).
+/// Law: if no entries of an EFI map are added, the claims of the final map are made from those
+/// after the options' edits in two steps. Each address keeps only its greatest claim
+/// (`e820__update_table`), and RAM is trimmed in the areas of the BIOS (`trim_bios_range`).
 pub fn edits_alone_make_the_map()
     ensures { (entries extension : List AnyEntry) (edits : List AnyEdit) →
         final_claims entries extension edits []

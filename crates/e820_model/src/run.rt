@@ -55,7 +55,7 @@ impl Stretch for Run {
     }
 }
 
-/// If two runs overlap, the greater type holds.
+/// At an address where runs overlap, the greatest type holds (`e820__update_table`).
 impl Overlay for Run {
     ghost join_of = { greater };
 
