@@ -17,8 +17,8 @@ use bm_base::{FRAME_SIZE, Memory, Range};
 use e820_model::{E820_TYPE_RAM, E820_TYPE_RESERVED, Edit, Entry, Run};
 use std::alloc::Global;
 
-/// Appends a claim of the type on the addresses from `from` to below `until`. Appends nothing if
-/// there is no such address.
+/// Appends a claim of type `kind` on the addresses from `from` up to `until`, without `until`.
+/// Appends nothing if `until` isn't above `from`.
 ///
 /// # Errors
 ///
@@ -35,7 +35,8 @@ fn push_between(claims: &mut Vec<Run>, from: u64, until: u64, kind: u32) -> Resu
     Ok(())
 }
 
-/// Appends a claim like [`push_between`], or nothing if `kind` is `None`.
+/// Appends a claim of type `kind` on the addresses from `from` up to `until`, without `until`.
+/// Appends nothing if `until` isn't above `from`, or if `kind` is `None`.
 ///
 /// # Errors
 ///
@@ -55,8 +56,9 @@ fn push_between_if(
     push_between(claims, from, until, kind)
 }
 
-/// Appends the parts of a claim: the part below the range, the part inside it with the type
-/// `inner`, and the part above it. If `inner` is `None`, the part inside is dropped.
+/// Appends the parts into which the range cuts a claim: the part below the range, the part inside
+/// it with the type `inner`, and the part above it. If `inner` is `None`, the part inside is
+/// dropped. Empty parts aren't appended.
 ///
 /// # Errors
 ///
@@ -81,8 +83,8 @@ fn push_parts(
     push_between(claims, range.end().max(start), end, claim.kind)
 }
 
-/// Tests whether the claim isn't empty and lies wholly below or wholly above the range. A cut
-/// leaves such a claim as it is.
+/// Tests whether the claim isn't empty and lies wholly below or wholly above the range. An edit of
+/// the range leaves such a claim as it is.
 fn is_apart(range: &Range, claim: &Run) -> bool
     ensures { IsTrue result → (inner : Option ℕ)
         → parts_of_claim range.now inner claim.now ≡ claim.now ∷ [] }
@@ -92,7 +94,7 @@ fn is_apart(range: &Range, claim: &Run) -> bool
     start < end && (end <= range.base || range.end() <= start)
 }
 
-/// Returns the claims after an edit of the range. The edit concerns claims of type `meant`, or
+/// Returns the claims after an edit of the range. The edit changes claims of type `meant`, or
 /// claims of all types if `meant` is `None`. Inside the range they get the type `instead`, or are
 /// removed if `instead` is `None`. Outside the range no claim changes.
 ///
@@ -116,8 +118,9 @@ fn cut_each_claim(
     Ok(left)
 }
 
-/// Returns the type that a claim of type `kind` has inside the range after the edit, or `None` if
-/// it is removed there. [`cut_each_claim`] explains `meant` and `instead`.
+/// Returns the type that a claim of type `kind` has inside a range after an edit of the range, or
+/// `None` if the edit removes it there. The edit changes claims of type `meant`, or of all types if
+/// `meant` is `None`. They get the type `instead`, or are removed if `instead` is `None`.
 fn type_inside(meant: Option<u32>, instead: Option<u32>, kind: u32) -> Option<u32>
     ensures { result ≡ type_inside meant instead kind }
 {
@@ -127,8 +130,8 @@ fn type_inside(meant: Option<u32>, instead: Option<u32>, kind: u32) -> Option<u3
     }
 }
 
-/// Appends the claim of an entry, or nothing if the entry is empty or has type 0. The entry's
-/// address plus size must be below 2^64.
+/// Appends a claim with the range and the type of the entry, or nothing if the entry is empty or
+/// has type 0. The entry's address plus size must be below 2^64.
 ///
 /// # Errors
 ///
@@ -146,8 +149,8 @@ fn push_entry(claims: &mut Vec<Run>, entry: &Entry) -> Result<(), Memory>
     push_between(claims, entry.addr, entry.addr + entry.size, entry.kind)
 }
 
-/// Returns the claims, followed by one claim for each entry that isn't empty and whose type isn't
-/// 0. Each entry's address plus size must be below 2^64.
+/// Returns the list of claims, followed by one claim for each entry that isn't empty and whose type
+/// isn't 0. Each entry's address plus size must be below 2^64.
 ///
 /// # Errors
 ///
@@ -166,7 +169,7 @@ pub fn with_entries(alloc: Global, claims: &[Run], entries: &[Entry]) -> Result<
     Ok(all)
 }
 
-/// Carries out the edit on the claims. The types in the edit must be above 0.
+/// Carries out an option's edit on the list of claims. The types in the edit must be above 0.
 ///
 /// # Errors
 ///
@@ -192,7 +195,7 @@ pub fn edit_claims(claims: &mut Vec<Run>, edit: &Edit) -> Result<(), Memory>
     }
 }
 
-/// Edits the list in place. Claims of type `meant`, or of all types if `meant` is `None`, get the
+/// Edits the claims in place. Claims of type `meant`, or of all types if `meant` is `None`, get the
 /// type `instead` inside the range, or are removed there if `instead` is `None`.
 ///
 /// # Errors

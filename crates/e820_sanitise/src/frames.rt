@@ -10,14 +10,15 @@ ghost use Rattle.e820_model.specs.Usable.{count_whole_frames, is_memory, types_b
 use bm_base::FRAME_SIZE;
 use e820_model::{E820_TYPE_RAM, E820_TYPE_RESERVED_KERN, Run};
 
-/// Tests whether this type (`enum e820_type`) is memory: RAM, or the kernel's own.
+/// Tests whether this type (`enum e820_type`) is memory: RAM, or memory that the kernel itself
+/// uses.
 pub fn is_memory(kind: u32) -> bool
     ensures { result ≡ is_memory (Some kind) }
 {
     kind == E820_TYPE_RAM || kind == E820_TYPE_RESERVED_KERN
 }
 
-// Returns the number of frames that begin at or above `from` and end at or below `until`.
+/// Returns the number of frames that begin at or above `from` and end at or below `until`.
 fn count_whole_frames(from: u64, until: u64) -> u64
     ensures value { result ≡ count_whole_frames from until }
     ensures few { FRAME_SIZE * result ≤ until - from }
@@ -27,11 +28,11 @@ fn count_whole_frames(from: u64, until: u64) -> u64
     behind.saturating_sub(first)
 }
 
-/// Returns the number of usable frames of a map: frames of 4,096 bytes below `limit` that consist
-/// of memory (`e820__memblock_setup`, `memblock_trim_memory`).
+/// Returns the number of usable frames of a map: frames of 4,096 bytes that lie wholly below
+/// `limit` and in memory (`e820__memblock_setup`, `memblock_trim_memory`).
 ///
-/// `limit` is the first address that the kernel can't use, in bytes. A frame that contains it
-/// isn't counted. `runs` must ascend; runs that touch may have the same type.
+/// `limit` is the first address that the kernel can't use, in bytes; it may lie inside a frame.
+/// `runs` must ascend; runs that touch may have the same type.
 pub fn usable_frames(runs: &[Run], limit: u64) -> u64
     requires { Ascend runs.now }
     ensures { result ≡ usable_frames (types_below limit (value_at runs.now)) }

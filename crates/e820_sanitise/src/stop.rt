@@ -9,7 +9,7 @@ ghost use Rattle.e820_sanitise.specs.Stop.{judge_frames};
 use crate::frames::usable_frames;
 use e820_model::Run;
 
-/// The largest number of usable frames with which a boot continues.
+/// The largest number of usable frames with which a boot continues; they have 16 TiB.
 const MOST_RAM_FRAMES: u64 = 1 << 32;
 
 /// The reason why a boot stops at its map.

@@ -16,7 +16,7 @@ use e820_model::{E820_MAX_ENTRIES, Edit, Entry, Run};
 use std::alloc::Global;
 use std::marker::Model;
 
-/// The reason why there is no map.
+/// The reason why [`Table::runs`] returns no map.
 #[derive(Clone, Copy, Debug, PartialEq, Eq)]
 pub enum MapFault {
     /// The map has more than [`crate::E820_MAX_ENTRIES`] runs; `runs` is their number.
@@ -37,8 +37,8 @@ impl From<Memory> for MapFault {
 }
 
 /// The firmware's table (`struct e820_table`): the types that claim each address. Contracts see it
-/// as a list of ranges with types, and use only `claims_of` of that list: whether a type claims an
-/// address.
+/// as a list of ranges with types. They use only `claims_of` of that list, which says whether a
+/// type claims an address.
 #[derive(Drop)]
 pub struct Table {
     claims: Vec<Run>,
@@ -67,8 +67,9 @@ impl Table {
         }
     }
 
-    /// Adds the claims of the entries (`__append_e820_table`). Each entry's address plus size must
-    /// be below 2^64. An entry of size 0 or of type 0 claims nothing.
+    /// Adds to the claims of each address the types of the entries that cover it
+    /// (`__append_e820_table`). Each entry's address plus size must be below 2^64. An entry of size
+    /// 0 or of type 0 has no effect.
     ///
     /// # Errors
     ///
@@ -99,7 +100,7 @@ impl Table {
         cuts::edit_claims(&mut self.claims, edit)
     }
 
-    /// Keeps only the greatest claim on each address (`e820__update_table`).
+    /// Removes all claims on each address except the greatest type (`e820__update_table`).
     ///
     /// # Errors
     ///
@@ -113,7 +114,8 @@ impl Table {
         Ok(())
     }
 
-    /// Reserves RAM in the first page, and removes RAM from 640 KiB to 1 MiB (`trim_bios_range`).
+    /// Makes RAM in the first page reserved, and removes RAM from 640 KiB to 1 MiB
+    /// (`trim_bios_range`).
     ///
     /// # Errors
     ///
@@ -134,7 +136,7 @@ impl Table {
         settle::type_of_claims(&self.claims, x)
     }
 
-    /// Returns the map: the runs of addresses of one type, in ascending order.
+    /// Returns the map: the maximal ranges of addresses of one type, in ascending order.
     ///
     /// # Errors
     ///
@@ -150,7 +152,7 @@ impl Table {
     }
 }
 
-/// Returns the runs unchanged if a map may have that many. Allocates nothing.
+/// Returns the runs unchanged if there are at most [`E820_MAX_ENTRIES`] of them. Allocates nothing.
 ///
 /// # Errors
 ///
