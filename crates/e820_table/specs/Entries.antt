@@ -16,7 +16,8 @@ entry_at offset bytes = record {
   kind = little_endian_at 4 (offset + 16) bytes;
 }
 
--- the entry with index `i`, counted from 0, of the table that begins at byte `start`
+-- the entry with index `i`, counted from 0, of the table that begins at byte `start`; each entry
+-- has 20 bytes
 abbrev pub nth_entry : ℕ → ℕ → List ℕ → Entry
 nth_entry start i bytes = entry_at (start + 20 * i) bytes
 
@@ -29,13 +30,14 @@ first_entries start (suc n) bytes = first_entries start n bytes ++ nth_entry sta
 abbrev pub is_entry_too_far : Entry → Bool
 is_entry_too_far e = nat_le (2 ^ 64) (e.addr + e.size)
 
--- the least index of an entry that is too far, among the n entries from index `i` on
+-- the least index of an entry whose address plus size exceeds 2^64 - 1, among the n entries from
+-- index `i` on; `None` if there is no such entry
 abbrev pub far_entry_from : ℕ → ℕ → ℕ → List ℕ → Option ℕ
 far_entry_from start i zero bytes = None
 far_entry_from start i (suc n) bytes =
     if is_entry_too_far (nth_entry start i bytes) then Some i else far_entry_from start (i + 1) n bytes
 
--- the least index of an entry that is too far, among the first n entries of the table at byte
--- `start`
+-- the least index of an entry whose address plus size exceeds 2^64 - 1, among the first n entries
+-- of the table that begins at byte `start`; `None` if there is no such entry
 abbrev pub first_far_entry : ℕ → ℕ → List ℕ → Option ℕ
 first_far_entry start n bytes = far_entry_from start 0 n bytes

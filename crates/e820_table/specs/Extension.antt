@@ -10,12 +10,12 @@ use Rattle.e820_table.specs.Entries.{little_endian_at, first_entries, first_far_
 abbrev pub ext_data_length : List ℕ → ℕ
 ext_data_length bytes = length bytes - 16
 
--- whether the header is whole and its type, the u32 at offset 8, is 1 (`SETUP_E820_EXT`)
+-- whether there are at least 16 bytes, and the type, the u32 at offset 8, is 1 (`SETUP_E820_EXT`)
 abbrev pub has_ext_header : List ℕ → Bool
 has_ext_header bytes = not (nat_lt (length bytes) 16) && little_endian_at 4 8 bytes == 1
 
--- whether the length that the header states (the u32 at offset 12) is that of the data, and the
--- data are whole entries
+-- whether the length that the header states (the u32 at offset 12) is the number of bytes after the
+-- header, and a multiple of 20
 abbrev pub has_ext_length : List ℕ → Bool
 has_ext_length bytes = little_endian_at 4 12 bytes == ext_data_length bytes && ext_data_length bytes % 20 == 0
 
@@ -27,7 +27,7 @@ ext_count bytes = ext_data_length bytes / 20
 abbrev pub ext_entries_of : List ℕ → List Entry
 ext_entries_of bytes = first_entries 16 (ext_count bytes) bytes
 
--- the fault that the entry with this index is too far; None if there is no such index
+-- the fault `EntryTooFar` with the index, or None if no index is given
 abbrev pub ext_entry_fault : Option ℕ → Option ExtFault
 ext_entry_fault None = None
 ext_entry_fault (Some index) = Some (faults.EntryTooFar index)

@@ -7,7 +7,7 @@ use Rattle.bm_base.specs.Frames.{frame_around}
 use Rattle.bm_base.specs.declared.range.TheConstants.{FRAME_SIZE}
 use Rattle.e820_table.specs.Entries.{little_endian_at}
 
--- the boot loader's type, the byte `type_of_loader`; 0 if no loader is named
+-- the boot loader's type, the byte `type_of_loader` of the zero page; 0 if the loader has set none
 abbrev pub loader_of : List ℕ → ℕ
 loader_of bytes = slice_index bytes 0x210
 
@@ -20,7 +20,7 @@ halves_at lower upper bytes = little_endian_at 4 lower bytes + 2 ^ 32 * little_e
 abbrev pub image_of : List ℕ → RangeView
 image_of bytes = record { base = halves_at 0x218 0x0C0 bytes; size = halves_at 0x21C 0x0C4 bytes }
 
--- whether there is an initrd: none of the loader's type, the address and the size is 0
+-- whether there is an initrd: the loader's type, the address and the size are all different from 0
 abbrev pub has_initrd : ℕ → RangeView → Bool
 has_initrd loader image = not (loader == 0) && not (image.base == 0) && not (image.size == 0)
 
@@ -36,12 +36,12 @@ reserved_initrd_range loader image = if has_initrd loader image then Some (to_fr
 unfoldable pub initrd_of : List ℕ → Option RangeView
 initrd_of bytes = reserved_initrd_range (loader_of bytes) (image_of bytes)
 
--- whether there is an initrd whose address plus size exceeds 2^64 minus one frame, so that
--- rounding its end up to a frame could exceed 64 bits
+-- whether there is an initrd whose address plus size exceeds 2^64 - 4,096; rounding its end up to a
+-- frame could then exceed 2^64 - 1
 abbrev pub is_initrd_too_far : ℕ → RangeView → Bool
 is_initrd_too_far loader image = has_initrd loader image && nat_lt (2 ^ 64 - FRAME_SIZE) (end_of image)
 
--- whether this zero page has an initrd that is too far
+-- whether this zero page has an initrd whose address plus size exceeds 2^64 - 4,096
 unfoldable pub is_initrd_far : List ℕ → Bool
 is_initrd_far bytes = is_initrd_too_far (loader_of bytes) (image_of bytes)
 

@@ -8,19 +8,20 @@ use Rattle.bm_base.specs.declared.range.TheConstants.{FRAME_SIZE}
 use Rattle.e820_model.specs.declared.entry.Entry.{Entry}
 use Rattle.e820_model.specs.declared.entry.TheConstants.{E820_TYPE_RAM, E820_TYPE_RESERVED}
 
--- the successor of a number in the generator's sequence
+-- the pseudo-random number after `x`
 abbrev pub next_generator_state : ℕ → ℕ
 next_generator_state x = (1103515245 * x + 12345) % 2 ^ 31
 
--- the number of frames of the entry that is made with the generator's number `x`
+-- the number of frames, from 1 to 16, of the entry that is generated with the pseudo-random number
+-- `x`
 abbrev pub frames_of_entry : ℕ → ℕ
 frames_of_entry x = 1 + x / 65536 % 16
 
--- the first entry of a made table: RAM below 640 KiB
+-- the first entry of a generated table: RAM below 640 KiB
 abbrev pub low_ram : Entry
 low_ram = record { addr = 0; size = 0xA0000; kind = E820_TYPE_RAM }
 
--- the second entry of a made table: 128 MiB of RAM from 1 MiB on
+-- the second entry of a generated table: 128 MiB of RAM from 1 MiB on
 abbrev pub high_ram : Entry
 high_ram = record { addr = 0x100000; size = 0x8000000; kind = E820_TYPE_RAM }
 
@@ -28,7 +29,8 @@ high_ram = record { addr = 0x100000; size = 0x8000000; kind = E820_TYPE_RAM }
 abbrev pub third_entry_start : ℕ
 third_entry_start = high_ram.addr + high_ram.size
 
--- the entry with this index, from 2 on, at address `base`, made with the generator's number `x`
+-- the entry with the index `index` (2 or above) of a generated table: it begins at address `base`,
+-- and its size comes from the pseudo-random number `x`
 abbrev pub generated_entry : ℕ → ℕ → ℕ → Entry
 generated_entry index base x = record {
   addr = base;
@@ -36,14 +38,15 @@ generated_entry index base x = record {
   kind = if index % 2 == 0 then E820_TYPE_RESERVED else E820_TYPE_RAM;
 }
 
--- the next n entries, from this index and this address on; `x` is the generator's number of the
--- entry before them
+-- n generated entries, one after another, from the given index and address on; `x` is the
+-- pseudo-random number of the entry before them
 unfoldable pub generated_entries_from : ℕ → ℕ → ℕ → ℕ → List Entry
 generated_entries_from zero index base x = []
 generated_entries_from (suc n) index base x =
     generated_entry index base (next_generator_state x)
     ∷ generated_entries_from n (index + 1) (base + FRAME_SIZE * frames_of_entry (next_generator_state x)) (next_generator_state x)
 
--- all entries of the made table of `count` entries; the generator is seeded with `count`
+-- all entries of the generated table of `count` entries; the first pseudo-random number is the one
+-- after `count`
 abbrev pub generated_entries : ℕ → List Entry
 generated_entries count = low_ram ∷ high_ram ∷ generated_entries_from (count - 2) 2 third_entry_start count

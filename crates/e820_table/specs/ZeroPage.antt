@@ -13,7 +13,7 @@ use Rattle.e820_table.specs.Initrd.{initrd_of, is_initrd_far}
 abbrev pub zero_page_entry_count : List ℕ → ℕ
 zero_page_entry_count bytes = slice_index bytes 0x1E8
 
--- the offset of the first entry: `e820_table`
+-- the offset of the first entry in the zero page (`e820_table`)
 abbrev pub table_offset : ℕ
 table_offset = 0x2D0
 
@@ -27,7 +27,7 @@ pub record ZeroPageView : Type 0 where
   pub entries : List Entry
   pub initrd : Option RangeView
 
--- the information about memory in the bytes of a whole zero page
+-- what the bytes of a whole zero page say of memory: its entries, and the range of its initrd
 abbrev pub zero_page_of : List ℕ → ZeroPageView
 zero_page_of bytes = record { entries = zero_page_entries bytes; initrd = initrd_of bytes }
 
@@ -35,19 +35,21 @@ zero_page_of bytes = record { entries = zero_page_entries bytes; initrd = initrd
 abbrev pub zero_page_view : ZeroPage → ZeroPageView
 zero_page_view page = record { entries = page.entries.items; initrd = page.initrd }
 
--- the fault of an initrd that is too far, if the page has one
+-- the fault `InitrdTooFar` if the page has an initrd whose address plus size exceeds 2^64 - 4,096,
+-- else None
 abbrev pub initrd_fault : List ℕ → Option ZeroFault
 initrd_fault bytes = if is_initrd_far bytes then Some faults.InitrdTooFar else None
 
--- the fault that the entry with this index is too far. If there is no such index, the second
--- argument: the fault of what is tested after the entries.
+-- the fault `EntryTooFar` with the index, or the second argument if no index is given. The second
+-- argument is the result of the test after that of the entries.
 abbrev pub zero_page_entry_fault : Option ℕ → Option ZeroFault → Option ZeroFault
 zero_page_entry_fault None behind = behind
 zero_page_entry_fault (Some index) behind = Some (faults.EntryTooFar index)
 
--- the first fault of the bytes. The tests are, in this order: the number of bytes; at least two
--- entries (`append_e820_table` refuses a table of fewer); at most 128 entries; no entry beyond
--- 2^64 - 1, from index 0 on; and no initrd that is too far.
+-- the first fault of the bytes. The tests are, in this order: there are 4,096 bytes; at least two
+-- entries (`append_e820_table` refuses a table of fewer); at most 128 entries; no entry whose
+-- address plus size exceeds 2^64 - 1, from index 0 on; no initrd whose address plus size exceeds
+-- 2^64 - 4,096.
 abbrev pub zero_fault : List ℕ → Option ZeroFault
 zero_fault bytes =
     if not (length bytes == 4096) then Some faults.WrongLength

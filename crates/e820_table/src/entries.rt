@@ -7,7 +7,7 @@ ghost use Rattle.e820_table.specs.Entries.{entry_at, nth_entry, first_far_entry}
 use byteorder::{ByteOrder, LittleEndian};
 use e820_model::Entry;
 
-/// The size of an entry, in bytes (`struct boot_e820_entry`).
+/// The size of an entry of the E820 table, in bytes (`struct boot_e820_entry`).
 pub const ENTRY_BYTES: usize = 20;
 
 /// Returns the entry whose 20 bytes begin at `offset`. The numbers are little-endian.
@@ -23,7 +23,8 @@ fn entry_at(bytes: &[u8], offset: usize) -> Entry
     }
 }
 
-/// Returns the entry with this index, counted from 0, of the table that begins at byte `start`.
+/// Returns the entry with the index `index`, counted from 0, of the table that begins at byte
+/// `start`. Each entry has 20 bytes.
 pub fn nth_entry(bytes: &[u8], start: usize, index: usize) -> Entry
     requires { start + 20 * index + 20 ≤ length bytes.now }
     ensures { result ≡ nth_entry start index bytes.now }
@@ -32,7 +33,8 @@ pub fn nth_entry(bytes: &[u8], start: usize, index: usize) -> Entry
 }
 
 /// Returns the least index of an entry whose address plus size exceeds 2^64 - 1, among the first
-/// `count` entries, or `None` if there is no such entry.
+/// `count` entries of the table that begins at byte `start`. Returns `None` if there is no such
+/// entry.
 pub fn first_far_entry(bytes: &[u8], start: usize, count: u32) -> Option<u32>
     requires { start + 20 * count ≤ length bytes.now }
     ensures { result ≡ first_far_entry start count bytes.now }

@@ -12,14 +12,14 @@ use byteorder::{ByteOrder, LittleEndian};
 use e820_model::Entry;
 use std::alloc::Global;
 
-/// The number of bytes before the first entry (`struct setup_data`).
+/// The number of bytes of an extension before its first entry (`struct setup_data`).
 const HEADER_BYTES: usize = 16;
 
-/// The type of an extension (`SETUP_E820_EXT`).
+/// The number in the header that makes a `struct setup_data` an E820 extension (`SETUP_E820_EXT`).
 const EXTENSION_TYPE: u32 = 1;
 
 /// The reason why bytes are not an E820 extension. If several reasons apply, the reader reports
-/// the header before the length, and the length before an entry.
+/// `ExtHeader` before `ExtLength`, and `ExtLength` before `EntryTooFar`.
 #[derive(Clone, Copy, Debug, PartialEq, Eq)]
 pub enum ExtFault {
     /// The address plus size of the entry with this index exceeds 2^64 - 1. Of several such
@@ -27,7 +27,8 @@ pub enum ExtFault {
     EntryTooFar { index: u32 },
     /// There are fewer than 16 bytes, or the type isn't 1 (`SETUP_E820_EXT`).
     ExtHeader,
-    /// The stated length isn't the number of bytes after the header, or isn't a multiple of 20.
+    /// The length in the header isn't the number of bytes after the header, or isn't a multiple of
+    /// 20.
     ExtLength,
     /// The program ran out of memory. This is returned only if the bytes have no other fault and
     /// at least one entry.
@@ -51,8 +52,13 @@ impl From<Memory> for ExtFault {
 ///
 /// # Errors
 ///
-/// - `ExtHeader`, `ExtLength`, `EntryTooFar`: the first fault of the bytes, in this order.
-/// - `Memory`: the bytes are well-formed and have entries, but the program ran out of memory.
+/// The first of these that applies:
+///
+/// - `ExtHeader`: there are fewer than 16 bytes, or the type isn't 1.
+/// - `ExtLength`: the length in the header isn't the number of bytes after it, or isn't a multiple
+///   of 20.
+/// - `EntryTooFar`: the address plus size of an entry exceeds 2^64 - 1.
+/// - `Memory`: the program ran out of memory. There is at least one entry.
 pub fn read_ext(alloc: Global, bytes: &[u8]) -> Result<Vec<Entry>, ExtFault>
     ensures fault { IfErr result (λ fault. fault ≢ ExtFault.Memory
         → ext_fault bytes.now ≡ Some fault) }
@@ -73,15 +79,16 @@ pub fn read_ext(alloc: Global, bytes: &[u8]) -> Result<Vec<Entry>, ExtFault>
     Ok(read_ext_entries(alloc, bytes, count)?)
 }
 
-/// Tests whether the bytes have a whole header with the type of an extension.
+/// Tests whether there are at least 16 bytes, and the type at offset 8 is 1 (`SETUP_E820_EXT`).
 fn has_ext_header(bytes: &[u8]) -> bool
     ensures { result ≡ has_ext_header bytes.now }
 {
     bytes.len() >= HEADER_BYTES && LittleEndian::read_u32(&bytes[8..]) == EXTENSION_TYPE
 }
 
-/// Returns the number of entries. Returns `None` if the length in the header isn't the length of
-/// the data, or if the data aren't whole entries. The header must be whole.
+/// Returns the number of entries after the header. Returns `None` if the length in the header isn't
+/// the number of bytes after it, or isn't a multiple of 20. The header must have 16 bytes and the
+/// type of an extension.
 fn stated_entries(bytes: &[u8]) -> Option<u32>
     requires { IsTrue (has_ext_header bytes.now) }
     ensures count { SomeIff result (IsTrue (has_ext_length bytes.now)) (ext_count bytes.now) }
@@ -95,7 +102,8 @@ fn stated_entries(bytes: &[u8]) -> Option<u32>
     Some(stated / 20)
 }
 
-/// Returns the first `count` entries of the extension, in their order.
+/// Returns the first `count` entries of the extension, in their order. The bytes must have that
+/// many.
 ///
 /// # Errors
 ///

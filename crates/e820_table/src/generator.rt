@@ -13,22 +13,23 @@ use bm_base::{FRAME_SIZE, Memory};
 use e820_model::{E820_TYPE_RAM, E820_TYPE_RESERVED, Entry};
 use std::alloc::Global;
 
-/// The first entry of every made table: RAM below 640 KiB.
+/// The first entry of every generated table: RAM below 640 KiB.
 const LOW_RAM: Entry = Entry {
     addr: 0,
     size: 0xA0000,
     kind: E820_TYPE_RAM,
 };
 
-/// The second entry of every made table: 128 MiB of RAM from 1 MiB on.
+/// The second entry of every generated table: 128 MiB of RAM from 1 MiB on.
 const HIGH_RAM: Entry = Entry {
     addr: 0x100000,
     size: 0x8000000,
     kind: E820_TYPE_RAM,
 };
 
-/// Returns the made table of `n` entries, for `n` from 2 to 3,000. The first 128 entries are in
-/// the zero page, the others in the extension. There is no initrd.
+/// Generates a table of `n` entries for tests; `n` is from 2 to 3,000. The first 128 entries are in
+/// the zero page, the others in the extension. There is no initrd. The same `n` always gives the
+/// same table.
 ///
 /// # Errors
 ///
@@ -64,11 +65,11 @@ pub fn made(alloc: Global, n: u32) -> Result<Made, Memory>
     })
 }
 
-/// Appends `entry` to the table: to the page while it has room, then to the extension.
+/// Appends `entry` to the zero page if that has fewer than 128 entries, else to the extension.
 ///
 /// # Errors
 ///
-/// - `Memory`: the page is full, and the program ran out of memory for the extension.
+/// - `Memory`: the zero page is full, and the program ran out of memory for the extension.
 fn put_entry(
     entry: Entry,
     page: &mut ArrayVec<Entry, ZERO_PAGE_ENTRIES>,
@@ -89,8 +90,9 @@ fn put_entry(
     Ok(())
 }
 
-/// Returns the entry with this index, from 2 on, at address `base`. `number`, a number of the
-/// generator, determines its size. The index determines its type.
+/// Returns the entry with the index `index` (2 or above) of a generated table. It begins at address
+/// `base`. The pseudo-random `number` determines its size, from 1 to 16 frames. Entries with an
+/// even index are reserved, those with an odd one are RAM.
 fn generated_entry(index: u32, base: u64, number: u32) -> Entry
     ensures { result ≡ generated_entry index base number }
 {
@@ -105,7 +107,8 @@ fn generated_entry(index: u32, base: u64, number: u32) -> Entry
     }
 }
 
-/// Returns the successor of `number` in the generator's sequence.
+/// Returns the pseudo-random number after `number`, by the linear congruential generator of the
+/// example of `rand` in ISO C.
 fn next_generator_state(number: u32) -> u32
     ensures { result ≡ next_generator_state number }
 {

@@ -12,23 +12,24 @@ use crate::zero_page::ZeroFault;
 use bm_base::{FRAME_SIZE, Range, round_up};
 use byteorder::{ByteOrder, LittleEndian};
 
-/// The offset of the boot loader's type, in bytes (`type_of_loader`).
+/// The offset in the zero page of the boot loader's type, a byte (`type_of_loader`).
 const LOADER_OFFSET: usize = 0x210;
 
-/// The offset of the lower half of the address (`ramdisk_image`).
+/// The offset in the zero page of the lower 32 bits of the initrd's address (`ramdisk_image`).
 const IMAGE_OFFSET: usize = 0x218;
 
-/// The offset of the upper half of the address (`ext_ramdisk_image`).
+/// The offset in the zero page of the upper 32 bits of the initrd's address (`ext_ramdisk_image`).
 const UPPER_IMAGE_OFFSET: usize = 0x0C0;
 
-/// The offset of the lower half of the size (`ramdisk_size`).
+/// The offset in the zero page of the lower 32 bits of the initrd's size (`ramdisk_size`).
 const SIZE_OFFSET: usize = 0x21C;
 
-/// The offset of the upper half of the size (`ext_ramdisk_size`).
+/// The offset in the zero page of the upper 32 bits of the initrd's size (`ext_ramdisk_size`).
 const UPPER_SIZE_OFFSET: usize = 0x0C4;
 
-/// Returns the range of the initrd, or `None` if there is no initrd. The bytes must be a whole
-/// zero page, 4,096 bytes.
+/// Returns the range that the kernel reserves for the initrd, or `None` if there is no initrd. The
+/// range goes from the initrd's first byte to the end of the frame that has its last byte. `bytes`
+/// must be a whole zero page, 4,096 bytes.
 ///
 /// # Errors
 ///
@@ -46,8 +47,9 @@ pub fn read_initrd(bytes: &[u8]) -> Result<Option<Range>, ZeroFault>
     place_initrd(bytes[LOADER_OFFSET], base, size)
 }
 
-/// Returns the range of the initrd that a loader of type `loader` put at `base`, or `None` if the
-/// loader's type, the address or the size is 0. `size` is in bytes.
+/// Returns the range from `base` to the end of the frame that has the last byte of the initrd,
+/// which has `size` bytes. Returns `None` if there is no initrd: `loader` (the boot loader's type),
+/// `base` or `size` is 0.
 ///
 /// # Errors
 ///
@@ -83,8 +85,8 @@ fn read_halves(bytes: &[u8], lower: usize, upper: usize) -> u64
     u64::from(lower) + (u64::from(upper) << 32)
 }
 
-/// Returns the range from `base` to the end of the frame that has the last of `size` bytes.
-/// Returns `None` if `base + size` exceeds 2^64 - 4,096. `size` must be above 0.
+/// Returns the range from `base` to the end of the frame that has the last of the `size` bytes from
+/// `base` on. Returns `None` if `base + size` exceeds 2^64 - 4,096. `size` must be above 0.
 fn to_frame_end(base: u64, size: u64) -> Option<Range>
     requires { 0 < size }
     ensures range { SomeIff result (base + size ≤ 2 ^ 64 - FRAME_SIZE)

@@ -3,7 +3,8 @@
 use crate::zero_page::ZeroPage;
 use e820_model::Entry;
 
-/// A made table, in the form in which a boot loader would pass it.
+/// A table that [`made`](crate::made) has generated, in the form in which a boot loader would pass
+/// it.
 #[derive(Drop)]
 pub struct Made {
     /// The first 128 entries, or all of them if there are fewer, and no initrd.

@@ -20,10 +20,10 @@ pub const ZERO_PAGE_ENTRIES: usize = 128;
 /// The number of bytes of a zero page.
 const ZERO_PAGE_BYTES: usize = 4096;
 
-/// The offset of the number of entries, in bytes (`e820_entries`).
+/// The offset in the zero page of the number of its entries, a byte (`e820_entries`).
 const COUNT_OFFSET: usize = 0x1E8;
 
-/// The offset of the first entry, in bytes (`e820_table`).
+/// The offset in the zero page of the first entry (`e820_table`).
 const TABLE_OFFSET: usize = 0x2D0;
 
 /// The information about memory that a zero page contains.
@@ -36,8 +36,8 @@ pub struct ZeroPage {
     pub initrd: Option<Range>,
 }
 
-/// The reason why bytes are not a zero page. If several of these variants apply, the reader
-/// reports the first one.
+/// The reason why bytes are not a zero page. If several reasons apply, the reader reports the one
+/// that is listed first here.
 #[derive(Clone, Copy, Debug, PartialEq, Eq)]
 pub enum ZeroFault {
     /// There are fewer or more than 4,096 bytes.
@@ -55,12 +55,17 @@ pub enum ZeroFault {
 
 /// Reads a zero page (`struct boot_params`) without allocating memory.
 ///
-/// The number of entries is at offset 0x1E8, and the entries begin at offset 0x2D0. The address
-/// and the size of the initrd count only if the loader's type, the byte at offset 0x210, isn't 0.
+/// The number of entries is at offset 0x1E8, and the entries begin at offset 0x2D0. The address and
+/// the size of the initrd count only if the loader's type, the byte at offset 0x210, isn't 0.
 ///
 /// # Errors
 ///
-/// - The first fault of the bytes, in the order of [`ZeroFault`].
+/// The first of these that applies:
+///
+/// - `WrongLength`: there aren't exactly 4,096 bytes.
+/// - `TooFew`, `TooMany`: there are fewer than 2 entries, or more than 128.
+/// - `EntryTooFar`: the address plus size of an entry exceeds 2^64 - 1.
+/// - `InitrdTooFar`: there is an initrd, and its address plus size exceeds 2^64 - 4,096.
 pub fn read_zero_page(bytes: &[u8]) -> Result<ZeroPage, ZeroFault>
     ensures fault { IfErr result (λ fault. zero_fault bytes.now ≡ Some fault) }
     ensures well_formed { OnOk result (zero_fault bytes.now ≡ None) }
@@ -89,7 +94,7 @@ pub fn read_zero_page(bytes: &[u8]) -> Result<ZeroPage, ZeroFault>
     })
 }
 
-/// Returns the first `count` entries of the page, at most 128.
+/// Returns the first `count` entries of the page, in their order. `count` must be at most 128.
 fn read_zero_page_entries(bytes: &[u8], count: u32) -> ArrayVec<Entry, ZERO_PAGE_ENTRIES>
     requires room { count ≤ 128 }
     requires whole { 0x2D0 + 20 * count ≤ length bytes.now }
