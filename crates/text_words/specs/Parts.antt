@@ -5,8 +5,8 @@ use Rattle.std.specs.Option.{option_map}
 use Rattle.text_words.specs.declared.separators.Separators.{Separators}
 use Rattle.text_words.specs.declared.separators.Separators.TheVariants.{CommandLine, Script, Byte}
 
--- whether the byte separates: 0x20 and 0x09 to 0x0D in a command line; 0x20, 0x09 and 0x0D in a
--- line of a script; or the one given byte
+-- whether the byte separates parts: 0x20 and 0x09 to 0x0D for `CommandLine`; 0x20, 0x09 and 0x0D
+-- for `Script`; only the byte `mark` for `Byte mark`
 abbrev pub separates : Separators → ℕ → Bool
 separates CommandLine b = (b == 32) || (nat_le 9 b && nat_le b 13)
 separates Script b = (b == 32) || ((b == 9) || (b == 13))
@@ -22,7 +22,8 @@ quotes (Byte mark) b = false
 abbrev pub quoted_after : Separators → Bool → ℕ → Bool
 quoted_after s quoted b = if quotes s b then not quoted else quoted
 
--- the parts of a text that has one more byte at its start: the byte begins the first part
+-- the parts of a text after a byte has been put before the text: the byte is now the first one of
+-- the first part
 abbrev pub prepend_byte : ℕ → List (List ℕ) → List (List ℕ)
 prepend_byte b [] = (b ∷ []) ∷ []
 prepend_byte b (p ∷ ps) = (b ∷ p) ∷ ps
@@ -41,7 +42,7 @@ parts_from s quoted (b ∷ bs) =
 abbrev pub parts_in : Separators → List ℕ → List (List ℕ)
 parts_in s text = parts_from s false text
 
--- the parts of the text after a separator, or none if no separator follows
+-- the parts of the text after a separator; the empty list if no separator follows (None)
 abbrev pub parts_of_rest : Separators → Option (List ℕ) → List (List ℕ)
 parts_of_rest s None = []
 parts_of_rest s (Some text) = parts_in s text
@@ -51,7 +52,7 @@ abbrev pub text_before : ℕ → List ℕ → List ℕ
 text_before mark [] = []
 text_before mark (b ∷ bs) = if b == mark then [] else b ∷ text_before mark bs
 
--- prepends the text to the first half
+-- the pair of texts, with `front` put before its first text
 abbrev pub prepend_text : List ℕ → List ℕ × List ℕ → List ℕ × List ℕ
 prepend_text front halves = (front ++ halves.0, halves.1)
 

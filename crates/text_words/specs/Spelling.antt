@@ -9,8 +9,8 @@ abbrev pub QuotesClose : Separators → Bool → List ℕ → Type 0
 QuotesClose s quoted [] = quoted ≡ false
 QuotesClose s quoted (b ∷ bs) = QuotesClose s (quoted_after s quoted b) bs
 
--- the text has exactly those words, with at least one separator between two of them, and any number
--- before the first and after the last
+-- the text has exactly the words of the list, with at least one separator between two of them, and
+-- any number before the first and after the last
 pub data HasWords (s : Separators) : List ℕ → List (List ℕ) → Type 0 where
   no_byte : HasWords s [] []
   blank_first : (b : ℕ) (text : List ℕ) (words : List (List ℕ)) → separates s b ≡ true → HasWords s text words

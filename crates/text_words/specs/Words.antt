@@ -12,13 +12,14 @@ is_word (b ∷ bs) = true
 abbrev pub words_in : Separators → List ℕ → List (List ℕ)
 words_in s text = filter is_word (parts_in s text)
 
--- the text without its last byte, if that byte is the mark
+-- the text without its last byte if that byte is the mark, else the whole text
 abbrev pub without_last : ℕ → List ℕ → List ℕ
 without_last mark [] = []
 without_last mark (b ∷ []) = if b == mark then [] else b ∷ []
 without_last mark (b ∷ c ∷ bs) = b ∷ without_last mark (c ∷ bs)
 
--- a text that begins with `"` loses it, and its last byte if that is `"` too
+-- the text without the `"` at its start and, if there is one, the `"` at its end; a text that
+-- doesn't begin with `"` stays as it is
 abbrev pub unquote : List ℕ → List ℕ
 unquote [] = []
 unquote (b ∷ bs) = if b == 34 then without_last 34 bs else b ∷ bs

@@ -55,7 +55,8 @@ pub fn split_once(text: &[u8], mark: u8) -> Option<(&[u8], &[u8])>
     None
 }
 
-/// Law: splitting a text that was made of parts with separators between them gives those parts.
+/// Law: splitting a text that was made of parts with separators between them gives those parts, if
+/// each part's quotations close and it has no separator outside them.
 pub fn spelled_parts_are_read()
     ensures first { (s : SomeSeparators) (part : List ℕ) (b : ℕ) (rest : List ℕ)
         → IsClosed s false part → separates s b ≡ true

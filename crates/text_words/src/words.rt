@@ -12,7 +12,9 @@ ghost use Rattle.text_words.specs.Spelling.{HasWords, QuotesClose, Unquotes};
 
 use crate::{Separators, next_part};
 
-/// Returns the first word of the text and the text after it, or `None` if there is no word.
+/// Returns the first word of the text and the text after the separator that ends it, or `None` if
+/// there is no word. A word is a part that isn't empty. The second text is empty if no separator
+/// follows the word.
 pub fn next_word(text: &[u8], separators: Separators) -> Option<(&[u8], &[u8])>
     ensures some { IfSome result (λ found.
         words_in separators text.now ≡ found.0.now ∷ words_in separators found.1.now) }
@@ -64,8 +66,8 @@ pub fn spelled_words_are_read()
         → IsWord s word → words_in s word ≡ word ∷ [] }
 {}
 
-/// Law: if all quotations of a text close, its words are exactly those that the grammar finds in
-/// it. Unquoting a text gives the text that the grammar gives (`Unquotes`).
+/// Law: if all quotations of a text close, its words are exactly those that the grammar finds in it
+/// (`HasWords`). Unquoting a text gives the text that the grammar gives (`Unquotes`).
 pub fn words_are_spelled()
     ensures words { (s : SomeSeparators) (text : List ℕ) (words : List (List ℕ)) →
         QuotesClose s false text → words_in s text ≡ words ↔ HasWords s text words }
