@@ -29,7 +29,8 @@ fits_entry_type kind size =
     if kind == 0 then size == 16 else (if kind == 1 then size == 40 else (if kind == 2 then size == 24 else true))
 
 -- whether there is a whole entry at offset `at`: its first two bytes are in the table; its length
--- is at least 2, doesn't pass the end of the table, and fits its type
+-- is at least 2 and doesn't pass the end of the table; and it is 16, 40 or 24 bytes for types 0, 1
+-- and 2
 unfoldable pub is_whole_entry : ℕ → List ℕ → Bool
 is_whole_entry at bytes =
     nat_le (at + 2) (length bytes) && (nat_le 2 (entry_length_at at bytes)
@@ -40,8 +41,8 @@ is_whole_entry at bytes =
 abbrev pub has_enabled_flag : ℕ → List ℕ → Bool
 has_enabled_flag offset bytes = not (bit_and (number_at 4 offset bytes) 1 == 0)
 
--- the domain of a local APIC entry: its byte 2. From revision 2 of the table on, bytes 9, 10 and
--- 11 are bits 8 to 31 of the domain (`acpi_numa_processor_affinity_init`).
+-- the domain of a local APIC entry: its byte 2 as bits 0 to 7. From revision 2 of the table on, its
+-- bytes 9, 10 and 11 are bits 8 to 31 (`acpi_numa_processor_affinity_init`).
 unfoldable pub local_apic_domain : ℕ → List ℕ → ℕ
 local_apic_domain at bytes =
     if nat_lt (revision_of bytes) 2 then slice_index bytes (at + 2)
@@ -57,16 +58,16 @@ memory_domain at bytes = if nat_lt (revision_of bytes) 2 then slice_index bytes 
 abbrev pub x2apic_domain : ℕ → List ℕ → ℕ
 x2apic_domain at bytes = number_at 4 (at + 4) bytes
 
--- the content of an entry if it is enabled, else Nothing
+-- what an entry says (the second argument) if it is enabled, else Nothing
 abbrev pub entry_if_enabled : Bool → SratEntry → SratEntry
 entry_if_enabled enabled what = if enabled then what else said.Nothing
 
--- the content of the memory entry at offset `at`: its domain, and its base and size at offsets 8
--- and 16
+-- what the memory entry at offset `at` says: its domain, its base (u64 at offset 8 of the entry)
+-- and its size (u64 at offset 16)
 abbrev pub memory_entry_at : ℕ → List ℕ → SratEntry
 memory_entry_at at bytes = said.Block (memory_domain at bytes) (number_at 8 (at + 8) bytes) (number_at 8 (at + 16) bytes)
 
--- the content of the entry at offset `at`: Nothing if it has another type or isn't enabled
+-- what the entry at offset `at` says: Nothing if its type isn't 0, 1 or 2, or if it isn't enabled
 unfoldable pub srat_entry_at : ℕ → List ℕ → SratEntry
 srat_entry_at at bytes =
     if entry_type_at at bytes == 0 then entry_if_enabled (has_enabled_flag (at + 4) bytes) (said.Processor (local_apic_domain at bytes))
@@ -75,7 +76,7 @@ srat_entry_at at bytes =
     (if entry_type_at at bytes == 2 then entry_if_enabled (has_enabled_flag (at + 12) bytes) (said.Processor (x2apic_domain at bytes)) else
     said.Nothing))
 
--- whether the content is a range of memory whose base plus size exceeds 2^64 - 1
+-- whether the entry says a range of memory whose base plus size exceeds 2^64 - 1
 abbrev pub is_block_too_far : SratEntry → Bool
 is_block_too_far said.Nothing = false
 is_block_too_far (said.Processor domain) = false

@@ -35,8 +35,8 @@ entry_offsets_from (suc n) at bytes =
 abbrev pub entry_offsets : List ℕ → List ℕ
 entry_offsets bytes = entry_offsets_from (length bytes) 48 bytes
 
--- the fault of the entry at offset `at`, if it has one: it isn't whole, or it is a range of memory
--- that is too far
+-- the fault of the entry at offset `at`, or None: EntryLength if the entry isn't whole, BlockTooFar
+-- if it is an enabled range of memory whose base plus size exceeds 2^64 - 1
 abbrev pub srat_fault_at : List ℕ → ℕ → Option SratFault
 srat_fault_at bytes at =
     if not (is_whole_entry at bytes) then Some (faults.EntryLength at)
@@ -51,23 +51,23 @@ first_srat_fault bytes (at ∷ rest) = option_or (srat_fault_at bytes at) (first
 abbrev pub srat_fault : List ℕ → Option SratFault
 srat_fault bytes = option_or (srat_header_fault bytes) (first_srat_fault bytes (entry_offsets bytes))
 
--- the domain in the content of an entry, if it is a processor
+-- the proximity domain of a processor's entry; None for other entries
 abbrev pub processor_of : SratEntry → Option ℕ
 processor_of said.Nothing = None
 processor_of (said.Processor domain) = Some domain
 processor_of (said.Block domain base size) = None
 
--- the range and the domain in the content of an entry, if it is memory
+-- the range and the proximity domain of a memory entry; None for other entries
 abbrev pub srat_block_of : SratEntry → Option SratBlock
 srat_block_of said.Nothing = None
 srat_block_of (said.Processor domain) = None
 srat_block_of (said.Block domain base size) = Some (record { domain = domain; range = record { base = base; size = size } })
 
--- the domain of the entry at offset `at`, if it is a processor
+-- the proximity domain of the entry at offset `at` if it is an enabled processor, else None
 abbrev pub processor_domain_at : List ℕ → ℕ → Option ℕ
 processor_domain_at bytes at = processor_of (srat_entry_at at bytes)
 
--- the range and the domain of the entry at offset `at`, if it is memory
+-- the range and the proximity domain of the entry at offset `at` if it is enabled memory, else None
 abbrev pub srat_block_at : List ℕ → ℕ → Option SratBlock
 srat_block_at bytes at = srat_block_of (srat_entry_at at bytes)
 

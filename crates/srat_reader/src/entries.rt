@@ -5,30 +5,31 @@ ghost use Rattle.srat_reader.specs.Entries.{entry_length_at, fits_entry_type, is
 
 use byteorder::{ByteOrder, LittleEndian};
 
-/// The type of a processor's local APIC (`ACPI_SRAT_TYPE_CPU_AFFINITY`).
+/// The type of an entry for a processor's local APIC (`ACPI_SRAT_TYPE_CPU_AFFINITY`).
 const LOCAL_APIC: u8 = 0;
 
-/// The type of a range of memory (`ACPI_SRAT_TYPE_MEMORY_AFFINITY`).
+/// The type of an entry for a range of memory (`ACPI_SRAT_TYPE_MEMORY_AFFINITY`).
 const MEMORY: u8 = 1;
 
-/// The type of a processor's local x2APIC (`ACPI_SRAT_TYPE_X2APIC_CPU_AFFINITY`).
+/// The type of an entry for a processor's local x2APIC (`ACPI_SRAT_TYPE_X2APIC_CPU_AFFINITY`).
 const LOCAL_X2APIC: u8 = 2;
 
 /// The offset of the table's revision, in bytes.
 const REVISION_OFFSET: usize = 8;
 
-/// The flag of an enabled entry (`ACPI_SRAT_CPU_ENABLED`, `ACPI_SRAT_MEM_ENABLED`).
+/// The bit that is set in the flags of an enabled entry (`ACPI_SRAT_CPU_ENABLED`,
+/// `ACPI_SRAT_MEM_ENABLED`).
 const ENABLED: u32 = 1;
 
-/// The content of an entry.
+/// What one entry of the SRAT says.
 #[derive(Clone, Copy, Debug, PartialEq, Eq)]
 pub enum SratEntry {
-    /// An entry of another type, or one that isn't enabled.
+    /// The entry has no effect: its type isn't 0, 1 or 2, or it isn't enabled.
     Nothing,
-    /// A processor, and the domain that it belongs to.
+    /// A processor, and the proximity domain that it belongs to.
     Processor { domain: u32 },
-    /// The `size` bytes of memory from address `base` on, and the domain that they belong to. The
-    /// sum of `base` and `size` may exceed 2^64 - 1.
+    /// The `size` bytes of memory from address `base` on, and the proximity domain that they belong
+    /// to. The sum of `base` and `size` may exceed 2^64 - 1.
     Block { domain: u32, base: u64, size: u64 },
 }
 
@@ -43,8 +44,9 @@ pub fn is_block_too_far(said: SratEntry) -> bool
     }
 }
 
-/// Tests whether a whole entry begins at offset `at`. Its type and length must be in the table.
-/// Its length must be at least 2, must not pass the end of the table, and must fit its type.
+/// Tests whether a whole entry begins at offset `at` of the table. Its first two bytes, the type
+/// and the length, must lie in the table. The length must be at least 2, and the entry must not
+/// pass the end of the table. An entry of type 0, 1 or 2 must have 16, 40 or 24 bytes.
 #[tactic(auto, unfolding(crate::specs::Entries::is_whole_entry))]
 pub fn is_whole_entry(bytes: &[u8], at: usize) -> bool
     requires { at < length bytes.now }
@@ -58,7 +60,7 @@ pub fn is_whole_entry(bytes: &[u8], at: usize) -> bool
     length >= 2 && length <= left && fits_entry_type(bytes[at], length)
 }
 
-/// Returns the length that the entry at offset `at` states, in bytes.
+/// Returns the length in bytes that the entry at offset `at` states in its second byte.
 pub fn entry_length_at(bytes: &[u8], at: usize) -> usize
     requires { at + 1 < length bytes.now }
     ensures { result ≡ entry_length_at at bytes.now }
@@ -79,7 +81,7 @@ fn fits_entry_type(kind: u8, length: usize) -> bool
     }
 }
 
-/// Returns the content of the entry at offset `at`, which must be whole.
+/// Returns what the entry at offset `at` says. The entry must be whole (`is_whole_entry`).
 #[tactic(auto, unfolding(crate::specs::Entries::is_whole_entry, crate::specs::Entries::srat_entry_at))]
 pub fn srat_entry_at(bytes: &[u8], at: usize) -> SratEntry
     requires header { 48 ≤ length bytes.now }
@@ -102,7 +104,7 @@ pub fn srat_entry_at(bytes: &[u8], at: usize) -> SratEntry
     }
 }
 
-/// Tests whether the enabled bit is set in the flags (u32) at this offset.
+/// Tests whether the enabled bit, bit 0, is set in the flags (u32) at this offset.
 fn has_enabled_flag(bytes: &[u8], offset: usize) -> bool
     requires { offset + 4 ≤ length bytes.now }
     ensures { result ≡ has_enabled_flag offset bytes.now }
@@ -110,8 +112,8 @@ fn has_enabled_flag(bytes: &[u8], offset: usize) -> bool
     LittleEndian::read_u32(&bytes[offset..]) & ENABLED != 0
 }
 
-/// Returns the domain of the local APIC entry at offset `at`. Before revision 2 of the table, a
-/// domain has only 8 bits.
+/// Returns the proximity domain of the local APIC entry at offset `at`. It has 8 bits if the
+/// table's revision is below 2, else 32.
 #[tactic(auto, unfolding(crate::specs::Entries::local_apic_domain))]
 fn local_apic_domain(bytes: &[u8], at: usize) -> u32
     requires header { 48 ≤ length bytes.now }
@@ -124,8 +126,8 @@ fn local_apic_domain(bytes: &[u8], at: usize) -> u32
     LittleEndian::read_u32(&[bytes[at + 2], bytes[at + 9], bytes[at + 10], bytes[at + 11]])
 }
 
-/// Returns the domain of the memory entry at offset `at`. Before revision 2 of the table, a domain
-/// has only 8 bits.
+/// Returns the proximity domain of the memory entry at offset `at`. It has 8 bits if the table's
+/// revision is below 2, else 32.
 #[tactic(auto, unfolding(crate::specs::Entries::memory_domain))]
 fn memory_domain(bytes: &[u8], at: usize) -> u32
     requires header { 48 ≤ length bytes.now }

@@ -11,27 +11,27 @@ use bm_base::{Memory, Range};
 use byteorder::{ByteOrder, LittleEndian};
 use std::alloc::Global;
 
-/// The number of bytes before the first entry.
+/// The number of bytes of the SRAT before its first entry.
 const HEADER_BYTES: usize = 48;
 
-/// The offset of the table's length, in bytes.
+/// The offset of the SRAT's length (u32) in its header.
 const LENGTH_OFFSET: usize = 4;
 
 /// A range of memory and its proximity domain.
 #[derive(Clone, Copy, Debug, PartialEq, Eq)]
 pub struct SratBlock {
-    /// The domain, as the firmware numbers it.
+    /// The proximity domain, as the firmware numbers it.
     pub domain: u32,
     /// The addresses of the range, which may be empty.
     pub range: Range,
 }
 
-/// The contents of the enabled entries. Each list is in the order of the table.
+/// What the enabled entries of an SRAT say. Each list is in the order of the table.
 #[derive(Debug, Drop)]
 pub struct Srat {
-    /// The domains of the processors.
+    /// The proximity domain of each processor.
     pub cpus: Vec<u32>,
-    /// The ranges of memory with their domains.
+    /// The ranges of memory with their proximity domains.
     pub blocks: Vec<SratBlock>,
 }
 
@@ -47,12 +47,12 @@ pub enum SratFault {
     Length,
     /// The sum of the bytes isn't 0 modulo 256.
     Checksum,
-    /// There is no whole entry at this offset: only one byte is left there; or the entry's length
-    /// is below 2 or passes the end of the table; or the entry has type 0, 1 or 2 and not the
-    /// length of that type.
+    /// There is no whole entry at this offset. Only one byte is left there; or the entry's length
+    /// is below 2 or passes the end of the table; or the entry is of type 0, 1 or 2, and its length
+    /// isn't 16, 40 or 24 bytes, in this order.
     EntryLength { offset: u32 },
-    /// The entry at this offset is an enabled range of memory whose base plus size exceeds 2^64 -
-    /// 1.
+    /// The entry at this offset is an enabled range of memory whose base plus size exceeds
+    /// 2^64 - 1.
     BlockTooFar { offset: u32 },
     /// The program ran out of memory. This is returned only if the bytes have no other fault and
     /// an enabled entry of a processor or of memory.
@@ -69,13 +69,20 @@ impl From<Memory> for SratFault {
     }
 }
 
-/// Reads an SRAT of any revision: the domains of the processors and the ranges of memory in its
-/// enabled entries. Ranges of size 0 are included.
+/// Reads an SRAT of any revision: the proximity domains of the processors and the ranges of memory
+/// in its enabled entries. Ranges of size 0 are included.
 ///
 /// # Errors
 ///
-/// - The first fault of the bytes, in the order that [`SratFault`] states.
-/// - `Memory`: the bytes have no fault, but the program ran out of memory.
+/// The first of these that applies:
+///
+/// - `Short`: there are fewer than 48 bytes.
+/// - `Signature`: the first four bytes aren't `SRAT`.
+/// - `Length`: the stated length isn't the number of bytes.
+/// - `Checksum`: the sum of the bytes isn't 0 modulo 256.
+/// - `EntryLength`, `BlockTooFar`: the first entry with a fault isn't whole, or is an enabled range
+///   of memory whose base plus size exceeds 2^64 - 1.
+/// - `Memory`: the program ran out of memory.
 pub fn read_srat(alloc: Global, bytes: &[u8]) -> Result<Srat, SratFault>
     ensures answers { Answers SratFault.Memory srat_view result (srat_of bytes.now) }
     ensures memory { IfErr result (λ fault. fault ≡ SratFault.Memory
@@ -94,8 +101,8 @@ pub fn read_srat(alloc: Global, bytes: &[u8]) -> Result<Srat, SratFault>
     Ok(read_srat_entries(alloc, bytes)?)
 }
 
-/// Returns the first fault of the header, or `None` if there is none. It tests, in this order,
-/// that there are at least 48 bytes, the signature, the stated length and the checksum.
+/// Returns the first fault of the header, or `None` if there is none. The tests are, in this order:
+/// at least 48 bytes, the signature, the stated length, the checksum.
 fn srat_header_fault(bytes: &[u8]) -> Option<SratFault>
     ensures value { result ≡ srat_header_fault bytes.now }
     ensures few { IfNone result (length bytes.now < 2 ^ 32) }
@@ -126,8 +133,8 @@ fn checksum(bytes: &[u8]) -> u8
     total
 }
 
-/// Returns the fault of the first entry that has one, or `None` if no entry has a fault. There
-/// must be fewer than 2^32 bytes, as the table's own length ensures.
+/// Returns the fault of the first entry that has one, or `None` if no entry has a fault. There must
+/// be fewer than 2^32 bytes; the SRAT's length, a u32, ensures that.
 fn find_entry_fault(bytes: &[u8]) -> Option<SratFault>
     requires { length bytes.now < 2 ^ 32 }
     ensures { result ≡ first_srat_fault bytes.now (entry_offsets bytes.now) }
@@ -146,11 +153,12 @@ fn find_entry_fault(bytes: &[u8]) -> Option<SratFault>
     None
 }
 
-/// Returns the contents of the enabled entries. No entry may have a fault.
+/// Returns what the enabled entries say. No entry may have a fault.
 ///
 /// # Errors
 ///
-/// - `Memory`: the program ran out of memory; at least one of the two lists has a member.
+/// - `Memory`: the program ran out of memory; the table has an enabled entry of a processor or of
+///   memory.
 fn read_srat_entries(alloc: Global, bytes: &[u8]) -> Result<Srat, Memory>
     requires { first_srat_fault bytes.now (entry_offsets bytes.now) ≡ None }
     ensures processors { IfOk result (λ srat. srat.cpus.items ≡ processors_of bytes.now) }
@@ -170,8 +178,8 @@ fn read_srat_entries(alloc: Global, bytes: &[u8]) -> Result<Srat, Memory>
     Ok(srat)
 }
 
-/// Appends `said`, the content of an entry, to the list that it belongs to: a processor to `cpus`,
-/// a range of memory to `blocks`. A range of memory must end at 2^64 - 1 or below.
+/// Appends what an entry says (`said`) to its list: a processor to `cpus`, a range of memory to
+/// `blocks`, an entry without effect to neither. A range's base plus size must be at most 2^64 - 1.
 ///
 /// # Errors
 ///
