@@ -26,15 +26,15 @@ descriptor_at offset bytes = record {
   attributes = little_number 8 (drop (offset + 32) bytes);
 }
 
--- the addresses of the descriptor's memory
+-- the range of the memory that the descriptor describes
 abbrev pub bytes_of_descriptor : Descriptor → RangeView
 bytes_of_descriptor d = record { base = d.base; size = 4096 * d.pages }
 
--- whether the first address plus the size in bytes exceeds 2^64 - 1
+-- whether the first address plus the size in bytes of the described memory exceeds 2^64 - 1
 abbrev pub is_descriptor_too_far : Descriptor → Bool
 is_descriptor_too_far d = nat_le (2 ^ 64) (d.base + 4096 * d.pages)
 
--- whether the descriptor has the attribute with this bit
+-- whether the bit is set in the descriptor's attributes
 abbrev pub has_attribute : ℕ → Descriptor → Bool
 has_attribute bit d = not (bit_and d.attributes bit == 0)
 
@@ -48,23 +48,23 @@ is_free_kind kind = (kind == 1) || (kind == 2) || (kind == 3) || (kind == 4) || 
 abbrev pub free_memory_type : Descriptor → ℕ
 free_memory_type d = if has_attribute 0x40000 d then 0xEFFFFFFF else (if has_attribute 0x8 d then 1 else 2)
 
--- the E820 type of memory of all other types. EfiUnusableMemory, EfiACPIReclaimMemory,
--- EfiACPIMemoryNVS and EfiPersistentMemory have types of their own. The rest is reserved:
--- EfiReservedMemoryType, EfiRuntimeServicesCode, EfiRuntimeServicesData, EfiMemoryMappedIO,
--- EfiMemoryMappedIOPortSpace, EfiPalCode, EfiUnacceptedMemoryType, and all types that a firmware
--- may define.
+-- the E820 type of memory that isn't free once boot services have ended, by its EFI type.
+-- EfiUnusableMemory is unusable, EfiACPIReclaimMemory ACPI data, EfiACPIMemoryNVS ACPI non-volatile
+-- storage, and EfiPersistentMemory persistent memory. The rest is reserved: EfiReservedMemoryType,
+-- EfiRuntimeServicesCode, EfiRuntimeServicesData, EfiMemoryMappedIO, EfiMemoryMappedIOPortSpace,
+-- EfiPalCode, EfiUnacceptedMemoryType, and all types that a firmware may define.
 abbrev pub other_memory_type : ℕ → ℕ
 other_memory_type kind = if kind == 8 then 5 else (if kind == 9 then 3 else (if kind == 10 then 4 else (if kind == 14 then 7 else 2)))
 
--- the E820 type that the kernel gives the memory
+-- the E820 type that the kernel gives the described memory (`do_add_efi_memmap`)
 abbrev pub e820_type : Descriptor → ℕ
 e820_type d = if is_free_kind d.kind then free_memory_type d else other_memory_type d.kind
 
--- the E820 entry of the memory
+-- the E820 entry that the kernel makes of the descriptor (`do_add_efi_memmap`)
 abbrev pub entry_of_descriptor : Descriptor → Entry
 entry_of_descriptor d = record { addr = d.base; size = 4096 * d.pages; kind = e820_type d }
 
--- the whole frames of the memory, if it has the attribute EFI_MEMORY_MORE_RELIABLE and at least
--- one whole frame
+-- the range of the whole frames of the described memory; None if the attribute
+-- EFI_MEMORY_MORE_RELIABLE isn't set, or if there is no whole frame (`efi_find_mirror`)
 abbrev pub mirror_of_descriptor : Descriptor → Option RangeView
 mirror_of_descriptor d = if has_attribute 0x10000 d then frames_within (bytes_of_descriptor d) else None

@@ -12,30 +12,32 @@ use e820_model::{
 };
 use std::marker::Model;
 
-/// Code of the boot loader (`EfiLoaderCode`).
+/// The type of memory with code of the boot loader (`EfiLoaderCode`).
 const EFI_LOADER_CODE: u32 = 1;
-/// Data of the boot loader (`EfiLoaderData`).
+/// The type of memory with data of the boot loader (`EfiLoaderData`).
 const EFI_LOADER_DATA: u32 = 2;
-/// Code of the firmware that is needed until its boot services end (`EfiBootServicesCode`).
+/// The type of memory with code of the firmware that is needed until its boot services end
+/// (`EfiBootServicesCode`).
 const EFI_BOOT_SERVICES_CODE: u32 = 3;
-/// Data of the firmware that is needed until its boot services end (`EfiBootServicesData`).
+/// The type of memory with data of the firmware that is needed until its boot services end
+/// (`EfiBootServicesData`).
 const EFI_BOOT_SERVICES_DATA: u32 = 4;
-/// Free memory (`EfiConventionalMemory`).
+/// The type of free memory (`EfiConventionalMemory`).
 const EFI_CONVENTIONAL_MEMORY: u32 = 7;
-/// Memory with errors (`EfiUnusableMemory`).
+/// The type of memory with errors (`EfiUnusableMemory`).
 const EFI_UNUSABLE_MEMORY: u32 = 8;
-/// Memory with ACPI tables, which can be reclaimed (`EfiACPIReclaimMemory`).
+/// The type of memory with ACPI tables, which can be reclaimed (`EfiACPIReclaimMemory`).
 const EFI_ACPI_RECLAIM_MEMORY: u32 = 9;
-/// Memory that the firmware's ACPI code keeps (`EfiACPIMemoryNVS`).
+/// The type of memory that the firmware's ACPI code keeps (`EfiACPIMemoryNVS`).
 const EFI_ACPI_MEMORY_NVS: u32 = 10;
-/// Memory that keeps its content without power (`EfiPersistentMemory`).
+/// The type of memory that keeps its content without power (`EfiPersistentMemory`).
 const EFI_PERSISTENT_MEMORY: u32 = 14;
 
-/// Set if the memory supports write-back caching (`EFI_MEMORY_WB`).
+/// The attribute of memory that supports write-back caching.
 const EFI_MEMORY_WB: u64 = 0x8;
-/// Set if the machine mirrors the memory (`EFI_MEMORY_MORE_RELIABLE`).
+/// The attribute of memory that the machine mirrors.
 const EFI_MEMORY_MORE_RELIABLE: u64 = 0x1_0000;
-/// Set if the memory is meant for a specific purpose (`EFI_MEMORY_SP`).
+/// The attribute of memory that is meant for a specific purpose.
 const EFI_MEMORY_SP: u64 = 0x4_0000;
 
 /// A descriptor of memory (`EFI_MEMORY_DESCRIPTOR`; UEFI, section 7.2.3).
@@ -43,7 +45,7 @@ const EFI_MEMORY_SP: u64 = 0x4_0000;
 pub struct Descriptor {
     /// The type of the memory (`EFI_MEMORY_TYPE`).
     pub kind: u32,
-    /// The first address.
+    /// The first address, in bytes.
     pub base: u64,
     /// The number of pages of 4,096 bytes.
     pub pages: u64,
@@ -63,7 +65,8 @@ impl Model for Descriptor {
         record { kind = d.kind; base = d.base; pages = d.pages; attributes = d.attributes } };
 }
 
-/// Tests whether memory of this type is free once the firmware's boot services have ended.
+/// Tests whether memory of this type is free once the firmware's boot services have ended: memory
+/// of the boot loader, of the boot services, and conventional memory.
 fn is_free_kind(kind: u32) -> bool
     ensures { result ≡ is_free_kind kind }
 {
@@ -77,7 +80,8 @@ fn is_free_kind(kind: u32) -> bool
     )
 }
 
-/// Returns the descriptor whose bytes begin at `offset`. The numbers are little-endian.
+/// Returns the descriptor that begins at byte `offset`. Of a descriptor the first 40 bytes are
+/// read; numbers are little-endian.
 #[tactic(auto, unfolding(crate::specs::Descriptors::descriptor_at))]
 pub fn descriptor_at(bytes: &[u8], offset: usize) -> Descriptor
     requires { offset + 40 ≤ length bytes.now }
@@ -94,8 +98,8 @@ pub fn descriptor_at(bytes: &[u8], offset: usize) -> Descriptor
 impl Descriptor {
     ghost use Rattle.std.specs.Prelude.{SomeIff};
 
-    /// Returns the addresses of the memory, or `None` if its first address plus its size in bytes
-    /// exceeds 2^64 - 1.
+    /// Returns the range of the described memory, or `None` if its first address plus its size in
+    /// bytes exceeds 2^64 - 1.
     pub fn range(self) -> Option<Range>
         ensures { SomeIff result (self.base + 4096 * self.pages < 2 ^ 64)
             (bytes_of_descriptor self) }
@@ -103,14 +107,14 @@ impl Descriptor {
         Range::new(self.base, self.pages.checked_mul(FRAME_SIZE)?)
     }
 
-    /// Tests whether the memory has this attribute.
+    /// Tests whether the bit `attribute` is set in the descriptor's attributes.
     fn has_attribute(self, attribute: u64) -> bool
         ensures { result ≡ has_attribute attribute self }
     {
         self.attributes & attribute != 0
     }
 
-    /// Returns the E820 type that the kernel gives the memory (`do_add_efi_memmap`).
+    /// Returns the E820 type that the kernel gives the described memory (`do_add_efi_memmap`).
     pub fn e820_type(self) -> u32
         ensures { result ≡ e820_type self }
     {
@@ -138,7 +142,8 @@ impl Descriptor {
         }
     }
 
-    /// Returns the E820 entry of the memory. Its address plus size must be below 2^64.
+    /// Returns the E820 entry that the kernel makes of the descriptor (`do_add_efi_memmap`). The
+    /// first address plus the size in bytes must be below 2^64.
     pub fn entry(self) -> Entry
         requires { self.base + 4096 * self.pages < 2 ^ 64 }
         ensures { result ≡ entry_of_descriptor self }
@@ -150,9 +155,9 @@ impl Descriptor {
         }
     }
 
-    /// Returns the whole frames of the memory if the machine mirrors it (`efi_find_mirror`).
-    /// Returns `None` if it isn't mirrored or has no whole frame. Its address plus size must be
-    /// below 2^64.
+    /// Returns the range of the whole frames of the described memory, if the machine mirrors it
+    /// (`efi_find_mirror`). Returns `None` if the memory isn't mirrored or has no whole frame. The
+    /// first address plus the size in bytes must be below 2^64.
     pub fn mirror_of_descriptor(self) -> Option<Range>
         requires { self.base + 4096 * self.pages < 2 ^ 64 }
         ensures { result ≡ mirror_of_descriptor self }

@@ -12,7 +12,7 @@ use byteorder::{ByteOrder, LittleEndian};
 use e820_model::Entry;
 use std::alloc::Global;
 
-/// The number of bytes before the first descriptor.
+/// The number of bytes of the file before the first descriptor.
 const HEADER_BYTES: usize = 8;
 
 /// The number of bytes that are read of a descriptor. A descriptor may be longer.
@@ -21,8 +21,8 @@ const LEAST_STRIDE: usize = 40;
 /// The only version of descriptors that can be read.
 const VERSION: u32 = 1;
 
-/// The reason why bytes are not an EFI memory map. If several of these variants apply, the reader
-/// reports the first one.
+/// The reason why bytes are not an EFI memory map. If several reasons apply, the reader reports the
+/// one that is listed first here.
 #[derive(Clone, Copy, Debug, PartialEq, Eq)]
 pub enum EfiFault {
     /// There are fewer than 8 bytes; or the stated size of a descriptor is below 40 or isn't a
@@ -48,7 +48,7 @@ impl From<Memory> for EfiFault {
     }
 }
 
-/// The content of the firmware's map. Each list is in the order of the descriptors.
+/// What the kernel makes of the firmware's map. Each list is in the order of the descriptors.
 #[derive(Debug, Drop)]
 pub struct EfiMap {
     /// One entry for each descriptor. Its address plus size is below 2^64.
@@ -58,15 +58,19 @@ pub struct EfiMap {
     pub mirrors: Vec<Range>,
 }
 
-/// Reads a file of descriptors. The size of a descriptor (u32) is at offset 0, the version of
-/// descriptors (u32) at 4, and the descriptors begin at 8. The file must have fewer than 2^32
-/// bytes.
+/// Reads a saved EFI memory map. The size of a descriptor in bytes (u32) is at offset 0, the
+/// version of descriptors (u32) at 4, and the descriptors begin at 8. There must be fewer than
+/// 2^32 bytes.
 ///
 /// # Errors
 ///
-/// - `Header`, `Length`, `TooFar`: the first fault of the bytes, in this order.
-/// - `Memory`: the bytes have no fault and at least one descriptor, but the program ran out of
-///   memory.
+/// The first of these that applies:
+///
+/// - `Header`: there are fewer than 8 bytes, or the size of a descriptor is below 40 or isn't a
+///   multiple of 8, or the version isn't 1.
+/// - `Length`: the bytes after the header aren't a whole number of descriptors.
+/// - `TooFar`: the address plus the size of a descriptor exceeds 2^64 - 1.
+/// - `Memory`: the program ran out of memory. There is at least one descriptor.
 pub fn read_efi(alloc: Global, bytes: &[u8]) -> Result<EfiMap, EfiFault>
     requires { length bytes.now < 2 ^ 32 }
     ensures answers { Answers EfiFault.Memory (λ efi.
@@ -87,8 +91,8 @@ pub fn read_efi(alloc: Global, bytes: &[u8]) -> Result<EfiMap, EfiFault>
     Ok(read_descriptors(alloc, bytes, stride, count)?)
 }
 
-/// Tests whether the bytes have a whole header, and this reader supports its size of descriptors
-/// and its version.
+/// Tests whether there are at least 8 bytes, the size of a descriptor is at least 40 and a multiple
+/// of 8, and the version is 1.
 fn has_efi_header(bytes: &[u8]) -> bool
     ensures { result ≡ has_efi_header bytes.now }
 {
@@ -129,8 +133,8 @@ fn nth_descriptor(bytes: &[u8], stride: u32, index: u32) -> Descriptor
     descriptor_at(bytes, HEADER_BYTES + stride as usize * index as usize)
 }
 
-/// Returns the least index of a descriptor whose address plus size exceeds 2^64 - 1, or `None` if
-/// there is no such descriptor.
+/// Returns the least index of a descriptor whose address plus size exceeds 2^64 - 1, among the
+/// first `count` descriptors of `stride` bytes each. Returns `None` if there is no such descriptor.
 fn find_far_descriptor(bytes: &[u8], stride: u32, count: u32) -> Option<u32>
     requires stride { 40 ≤ stride }
     requires whole { 8 + stride * count ≤ length bytes.now }
@@ -144,8 +148,8 @@ fn find_far_descriptor(bytes: &[u8], stride: u32, count: u32) -> Option<u32>
     None
 }
 
-/// Returns the entries and the mirrored ranges of all descriptors. The address plus size of each
-/// descriptor must be below 2^64.
+/// Returns the entries and the mirrored ranges of the first `count` descriptors, which have
+/// `stride` bytes each. The address plus size of each descriptor must be below 2^64.
 ///
 /// # Errors
 ///
