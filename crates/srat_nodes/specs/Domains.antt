@@ -12,14 +12,15 @@ is_named_domain domains d = list_any (λ e. e == d) domains
 abbrev pub with_domain : List ℕ → ℕ → List ℕ
 with_domain domains d = if is_named_domain domains d then domains else domains ++ d ∷ []
 
--- the domains in a list, each once, in the order in which they are first named
+-- the domains of the list, each once, in the order in which they are first named
 unfoldable pub domains_once : List ℕ → List ℕ
 domains_once names = fold with_domain [] names
 
--- the domains that the enabled entries name: first those of processors, then those of memory
+-- the domains that the enabled entries name, each once: first those of processors, then those of
+-- memory
 abbrev pub named_domains : List ℕ → List SratBlock → List ℕ
 named_domains processors blocks = domains_once (processors ++ map (λ (b : SratBlock). b.domain) blocks)
 
--- the node of a domain: its index in `domains`, from 0; a domain that isn't in the list has node 0
+-- the node of a domain: its index in `domains`, from 0; node 0 for a domain that isn't in the list
 abbrev pub node_of_domain : List ℕ → ℕ → ℕ
 node_of_domain domains d = unwrap_or (position (λ e. e == d) domains) 0

@@ -21,34 +21,36 @@ abbrev pub NoMemoryIsEmpty : List RangeView → Type 0
 NoMemoryIsEmpty [] = Unit {0}
 NoMemoryIsEmpty (r ∷ rs) = (0 < r.size) × NoMemoryIsEmpty rs
 
--- the first address of the frame that contains the address
+-- the first address of the frame of 4,096 bytes that contains the address
 abbrev pub frame_base : ℕ → ℕ
 frame_base x = (frame_around x).base
 
--- a range with both ends rounded down to frames
+-- the range with its base and its end rounded down to multiples of 4,096
 abbrev pub round_ends_down : RangeView → RangeView
 round_ends_down r = record { base = frame_base r.base; size = frame_base (end_of r) - frame_base r.base }
 
--- whether some byte of the range is memory
+-- whether some byte of the range is memory; `memory` says of each address whether it is
 abbrev pub meets_memory : (ℕ → Bool) → RangeView → Bool
 meets_memory memory r = not (each_in r (λ y. not (memory y)))
 
--- a block of the table in whole frames, with the node of its domain
+-- a block of the table with both ends rounded down to frames, and with the node of its domain
 abbrev pub block_in_frames : List ℕ → SratBlock → NumaBlock
 block_in_frames domains b =
     record { base = (round_ends_down b.range).base; size = (round_ends_down b.range).size; value = node_of_domain domains b.domain }
 
--- a list that has only the block and its number `i` if the block has a byte of memory, and is
--- empty otherwise
+-- the block with its number `i`, as a list, if the block contains a byte of memory; else the empty
+-- list
 abbrev pub keep_block : (ℕ → Bool) → ℕ → NumaBlock → List KeptBlock
 keep_block memory i b = if meets_memory memory (range_of_run b) then record { number = i; block = b } ∷ [] else []
 
--- the kept blocks among these; the first block has the number `i`, the next one `i + 1`, and so on
+-- those of the blocks that contain a byte of memory, each with its number. The first block of the
+-- list has the number `i`, the next one `i + 1`, and so on.
 abbrev pub keep_blocks_from : (ℕ → Bool) → List ℕ → ℕ → List SratBlock → List KeptBlock
 keep_blocks_from memory domains i [] = []
 keep_blocks_from memory domains i (b ∷ bs) = keep_block memory i (block_in_frames domains b) ++ keep_blocks_from memory domains (i + 1) bs
 
--- the kept blocks of a table, each with its number among all its blocks, from 0
+-- the kept blocks of a table: those that contain a byte of memory after their ends have been
+-- rounded down to frames. Each has its number among all blocks of the table, from 0.
 abbrev pub keep_blocks : (ℕ → Bool) → List ℕ → List SratBlock → List KeptBlock
 keep_blocks memory domains blocks = keep_blocks_from memory domains 0 blocks
 
@@ -56,15 +58,15 @@ keep_blocks memory domains blocks = keep_blocks_from memory domains 0 blocks
 abbrev pub numa_blocks_of : List KeptBlock → List NumaBlock
 numa_blocks_of kept = map (λ (k : KeptBlock). k.block) kept
 
--- whether some kept block has the node
+-- whether some kept block has node n
 abbrev pub is_node_of : List KeptBlock → ℕ → Bool
 is_node_of kept n = list_any (λ (k : KeptBlock). k.block.value == n) kept
 
--- whether some block is kept
+-- whether some block contains a byte of memory after its ends have been rounded down to frames
 abbrev pub is_any_kept : (ℕ → Bool) → List SratBlock → Bool
 is_any_kept memory blocks = list_any (λ (b : SratBlock). meets_memory memory (round_ends_down b.range)) blocks
 
--- the number of blocks that have at least one address in the table, before rounding
+-- the number of blocks of the table whose size isn't 0, before any rounding
 abbrev pub count_with_addresses : List SratBlock → ℕ
 count_with_addresses blocks = count_by (λ (b : SratBlock). nat_lt 0 b.range.size) blocks
 
@@ -77,8 +79,8 @@ is_clash a b = not (a.block.value == b.block.value) && block_meets a.block.base 
 abbrev pub is_clash_of_numbers : List KeptBlock → ℕ → ℕ → Bool
 is_clash_of_numbers kept i j = nat_lt i j && list_any (λ a. (a.number == i) && list_any (λ b. (b.number == j) && is_clash a b) kept) kept
 
--- the number of the first kept block that shares an address with a later one of another node, and
--- the number of the first such later block
+-- the numbers of the first kept block that shares an address with a later one of another node, and
+-- of the first such later one; None if there are no such blocks
 abbrev pub first_clash : List KeptBlock → Option (ℕ × ℕ)
 first_clash [] = None
 first_clash (a ∷ rest) = option_or (option_map (λ (b : KeptBlock). (a.number, b.number)) (find (is_clash a) rest)) (first_clash rest)

@@ -8,17 +8,17 @@ use Rattle.address_runs.specs.Runs.{RunOf, run_end, lies_in}
 abbrev pub NumaBlock : Type 0
 NumaBlock = RunOf ℕ
 
--- whether some address of the block is at or above `from` and below `until`
+-- whether some address of the block is at or above `from`, and below `until`
 abbrev pub block_meets : ℕ → ℕ → NumaBlock → Bool
 block_meets from until c = nat_lt (max from c.base) (min until (run_end c))
 
--- whether the address is at or above the end of the lower block `a`, and below the start of the
--- upper block `b`
+-- whether the address lies between the blocks: at or above the end of `a`, and below the start of
+-- `b`
 abbrev pub lies_between_blocks : NumaBlock → NumaBlock → ℕ → Bool
 lies_between_blocks a b x = nat_le (run_end a) x && nat_lt x b.base
 
--- whether the range from the start of the lower block `a` to the end of the upper block `b` meets
--- no block of a node other than n
+-- whether no address from the start of the lower block `a` to the end of the upper block `b` is in
+-- a block of a node other than n
 abbrev pub meets_no_other_node : List NumaBlock → ℕ → NumaBlock → NumaBlock → Bool
 meets_no_other_node blocks n a b = list_all (λ c. (c.value == n) || not (block_meets a.base (run_end b) c)) blocks
 
@@ -26,25 +26,26 @@ meets_no_other_node blocks n a b = list_all (λ c. (c.value == n) || not (block_
 abbrev pub is_in_block_of_node : List NumaBlock → ℕ → ℕ → Bool
 is_in_block_of_node blocks n x = list_any (λ b. (b.value == n) && lies_in b x) blocks
 
--- whether the address is between two blocks of node n, and the range from the lower to the upper
--- one meets no block of another node
+-- whether the address is between two blocks of node n, and no address from the start of the lower
+-- to the end of the upper one is in a block of another node
 abbrev pub is_in_gap_of_node : List NumaBlock → ℕ → ℕ → Bool
 is_in_gap_of_node blocks n x =
     list_any (λ a.
     (a.value == n) && list_any (λ b. (b.value == n) && (lies_between_blocks a b x && meets_no_other_node blocks n a b)) blocks) blocks
 
--- whether the address is in a block of node n or in a gap of node n
+-- whether the address belongs to node n: it is in a block of the node, or in a gap between two of
+-- its blocks that no other node's block meets
 abbrev pub belongs_to_node : List NumaBlock → ℕ → ℕ → Bool
 belongs_to_node blocks n x = is_in_block_of_node blocks n x || is_in_gap_of_node blocks n x
 
--- the node of the first block in the second list to whose node the address belongs; None if there
--- is no such block
+-- the node of the first block of the second list to whose node the address belongs; None if there
+-- is no such block. Whether it belongs to a node is decided by the first list.
 abbrev pub first_node_among : List NumaBlock → ℕ → List NumaBlock → Option ℕ
 first_node_among blocks x [] = None
 first_node_among blocks x (b ∷ bs) = if belongs_to_node blocks b.value x then Some b.value else first_node_among blocks x bs
 
--- the node of an address: the first one that it belongs to, in the order of the blocks. If blocks
--- of different nodes share no address, it belongs to at most one.
+-- the node of an address: the first one that the address belongs to, in the order of the blocks, or
+-- None. If blocks of different nodes share no address, there is at most one.
 unfoldable pub node_at : List NumaBlock → ℕ → Option ℕ
 node_at blocks x = first_node_among blocks x blocks
 

@@ -15,16 +15,16 @@ use Rattle.srat_nodes.specs.Domains.{named_domains}
 use Rattle.srat_nodes.specs.NodeAt.{NumaBlock, node_at, same_node}
 use Rattle.srat_nodes.specs.Kept.{is_any_kept, numa_blocks_of, count_with_addresses, first_clash, keep_blocks}
 
--- node n for an address of memory that has no node yet, and None for any other address
+-- node n for an address of memory to which `nodes` gives no node, and None for any other address
 abbrev pub node_if_uncovered : (ℕ → Bool) → (ℕ → Option ℕ) → ℕ → ℕ → Option ℕ
 node_if_uncovered memory nodes n x = if memory x && is_none (nodes x) then Some n else None
 
--- the number of frames that begin at an address with a node; there are 2^52 frames in addresses of
--- 64 bits
+-- the number of frames of 4,096 bytes whose first address has a node; addresses of 64 bits have
+-- 2^52 frames
 unfoldable pub count_frames_with_node : (ℕ → Option ℕ) → ℕ
 count_frames_with_node nodes = count_below (λ frame. is_some (nodes (FRAME_SIZE * frame))) (2 ^ 52)
 
--- the lower of node n and the block's node
+-- the lower of node n and the node of the block
 abbrev pub lower_node : ℕ → NumaBlock → ℕ
 lower_node n b = min n b.value
 
@@ -33,7 +33,7 @@ abbrev pub lowest_node : List NumaBlock → ℕ
 lowest_node [] = 0
 lowest_node (b ∷ bs) = fold lower_node b.value bs
 
--- what contracts see of the code's `SratNodes`
+-- what contracts see of a `SratNodes`, the decision whether the SRAT is used and the nodes by it
 pub record SratNodesView : Type 0 where
   pub why : Why
   pub domains : List ℕ
@@ -41,7 +41,7 @@ pub record SratNodesView : Type 0 where
   pub rest : List NumaBlock
   pub uncovered : ℕ
 
--- what contracts see of a `SratNodes`
+-- converts a `SratNodes` to what contracts see of it
 abbrev pub srat_nodes_view : SratNodes → SratNodesView
 srat_nodes_view j = record { why = j.why; domains = j.domains.items; joined = j.joined.items; rest = j.rest.items; uncovered = j.uncovered }
 
@@ -50,7 +50,8 @@ abbrev pub unused_srat : Why → SratNodesView
 unused_srat reason = record { why = reason; domains = []; joined = []; rest = []; uncovered = 0 }
 
 -- the result if the table is used: the domain of each node, the runs of addresses to which the
--- blocks give a node, the runs of memory that no block covers, and the number of their frames
+-- blocks give a node, the runs of memory to which they give none (`left`), and the number of the
+-- frames of `left`
 abbrev pub used_srat : List ℕ → (ℕ → Option ℕ) → (ℕ → Option ℕ) → SratNodesView
 used_srat domains nodes left = record {
   why = why.Used;
@@ -60,15 +61,16 @@ used_srat domains nodes left = record {
   uncovered = count_frames_with_node left;
 }
 
--- the result if no kept blocks overlap: the table isn't used if too many frames of memory have no
--- node
+-- the result if no kept blocks of different nodes overlap. The table isn't used if at least
+-- `UNCOVERED_FRAMES` (256) frames of memory have no node.
 abbrev pub nodes_if_covering : List ℕ → (ℕ → Option ℕ) → (ℕ → Option ℕ) → SratNodesView
 nodes_if_covering domains nodes left =
     if nat_le UNCOVERED_FRAMES (count_frames_with_node left) then unused_srat (why.NotCovered (count_frames_with_node left))
     else used_srat domains nodes left
 
--- the result if the first argument has the numbers of two blocks of different nodes that overlap:
--- the table isn't used. If it is None, the result is the second argument.
+-- the result by a pair of overlapping blocks of different nodes: if there is one, the table isn't
+-- used, and the reason has the numbers of both. Without such a pair, the result is the second
+-- argument.
 abbrev pub nodes_if_apart : Option (ℕ × ℕ) → SratNodesView → SratNodesView
 nodes_if_apart (Some numbers) given = unused_srat (why.Overlap numbers.0 numbers.1)
 nodes_if_apart None given = given
@@ -77,12 +79,13 @@ nodes_if_apart None given = given
 abbrev pub nodes_by_blocks : List KeptBlock → ℕ → Option ℕ
 nodes_by_blocks kept = node_at (numa_blocks_of kept)
 
--- the node of each address of memory outside the kept blocks, which is the lowest node of these
--- blocks; None for any other address
+-- the node of each address of memory to which the kept blocks give no node; it is the lowest node
+-- of these blocks. None for any other address.
 abbrev pub node_outside_blocks : (ℕ → Bool) → List KeptBlock → ℕ → Option ℕ
 node_outside_blocks memory kept = node_if_uncovered memory (nodes_by_blocks kept) (lowest_node (numa_blocks_of kept))
 
--- the result by the kept blocks: whether any overlap, and whether they cover enough memory
+-- the result by the kept blocks. The table isn't used if two of different nodes overlap, or if they
+-- leave too much memory without a node.
 unfoldable pub judge_kept_blocks : (ℕ → Bool) → List ℕ → List KeptBlock → SratNodesView
 judge_kept_blocks memory domains kept =
     nodes_if_apart (first_clash kept) (nodes_if_covering domains (nodes_by_blocks kept) (node_outside_blocks memory kept))
@@ -91,9 +94,9 @@ judge_kept_blocks memory domains kept =
 abbrev pub srat_domains : SratView → List ℕ
 srat_domains lists = named_domains lists.processors lists.blocks
 
--- the result for a table that is present. The first reasons not to use it are, in this order: no
--- block is kept, there are too many domains, there are too many blocks. The reasons that depend on
--- the kept blocks come after them.
+-- the result for a table that is present. The reasons not to use it are, in this order: no block is
+-- kept, there are too many domains, there are too many blocks, kept blocks of different nodes
+-- overlap, too much memory has no node.
 unfoldable pub judge_srat_table : (ℕ → Bool) → SratView → SratNodesView
 judge_srat_table memory lists =
     if not (is_any_kept memory lists.blocks) then unused_srat why.NoBlocks
@@ -101,8 +104,8 @@ judge_srat_table memory lists =
     else (if nat_lt MAX_BLOCKS (count_with_addresses lists.blocks) then unused_srat why.TooManyBlocks
     else judge_kept_blocks memory (srat_domains lists) (keep_blocks memory (srat_domains lists) lists.blocks)))
 
--- the result for a table, or for None if there is no table. `off` is true if `numa=off` was given,
--- which is tested first.
+-- the result for an SRAT, or for None if there is none. `off` says whether the option `numa=off`
+-- was given, which comes before all other reasons.
 abbrev pub judge_srat : (ℕ → Bool) → Bool → Option SratView → SratNodesView
 judge_srat memory off None = if off then unused_srat why.Off else unused_srat why.Absent
 judge_srat memory off (Some lists) = if off then unused_srat why.Off else judge_srat_table memory lists

@@ -8,15 +8,18 @@ use Rattle.srat_reader.specs.declared.table.SratBlock.{SratBlock}
 use Rattle.srat_nodes.specs.Domains.{with_domain}
 use Rattle.srat_nodes.specs.NodeAt.{NumaBlock}
 
--- the list with one more domain, or the same list if it has more than 1,024 already
+-- the list with the domain appended, unless the domain is in it already or the list has more than
+-- 1,024 domains
 abbrev pub with_domain_if_room : List ℕ → ℕ → List ℕ
 with_domain_if_room domains d = if nat_le (length domains) 1024 then with_domain domains d else domains
 
--- the list with the domain of the block, or the same list if it has more than 1,024 already
+-- the list with the domain of the block appended, unless the domain is in it already or the list
+-- has more than 1,024 domains
 abbrev pub with_domain_of_block : List ℕ → SratBlock → List ℕ
 with_domain_of_block domains b = with_domain_if_room domains b.domain
 
--- the run before the joined runs above it; if the first of them has the same node, both become one
+-- the run `r` put before runs that lie above it. If the first of them has the same node, both
+-- become one run, which covers the gap between them too.
 abbrev pub prepend_joined : NumaBlock → List NumaBlock → List NumaBlock
 prepend_joined r [] = r ∷ []
 prepend_joined r (s ∷ ss) =
@@ -27,11 +30,11 @@ abbrev pub fill_gaps : List NumaBlock → List NumaBlock
 fill_gaps [] = []
 fill_gaps (r ∷ rs) = prepend_joined r (fill_gaps rs)
 
--- a range of memory as a run with the value `false`, which means that it has no node
+-- a range of memory with the value `false`, which means that it has no node
 abbrev pub run_without_node : RangeView → RunOf Bool
 run_without_node r = record { base = r.base; size = r.size; value = false }
 
--- a run with a node, as a run with the value `true`, which means that it has a node
+-- the range of a run that has a node, with the value `true`, which means that it has one
 abbrev pub run_with_node : NumaBlock → RunOf Bool
 run_with_node r = record { base = r.base; size = r.size; value = true }
 
@@ -39,11 +42,11 @@ run_with_node r = record { base = r.base; size = r.size; value = true }
 abbrev pub is_in_runs : List (RunOf Bool) → ℕ → Bool
 is_in_runs runs x = is_some (value_at runs x)
 
--- the run with this node as its value
+-- the range of the run with `node` as its value
 abbrev pub run_of_node : ℕ → RunOf Bool → NumaBlock
 run_of_node node r = record { base = r.base; size = r.size; value = node }
 
--- the runs that have no node (their value is `false`), each with `node`
+-- the runs with the value `false`, which have no node; each gets the value `node`
 abbrev pub uncovered_runs_with_node : ℕ → List (RunOf Bool) → List NumaBlock
 uncovered_runs_with_node node [] = []
 uncovered_runs_with_node node (r ∷ rs) =

@@ -10,9 +10,10 @@ use bm_base::{MAX_NODES, Memory};
 use srat_reader::SratBlock;
 use std::alloc::Global;
 
-/// Returns the domains by node number: a domain's index in the list is its node. The domains of
-/// processors come first, then those of memory. The list has at most one more than [`MAX_NODES`],
-/// since a table with more isn't used.
+/// Returns the proximity domains that the table names, each once. A domain's index in the list is
+/// its node. The domains of processors come first, then those of memory, in the order of the table.
+/// The list ends after 1,025 domains, since a table with more than [`MAX_NODES`] (1,024) isn't
+/// used.
 ///
 /// # Errors
 ///
@@ -31,8 +32,8 @@ pub fn named_domains(
     Ok(domains)
 }
 
-/// Appends the domains of processors that aren't in the list yet, in the order of `processors`.
-/// Adds none once the list has more than `MAX_NODES`.
+/// Appends each domain of `processors` that isn't in the list yet, in their order. Appends none
+/// once the list has more than `MAX_NODES` (1,024) domains.
 ///
 /// # Errors
 ///
@@ -47,8 +48,8 @@ fn add_processor_domains(domains: &mut Vec<u32>, processors: &[u32]) -> Result<(
     Ok(())
 }
 
-/// Appends the domains of the memory blocks that aren't in the list yet, in the order of `blocks`.
-/// Adds none once the list has more than `MAX_NODES`.
+/// Appends the domain of each memory block that isn't in the list yet, in the order of `blocks`.
+/// Appends none once the list has more than `MAX_NODES` (1,024) domains.
 ///
 /// # Errors
 ///
@@ -64,7 +65,7 @@ fn add_memory_domains(domains: &mut Vec<u32>, blocks: &[SratBlock]) -> Result<()
 }
 
 /// Appends a domain, unless it is in the list already, or the list has more than [`MAX_NODES`]
-/// domains.
+/// (1,024) domains.
 ///
 /// # Errors
 ///
@@ -78,7 +79,8 @@ fn add_domain(domains: &mut Vec<u32>, domain: u32) -> Result<(), Memory>
     Ok(())
 }
 
-/// Returns the node of a domain, its index in the list, or 0 if it isn't in the list.
+/// Returns the node of a proximity domain: its index in `domains`, or 0 if it isn't in the list.
+/// The list must have at most 1,024 domains.
 pub fn node_of_domain(domains: &[u32], domain: u32) -> u32
     requires { length domains.now ≤ 1024 }
     ensures { result ≡ node_of_domain domains.now domain }

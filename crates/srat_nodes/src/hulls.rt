@@ -1,6 +1,7 @@
-//! Joins the blocks of each node, also across a gap between two of them that has no address of
-//! another node (`numa_cleanup_meminfo`). If no two blocks of different nodes overlap, overlaying
-//! the blocks gives runs, and comparing neighbouring runs is enough.
+//! Joins the blocks of each node. Two blocks of a node are joined, also across a gap, if no address
+//! from the start of the lower to the end of the upper is in a block of another node
+//! (`numa_cleanup_meminfo`). If no two blocks of different nodes overlap, overlaying the blocks
+//! gives runs, and comparing neighbouring runs is enough.
 
 ghost use Rattle.std.specs.Prelude.{◌≡◌, ℕ, ◌+◌, ◌-◌, ◌<◌, ◌≤◌, OnOk, IfOk, reverse};
 ghost use Rattle.address_runs.specs.Overlay.{HaveAddresses};
@@ -13,8 +14,9 @@ use address_runs::{RunOf, overlay_all};
 use bm_base::{Memory, Range};
 use std::alloc::Global;
 
-/// Returns the runs of the blocks, in ascending order. An address in several blocks gets the node
-/// of the first one. No block may be empty.
+/// Returns the runs of the blocks, in ascending order: maximal ranges of addresses that lie in
+/// blocks of one node. An address in several blocks gets the node of the first one. No block may be
+/// empty.
 ///
 /// # Errors
 ///
@@ -27,7 +29,7 @@ pub fn overlay_blocks(alloc: Global, kept: &[KeptBlock]) -> Result<Vec<NodeRange
     overlay_all(alloc, &blocks)
 }
 
-/// Returns the range and the node of each kept block, without its number.
+/// Returns the range and the node of each block, without the block's number in the table.
 ///
 /// # Errors
 ///
@@ -42,9 +44,9 @@ fn numa_blocks_of(alloc: Global, kept: &[KeptBlock]) -> Result<Vec<NodeRange>, M
     Ok(blocks)
 }
 
-/// Joins neighbouring runs of one node to a single run, which then covers the gap between them
-/// too. If `runs` is the result of `overlay_blocks`, and no two blocks of different nodes overlap,
-/// the joined runs give each address its node (`node_at`).
+/// Joins neighbouring runs of one node to a single run, which then covers the gap between them too.
+/// If `runs` is the result of `overlay_blocks`, and no two blocks of different nodes overlap, the
+/// joined runs give each address its node (`node_at`).
 ///
 /// # Errors
 ///
@@ -63,8 +65,9 @@ pub fn fill_gaps(alloc: Global, runs: &[NodeRange]) -> Result<Vec<NodeRange>, Me
     Ok(joined)
 }
 
-/// Adds a run below the runs that are already joined. If the next run above has the same node, the
-/// two become one. `joined` is in descending order, so the next run above is its last member.
+/// Adds a run that lies below the runs in `joined`. If the next run above has the same node, the
+/// two become one run, which covers the gap between them too. `joined` is in descending order, so
+/// the next run above is its last member.
 ///
 /// # Errors
 ///
@@ -86,7 +89,8 @@ fn prepend_joined(joined: &mut Vec<NodeRange>, run: NodeRange) -> Result<(), Mem
     Ok(())
 }
 
-/// Returns the run from the start of `run` to the end of `next`, which must have the same node.
+/// Returns the run from the start of `run` to the end of `next`, with the node of `run`. `next`
+/// must lie above `run` and have the same node.
 fn spanning_run(run: &NodeRange, next: &NodeRange) -> NodeRange
     ensures { result ≡ record {
       base = run.now.base;

@@ -1,6 +1,6 @@
-//! Selects the blocks that are kept: those that contain a byte of memory after their ends have
-//! been rounded to frames (`numa_cleanup_meminfo` cuts blocks to memory and removes empty ones).
-//! Also finds blocks of different nodes that overlap.
+//! Selects the blocks of the SRAT that are kept: those that contain a byte of memory after both
+//! ends have been rounded down to frames (`numa_cleanup_meminfo` cuts blocks to memory and removes
+//! empty ones). Also finds blocks of different nodes that overlap.
 
 ghost use Rattle.std.specs.Prelude.{◌≡◌, ◌↔◌, ℕ, ◌+◌, ◌++◌, ◌^◌, ◌<◌, ◌≤◌, None, IsTrue, OnOk, IfOk, length, option_map, find};
 ghost use Rattle.address_runs.specs.Runs.{AreRuns, IsRunsOf, run_end, value_at};
@@ -16,7 +16,7 @@ use run_edits::has_value_throughout;
 use srat_reader::SratBlock;
 use std::alloc::Global;
 
-/// A range of addresses and its node, by the boot's number of the node.
+/// A range of addresses and its node. Nodes are numbered from 0.
 pub type NodeRange = RunOf<u32>;
 
 /// Tests whether the two ranges share an address.
@@ -28,16 +28,18 @@ pub fn runs_overlap(first: &NodeRange, second: &NodeRange) -> bool
     from < behind
 }
 
-/// A block of the table that is kept, since it contains a byte of memory.
+/// A block of the SRAT that is kept, since it contains a byte of memory after its ends have been
+/// rounded down to frames.
 #[derive(Clone, Copy, Debug, PartialEq, Eq)]
 pub struct KeptBlock {
-    /// The number of the block among all enabled blocks of the table, kept or not, from 0.
+    /// The index of the block among all enabled memory blocks of the table, kept or not, counted
+    /// from 0.
     pub number: u32,
-    /// The addresses of the block, in whole frames, and its node.
+    /// The range of the block, with both ends rounded down to frames, and its node.
     pub block: NodeRange,
 }
 
-/// Returns the range with both ends rounded down to frames.
+/// Returns the range with its base and its end rounded down to multiples of 4,096.
 fn round_ends_down(range: &Range) -> Range
     ensures { result ≡ round_ends_down range.now }
 {
@@ -49,7 +51,8 @@ fn round_ends_down(range: &Range) -> Range
     }
 }
 
-/// Tests whether any block of the table is kept.
+/// Tests whether any block of the table contains a byte of memory after its ends have been rounded
+/// down to frames. `memory` has the runs of memory.
 pub fn is_any_kept(memory: &Vec<RunOf<bool>>, blocks: &[SratBlock]) -> bool
     requires { AreRuns memory.now.items }
     ensures { result ≡ is_any_kept (is_in_runs memory.now.items) blocks.now }
@@ -62,15 +65,16 @@ pub fn is_any_kept(memory: &Vec<RunOf<bool>>, blocks: &[SratBlock]) -> bool
     false
 }
 
-/// Returns the number of blocks that aren't empty in the table, before rounding to frames.
+/// Returns the number of blocks of the table whose size isn't 0, before any rounding.
 pub fn count_with_addresses(blocks: &[SratBlock]) -> usize
     ensures { result ≡ count_with_addresses blocks.now }
 {
     blocks.iter().filter(|block| block.range.size > 0).count()
 }
 
-/// Returns the blocks that are kept, in the order of the table. There must be fewer than 2^32
-/// blocks.
+/// Returns the blocks that contain a byte of memory after their ends have been rounded down to
+/// frames, in the order of the table. `memory` has the runs of memory, and `domains` the domain of
+/// each node. There must be fewer than 2^32 blocks.
 ///
 /// # Errors
 ///
@@ -96,7 +100,7 @@ pub fn keep_blocks(
     Ok(kept)
 }
 
-/// Appends the block with this number to the kept ones, if it contains a byte of memory.
+/// Appends the block, with its number, to `kept` if it contains a byte of memory.
 ///
 /// # Errors
 ///
@@ -117,7 +121,8 @@ fn keep_block(
     Ok(())
 }
 
-/// Returns the block in whole frames, with the node of its domain.
+/// Returns the range of the block with both ends rounded down to frames, and the node of the
+/// block's domain. `domains` has the domain of each node.
 fn block_in_frames(domains: &[u32], block: &SratBlock) -> NodeRange
     requires { length domains.now ≤ 1024 }
     ensures value { result ≡ block_in_frames domains.now block.now }
@@ -130,9 +135,9 @@ fn block_in_frames(domains: &[u32], block: &SratBlock) -> NodeRange
 }
 
 /// Returns the numbers of two kept blocks of different nodes that share an address, or `None` if
-/// there are no such blocks. Of several pairs it returns the least, by its first number and then
-/// by its second. `laid` has the runs of the overlaid blocks, which show whether any blocks
-/// overlap. Pairs are compared only if some blocks do.
+/// there are no such blocks. Of several pairs it returns the one with the least first number, and
+/// of these the one with the least second number. `laid` has the runs of the overlaid blocks, by
+/// which one look-up for each block finds out whether any two overlap.
 pub fn first_clash(kept: &[KeptBlock], laid: &Vec<NodeRange>) -> Option<(u32, u32)>
     requires { IsRunsOf (value_at (numa_blocks_of kept.now)) laid.now.items }
     ensures { result ≡ first_clash kept.now }
@@ -144,7 +149,7 @@ pub fn first_clash(kept: &[KeptBlock], laid: &Vec<NodeRange>) -> Option<(u32, u3
 }
 
 /// Tests whether no two blocks of different nodes share an address. This is so exactly if each
-/// address of each block has the block's own node in `laid`, the runs of the overlaid blocks. One
+/// address of each block has that block's node in `laid`, the runs of the overlaid blocks. One
 /// look-up for each block is therefore enough.
 fn are_apart(kept: &[KeptBlock], laid: &Vec<NodeRange>) -> bool
     requires { IsRunsOf (value_at (numa_blocks_of kept.now)) laid.now.items }
@@ -158,7 +163,9 @@ fn are_apart(kept: &[KeptBlock], laid: &Vec<NodeRange>) -> bool
     true
 }
 
-/// Returns the pair of [`first_clash`]. Compares each pair of blocks.
+/// Returns the numbers of two kept blocks of different nodes that share an address, or `None` if
+/// there are no such blocks. Of several pairs it returns the one with the least first number, and
+/// of these the one with the least second number. Compares each pair of blocks.
 fn first_pair(kept: &[KeptBlock]) -> Option<(u32, u32)>
     ensures { result ≡ first_clash kept.now }
 {
@@ -172,8 +179,8 @@ fn first_pair(kept: &[KeptBlock]) -> Option<(u32, u32)>
     None
 }
 
-/// Returns the number of the first of the `others` that has another node than `block` and shares
-/// an address with it, or `None` if there is no such block.
+/// Returns the number of the first member of `others` that has another node than `block` and shares
+/// an address with it, or `None` if there is no such member.
 fn overlapping(block: &KeptBlock, others: &[KeptBlock]) -> Option<u32>
     ensures { result ≡ option_map (λ other. other.number) (find (is_clash block.now) others.now) }
 {

@@ -15,8 +15,8 @@ ghost use Rattle.srat_nodes.specs.NodeAt.{NumaBlock, belongs_to_node};
 ghost use Rattle.srat_nodes.specs.SratNodesView.{judge_srat, node_outside_blocks, nodes_by_blocks};
 ghost use Rattle.srat_nodes.specs.Kept.{numa_blocks_of, is_clash_of_numbers, first_clash, frame_base, is_node_of, keep_blocks};
 
-/// Law: an address belongs to at most one node, if no kept block is empty and no two kept blocks
-/// of different nodes share an address.
+/// Law: an address belongs to at most one node, the one that `nodes_by_blocks` gives it, if no kept
+/// block is empty and no two kept blocks of different nodes share an address.
 pub fn address_has_one_node()
     ensures { (kept : List AnyKept) → first_clash kept ≡ None → HaveAddresses (numa_blocks_of kept)
         →
@@ -24,8 +24,8 @@ pub fn address_has_one_node()
         ↔ (nodes_by_blocks kept x ≡ Some n) }
 {}
 
-/// Law: two named domains with the same node are the same domain. A node is below the number of
-/// named domains.
+/// Law: different domains in the list have different nodes. The node of a domain in the list is
+/// below the length of the list.
 pub fn one_node_a_domain()
     ensures one { (domains : List ℕ) (d e : ℕ) → is_named_domain domains d ≡ true
         → is_named_domain domains e ≡ true →
@@ -34,9 +34,9 @@ pub fn one_node_a_domain()
         → node_of_domain domains d < length domains }
 {}
 
-/// Law: nodes number the domains in the order in which they are first named. The list has exactly
-/// the domains that are named. The domain at index n has node n, so each domain is in the list
-/// once. Of two domains, the one that is first named earlier has the lower node.
+/// Law: nodes number the domains in the order in which they are first named. `domains_once` of a
+/// list of names has exactly the domains that are named, each once. The domain at its index n has
+/// node n. Of two domains, the one that is first named earlier has the lower node.
 pub fn nodes_by_first_naming()
     ensures named { (names : List ℕ) (d : ℕ) →
         is_named_domain (domains_once names) d ≡ is_named_domain names d }
@@ -48,8 +48,9 @@ pub fn nodes_by_first_naming()
         < node_of_domain (domains_once (before ++ d ∷ after)) e }
 {}
 
-/// Law: the reported pair of kept blocks overlaps. It is the least such pair, by its first number
-/// and then by its second. If no pair is reported, no two kept blocks overlap.
+/// Law: the reported pair of kept blocks shares an address and has different nodes. It is the least
+/// such pair, by its first number and then by its second. If no pair is reported, there is no such
+/// pair.
 pub fn least_overlap()
     ensures pair { (memory : ℕ → Bool) (domains : List ℕ) (blocks : List AnyBlock) (i j : ℕ) →
         first_clash (keep_blocks memory domains blocks) ≡ Some (i, j)
@@ -63,9 +64,9 @@ pub fn least_overlap()
         → is_clash_of_numbers (keep_blocks memory domains blocks) k l ≡ false }
 {}
 
-/// Law: an address has the same node as the first address of its frame. If memory consists of
-/// whole frames, an address is memory outside all blocks exactly if the first address of its frame
-/// is. The first addresses of frames are therefore enough to count the frames without a node.
+/// Law: an address has the same node as the first address of its frame. If memory consists of whole
+/// frames, this also holds for memory outside all blocks. So the first addresses of frames are
+/// enough to count the frames without a node.
 pub fn frame_has_one_node()
     ensures node { (memory : ℕ → Bool) (domains : List ℕ) (blocks : List AnyBlock) (x : ℕ) →
         nodes_by_blocks (keep_blocks memory domains blocks) x
@@ -76,9 +77,9 @@ pub fn frame_has_one_node()
         ≡ node_outside_blocks memory (keep_blocks memory domains blocks) (frame_base x) }
 {}
 
-/// Law: if no two kept blocks of different nodes overlap, each of their nodes has at least one
-/// byte of memory. If any block is kept, every node that an address gets is the node of a kept
-/// block, also the node of memory outside all blocks.
+/// Law: if no two kept blocks of different nodes overlap, each node of a kept block has at least
+/// one byte of memory. If any block is kept, every node that an address gets, by the blocks or as
+/// memory outside all blocks, is the node of a kept block.
 pub fn kept_nodes_have_memory()
     ensures memory { (memory : ℕ → Bool) (domains : List ℕ) (blocks : List AnyBlock) →
         first_clash (keep_blocks memory domains blocks) ≡ None →
@@ -90,10 +91,11 @@ pub fn kept_nodes_have_memory()
         → is_node_of kept n ≡ true }
 {}
 
-/// Law: both lists that [`crate::judge_srat`] returns, `joined` and `rest`, are canonical lists of
-/// runs. Each run has a node below [`bm_base::MAX_NODES`]. If the table is used, each byte of
-/// memory lies in a run of one of the lists. If memory consists of whole frames, all addresses of a
-/// frame have the same node in each list.
+/// Law: the lists `joined` and `rest` of `judge_srat` are lists of runs: they ascend without
+/// overlaps, and runs that touch have different nodes. Each run has a node below
+/// [`bm_base::MAX_NODES`]. If the table is used, each byte of memory lies in a run of one of the
+/// lists. If memory consists of whole frames, all addresses of a frame have the same node in each
+/// list.
 pub fn runs_cover_memory()
     ensures runs { (memory : ℕ → Bool) (off : Bool) (table : Option SratView) →
         AreRuns (judge_srat memory off table).joined × AreRuns (judge_srat memory off table).rest }

@@ -1,5 +1,6 @@
-//! Memory as runs. Its ranges, which come in any order, are overlaid once. After that, one look-up
-//! finds out whether a range contains a byte of memory.
+//! Memory as runs: maximal ranges of addresses that are memory, in ascending order. They are made
+//! once, from ranges in any order. After that, one look-up finds out whether a range contains a
+//! byte of memory.
 
 ghost use Rattle.std.specs.Prelude.{◌≡◌, ℕ, ◌++◌, OnOk, IfOk, map};
 ghost use Rattle.address_runs.specs.Runs.{AreRuns};
@@ -11,8 +12,9 @@ use bm_base::{Memory, Range};
 use run_edits::seek;
 use std::alloc::Global;
 
-/// Returns the runs of memory, in ascending order, with the value `false`: no node yet. No range
-/// may be empty.
+/// Returns the runs of memory, maximal ranges of addresses that are in a range of `memory`, in
+/// ascending order. Their value is `false`, which means that they have no node yet. No range may be
+/// empty.
 ///
 /// # Errors
 ///
@@ -28,8 +30,8 @@ pub fn memory_runs(alloc: Global, memory: &[Range]) -> Result<Vec<RunOf<bool>>, 
     overlay_all(alloc, &told)
 }
 
-/// Appends each range of `memory` to the list `told`, as a run with the value `false`: no node
-/// yet.
+/// Appends each range of `memory` to the list `told`, with the value `false`, which means that it
+/// has no node yet.
 ///
 /// # Errors
 ///
@@ -50,8 +52,8 @@ pub fn push_uncovered_memory(told: &mut Vec<RunOf<bool>>, memory: &[Range]) -> R
     Ok(())
 }
 
-/// Tests whether some byte of the range is memory. Looks at one run: the first that ends above the
-/// start of the range.
+/// Tests whether some byte of the range is memory. `memory` has the runs of memory. Looks at one of
+/// them: the first that ends above the start of the range.
 pub fn meets_memory(memory: &Vec<RunOf<bool>>, range: &Range) -> bool
     requires { AreRuns memory.now.items }
     ensures { result ≡ meets_memory (is_in_runs memory.now.items) range.now }

@@ -1,4 +1,4 @@
-//! Decides whether the table is used. Tests the reasons not to use it in the order of [`Why`].
+//! Decides whether the SRAT is used. Tests the reasons not to use it in the order of [`Why`].
 
 ghost use Rattle.std.specs.Prelude.{◌≡◌, ℕ, ◌^◌, ◌<◌, ◌≤◌, IfOk, IsFalse, IsSome, OnErr, length};
 ghost use Rattle.std.specs.Option.{ForSome, option_map, option_copied};
@@ -19,57 +19,61 @@ use bm_base::{MAX_NODES, Memory, Range};
 use srat_reader::{Srat, SratBlock};
 use std::alloc::Global;
 
-/// The largest number of blocks that aren't empty (`NR_NODE_MEMBLKS`).
+/// The largest number of memory blocks of a table that is used, empty ones not counted
+/// (`NR_NODE_MEMBLKS`).
 pub const MAX_BLOCKS: usize = 2048;
 
-/// The table isn't used if at least this number of frames of memory, 1 MiB, have no node
-/// (`numa_meminfo_cover_memory`).
+/// The SRAT isn't used if this many frames of memory, or more, have no node
+/// (`numa_meminfo_cover_memory`). 256 frames are 1 MiB.
 pub const UNCOVERED_FRAMES: u64 = 256;
 
-/// The reason why the table is or isn't used. If several of the reasons from `Off` on hold, the
-/// first of them is given.
+/// The reason why the SRAT is or isn't used. If several reasons not to use it hold, the one that is
+/// listed first here is returned.
 #[derive(Clone, Copy, Debug, PartialEq, Eq)]
 pub enum Why {
-    /// The table is used: none of the reasons below holds.
+    /// The table is used: none of the reasons listed below holds.
     Used,
-    /// `numa=off` was given.
+    /// The option `numa=off` was given.
     Off,
-    /// There is no table.
+    /// There is no SRAT.
     Absent,
-    /// No enabled block contains a byte of memory, after rounding its ends to frames.
+    /// No enabled block contains a byte of memory after its ends have been rounded down to frames.
     NoBlocks,
-    /// The enabled entries name more than [`MAX_NODES`] domains.
+    /// The enabled entries name more than [`MAX_NODES`] (1,024) domains.
     TooManyDomains,
-    /// More than [`MAX_BLOCKS`] enabled blocks aren't empty in the table, before rounding.
+    /// The table has more than [`MAX_BLOCKS`] (2,048) enabled blocks whose size isn't 0, before any
+    /// rounding.
     TooManyBlocks,
-    /// Kept blocks of different nodes share an address. `i` and `j` are their numbers among the
-    /// enabled blocks, from 0. Of several pairs it is the one with the least `i`, and of these the
-    /// one with the least `j`.
+    /// Two blocks with memory and of different nodes share an address. `i` and `j` are their
+    /// indices among the enabled blocks, counted from 0. Of several pairs it is the one with the
+    /// least `i`, and of these the one with the least `j`.
     Overlap { i: u32, j: u32 },
-    /// At least [`UNCOVERED_FRAMES`] frames of memory have no node; `frames` is their number.
+    /// At least [`UNCOVERED_FRAMES`] (256) frames of memory have no node; `frames` is their number.
     NotCovered { frames: u64 },
 }
 
-/// The decision whether the table is used, and the nodes that it gives. If the table isn't used,
-/// the lists are empty and `uncovered` is 0.
+/// The decision whether the SRAT is used, and the nodes by it. If the table isn't used, the lists
+/// are empty and `uncovered` is 0.
 #[derive(Debug, Drop)]
 pub struct SratNodes {
-    /// The reason why the table is or isn't used.
+    /// The reason why the SRAT is or isn't used.
     pub why: Why,
-    /// The domain of each node; the index is the node.
+    /// The proximity domain of each node; the index in the list is the node.
     pub domains: Vec<u32>,
-    /// The runs of addresses to which the blocks give a node, in ascending order.
+    /// The runs of addresses to which the blocks give a node, in ascending order. They also cover
+    /// the gap between two blocks of a node that have no block of another node between them.
     pub joined: Vec<NodeRange>,
-    /// The runs of memory that no block covers, in ascending order, with the lowest node that has
-    /// a block.
+    /// The runs of memory to which the blocks give no node, in ascending order. All of them get the
+    /// lowest node that has a block.
     pub rest: Vec<NodeRange>,
-    /// The number of frames in `rest`.
+    /// The number of frames of 4,096 bytes in `rest`.
     pub uncovered: u64,
 }
 
 /// Decides whether the SRAT is used, and if so, returns which memory belongs to which node.
 /// `memory` has the ranges of memory, in any order, none of them empty. `srat` is `None` if there
-/// is no table; a table must have fewer than 2^32 blocks. `off` is true if `numa=off` was given.
+/// is no table. A table must have fewer than 2^32 blocks. `off` says whether the option `numa=off`
+/// was given.
 ///
 /// # Errors
 ///
@@ -97,8 +101,8 @@ pub fn judge_srat(
     }
 }
 
-/// Decides whether a table that is present is used. Reasons that don't depend on the kept blocks
-/// are tested first.
+/// Decides whether an SRAT is used, if `numa=off` wasn't given. Tests the reasons of [`Why`] from
+/// `NoBlocks` on, in their order.
 ///
 /// # Errors
 ///
@@ -130,8 +134,9 @@ fn judge_srat_table(
     judge_kept_blocks(alloc, memory, domains, &kept)
 }
 
-/// Decides whether the table is used, by the reasons that depend on the kept blocks: an overlap,
-/// and too much memory without a node. No kept block may be empty.
+/// Decides whether the SRAT is used, by the two reasons that depend on the kept blocks, those with
+/// memory: blocks of different nodes overlap, or too much memory has no node. `domains` has the
+/// domain of each node. No kept block may be empty.
 ///
 /// # Errors
 ///
@@ -167,7 +172,8 @@ fn judge_kept_blocks(
     })
 }
 
-/// Returns the result for a table that isn't used.
+/// Returns the result for an SRAT that isn't used for the reason `why`: all lists are empty, and
+/// `uncovered` is 0.
 fn unused_srat(alloc: Global, why: Why) -> SratNodes
     ensures { srat_nodes_view result ≡ unused_srat why }
 {
@@ -180,7 +186,7 @@ fn unused_srat(alloc: Global, why: Why) -> SratNodes
     }
 }
 
-/// Returns the lowest node of the blocks, or 0 if there are no blocks.
+/// Returns the lowest node of the kept blocks, or 0 if there are none.
 fn lowest_node(kept: &[KeptBlock]) -> u32
     ensures { result ≡ lowest_node (numa_blocks_of kept.now) }
 {

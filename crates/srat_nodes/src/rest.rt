@@ -1,5 +1,5 @@
-//! Finds the memory that no block covers, and counts its frames. The kernel instead subtracts the
-//! frames with a node from those of its map (`numa_meminfo_cover_memory`).
+//! Finds the memory to which the blocks give no node, and counts its frames. The kernel instead
+//! subtracts the frames with a node from those of its map (`numa_meminfo_cover_memory`).
 
 ghost use Rattle.std.specs.Prelude.{◌≡◌, ℕ, ◌+◌, ◌-◌, ◌^◌, ◌<◌, ◌≤◌, ◌++◌, [], ◌∷◌, if◌then◌else◌, OnOk, IfOk, map};
 ghost use Rattle.address_runs.specs.Runs.{AreRuns, IsRunsOf, run_end, value_at};
@@ -36,8 +36,8 @@ pub fn uncovered_runs(
     uncovered_runs_with_node(alloc, &covered, node)
 }
 
-/// Returns the runs with a node, followed by the ranges of memory. The value is `true` for a run
-/// with a node, and `false` for a range of memory. In an overlay of the list the first run that
+/// Returns the runs of `joined`, which have a node, each with the value `true`; and after them the
+/// ranges of `memory`, each with the value `false`. In an overlay of this list, the first run that
 /// contains an address decides.
 ///
 /// # Errors
@@ -57,8 +57,8 @@ fn mark_covered(
     Ok(told)
 }
 
-/// Appends the ranges of `joined` to the list `told`, each with the value `true`, which means that
-/// it has a node.
+/// Appends the range of each run of `joined` to the list `told`, with the value `true`, which means
+/// that it has a node.
 ///
 /// # Errors
 ///
@@ -75,8 +75,8 @@ fn mark_with_nodes(told: &mut Vec<RunOf<bool>>, joined: &[NodeRange]) -> Result<
     Ok(())
 }
 
-/// Returns the runs of `covered` that have no node, each with the node `node`. The value of a run
-/// in `covered` is `true` if it has a node.
+/// Returns the runs of `covered` with the value `false`, which have no node; each gets the value
+/// `node`.
 ///
 /// # Errors
 ///
@@ -96,8 +96,8 @@ fn uncovered_runs_with_node(
     Ok(rest)
 }
 
-/// Appends the run with the node `node`, unless the run has a node already, that is, its value is
-/// `true`.
+/// Appends the range of the run with the value `node`, unless the run's value is `true`, which
+/// means that it already has a node.
 ///
 /// # Errors
 ///
@@ -121,7 +121,7 @@ fn push_run_if_uncovered(
     Ok(())
 }
 
-/// Returns the number of frames that begin in the runs.
+/// Returns the number of frames of 4,096 bytes whose first address lies in one of the runs.
 pub fn count_frames(runs: &[NodeRange]) -> u64
     requires { AreRuns runs.now }
     ensures { result ≡ count_frames_with_node (value_at runs.now) }
@@ -135,7 +135,7 @@ pub fn count_frames(runs: &[NodeRange]) -> u64
     frames
 }
 
-/// Returns the number of frames that begin in the run.
+/// Returns the number of frames of 4,096 bytes whose first address lies in the run.
 fn count_frames_of_run(run: &NodeRange) -> u64
     ensures value { result
         ≡ count_frames_below (run_end run.now) - count_frames_below run.now.base }
