@@ -12,35 +12,35 @@ use Rattle.e820_model.specs.declared.entry.Edit.TheVariants.{Add, Remove, Remove
 use Rattle.boot_options.specs.declared.map_option.MapOption.{MapOption}
 use Rattle.boot_options.specs.declared.map_option.MapOption.TheVariants.{ExactMap, Adding, Other}
 
--- `@` after the size: adds RAM
+-- the byte `@` after the size of a map option, which adds RAM
 abbrev pub ram_mark : ℕ
 ram_mark = 64
 
--- `#` after the size: adds ACPI data
+-- the byte `#` after the size of a map option, which adds ACPI data
 abbrev pub acpi_mark : ℕ
 acpi_mark = 35
 
--- `$` after the size: adds a reserved range
+-- the byte `$` after the size of a map option, which adds a reserved range
 abbrev pub reserved_mark : ℕ
 reserved_mark = 36
 
--- `!` after the size: adds persistent memory, by its older type
+-- the byte `!` after the size of a map option, which adds persistent memory, by its older type
 abbrev pub persistent_mark : ℕ
 persistent_mark = 33
 
--- `%` after the size: removes or changes types
+-- the byte `%` after the size of a map option, which removes or changes types
 abbrev pub change_mark : ℕ
 change_mark = 37
 
--- `-` before the type that is changed
+-- the byte `-`, before the type that a map option changes or removes
 abbrev pub from_mark : ℕ
 from_mark = 45
 
--- `+` before the new type
+-- the byte `+`, before the new type
 abbrev pub to_mark : ℕ
 to_mark = 43
 
--- a number at the start of a text, and the text after it
+-- a number that was read at the start of a text, and the text after it
 abbrev pub NumberAndRest : Type 0
 NumberAndRest = ℕ × List ℕ
 
@@ -50,27 +50,27 @@ abbrev pub number_and_rest : List ℕ → Result (ℕ × ℕ) NumFault → Optio
 number_and_rest text (Ok found) = Some (found.0, drop found.1 text)
 number_and_rest text (Err fault) = None
 
--- the size at the start of a text, and the text after it
+-- the size in bytes at the start of a text, and the text after it; None if no size is there
 abbrev pub front_size : List ℕ → Option NumberAndRest
 front_size text = number_and_rest text (size_of text)
 
 -- the number at the start of a text, and the text after it, which begins with the suffix if there
--- is one
+-- is one; None if no number is there
 abbrev pub front_number : List ℕ → Option NumberAndRest
 front_number text = number_and_rest text (number_of text)
 
--- what was read, if the rest of the text is empty; else None
+-- the second argument if the text, the rest after reading it, is empty; else None
 abbrev pub value_if_at_end : {A : Type 0} → List ℕ → Option A → Option A
 value_if_at_end [] read = read
 value_if_at_end (b ∷ bs) read = None
 
--- the size that the whole text spells
+-- the size in bytes that the whole text spells, or None if the text isn't a size
 abbrev pub whole_size : List ℕ → Option ℕ
 whole_size text = do
   front ← front_size text
   value_if_at_end front.1 (Some front.0)
 
--- the range of this size from the address on, if the address plus the size is at most 2^64 - 1
+-- the range of `size` bytes from `base` on, or None if base plus size exceeds 2^64 - 1
 abbrev pub range_if_addressable : ℕ → ℕ → Option RangeView
 range_if_addressable base size = if nat_lt (base + size) (2 ^ 64) then Some (record { base = base; size = size }) else None
 
@@ -82,7 +82,7 @@ unless_empty range edit = if nat_lt 0 range.size then Some edit else None
 abbrev pub range_above : ℕ → RangeView
 range_above size = record { base = size; size = 2 ^ 64 - 1 - size }
 
--- the edit that removes RAM from the address on, or None if there is no such address
+-- the edit that removes RAM from the address `size` on, or None if no range can begin there
 abbrev pub ram_above : ℕ → Option Edit
 ram_above size = unless_empty (range_above size) (Remove (range_above size) E820_TYPE_RAM)
 
@@ -99,30 +99,31 @@ adding_option kind size place = do
 abbrev pub type_if_fits : NumberAndRest → Option NumberAndRest
 type_if_fits front = if nat_lt front.0 (2 ^ 32) then Some front else None
 
--- the type after its mark, and the rest of the text; the type is 0 if the text doesn't begin with
--- the mark
+-- the number of a type after the mark at the start of the text, and the rest of the text; type 0
+-- and the whole text if it doesn't begin with the mark; None if the number is malformed or exceeds
+-- 2^32 - 1
 abbrev pub kind_after_mark : ℕ → List ℕ → Option NumberAndRest
 kind_after_mark mark [] = Some (0, [])
 kind_after_mark mark (b ∷ bs) = if b == mark then front_number bs >>= type_if_fits else Some (0, b ∷ bs)
 
--- the option without a type `f`: it adds the type `t`, or removes all types if `t` isn't given
--- either
+-- the option `S%A` or `S%A+t`, for its range. With `t` it adds this type, without (`to` is 0) it
+-- removes all types.
 abbrev pub retype_every_type : RangeView → ℕ → Option MapOption
 retype_every_type range to =
     if to == 0 then Some (Other (unless_empty range (RemoveAll range))) else Some (Adding (unless_empty range (Add range to)))
 
--- the option with a type `f`: it removes this type, or changes it to `t`, which must differ from
--- it
+-- the option `S%A-f` or `S%A-f+t`, for its range. Without `t` (`to` is 0) it removes the type `f`;
+-- with `t` it changes `f` to `t`, and is malformed if they are equal.
 abbrev pub retype_one_type : RangeView → ℕ → ℕ → Option MapOption
 retype_one_type range from to =
     if to == 0 then Some (Other (unless_empty range (Remove range from))) else
     (if from == to then None else Some (Other (unless_empty range (Change range from to))))
 
--- the option for the types `-f` and `+t`; each is 0 if it isn't given
+-- the option `S%A-f+t`, for its range. The type `f` or `t` is 0 if the text doesn't give it.
 abbrev pub retype_option : RangeView → ℕ → ℕ → Option MapOption
 retype_option range from to = if from == 0 then retype_every_type range to else retype_one_type range from to
 
--- the option `S%A-f+t`; the types `f` and `t` are optional
+-- the option `S%A-f+t`, for the size S and the text after the `%`; `-f` and `+t` are optional
 abbrev pub percent_map_option : ℕ → List ℕ → Option MapOption
 percent_map_option size place = do
   base ← front_size place
@@ -131,7 +132,8 @@ percent_map_option size place = do
   to ← kind_after_mark to_mark from.1
   value_if_at_end to.1 (retype_option range from.0 to.0)
 
--- the option that the mark after `S` selects; without a mark, it makes RAM end at `S`
+-- the option for the size S and the text after it, by the mark with which the text begins; without
+-- a mark, the option makes RAM end at `S`
 abbrev pub map_option_by_mark : ℕ → List ℕ → Option MapOption
 map_option_by_mark size [] = Some (Other (ram_above size))
 map_option_by_mark size (mark ∷ place) =
@@ -141,13 +143,13 @@ map_option_by_mark size (mark ∷ place) =
     (if mark == persistent_mark then adding_option E820_TYPE_PRAM size place else
     (if mark == change_mark then percent_map_option size place else None))))
 
--- a map option that begins with a size
+-- the map option of a text that begins with a size
 abbrev pub sized_map_option : List ℕ → Option MapOption
 sized_map_option text = do
   size ← front_size text
   map_option_by_mark size.0 size.1
 
--- one map option of `memmap=`
+-- the map option that a text between the commas of `memmap=` spells; None if the text is malformed
 abbrev pub map_option_of : List ℕ → Option MapOption
 map_option_of text = if bytes_eq text (codes "exactmap") then Some ExactMap else sized_map_option text
 
@@ -155,6 +157,7 @@ map_option_of text = if bytes_eq text (codes "exactmap") then Some ExactMap else
 abbrev pub ram_up_to : ℕ → Option MapOption
 ram_up_to size = if size == 0 then None else Some (Other (ram_above size))
 
--- the value of `mem=`; `nopentium` changes nothing
+-- the map option that a value of `mem=` spells; `nopentium` changes nothing. None if the value is
+-- malformed.
 abbrev pub mem_of : List ℕ → Option MapOption
 mem_of text = if bytes_eq text (codes "nopentium") then Some (Other None) else whole_size text >>= ram_up_to

@@ -20,7 +20,7 @@ use Rattle.boot_options.specs.declared.map_option.MapOption.TheVariants.{ExactMa
 use Rattle.boot_options.specs.Crash.{CrashOptionView, CrashFormView, CrashPlainView, Plain, High, Low, crash_option_view, crash_form_of}
 use Rattle.boot_options.specs.MapOptions.{map_option_of, mem_of}
 
--- the line in the file: the bytes before the first zero byte, without a newline at the end
+-- the command line in a file: the bytes before the first zero byte, without a newline at the end
 abbrev pub raw_line : List ℕ → List ℕ
 raw_line bytes = without_last 10 (text_before 0 bytes)
 
@@ -28,18 +28,19 @@ raw_line bytes = without_last 10 (text_before 0 bytes)
 abbrev pub is_closed : List ℕ → Bool
 is_closed line = count_by (λ b. b == 34) line % 2 == 0
 
--- the line, or its fault: it must have at most 2,047 bytes (`COMMAND_LINE_SIZE` less the zero
--- byte), and its quotations must close
+-- the line, or TooLong if it has more than 2,047 bytes (`COMMAND_LINE_SIZE` less the zero byte), or
+-- OpenQuote if it has an odd number of `"`
 abbrev pub checked_line : List ℕ → Result (List ℕ) OptionFault
 checked_line line =
     if nat_lt LONGEST_LINE (length line) then Err faults.TooLong
     else (if is_closed line then Ok line else Err faults.OpenQuote)
 
--- the line in these bytes, or its fault
+-- the command line in the bytes of a file, or its fault TooLong or OpenQuote
 abbrev pub command_line_of : List ℕ → Result (List ℕ) OptionFault
 command_line_of bytes = checked_line (raw_line bytes)
 
--- the meaning of one word
+-- the meaning of one word: the map options of `mem=` or `memmap=` (none for a word without effect),
+-- a form of `crashkernel=`, `numa=off`, or `add_efi_memmap`
 pub data WordMeaning : Type 0 where
   OfMap : (options : List MapOption) → WordMeaning
   OfCrash : (form : CrashFormView) → WordMeaning
@@ -51,7 +52,8 @@ abbrev pub map_options_of : List (List ℕ) → Option (List MapOption)
 map_options_of [] = Some []
 map_options_of (text ∷ texts) = option_and_then (λ p. option_map (λ ps. p ∷ ps) (map_options_of texts)) (map_option_of text)
 
--- the meaning of the value of `memmap=`: one or more map options, with commas between them
+-- the meaning of the value of `memmap=`: one or more map options, with commas between them; None if
+-- one is malformed
 abbrev pub memmap_of : List ℕ → Option WordMeaning
 memmap_of value = option_map OfMap (map_options_of (parts_in (Byte 44) value))
 
@@ -59,15 +61,15 @@ memmap_of value = option_map OfMap (map_options_of (parts_in (Byte 44) value))
 abbrev pub meaning_of_map_option : MapOption → WordMeaning
 meaning_of_map_option p = OfMap (p ∷ [])
 
--- the meaning of the value of `crashkernel=`, which has one form
+-- the meaning of the value of `crashkernel=`; None if the value is malformed
 abbrev pub crash_of : List ℕ → Option WordMeaning
 crash_of value = option_map OfCrash (crash_form_of value)
 
--- the meaning of the value of `numa=`, which must be `off`
+-- the meaning of the value of `numa=`, which must be `off`; None for any other value
 abbrev pub numa_of : List ℕ → Option WordMeaning
 numa_of value = if bytes_eq value (codes "off") then Some NumaOff else None
 
--- the meaning of a word, or the given fault if it has none
+-- the meaning of a word, or the fault of the first argument if it has none
 abbrev pub meaning_or_fault : OptionFault → Option WordMeaning → Result WordMeaning OptionFault
 meaning_or_fault fault None = Err fault
 meaning_or_fault fault (Some said) = Ok said
@@ -85,8 +87,9 @@ word_meaning number word =
     (if bytes_eq word.0 (codes "add_efi_memmap") then Ok AddEfi else
     Ok (OfMap [])))))
 
--- the name and the value of a word, from its halves around the first `=`. The value loses its
--- quotation marks. Without a `=` (None) the whole word is the name, and there is no value.
+-- the name and the value of a word, from the texts before and after its first `=`. The value loses
+-- the quotation marks around it. Without a `=` (None) the whole word is the name, and there is no
+-- value.
 abbrev pub split_name_value : List ℕ → Option (List ℕ × List ℕ) → List ℕ × Option (List ℕ)
 split_name_value word None = (word, None)
 split_name_value word (Some halves) = (halves.0, Some (unquote halves.1))
@@ -95,16 +98,17 @@ split_name_value word (Some halves) = (halves.0, Some (unquote halves.1))
 abbrev pub name_value_of : List ℕ → List ℕ × Option (List ℕ)
 name_value_of word = split_name_value word (split_once 61 word)
 
--- the words before `--`
+-- the words before the first word `--`, or all words if there is none
 abbrev pub until_end : List (List ℕ) → List (List ℕ)
 until_end [] = []
 until_end (word ∷ words) = if bytes_eq word (codes "--") then [] else word ∷ until_end words
 
--- the words of the line before `--`, without the quotation marks around them
+-- the words of the line before the word `--`, without the quotation marks around them
 abbrev pub option_words : List ℕ → List (List ℕ)
 option_words line = until_end (map unquote (words_in CommandLine line))
 
--- the meaning of each word with its number, or the fault of the first malformed word
+-- the meaning of each word with its number, or the fault of the first malformed word. The first
+-- word has the number `number`.
 abbrev pub word_meanings_from : ℕ → List (List ℕ) → Result (List (ℕ × WordMeaning)) OptionFault
 word_meanings_from number [] = Ok []
 word_meanings_from number (word ∷ words) = do
@@ -135,7 +139,7 @@ edit_of (Other edit) = edit
 abbrev pub edits_of : List (ℕ × MapOption) → List Edit
 edits_of ps = filter_map (λ p. edit_of p.1) ps
 
--- whether some word is `numa=off`
+-- whether some word is `numa=off`, by the words' meanings
 abbrev pub is_numa_off : List (ℕ × WordMeaning) → Bool
 is_numa_off [] = false
 is_numa_off ((number, OfMap ps) ∷ said) = is_numa_off said
@@ -143,7 +147,7 @@ is_numa_off ((number, OfCrash form) ∷ said) = is_numa_off said
 is_numa_off ((number, NumaOff) ∷ said) = true
 is_numa_off ((number, AddEfi) ∷ said) = is_numa_off said
 
--- whether some word is `add_efi_memmap`
+-- whether some word is `add_efi_memmap`, by the words' meanings
 abbrev pub is_efi_added : List (ℕ × WordMeaning) → Bool
 is_efi_added [] = false
 is_efi_added ((number, OfMap ps) ∷ said) = is_efi_added said
@@ -178,7 +182,7 @@ low_crash_value (OfCrash (Low size)) = Some size
 low_crash_value NumaOff = None
 low_crash_value AddEfi = None
 
--- the last value that `pick` finds in a word
+-- the value that `pick` finds in the last word in which it finds one, or None
 abbrev pub last_value : {A : Type 0} → (WordMeaning → Option A) → List (ℕ × WordMeaning) → Option A
 last_value pick [] = None
 last_value pick (s ∷ said) = option_or (last_value pick said) (pick s.1)
@@ -195,17 +199,17 @@ count_adding ((number, ExactMap) ∷ ps) = count_adding ps
 count_adding ((number, Adding edit) ∷ ps) = count_adding ps + 1
 count_adding ((number, Other edit) ∷ ps) = count_adding ps
 
--- The last `exactmap` of a list of map options whose first option is `p`, in the word `number`.
--- The first argument is the last `exactmap` of the options after `p`; `behind` counts the options
--- after `p` that add a range.
+-- the last `exactmap` of a list of map options: the number of its word, and how many options after
+-- it add a range. The list begins with the option `p`, in the word `number`. The first argument is
+-- the result for the options after `p`, and `behind` counts those of them that add a range.
 abbrev pub last_exact_map : Option (ℕ × ℕ) → ℕ → MapOption → ℕ → Option (ℕ × ℕ)
 last_exact_map (Some found) number p behind = Some found
 last_exact_map None number ExactMap behind = Some (number, behind)
 last_exact_map None number (Adding edit) behind = None
 last_exact_map None number (Other edit) behind = None
 
--- the last `exactmap`: the number of its word, and the number of map options after it that add a
--- range
+-- the last `exactmap` of the map options: the number of its word, and how many map options after it
+-- add a range; None if there is no `exactmap`
 abbrev pub last_exact : List (ℕ × MapOption) → Option (ℕ × ℕ)
 last_exact [] = None
 last_exact (p ∷ ps) = last_exact_map (last_exact ps) p.0 p.1 (count_adding ps)
@@ -235,18 +239,18 @@ options_of_words said = record {
   add_efi = is_efi_added said;
 }
 
--- the options, or the fault that fewer than two map options that add a range follow the last
--- `exactmap`
+-- the options, or the fault UserMapInvalid. The second argument is the last `exactmap`: the number
+-- of its word, and how many map options after it add a range, which must be at least two.
 abbrev pub check_user_map : OptionsView → Option (ℕ × ℕ) → Result OptionsView OptionFault
 check_user_map options_view None = Ok options_view
 check_user_map options_view (Some exact) = if nat_lt exact.1 2 then Err (faults.UserMapInvalid exact.0) else Ok options_view
 
--- the options that these words set, or the fault of the user map
+-- the options that these words set, or the fault UserMapInvalid
 abbrev pub options_with_user_map : List (ℕ × WordMeaning) → Result OptionsView OptionFault
 options_with_user_map said = check_user_map (options_of_words said) (last_exact (all_map_options said))
 
--- the options of a file's bytes, or the first fault: that of the line, then of the lowest
--- malformed word, then of the user map
+-- the options of a file's bytes, or the first fault: that of the line (TooLong, OpenQuote), then
+-- that of the first malformed word, then UserMapInvalid
 abbrev pub options_of : List ℕ → Result OptionsView OptionFault
 options_of bytes = do
   line ← command_line_of bytes
@@ -277,6 +281,6 @@ IsNumbered (faults.UserMapInvalid word) = 0 < word
 IsNumbered (faults.BadNuma word) = 0 < word
 IsNumbered faults.Memory = Unit {0}
 
--- reading the line allocates: it has an edit, or the ranges of a plain form of `crashkernel=`
+-- reading these options allocates: there is an edit of the map, or a plain form of `crashkernel=`
 abbrev pub OptionsNeedMemory : OptionsView → Type 0
 OptionsNeedMemory options_view = (0 < length options_view.edits) ⊎ IsSome options_view.crash.plain

@@ -17,7 +17,8 @@ use Rattle.boot_options.specs.Crash.{CrashOptionView, CrashFormView, Plain, High
 use Rattle.boot_options.specs.Kept.{KeepsItems, KeepsLast}
 use Rattle.boot_options.specs.Options.{WordMeaning, OfMap, OfCrash, NumaOff, AddEfi, OptionsView, edit_of}
 
--- the state of the reader after some words; `user_map` is the last `exactmap`
+-- the state of the reader after some words; `user_map` is the last `exactmap`, and how many map
+-- options that add a range must still follow it
 pub record ReadingState : Type 0 where
   pub edits : List Edit
   pub crash : CrashOptionView
@@ -29,12 +30,13 @@ pub record ReadingState : Type 0 where
 abbrev pub start_state : ReadingState
 start_state = record { edits = []; crash = no_crash; numa_off = false; add_efi = false; user_map = None }
 
--- the user map after one more option that adds a range: one fewer is still missing
+-- the last `exactmap` after one more map option that adds a range: the number of missing ones is
+-- one less, but never below 0
 abbrev pub user_map_less_one : UserMap → UserMap
 user_map_less_one m = record { word = m.word; wanting = m.wanting - 1 }
 
--- the user map after another map option, in the word `number`. After `exactmap` two options that
--- add a range are missing.
+-- the last `exactmap` after another map option, in the word `number`. After `exactmap` two options
+-- that add a range are missing.
 abbrev pub user_map_after_option : ℕ → MapOption → Option UserMap → Option UserMap
 user_map_after_option number ExactMap m = Some (record { word = number; wanting = 2 })
 user_map_after_option number (Adding edit) m = option_map user_map_less_one m
@@ -55,13 +57,13 @@ abbrev pub after_map_options : ℕ → ReadingState → List MapOption → Readi
 after_map_options number st [] = st
 after_map_options number st (p ∷ ps) = after_map_options number (after_map_option number st p) ps
 
--- the `crashkernel=` options after another value: it replaces an earlier value of the same form
+-- the last values of `crashkernel=` after another value: it replaces an earlier value of its form
 abbrev pub crash_option_after_form : CrashOptionView → CrashFormView → CrashOptionView
 crash_option_after_form c (Plain form) = record { plain = Some form; high = c.high; low = c.low }
 crash_option_after_form c (High size) = record { plain = c.plain; high = Some size; low = c.low }
 crash_option_after_form c (Low size) = record { plain = c.plain; high = c.high; low = Some size }
 
--- the state after another word, whose number is `number`
+-- the state after another word, by the word's meaning; its number is `number`
 abbrev pub reading_after_word : ℕ → ReadingState → WordMeaning → ReadingState
 reading_after_word number st (OfMap ps) = after_map_options number st ps
 reading_after_word number st (OfCrash form) =
@@ -77,7 +79,7 @@ reading_after_word number st NumaOff =
 reading_after_word number st AddEfi =
     record { edits = st.edits; crash = st.crash; numa_off = st.numa_off; add_efi = true; user_map = st.user_map }
 
--- the state after all these words
+-- the state after all these words, each with its number and its meaning
 abbrev pub after_words : ReadingState → List (ℕ × WordMeaning) → ReadingState
 after_words st [] = st
 after_words st (s ∷ said) = after_words (reading_after_word s.0 st s.1) said
@@ -96,14 +98,14 @@ after_meanings st (Err fault) = Err fault
 abbrev pub read_map_options : ℕ → ReadingState → Option (List MapOption) → Option ReadingState
 read_map_options number st ps = option_map (after_map_options number st) ps
 
--- The options at the end of the line. After the last `memmap=exactmap` at least two map options
--- must add a range; otherwise the fault names the word of that `exactmap`. `wanting` is the number
--- of such options that are still missing.
+-- the options at the end of the line, or the fault UserMapInvalid. After the last `memmap=exactmap`
+-- at least two map options must add a range. `wanting` is how many of these are missing, and `word`
+-- the number of the word of that `exactmap`.
 abbrev pub options_of_end_state : OptionsView → Option UserMap → Result OptionsView OptionFault
 options_of_end_state chosen None = Ok chosen
 options_of_end_state chosen (Some m) = if m.wanting == 0 then Ok chosen else Err (UserMapInvalid m.word)
 
--- the options that the state gives at the end of the line, or the fault of the user map
+-- the options that the state gives at the end of the line, or the fault UserMapInvalid
 abbrev pub at_line_end : ReadingState → Result OptionsView OptionFault
 at_line_end st =
     options_of_end_state (record { edits = st.edits; crash = st.crash; numa_off = st.numa_off; add_efi = st.add_efi }) st.user_map
@@ -133,7 +135,7 @@ abbrev pub ReadsAs : {X : Type 0} → (X → Reading) → Result X OptionFault �
 ReadsAs view (Ok x) definition = IsInState (view x) definition
 ReadsAs view (Err fault) definition = definition ≡ Err fault
 
--- the program ran out of memory for the ranges of the last plain form
+-- there is a plain form of `crashkernel=`, and the program ran out of memory for its ranges
 abbrev pub LacksRanges : Option PlainRead → Type 0
 LacksRanges None = ⊥
 LacksRanges (Some kept) = IsErr kept.ranges

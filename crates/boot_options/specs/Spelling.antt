@@ -27,7 +27,7 @@ pub record SpellsPlace (s a : List ℕ) (range : RangeView) : Type 0 where
 pub data SpellsType (mark : List ℕ) : List ℕ → ℕ → Type 0 where
   a_type : (text : List ℕ) (kind : ℕ) → IsNumber text kind → 0 < kind → kind < 2 ^ 32 → SpellsType mark (mark ++ text) kind
 
--- the text gives no type: it is empty, or the mark and a 0
+-- the text gives no type: it is empty, or the mark and the number 0
 pub data SpellsNoType (mark : List ℕ) : List ℕ → Type 0 where
   nothing : SpellsNoType mark []
   type_zero : (text : List ℕ) → IsNumber text 0 → SpellsNoType mark (mark ++ text)
@@ -73,7 +73,8 @@ abbrev pub SpellsEnd : List ℕ → Option ℕ → ℕ → Type 0
 SpellsEnd text None start = text ≡ []
 SpellsEnd text (Some end) start = IsSize text end × (start < end)
 
--- the text spells the range: `START-END:SIZE`, where END may be missing
+-- the text spells the range of total memory and its size: `START-END:SIZE`, where END may be
+-- missing
 pub record SpellsRange (spelled : List ℕ) (r : CrashRange) : Type 0 where
   pub start_text : List ℕ
   pub end_text : List ℕ
@@ -83,7 +84,7 @@ pub record SpellsRange (spelled : List ℕ) (r : CrashRange) : Type 0 where
   pub end : SpellsEnd end_text r.end r.start
   pub size : IsSize size_text r.size
 
--- each text spells the range at the same index of the other list
+-- each text spells the range at the same index of the second list; both lists have the same length
 abbrev pub SpellRanges : List (List ℕ) → List CrashRange → Type 0
 SpellRanges [] [] = Unit {0}
 SpellRanges [] (r ∷ rs) = ⊥
@@ -161,7 +162,7 @@ pub data OptionWords : List (List ℕ) → List (List ℕ) → Type 0 where
   a_word : (raw word : List ℕ) (raws words : List (List ℕ)) → Unquotes raw word → word ≢ codes "--" → OptionWords raws words
       → OptionWords (raw ∷ raws) (word ∷ words)
 
--- the lowest malformed word of the line in these bytes has this number, counted from 1, and is
+-- the first malformed word of the line in these bytes has this number, counted from 1, and is
 -- malformed as `IsBad` says
 pub record IsFirstWordFault (bytes : List ℕ) (number : ℕ) (IsBad : List ℕ → Type 0) : Type 0 where
   pub line : List ℕ
@@ -210,7 +211,7 @@ SpellEach number [] (s ∷ said) = ⊥
 SpellEach number (word ∷ words) [] = ⊥
 SpellEach number (word ∷ words) (s ∷ said) = (s.0 ≡ number) × SpellsMeaning word s.1 × SpellEach (number + 1) words said
 
--- the words of the line have these meanings, in order
+-- the words of the line up to `--` have these meanings, in order, and are numbered from 1
 pub record SpellsLine (line : List ℕ) (said : List (ℕ × WordMeaning)) : Type 0 where
   pub raws : List (List ℕ)
   pub words : List (List ℕ)

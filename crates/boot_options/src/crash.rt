@@ -24,28 +24,29 @@ use text_words::{Separators, next_part, split_once};
 /// in bytes.
 #[derive(Clone, Copy, Debug, PartialEq, Eq)]
 pub struct CrashRange {
-    /// The least total memory of the range.
+    /// The least total memory in the range, in bytes.
     pub start: u64,
-    /// The total memory at which the range ends, itself not in the range. It is greater than
-    /// `start`. `None` if the range has no end.
+    /// The least total memory above the range, in bytes, which is greater than `start`. `None` if
+    /// the range has no end.
     pub end: Option<u64>,
-    /// The size that is set aside; 0 means nothing.
+    /// The size in bytes that is set aside; 0 means nothing.
     pub size: u64,
 }
 
-/// The plain form of `crashkernel=`.
+/// The plain form of `crashkernel=`: `S`, `S@B`, or sizes by ranges of total memory such as
+/// `512M-2G:64M,2G-:128M@16M`.
 #[derive(Debug, Drop)]
 pub struct CrashPlain {
-    /// The ranges, in the order of the value; at least one.
+    /// The ranges of total memory with their sizes, in the order of the value; at least one.
     pub ranges: Vec<CrashRange>,
-    /// The first address of the area; 0 if the kernel chooses it.
+    /// The first address of the area, in bytes; 0 if the kernel chooses it.
     pub base: u64,
 }
 
-/// The `crashkernel=` options of a line: the last value of each form.
+/// What the `crashkernel=` options of a line request: the last value of each of the three forms.
 #[derive(Debug, Drop)]
 pub struct CrashOption {
-    /// The plain form, if the line has one.
+    /// The last value that is neither `S,high` nor `S,low`.
     pub plain: Option<CrashPlain>,
     /// The size in bytes of the last `S,high`.
     pub high: Option<u64>,
@@ -53,7 +54,8 @@ pub struct CrashOption {
     pub low: Option<u64>,
 }
 
-/// A plain form that has been read. The program may have run out of memory for its ranges.
+/// The plain form of a value of `crashkernel=` (neither `S,high` nor `S,low`) after it has been
+/// read. The program may have run out of memory for its ranges.
 #[derive(Drop)]
 pub struct PlainRead {
     /// The ranges, or `Memory` if the program ran out of memory for one of them.
@@ -61,7 +63,8 @@ pub struct PlainRead {
     pub base: u64,
 }
 
-/// The form of one value of `crashkernel=`. `High` and `Low` have the size in bytes.
+/// One value of `crashkernel=`, by its form: plain, `S,high` or `S,low`. `High` and `Low` have the
+/// size in bytes.
 #[derive(Drop)]
 pub enum CrashForm {
     Plain(PlainRead),
@@ -69,8 +72,8 @@ pub enum CrashForm {
     Low(u64),
 }
 
-/// Returns the form of a value of `crashkernel=` (`parse_crashkernel`), or `None` if it is
-/// malformed.
+/// Reads a value of `crashkernel=` (`parse_crashkernel`). Returns `None` if it is malformed. If the
+/// program runs out of memory for the ranges of a plain form, [`PlainRead::ranges`] says so.
 #[tactic(auto, unfolding(crate::specs::Crash::crash_form_of))]
 pub fn read_crash_form(alloc: Global, value: &[u8]) -> Option<CrashForm>
     ensures { KeepsForm result (crash_form_of value.now) }
@@ -84,8 +87,8 @@ pub fn read_crash_form(alloc: Global, value: &[u8]) -> Option<CrashForm>
     }
 }
 
-/// Reads a plain form with ranges: `R:S,R:S..`, with an optional `@B` at the end. Returns `None`
-/// if it is malformed.
+/// Reads a plain form of `crashkernel=` with ranges of total memory, such as
+/// `512M-2G:64M,2G-:128M`, and an optional `@B` at the end. Returns `None` if it is malformed.
 fn read_ranges_form(alloc: Global, value: &[u8]) -> Option<CrashForm>
     ensures { KeepsForm result (ranges_form value.now) }
 {
@@ -94,8 +97,8 @@ fn read_ranges_form(alloc: Global, value: &[u8]) -> Option<CrashForm>
     Some(CrashForm::Plain(PlainRead { ranges, base }))
 }
 
-/// Reads a plain form without ranges, `S` or `S@B`, as one range from 0 without an end. Returns
-/// `None` if it is malformed.
+/// Reads a plain form of `crashkernel=` without ranges of total memory, `S` or `S@B`. Returns it as
+/// one range from 0 without an end, or `None` if it is malformed.
 fn read_simple_form(alloc: Global, value: &[u8]) -> Option<CrashForm>
     ensures { KeepsForm result (simple_form value.now) }
 {
@@ -112,7 +115,7 @@ fn read_simple_form(alloc: Global, value: &[u8]) -> Option<CrashForm>
     }))
 }
 
-/// Returns a list that has only this range.
+/// Returns a list of one member, the range.
 ///
 /// # Errors
 ///
@@ -125,8 +128,8 @@ fn one_range(alloc: Global, range: CrashRange) -> Result<Vec<CrashRange>, Memory
     Ok(ranges)
 }
 
-/// Returns the form for the size before the comma and the name after it: `S,high` or `S,low`.
-/// Returns `None` if either is malformed.
+/// Reads a value of `crashkernel=` that has a comma: `size` is the text before the comma, and
+/// `name` the text after it, which must be `high` or `low`. Returns `None` if either is malformed.
 fn read_suffix_form(size: &[u8], name: &[u8]) -> Option<CrashForm>
     ensures { KeepsForm result (suffix_form (size.now, name.now)) }
 {
@@ -140,8 +143,9 @@ fn read_suffix_form(size: &[u8], name: &[u8]) -> Option<CrashForm>
     None
 }
 
-/// Returns the text before the first `@`, and the base after the `@`. If there is no `@`, returns
-/// the whole text and base 0. Returns `None` if the base is malformed.
+/// Splits a plain form of `crashkernel=` at its first `@`. Returns the text before the `@` and the
+/// base, the size that the text after it spells. Without an `@`, returns the whole text and base 0.
+/// Returns `None` if the base is malformed.
 fn text_and_base(text: &[u8]) -> Option<(&[u8], u64)>
     ensures { option_map (λ place. (place.0.now, place.1)) result ≡ text_and_base text.now }
 {
@@ -151,8 +155,9 @@ fn text_and_base(text: &[u8]) -> Option<(&[u8], u64)>
     }
 }
 
-/// Reads ranges with commas between them. Returns `None` if one is malformed, else the ranges, or
-/// `Memory` if the program ran out of memory for them.
+/// Reads ranges of total memory with commas between them. Returns `None` if one is malformed,
+/// `Some(Ok(..))` with all ranges in order, or `Some(Err(Memory))` if the program ran out of memory
+/// for them.
 fn read_ranges(alloc: Global, text: &[u8]) -> Option<Result<Vec<CrashRange>, Memory>>
     ensures { KeepsRanges result (crash_ranges_of (parts_in (any_byte comma) text.now)) }
 {
@@ -169,7 +174,8 @@ fn read_ranges(alloc: Global, text: &[u8]) -> Option<Result<Vec<CrashRange>, Mem
     Some(ranges)
 }
 
-/// Reads one range: `start-end:S` or `start-:S`. Returns `None` if it is malformed.
+/// Reads one range of total memory and its size: `start-end:S` or `start-:S`. Returns `None` if it
+/// is malformed, or if `end` isn't above `start`.
 fn read_range(text: &[u8]) -> Option<CrashRange>
     ensures { result ≡ crash_range_of text.now }
 {
@@ -195,7 +201,8 @@ fn read_end(text: &[u8]) -> Option<Option<u64>>
     Some(Some(read_whole_size(text)?))
 }
 
-/// Law: a value of `crashkernel=` is read as a form exactly if the grammar spells it as that form.
+/// Law: a value of `crashkernel=` is read as a form exactly if the grammar spells it as that form
+/// (`SpellsForm`).
 pub fn crash_forms_are_spelled()
     ensures { (value : List ℕ) (form : CrashFormView)
         → crash_form_of value ≡ Some form ↔ SpellsForm value form }

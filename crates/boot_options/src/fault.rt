@@ -4,8 +4,8 @@
 
 use bm_base::Memory;
 
-/// The reason why a command line is refused. `word` is the number of a word of the line; the first
-/// word is 1.
+/// The reason why a command line is refused. `word` is the number of the word at fault, counted
+/// from 1 in the line.
 #[derive(Clone, Copy, Debug, PartialEq, Eq)]
 pub enum OptionFault {
     /// The line has more than 2,047 bytes.
@@ -18,14 +18,14 @@ pub enum OptionFault {
     BadMemmap { word: u32 },
     /// The word is a malformed `crashkernel=`.
     BadCrash { word: u32 },
-    /// The line has no other fault, but after its last `exactmap` there are fewer than two map
-    /// options that add a range of any type (`@`, `#`, `$`, `!`, or `%` with only `+t`; an empty
-    /// range counts). `word` is the number of the word of that `exactmap`.
+    /// The line has no other fault, but fewer than two map options after its last `memmap=exactmap`
+    /// add a range. Those that add one are `S@A`, `S#A`, `S$A`, `S!A` and `S%A+t`, even if S is 0.
+    /// `word` is the number of the word of that `exactmap`.
     UserMapInvalid { word: u32 },
     /// The word is a malformed `numa=`.
     BadNuma { word: u32 },
-    /// The program ran out of memory for an edit or a range. This is returned only for a line
-    /// without any other fault.
+    /// The program ran out of memory for an edit of the map or a range of `crashkernel=`. This is
+    /// returned only for a line without any other fault.
     Memory,
 }
 

@@ -18,10 +18,11 @@ ghost use Rattle.boot_options.specs.Spelling.{SpellsMapOption, SpellsMapOptions,
 use bm_base::{Range, read_number, read_size};
 use e820_model::{E820_TYPE_ACPI, E820_TYPE_PRAM, E820_TYPE_RAM, E820_TYPE_RESERVED, Edit};
 
-/// A map option: the value of `mem=`, or one of the texts between the commas of `memmap=`.
+/// A map option: the value of `mem=`, or one of the texts between the commas of `memmap=`. Its edit
+/// is the change that it makes to the map.
 #[derive(Clone, Copy, Debug, PartialEq, Eq)]
 pub enum MapOption {
-    /// The map options that follow replace the firmware's map (`exactmap`).
+    /// The map options that follow replace the firmware's map (`memmap=exactmap`).
     ExactMap,
     /// Adds a range of some type. The edit is `None` if the range is empty.
     Adding(Option<Edit>),
@@ -30,7 +31,8 @@ pub enum MapOption {
     Other(Option<Edit>),
 }
 
-/// Reads the value of `mem=` (`parse_memopt`). Returns `None` if it is malformed.
+/// Reads the value of `mem=` (`parse_memopt`). A size makes RAM end at that address; `nopentium`
+/// changes nothing. Returns `None` if the value is neither, or if the size is 0.
 pub fn read_mem(text: &[u8]) -> Option<MapOption>
     ensures { result ≡ mem_of text.now }
 {
@@ -44,8 +46,8 @@ pub fn read_mem(text: &[u8]) -> Option<MapOption>
     Some(MapOption::Other(ram_above(size)))
 }
 
-/// Reads a text between the commas of `memmap=` (`parse_memmap_one`). Returns `None` if it is
-/// malformed.
+/// Reads a text between the commas of `memmap=` (`parse_memmap_one`): `exactmap`, a size S, or one
+/// of `S@A`, `S#A`, `S$A`, `S!A` and `S%A-f+t`. Returns `None` if it is malformed.
 pub fn read_map_option(text: &[u8]) -> Option<MapOption>
     ensures { result ≡ map_option_of text.now }
 {
@@ -56,8 +58,9 @@ pub fn read_map_option(text: &[u8]) -> Option<MapOption>
     map_option_by_mark(size, rest)
 }
 
-/// Returns the map option for a size and the text after it, which begins with a mark. Returns
-/// `None` if the text is malformed. If the text is empty, the option makes RAM end at `size`.
+/// Returns the map option that consists of the size `size` and `text`, the text after the size. The
+/// text begins with `@`, `#`, `$`, `!` or `%`; if it is empty, the option makes RAM end at `size`.
+/// Returns `None` if the text is malformed.
 fn map_option_by_mark(size: u64, text: &[u8]) -> Option<MapOption>
     ensures { result ≡ map_option_by_mark size text.now }
 {
@@ -74,8 +77,9 @@ fn map_option_by_mark(size: u64, text: &[u8]) -> Option<MapOption>
     }
 }
 
-/// Returns the map option that adds `size` bytes of type `kind` at the address in `place`. Returns
-/// `None` if the address is malformed, or the range would exceed 2^64 - 1.
+/// Returns the map option that adds `size` bytes of type `kind` from the address on that the text
+/// `place` spells. Returns `None` if the address is malformed, or if the address plus `size`
+/// exceeds 2^64 - 1.
 fn adding_option(kind: u32, size: u64, place: &[u8]) -> Option<MapOption>
     ensures { result ≡ adding_option kind size place.now }
 {
@@ -84,8 +88,9 @@ fn adding_option(kind: u32, size: u64, place: &[u8]) -> Option<MapOption>
     Some(MapOption::Adding(unless_empty(range, Edit::Add { range, kind })))
 }
 
-/// Reads `A-f+t`, the text after `S%`: an address, and optional types to change from and to.
-/// Returns `None` if it is malformed, or the range would exceed 2^64 - 1.
+/// Reads `A-f+t`, the text after `S%` in a map option: an address, and optional types to change
+/// from (`-f`) and to (`+t`). Returns `None` if it is malformed, or if the address plus `size`
+/// exceeds 2^64 - 1.
 fn percent_map_option(size: u64, place: &[u8]) -> Option<MapOption>
     ensures { result ≡ percent_map_option size place.now }
 {
@@ -99,8 +104,10 @@ fn percent_map_option(size: u64, place: &[u8]) -> Option<MapOption>
     retype_option(range, from, to)
 }
 
-/// Returns the map option that changes type `from` to type `to` in the range. A type of 0 means
-/// that the option's text doesn't give it. Returns `None` if both types are given and equal.
+/// Returns the map option `S%A-f+t` for its range and types; `from` or `to` is 0 if the text
+/// doesn't give it. With both types it changes `from` to `to`, with only `from` it removes that
+/// type, with only `to` it adds that type, and with neither it removes all types. Returns `None` if
+/// both are given and equal.
 fn retype_option(range: Range, from: u32, to: u32) -> Option<MapOption>
     ensures { result ≡ retype_option range from to }
 {
@@ -113,8 +120,9 @@ fn retype_option(range: Range, from: u32, to: u32) -> Option<MapOption>
     }
 }
 
-/// If the text begins with `mark`, returns the type after it and the rest of the text. Otherwise
-/// returns type 0 and the whole text. Returns `None` if the type is malformed or exceeds 2^32 - 1.
+/// If the text begins with `mark` (`-` or `+`), returns the number of a type after it, and the rest
+/// of the text. Otherwise returns type 0 and the whole text. Returns `None` if the number is
+/// malformed or exceeds 2^32 - 1.
 fn kind_after_mark(mark: u8, text: &[u8]) -> Option<(u32, &[u8])>
     ensures { option_map (λ front. (front.0, front.1.now)) result ≡ kind_after_mark mark text.now }
 {
@@ -127,8 +135,8 @@ fn kind_after_mark(mark: u8, text: &[u8]) -> Option<(u32, &[u8])>
     }
 }
 
-/// Returns the edit that removes RAM from address `size` up to 2^64 - 2, or `None` if there is no
-/// such address.
+/// Returns the edit that removes RAM from address `size` up to 2^64 - 2, the highest address that a
+/// range can have. Returns `None` if `size` is above that address.
 fn ram_above(size: u64) -> Option<Edit>
     ensures { result ≡ ram_above size }
 {
@@ -152,7 +160,8 @@ fn unless_empty(range: Range, edit: Edit) -> Option<Edit>
     if range.size > 0 { Some(edit) } else { None }
 }
 
-/// Returns the size in bytes that the whole text spells, or `None` if it spells none.
+/// Returns the size in bytes that the whole text spells (`memparse`), or `None` if the text isn't a
+/// size.
 pub fn read_whole_size(text: &[u8]) -> Option<u64>
     ensures { result ≡ whole_size text.now }
 {
@@ -160,8 +169,8 @@ pub fn read_whole_size(text: &[u8]) -> Option<u64>
     if rest.is_empty() { Some(size) } else { None }
 }
 
-/// Returns the size in bytes at the start of the text, and the rest of the text. Returns `None` if
-/// the text doesn't start with a size.
+/// Returns the size in bytes at the start of the text (`memparse`), and the rest of the text.
+/// Returns `None` if the text doesn't start with a size, or if the size exceeds 2^64 - 1.
 fn read_front_size(text: &[u8]) -> Option<(u64, &[u8])>
     ensures { option_map (λ front. (front.0, front.1.now)) result ≡ front_size text.now }
 {
@@ -169,8 +178,9 @@ fn read_front_size(text: &[u8]) -> Option<(u64, &[u8])>
     Some((size, text.split_at(taken).1))
 }
 
-/// Returns the number without a suffix at the start of the text, and the rest of the text. Returns
-/// `None` if the text doesn't start with a number.
+/// Returns the number at the start of the text, and the rest of the text. A suffix such as `K`
+/// isn't read. Returns `None` if the text doesn't start with a number, or if the number exceeds
+/// 2^64 - 1.
 fn read_front_number(text: &[u8]) -> Option<(u64, &[u8])>
     ensures { option_map (λ front. (front.0, front.1.now)) result ≡ front_number text.now }
 {
@@ -178,8 +188,8 @@ fn read_front_number(text: &[u8]) -> Option<(u64, &[u8])>
     Some((number, text.split_at(taken).1))
 }
 
-/// Law: the reader accepts exactly what the grammar spells: single map options, the value of
-/// `memmap=` with commas between them, and the value of `mem=`.
+/// Law: the reader accepts exactly what the grammar spells, and with the same meaning: one map
+/// option of `memmap=`, the whole value of `memmap=`, and the value of `mem=`.
 pub fn map_options_are_spelled()
     ensures one { (text : List ℕ) (option : AnyOption) →
         map_option_of text ≡ Some option ↔ SpellsMapOption text option }

@@ -27,7 +27,7 @@ use text_words::{text_before, without_last};
 pub struct Options {
     /// The edits of the map from `mem=` and `memmap=`, in the order of the line.
     pub edits: Vec<Edit>,
-    /// What the `crashkernel=` options request: the last value of each form.
+    /// What the `crashkernel=` options request: the last value of each of their three forms.
     pub crash: CrashOption,
     /// True if the line has `numa=off`: the SRAT isn't used.
     pub numa_off: bool,
@@ -35,16 +35,20 @@ pub struct Options {
     pub add_efi: bool,
 }
 
-/// Reads the options from the bytes of a command line's file.
+/// Reads the options for the memory set-up from the bytes of a file with a command line.
 ///
-/// The line ends before the first zero byte, and one newline at its end is dropped. It has at most
-/// 2,047 bytes (`COMMAND_LINE_SIZE` less the zero byte). The word `--` ends the options.
+/// The line ends before the first zero byte, and one newline at its end is dropped. The word `--`
+/// ends the options.
 ///
 /// # Errors
 ///
-/// - The first fault of the line: `TooLong`, then `OpenQuote`, then the fault of the lowest
-///   malformed word, then `UserMapInvalid`.
-/// - `Memory`: the line has no fault, but the program ran out of memory for an edit or a range.
+/// The first of these that applies:
+///
+/// - `TooLong`: the line has more than 2,047 bytes (`COMMAND_LINE_SIZE` less the zero byte).
+/// - `OpenQuote`: the line has an odd number of quotation marks.
+/// - `BadMem`, `BadMemmap`, `BadCrash`, `BadNuma`: the first malformed word is one of that name.
+/// - `UserMapInvalid`: fewer than two map options after the last `exactmap` add a range.
+/// - `Memory`: the program ran out of memory for an edit or a range.
 pub fn read_options(alloc: Global, bytes: &[u8]) -> Result<Options, OptionFault>
     ensures answers { Answers OptionFault.Memory options_view result (options_of bytes.now) }
     ensures memory { result ≡ Err OptionFault.Memory →
@@ -61,9 +65,9 @@ pub fn read_options(alloc: Global, bytes: &[u8]) -> Result<Options, OptionFault>
 }
 
 /// Law: a line has the fault [`OptionFault::BadMemmap`] with a word's number exactly if that word
-/// is the lowest malformed one, and its name is `memmap`. The faults of `mem`, `crashkernel` and
-/// `numa` follow the same rule. A word is malformed if it has no `=`, or if its value, without
-/// quotation marks, has none of the forms that its name allows.
+/// is the first malformed one, and its name is `memmap`. The faults of `mem`, `crashkernel` and
+/// `numa` follow the same rule. A word with one of these names is malformed if it has no `=`, or if
+/// its value, without quotation marks, has none of the forms that its name allows.
 pub fn malformed_words_are_faults()
     ensures mem { (bytes : List ℕ) (word : ℕ) →
         options_of bytes ≡ Err (faults.BadMem word) ↔ IsFirstWordFault bytes word IsBadMem }
@@ -110,13 +114,14 @@ fn command_line_of(bytes: &[u8]) -> Result<&[u8], OptionFault>
     Ok(line)
 }
 
-/// Returns the options after all words have been read. Allocates nothing.
+/// Returns the options of the line from the state of the reader after the last word. Allocates
+/// nothing.
 ///
 /// # Errors
 ///
-/// - `UserMapInvalid`: fewer than two map options that add a range follow the last `exactmap`.
-/// - `Memory`: the user map is complete, but the program ran out of memory for an edit or a range
-///   while it read the words.
+/// - `UserMapInvalid`: fewer than two map options after the last `exactmap` add a range.
+/// - `Memory`: the program ran out of memory for an edit or a range while it read the words.
+///   `UserMapInvalid` comes before it.
 fn finish(reading: Reading) -> Result<Options, OptionFault>
     ensures answers { (st : ReadingState) → IsReadTo reading st →
         Answers OptionFault.Memory options_view result (at_line_end st) }
@@ -156,11 +161,11 @@ fn finish_crash(crash: CrashRead) -> Result<CrashOption, Memory>
     })
 }
 
-/// Returns the last plain form with its ranges, or `None` if the line has none.
+/// Returns the plain form of the last `crashkernel=` that has one, or `None` if there is none.
 ///
 /// # Errors
 ///
-/// - `Memory`: the program ran out of memory for the ranges.
+/// - `Memory`: the program ran out of memory for the ranges of this form.
 fn finish_plain(plain: Option<PlainRead>) -> Result<Option<CrashPlain>, Memory>
     ensures value { (said : Option CrashPlainView) → KeepsLast plain said →
         IfOk result (λ plain. said ≡ option_map crash_plain_view plain) }

@@ -1,9 +1,9 @@
 //! Reads the words of a line, one after another.
 //!
 //! Each word has a meaning by itself, which depends on its name. A [`Reading`] has the result of
-//! all words read before. The edits are kept in the order of the line. Of the user map, only what
-//! the check at the end of the line needs is kept: the word of the last `exactmap`, and how many
-//! map options that add a range must still follow it.
+//! all words read before. The edits are kept in the order of the line. The user map is what follows
+//! the last `exactmap`. Of it, only what the check at the end of the line needs is kept: the number
+//! of the word with that `exactmap`, and how many map options that add a range are still missing.
 //!
 //! Only this file and the values of `crashkernel=` allocate. If memory runs out, the rest of the
 //! line is still read, so that a fault anywhere in it is found. Functions here record that memory
@@ -26,7 +26,8 @@ use e820_model::Edit;
 use std::alloc::Global;
 use text_words::{Separators, next_part, next_word, split_once, unquote};
 
-/// The result of the words that have been read so far.
+/// The result of the words that have been read so far: what they say of the map, of `crashkernel=`,
+/// of `numa=off` and of `add_efi_memmap`, and the last `exactmap`.
 #[derive(Drop)]
 pub struct Reading {
     /// The edits of all words read before, or `Memory` if the program ran out of memory for one of
@@ -38,7 +39,7 @@ pub struct Reading {
     pub user_map: Option<UserMap>,
 }
 
-/// The last value of each form of `crashkernel=` that was read.
+/// The last value of each form of `crashkernel=` that has been read: plain, `S,high` and `S,low`.
 #[derive(Drop)]
 pub struct CrashRead {
     pub plain: Option<PlainRead>,
@@ -46,19 +47,19 @@ pub struct CrashRead {
     pub low: Option<u64>,
 }
 
-/// The last `exactmap` that was read. `word` is the number of its word. At least two map options
-/// that add a range must follow it; `wanting` is the number of those that are still missing.
+/// The last `exactmap` that has been read. `word` is the number of its word. At least two map
+/// options that add a range must follow it; `wanting` is how many of these are still missing.
 #[derive(Clone, Copy, Debug, PartialEq, Eq)]
 pub struct UserMap {
     pub word: u32,
     pub wanting: u32,
 }
 
-/// Reads the words of the line up to `--`. The line has at most 2,047 bytes.
+/// Reads the words of the line up to the word `--`. The line must have at most 2,047 bytes.
 ///
 /// # Errors
 ///
-/// - The fault of the first malformed word.
+/// - `BadMem`, `BadMemmap`, `BadCrash` or `BadNuma`: the fault of the first malformed word.
 pub fn read_option_words(alloc: Global, line: &[u8]) -> Result<Reading, OptionFault>
     requires { length line.now ≤ LONGEST_LINE }
     ensures { ReadsAs (λ reading. reading) result
@@ -91,12 +92,12 @@ pub fn read_option_words(alloc: Global, line: &[u8]) -> Result<Reading, OptionFa
     Ok(reading)
 }
 
-/// Reads one word, whose number in the line is `number`. A word with none of the options' names
-/// changes nothing.
+/// Reads one word, whose number in the line is `number`, and adds what it says to `reading`. A word
+/// with none of the options' names changes nothing.
 ///
 /// # Errors
 ///
-/// - The fault of the word, if it is malformed.
+/// - `BadMem`, `BadMemmap`, `BadCrash` or `BadNuma`, by the word's name, if the word is malformed.
 fn read_word(
     alloc: Global,
     word: &[u8],
@@ -134,7 +135,8 @@ fn read_word(
     Ok(())
 }
 
-/// Returns the name of a word, and its value without quotation marks if the word has a `=`.
+/// Returns the name of a word, the text before its first `=`, and the value after it without
+/// quotation marks. Without a `=` the whole word is the name, and the value is `None`.
 fn name_value_of(word: &[u8]) -> (&[u8], Option<&[u8]>)
     ensures { (result.0.now, option_map (λ value. value.now) result.1) ≡ name_value_of word.now }
 {
@@ -144,7 +146,8 @@ fn name_value_of(word: &[u8]) -> (&[u8], Option<&[u8]>)
     }
 }
 
-/// Reads the value of `memmap=`: map options with commas between them.
+/// Reads the value of `memmap=`, map options with commas between them, and adds their effect to
+/// `reading`. `number` is the number of the word.
 ///
 /// # Errors
 ///
@@ -167,7 +170,8 @@ fn read_memmap(value: &[u8], number: u32, reading: &mut Reading) -> Result<(), O
     Ok(())
 }
 
-/// Reads the value of `crashkernel=`. It replaces an earlier value of the same form.
+/// Reads the value of `crashkernel=` into `reading`. It replaces an earlier value of the same form.
+/// `number` is the number of the word.
 ///
 /// # Errors
 ///
@@ -191,8 +195,8 @@ fn read_crash(
     Ok(())
 }
 
-/// Adds one map option of the word `number` to `reading`: its edit, and its effect on the user
-/// map.
+/// Adds a map option to `reading`: appends its edit, and updates the last `exactmap` and the number
+/// of options that are missing after it. `number` is the number of the option's word.
 fn add_map_option(option: &MapOption, number: u32, reading: &mut Reading)
     ensures { (st : ReadingState) → IsReadTo reading.old st →
         IsReadTo reading.new (after_map_option number st option.now) }
@@ -213,7 +217,8 @@ fn add_map_option(option: &MapOption, number: u32, reading: &mut Reading)
     }
 }
 
-/// Returns the user map after one more option that adds a range: one fewer is still missing.
+/// Returns the last `exactmap` after one more map option that adds a range: `wanting`, the number
+/// of missing ones, is one less, but never below 0.
 fn user_map_less_one(map: &Option<UserMap>) -> Option<UserMap>
     ensures { result ≡ option_map user_map_less_one map.now }
 {
@@ -224,7 +229,7 @@ fn user_map_less_one(map: &Option<UserMap>) -> Option<UserMap>
 }
 
 /// Appends the item, if there is one, to the list. If the program runs out of memory, the list
-/// becomes `Err(Memory)`.
+/// becomes `Err(Memory)` and stays so in later calls.
 pub fn append_item<T: Copy>(item: &Option<T>, items: &mut Result<Vec<T>, Memory>)
     ensures { (before : List T) → KeepsItems items.old before →
         KeepsItems items.new (before ++ cons_option item.now []) }
