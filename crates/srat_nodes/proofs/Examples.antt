@@ -106,7 +106,7 @@ lowest_examples : (lower_node 3 (block 1 0 1) ≡ 1) × (lower_node 0 (block 1 0
     × (lowest_node [] ≡ 0)
 lowest_examples = (refl, refl, refl, refl)
 
--- the node of an address by the kept blocks, and the memory that they don't cover, which gets the
+-- the node of an address by the kept blocks, and the memory to which they give none, which gets the
 -- lowest node
 by_kept_examples : (nodes_by_blocks (kept 3 (block 2 1 1) ∷ kept 4 (block 2 3 1) ∷ []) 2 ≡ Some 2)
     × (node_outside_blocks below_4 (kept 3 (block 2 1 1) ∷ kept 4 (block 2 3 1) ∷ []) 0 ≡ Some 2)

@@ -65,8 +65,8 @@ pub fn least_overlap()
 {}
 
 /// Law: an address has the same node as the first address of its frame. If memory consists of whole
-/// frames, this also holds for memory outside all blocks. So the first addresses of frames are
-/// enough to count the frames without a node.
+/// frames, this also holds for memory to which the blocks give no node. So the first addresses of
+/// frames are enough to count the frames without a node.
 pub fn frame_has_one_node()
     ensures node { (memory : ℕ → Bool) (domains : List ℕ) (blocks : List AnyBlock) (x : ℕ) →
         nodes_by_blocks (keep_blocks memory domains blocks) x
@@ -78,8 +78,8 @@ pub fn frame_has_one_node()
 {}
 
 /// Law: if no two kept blocks of different nodes overlap, each node of a kept block has at least
-/// one byte of memory. If any block is kept, every node that an address gets, by the blocks or as
-/// memory outside all blocks, is the node of a kept block.
+/// one byte of memory. If any block is kept, every node that an address gets is the node of a kept
+/// block, also that of memory to which the blocks give no node.
 pub fn kept_nodes_have_memory()
     ensures memory { (memory : ℕ → Bool) (domains : List ℕ) (blocks : List AnyBlock) →
         first_clash (keep_blocks memory domains blocks) ≡ None →

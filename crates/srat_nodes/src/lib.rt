@@ -7,9 +7,9 @@
 //!
 //! [`judge_srat`] takes the ranges of memory and the content of the table, and returns a
 //! [`SratNodes`]. Its [`Why`] says whether the table is used, and if not, for what reason. For a
-//! table that is used, there are also the domain of each node, the runs of addresses with a node,
-//! and the runs of memory that no block covers. Memory outside all blocks gets the lowest node
-//! that has a block.
+//! table that is used, there are also the domain of each node, the runs of addresses to which the
+//! blocks give a node, and the runs of memory to which they give none. The latter get the lowest
+//! node that has a block.
 //!
 //! The definitions look at each address by itself (`specs/NodeAt.antt`). An address has a node if
 //! it lies in a kept block of that node. It also has the node if it lies between two such blocks,
