@@ -32,62 +32,69 @@ use Rattle.memblock_grow.specs.MemblockView.{MemblockView}
 use Rattle.early_script.specs.declared.outcome.Answer.{Answer}
 use Rattle.early_script.specs.LiveView.{LiveView}
 
--- what the e820 table returns when it is asked for its map (`Table::runs`)
+-- the result of `Table::runs`, by which the e820 table returns the finished map: its runs, each a
+-- range of addresses with an e820 type; or the error
 abbrev pub TableMapResult : Type 0
 TableMapResult = Result (Vec (RunOf ℕ) Global) MapFault
 
--- the stop for an error of the e820 table: too many runs stop the boot, and out of memory stays out
--- of memory
+-- why the boot stops if the e820 table returns this error instead of the map: the map has too many
+-- runs, or the program is out of memory
 abbrev pub stop_of_map : MapFault → Stop
 stop_of_map (faults.MapFull runs) = stops.MapFull runs
 stop_of_map faults.Memory = stops.Memory
 
--- the map, unless there is a reason why the boot refuses it; if so, the stop for that reason
+-- `Ok` of the map if there is no reason to refuse it; else the stop of the boot for the reason,
+-- which is that no frame is usable or that too many are
 abbrev pub map_or_stop : Option MapStop → List (RunOf ℕ) → Result (List (RunOf ℕ)) Stop
 map_or_stop None map = Ok map
 map_or_stop (Some reason) map = Err (stop_of (cause_of_map reason))
 
--- the map that the e820 table returned, if it has 1 to 2^32 usable frames below `reach`, the limit
--- of physical addresses; else the stop
+-- the map that the e820 table returned, if it has 1 to 2^32 usable frames below the address
+-- `reach`, the limit of physical addresses. Otherwise why the boot stops: the number of usable
+-- frames is refused, or the table returned an error.
 abbrev pub accept_map : ℕ → TableMapResult → Result (List (RunOf ℕ)) Stop
 accept_map reach (Ok runs) = map_or_stop (judge_frames (types_below reach (value_at runs.items))) runs.items
 accept_map reach (Err fault) = Err (stop_of_map fault)
 
--- What the e820 table returned decides how the stages that accept the map end. If the table
--- returned a map, the map's number of usable frames decides whether the boot stops. If the map has
--- too many runs, the boot stops. If the program was out of memory, this proposition says nothing.
+-- How the stages that accept the map (`judge_map`) end, by what the e820 table returned. If it
+-- returned the map, they end as the check of the number of usable frames does. If the map has too
+-- many runs, they stop the boot with `MapFull`. If the program was out of memory, this proposition
+-- says nothing.
 abbrev pub DecidesMapStages : InputsView → TableMapResult → Type 0
 DecidesMapStages given (Ok runs) = judge_map given ≡ usable_frames_stage given (begin_with_map runs.items given.options)
 DecidesMapStages given (Err (faults.MapFull runs)) = judge_map given ≡ Err (causes.MapFull runs)
 DecidesMapStages given (Err faults.Memory) = Unit {0}
 
--- table `w` lies in the bytes of `store`, at the place that `head` gives, and has the records that
--- `items` give
+-- memblock's table `w` (memory or reserved) lies in the bytes of `store`, at the address that
+-- `head` gives, and its records are those that the journal items `items` give
 pub record IsStoredTable (w : Which) (items : List Item) (store : List ExtentView) (head : Head) : Type 0 where
   pub table : TableView
   pub stands : IsInStore table store
   pub told : head ≡ head_of table
   pub records : table.records ≡ records_of w items
 
--- `buddy` gives each frame the same answer, free on a node or not free, as the records of the two
--- tables do; the tables are read from the bytes of `store`, at the places that `heads` gives
+-- For each frame, `buddy` and the records of memblock's two tables agree whether the frame is free,
+-- and on which node. The records are read from the bytes of `store`, at the addresses that `heads`
+-- gives.
 abbrev pub IsFreeByStore : List ExtentView → Heads → BuddyView → Type 0
 IsFreeByStore store heads buddy =
     (frame : ℕ) → node_of_free_frame buddy frame
     ≡ free_node_in (value_at (records_of_head store heads.memory)) (value_at (records_of_head store heads.reserved)) frame
 
--- each byte of memory has the value that the journal of `m` and the fills `fills` give it
+-- each byte of memory has the value that results from the journal of `m` and from `fills`, the
+-- writes of scripts to memory
 abbrev pub HasBytesOfHistory : List Fill → MemblockView → Type 0
 HasBytesOfHistory fills m = AreBytesFromHistory m.kernel m.journal.items fills (byte_of m.tables.store)
 
--- the state of the boot after lines of a script: what `made` has, with the items of memblock `m`,
--- the live IDs `ids`, the fills `fills` and the outcomes `answers`
+-- the state `made` of the boot, updated after lines of a script ran: the journal items are those of
+-- memblock `m`, `ids` has the range of each ID that is in use, `fills` the writes to memory, and
+-- `answers` the outcome of each line
 abbrev pub made_after_lines : BootSoFar → MemblockView → LiveView → List Fill → List Answer → BootSoFar
 made_after_lines made m ids fills answers = record made { items = m.journal.items; ids = ids; fills = fills; answers = answers }
 
--- the state of the boot after all stages, with the inputs `given`, the map `map`, memblock `m`, the
--- results `later` of the stages after the map, and the live IDs `ids` and fills `fills` of its
--- scripts
+-- The state of the boot after all stages. `given` are the inputs, `map` is the accepted map, and
+-- `later` has the results of the stages after the map. Memblock `m` has the journal items. `ids`
+-- has the range of each ID of a script that is in use, and `fills` the scripts' writes to memory.
 abbrev pub made_after_stages : InputsView → List (RunOf ℕ) → MemblockView → LaterResults → LiveView → List Fill → BootSoFar
 made_after_stages given map m later ids fills = record {
   map = map;
@@ -102,9 +109,10 @@ made_after_stages given map m later ids fills = record {
   answers = later.answers.items;
 }
 
--- The stages after the map ended as the definition says, with memblock `m` and the results `later`.
--- The kernel's image is that of the inputs, and each byte of memory has the value that the journal
--- and the fills of the scripts give it.
+-- The stages after the map end without a stop. Their definition gives the state that is made of
+-- memblock `m`, of the results `later`, and of some `ids` and `fills` of the scripts. The range of
+-- the kernel's image is that of the inputs. Each byte of memory has the value that results from the
+-- journal and from the scripts' writes (`fills`).
 pub record StagesEndWith (extra : ExtraView) (given : InputsView) (map : List (RunOf ℕ)) (m : MemblockView)
     (later : LaterResults) : Type 0 where
   pub ids : LiveView
@@ -114,7 +122,7 @@ pub record StagesEndWith (extra : ExtraView) (given : InputsView) (map : List (R
   pub kernel : m.kernel ≡ given.kernel
   pub holds : HasBytesOfHistory fills m
 
--- if `stop` isn't out of memory, the definition's stages after the map end with this stop too
+-- unless `stop` is out of memory, the definition of the stages after the map ends with `stop` too
 abbrev pub StagesStopWith : ExtraView → InputsView → List (RunOf ℕ) → Stop → Type 0
 StagesStopWith extra given map stop =
     stop ≢ stops.Memory → map_error stop_of (run_each_stage (later_stages extra given) (begin_with_map map given.options)) ≡ Err stop

@@ -1,5 +1,5 @@
--- The items of a boot before any node is known, in the three parts in which the code carries them
--- out.
+-- The journal items (recorded changes of memblock) of a boot until the first MiB is claimed, in the
+-- three parts in which the code writes them.
 use Rattle.std.specs.Prelude.{ℕ, List, [], ◌∷◌, ◌++◌}
 use Rattle.address_runs.specs.Runs.{RunOf}
 use Rattle.memblock_model.specs.declared.owner.Owner.TheVariants as owner
@@ -9,16 +9,17 @@ use Rattle.early_memory.specs.declared.low.TheConstants.{ISA_END_ADDRESS}
 use Rattle.early_memory.specs.EarlyInputs.{EarlyInputs}
 use Rattle.early_memory.specs.FirstItems.{direction_items, early_claims, items_of_map, mirror_items, range_up_to}
 
--- the items before memory is known: the first claims, the limit at the end of the first MiB, and
--- the direction of searches
+-- the journal items before memory is added: the claims of the kernel's image, the first 64 KiB and
+-- the initrd, the allocation limit of 1 MiB, and the direction of searches if they go upward
 abbrev pub items_before_memory : EarlyInputs → List Item
 items_before_memory e = early_claims e.kernel e.initrd ++ (item.Limit ISA_END_ADDRESS ∷ direction_items e.upward)
 
--- the items that turn the map's runs into memory, trim it to whole frames, and mark the mirrored
+-- the journal items that add the map's memory, trim it to whole frames, and mark the mirrored
 -- frames
 abbrev pub items_for_memory_of_map : EarlyInputs → List (RunOf ℕ) → List Item
 items_for_memory_of_map e map = items_of_map e.limit map ++ (item.Trim ∷ mirror_items e.mirrors)
 
--- the items that set the limit to `end`, the end of memory, and claim the first MiB
+-- the journal items that set the allocation limit to the address `end`, where memory ends, and
+-- claim the first MiB
 abbrev pub limit_items : ℕ → List Item
 limit_items end = item.Limit end ∷ item.Claim (range_up_to ISA_END_ADDRESS) owner.Low1M ∷ []

@@ -6,9 +6,9 @@ ghost use Rattle.boot_model.specs.Added.{added_by_run, added_bytes};
 
 use e820_sanitise::{Run, is_memory};
 
-/// Returns the number of bytes of RAM and of the kernel's own memory that the map has below
-/// `reach`, the limit of physical addresses. The bytes of partial frames are included
-/// (`memblock_phys_mem_size`).
+/// Returns the number of bytes below `reach`, the limit of physical addresses, to which the map
+/// gives the type RAM (1) or the kernel's own memory (128). The bytes of partial frames are
+/// included (`memblock_phys_mem_size`).
 pub fn added_bytes(map: &[Run], reach: u64) -> u64
     requires runs { AreRuns map.now }
     requires reach { reach ≤ 2 ^ 52 }
@@ -22,8 +22,8 @@ pub fn added_bytes(map: &[Run], reach: u64) -> u64
     added
 }
 
-/// If the run is RAM or the kernel's own memory, returns the number of its bytes below `reach`;
-/// else returns 0.
+/// If the run has the type RAM (1) or the kernel's own memory (128), returns the number of its
+/// bytes below the address `reach`; else returns 0.
 fn added_by_run(run: &Run, reach: u64) -> u64
     ensures { result ≡ added_by_run reach run.now }
 {

@@ -1,7 +1,7 @@
 //! Hands memory over to the page allocator at the end of the boot, and ends memblock. Zone spans
-//! and free frames are read from the bytes of memblock's two tables, whose places are in their
-//! heads. The page script runs on a copy of the free frames, so the frames that were handed over
-//! stay as they were.
+//! and free frames are read from the bytes of memblock's two tables. A table's head gives its
+//! address and the number of its records. The page script runs on a copy of the free frames, so the
+//! frames that were handed over stay as they were.
 
 ghost use Rattle.std.specs.Prelude.{◌≡◌, ◌^◌, List, IfOk};
 ghost use Rattle.address_runs.specs.Edits.{IsEmptyFrom};
@@ -30,9 +30,9 @@ use zone_spans::{spans, spans_by};
 
 /// Ends memblock and returns the results of the boot. Reads the zone spans (`free_area_init`) and
 /// the free frames (`memblock_free_all`) from the bytes of memblock's two tables. Then builds the
-/// zone lists (`build_zonelists`), and runs the page script on a copy of the free frames. The zone
-/// spans in the results follow the rule for zones of `profile`. `map` is the accepted map, and
-/// `later` has the results of the stages that ran after the map was accepted.
+/// zone lists (`build_zonelists`), and runs the page script on a copy of the free frames. The
+/// results have the zone spans by the rule of `profile`. `map` is the accepted map, and `later` has
+/// the results of the stages that ran after the map was accepted.
 ///
 /// # Errors
 ///

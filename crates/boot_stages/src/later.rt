@@ -1,7 +1,8 @@
-//! Runs the stages after the map in their order: memory, early claims, nodes, the crash area, and
-//! the early script. The sections are placed at the script's `sections` line, or after all its
-//! lines. Each stage is one call on memblock that ends as its definition says (`EndsAsStage`). If
-//! the call returns an error, this module returns the stop of the boot for that error.
+//! Runs the stages that follow once the map is accepted: memory, early claims, nodes, the crash
+//! area, and the early script. The sections are placed at the script's `sections` line, or after
+//! all its lines. Each stage is one call on memblock that ends as its definition says
+//! (`EndsAsStage`). If the call returns an error, this module returns the stop of the boot for that
+//! error.
 
 ghost use Rattle.std.specs.Prelude.{◌≡◌, ◌^◌, [], Ok, IfOk, IfErr};
 ghost use Rattle.address_runs.specs.Runs.{AreRuns};
@@ -30,16 +31,18 @@ use sparse_sections::{Roots, place_roots, present};
 use stage_steps::StageStop;
 use std::alloc::Global;
 
-/// The results of the stages after the map, except for what memblock itself holds.
+/// The results of the stages that run once the map is accepted, except for what memblock itself
+/// holds.
 #[derive(Drop)]
 pub struct LaterResults {
     /// The nodes, and whether the firmware's table of domains gave them.
     pub nodes: Nodes,
-    /// The outcome for the crash area.
+    /// Where the crash area (`crashkernel=`) is reserved, or why it isn't.
     pub crash: Crash,
-    /// The addresses of the section roots.
+    /// The addresses of the table of section roots and of each root (`mem_section`).
     pub roots: Roots,
-    /// The addresses of each section's map and usage data.
+    /// For each section that has memory, the addresses of its page structures (its map) and of its
+    /// usage data.
     pub placed: Vec<Placed>,
     /// The outcome of each line of the early claims.
     pub claim_answers: Vec<Answer>,
@@ -47,8 +50,14 @@ pub struct LaterResults {
     pub answers: Vec<Answer>,
 }
 
-/// Places the section roots, and then the usage data and maps of the sections that have memory
-/// (`sparse_init`).
+/// Allocates from memblock the section roots, and then the usage data and the page structures of
+/// each section that has memory (`sparse_init`). Returns the addresses.
+///
+/// # Errors
+///
+/// - `NoPlace`: no free memory fits one of these allocations.
+/// - `NoTablePlace`: a table of memblock must grow and finds no place.
+/// - `Memory`: the program ran out of memory.
 fn place_sections(
     alloc: Global,
     memblock: &mut Memblock,
@@ -67,8 +76,9 @@ fn place_sections(
     Ok((roots, placed))
 }
 
-/// Runs the stages after the map in their order. `memblock` must be new, and `map` accepted
-/// (`accept_map`).
+/// Runs the stages that follow once the map is accepted: memory, early claims, nodes, the crash
+/// area, and the early script with the placing of sections. `memblock` must be new. `map` must be
+/// accepted (`accept_map`).
 ///
 /// # Errors
 ///

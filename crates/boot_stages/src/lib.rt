@@ -2,12 +2,13 @@
 //! reports (`setup_arch` up to `mem_init`).
 //!
 //! [`boot_with`] follows the definition `boot_with` in `specs/Boot.antt` of `boot_model`, and
-//! [`boot`] is the same with `bootmem`'s own profile and without early claims. Each call here
-//! carries out a stage of that definition or a part of one, and its contract says so:
+//! [`boot`] calls it with `bootmem`'s own profile and without early claims. Each call here carries
+//! out a stage of that definition or a part of a stage, as the call's contract says:
 //!
 //! - `src/map.rt`: The zero page's entries, the extension's entries, and the options' edits with
-//!   the entries of the EFI map go into one table of claims. The table is settled after each of the
-//!   three. Then the BIOS range is trimmed, and the finished map is accepted or stops the boot.
+//!   the entries of the EFI map go into one table of claims. After each of the three, only the
+//!   greatest type claimed for each address is kept (`e820__update_table`). Then the BIOS range is
+//!   trimmed, and the finished map is accepted or stops the boot.
 //! - `src/memory.rt`: The first claims are made, the map's runs become memory in whole frames,
 //!   mirrored memory is marked, and the first MiB is claimed. Each step is one call of memblock.
 //! - `src/later.rt`: Early claims, nodes, the crash area, the early script and the sections follow.
@@ -18,11 +19,10 @@
 //! If a table of memblock must grow and finds no place, the boot stops, except in a line of a
 //! script other than `sections`: such a line is refused, and the boot goes on.
 //!
-//! The layer above may rest on this: the result of [`boot`] is that of the definition, or the
-//! program is out of memory. The law [`table_result_decides_map_stages`] says that the table's
-//! answer for its map decides how the first stages end. A law is an empty function whose contract
-//! is a proven fact. In contracts, a name means the definition in `specs/`, here or in a crate
-//! below.
+//! The layer above can rely on this: the result of [`boot`] is that of the definition, or the
+//! program is out of memory. The law [`table_result_decides_map_stages`] says how the first stages
+//! end, from what the e820 table returns for its map. A law is an empty function whose contract is
+//! a proven fact. In contracts, a name means the definition in `specs/`, here or in a crate below.
 #![tactic(auto)]
 
 mod added;

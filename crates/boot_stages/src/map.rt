@@ -1,5 +1,6 @@
 //! Makes the finished map and decides whether a boot goes on with it. These stages don't need
-//! memblock. The later stages get only the map's runs from the table of claims (`e820_sanitise`).
+//! memblock. The later stages get the map's runs, not the e820 table itself (`Table` of
+//! `e820_sanitise`).
 
 ghost use Rattle.std.specs.Prelude.{◌≡◌, ◌↔◌, IfOk, IsErrOf, OnOk};
 ghost use Rattle.address_runs.specs.Runs.{AreRuns, value_at};
@@ -19,10 +20,10 @@ use e820_sanitise::{MapFault, Run, Table, judge_frames};
 use e820_table::Entry;
 use std::alloc::Global;
 
-/// Returns the table of the finished map. The zero page's entries go into it first, then the
-/// extension's entries, and then the options' edits with the entries `added` after them. The table
-/// is settled after each of these three steps. Last, the BIOS range is trimmed
-/// (`trim_bios_range`).
+/// Returns the e820 table with the finished map. The zero page's entries go into it first, then the
+/// extension's entries, and then the edits of the command line, followed by the entries `added`.
+/// After each of these three steps, only the greatest type claimed for each address is kept
+/// (`e820__update_table`). Last, the BIOS range is trimmed (`trim_bios_range`).
 ///
 /// # Errors
 ///
@@ -61,7 +62,12 @@ pub fn added_entries(inputs: &Inputs) -> &[Entry]
     }
 }
 
-/// Appends `entries` and settles the table (`e820__memory_setup`, `e820__memory_setup_extended`).
+/// Appends `entries`, and then keeps only the greatest type claimed for each address
+/// (`e820__memory_setup`, `e820__memory_setup_extended`).
+///
+/// # Errors
+///
+/// Out of memory.
 fn append_and_sanitise(table: &mut Table, entries: &[Entry]) -> Result<(), Memory>
     requires { EntriesFit entries.now }
     ensures { OnOk result (claims_of table.new ≡ with_extension entries.now (claims_of table.old)) }
@@ -70,8 +76,12 @@ fn append_and_sanitise(table: &mut Table, entries: &[Entry]) -> Result<(), Memor
     table.settle()
 }
 
-/// Applies the edits, appends the entries `added` (`do_add_efi_memmap`), and settles the table
-/// (`e820__finish_early_params`).
+/// Applies the edits of the command line, and appends the entries `added` (`do_add_efi_memmap`).
+/// Then keeps only the greatest type claimed for each address (`e820__finish_early_params`).
+///
+/// # Errors
+///
+/// Out of memory.
 fn edit_and_sanitise(table: &mut Table, edits: &[Edit], added: &[Entry]) -> Result<(), Memory>
     requires types { HaveTypes edits.now }
     requires added_end { EntriesFit added.now }
@@ -89,10 +99,10 @@ fn edit_and_sanitise(table: &mut Table, edits: &[Edit], added: &[Entry]) -> Resu
 ///
 /// # Errors
 ///
-/// - `MapFull`: the map has too many runs
+/// - `MapFull`: `answer` is this error, since the map has too many runs
 /// - `NoRam`: no frame below `reach` is usable
 /// - `TooMuchRam`: more than 2^32 frames below `reach` are usable
-/// - `Memory`: exactly if `answer` is this error
+/// - `Memory`: `answer` is this error
 pub fn accept_map(answer: Result<Vec<Run>, MapFault>, reach: u64) -> Result<Vec<Run>, Stop>
     requires { IfOk answer (λ runs. AreRuns runs.items) }
     ensures answers { Answers Stop.Memory (λ runs. runs.items) result (accept_map reach answer) }

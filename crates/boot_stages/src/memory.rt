@@ -1,7 +1,7 @@
-//! Makes memory from the map: makes the first claims, adds the runs that are memory, marks
-//! mirrored memory, and claims the first MiB. Each call carries out a part of the definition's
-//! list of items (`early_items`), in the order of that list. memblock may grow its tables between
-//! two items.
+//! Makes memory from the map: makes the first claims, adds the runs that are memory, marks mirrored
+//! memory, and claims the first MiB. The definition `early_items` lists the journal items (recorded
+//! changes of memblock) for all of this. Each function here writes a part of that list, in its
+//! order. memblock may grow its tables between two of these items.
 
 ghost use Rattle.std.specs.Prelude.{◌≡◌, ◌-◌, ◌+◌, ◌<◌, [], min, map, IfSome, OnOk};
 ghost use Rattle.std.specs.List.{All};
@@ -36,8 +36,8 @@ fn range_below_address(at: u64) -> Range
     Range { base: 0, size: at }
 }
 
-/// Claims the kernel's image, the first 64 KiB and the initrd, before anything else happens
-/// (`early_reserve_memory`).
+/// Claims the kernel's image, the first 64 KiB, and the initrd if there is one
+/// (`early_reserve_memory`). These are the first calls on memblock, whose journal must be empty.
 fn claim_early(memblock: &mut Memblock, kernel: Range, initrd: Option<Range>) -> Result<(), Refusal>
     requires first { memblock.old.journal.items ≡ [] }
     requires kernel { kernel ≡ memblock.old.kernel }
@@ -57,8 +57,8 @@ fn claim_early(memblock: &mut Memblock, kernel: Range, initrd: Option<Range>) ->
 }
 
 /// Claims the run if firmware sets it aside for a driver (`E820_TYPE_SOFT_RESERVED`). If the run is
-/// memory, adds its part below `reach`, the limit of physical addresses, unless that is empty.
-/// Ignores all other runs (`e820__memblock_setup`).
+/// memory, adds the part of it that lies below `reach`, the limit of physical addresses, unless
+/// that part is empty. Ignores all other runs (`e820__memblock_setup`).
 fn add_run(memblock: &mut Memblock, run: &Run, reach: u64) -> Result<(), Refusal>
     requires some { 0 < run.now.size }
     requires begun { HasFirstItem memblock.old.journal.items }
@@ -94,7 +94,9 @@ fn below_limit(range: Range, reach: u64) -> Range
     }
 }
 
-/// Claims or adds each run of the map, as `add_run` does for one run.
+/// Goes through the runs of the map in order (`e820__memblock_setup`). Claims a run that firmware
+/// sets aside for a driver. Adds the part below `reach`, the limit of physical addresses, of a run
+/// that is memory. Ignores all other runs.
 fn add_map(memblock: &mut Memblock, map: &[Run], reach: u64) -> Result<(), Refusal>
     requires runs { AreRuns map.now }
     requires begun { HasFirstItem memblock.old.journal.items }
@@ -110,8 +112,8 @@ fn add_map(memblock: &mut Memblock, map: &[Run], reach: u64) -> Result<(), Refus
     Ok(())
 }
 
-/// Returns the end of the last record in the memory table, or 0 if the table is empty
-/// (`memblock_end_of_DRAM`).
+/// Returns the end of the last record in memblock's memory table: the address after its last byte.
+/// Returns 0 if the table is empty (`memblock_end_of_DRAM`).
 fn end_of_memory(tables: &Tables) -> u64
     ensures { result ≡ end_of_last_run tables.now.memory.records }
 {
@@ -138,8 +140,9 @@ fn set_search_direction(memblock: &mut Memblock, upward: bool) -> Result<(), Ref
     Ok(())
 }
 
-/// Makes the first claims, limits allocations to the first MiB until memory is known, and sets the
-/// direction of searches.
+/// Claims the kernel's image, the first 64 KiB, and the initrd if there is one. Then limits
+/// allocations to the first MiB, until the map's memory is added, and sets the direction of
+/// searches.
 fn claim_before_memory(memblock: &mut Memblock, inputs: &Inputs) -> Result<(), Refusal>
     requires first { memblock.old.journal.items ≡ [] }
     requires kernel { inputs.now.kernel ≡ memblock.old.kernel }
@@ -178,8 +181,8 @@ fn add_mirrors(memblock: &mut Memblock, mirrors: &[Range]) -> Result<(), Refusal
     Ok(())
 }
 
-/// Marks ranges as mirrored: first those that the words of `bootmem`'s command line give
-/// (`--mirror`), then those of the EFI memory map.
+/// Marks ranges as mirrored: first those of `--mirror` on the program's own command line, then
+/// those of the EFI memory map (`efi_find_mirror`).
 fn mirror_memory(memblock: &mut Memblock, inputs: &Inputs) -> Result<(), Refusal>
     requires { HasFirstItem memblock.old.journal.items }
     ensures ends { EndsAsStage (items_with_growths
@@ -217,8 +220,8 @@ fn add_memory_of_map(memblock: &mut Memblock, inputs: &Inputs, map: &[Run]) -> R
     mirror_memory(memblock, inputs)
 }
 
-/// Limits allocations to addresses below `end` (`memblock_set_current_limit`), and claims the
-/// first MiB (`reserve_real_mode`).
+/// Limits allocations to addresses below `end`, the end of memory (`memblock_set_current_limit`),
+/// and claims the first MiB (`reserve_real_mode`).
 fn limit_and_claim_first_mib(memblock: &mut Memblock, end: u64) -> Result<(), Refusal>
     requires { HasFirstItem memblock.old.journal.items }
     ensures ends { EndsAsStage (items_with_growths (limit_items end)) refusal_for result
@@ -235,8 +238,8 @@ fn limit_and_claim_first_mib(memblock: &mut Memblock, end: u64) -> Result<(), Re
 ///
 /// # Errors
 ///
-/// - a table must grow and finds no place
-/// - out of memory
+/// - `NoGapForTable`: a table of memblock must grow and finds no place.
+/// - `Memory`: the program ran out of memory.
 pub fn make_memory(memblock: &mut Memblock, inputs: &Inputs, map: &[Run]) -> Result<(), Refusal>
     requires first { memblock.old.journal.items ≡ [] }
     requires kernel { inputs.now.kernel ≡ memblock.old.kernel }

@@ -1,6 +1,7 @@
 //! The whole boot: calls the stages in their order. Each stage's contract is proved in its own
-//! crate. The proof here shows that the calls together are the boot of the definition, so the facts
-//! of `conservation` hold for the result.
+//! crate. The proof here shows that these calls together make the boot that `boot_model` defines.
+//! So the facts that `conservation` proves about that boot hold for the result: for example, each
+//! usable frame is claimed or in exactly one free block.
 
 ghost use Rattle.std.specs.Prelude.{◌≡◌, ℕ, Ok, IfOk};
 ghost use Rattle.address_runs.specs.Runs.{AreRuns};
@@ -27,8 +28,9 @@ use std::alloc::Global;
 /// Runs the boot (`setup_arch`) up to the handover (`mem_init`) and returns all that it made. The
 /// boot takes these steps in order:
 ///
-/// 1. The zero page's entries, the extension's entries and the options' edits go into one table.
-///    The BIOS range is trimmed (`trim_bios_range`), and the map is accepted, or the boot stops.
+/// 1. The entries of the zero page and of the extension, the edits of the command line (such as
+///    `memmap=`), and with `add_efi_memmap` the entries of the EFI map go into one e820 table. The
+///    BIOS range is trimmed (`trim_bios_range`), and the map is accepted, or the boot stops.
 /// 2. The map's memory becomes memblock's memory (`e820__memblock_setup`).
 /// 3. Memory gets its nodes (`initmem_init`).
 /// 4. The crash area is reserved (`reserve_crashkernel`).
@@ -43,16 +45,16 @@ use std::alloc::Global;
 ///
 /// # Errors
 ///
-/// The first of these that holds, as in the definition:
+/// The boot stops at the first of these that occurs:
 ///
-/// - the map has more than 3,200 runs
-/// - no frame of the map is usable
-/// - more than 2^32 frames are usable
-/// - a table must grow and finds no place, or the boot finds no place for something that it can't
-///   do without
+/// - `MapFull`: the map has more than 3,200 runs
+/// - `NoRam`: no frame of the map is usable
+/// - `TooMuchRam`: more than 2^32 frames are usable
+/// - `NoTablePlace`: a table of memblock must grow and finds no place
+/// - `NoPlace`: the boot finds no place for something that it can't do without
 ///
-/// The program may run out of memory in any case: instead of each of these stops, and instead of
-/// success.
+/// `Memory` may come instead of any of these, and instead of success: the program ran out of
+/// memory.
 pub fn boot(alloc: Global, inputs: Inputs) -> Result<Booted, Stop>
     ensures boots { Answers Stop.Memory booted_view result
         (map_error stop_of (whole_boot (inputs_view inputs))) }
@@ -88,7 +90,7 @@ pub fn boot(alloc: Global, inputs: Inputs) -> Result<Booted, Stop>
 ///
 /// # Errors
 ///
-/// Those of [`boot`].
+/// Those of [`boot`]: `MapFull`, `NoRam`, `TooMuchRam`, `NoTablePlace`, `NoPlace` and `Memory`.
 pub fn boot_with(alloc: Global, extra: &Extra, inputs: Inputs) -> Result<Booted, Stop>
     ensures boots { Answers Stop.Memory booted_view result
         (map_error stop_of (whole_boot_with (extra_view extra.now) (inputs_view inputs))) }
@@ -118,11 +120,15 @@ pub fn boot_with(alloc: Global, extra: &Extra, inputs: Inputs) -> Result<Booted,
     Ok(hand_over_memory(alloc, memblock, extra.profile, inputs, map, later)?)
 }
 
-/// Returns the map of the finished e820 table if the boot goes on with it ([`accept_map`]).
+/// Returns the map of the finished e820 table, if the boot accepts it ([`accept_map`]): it has at
+/// most 3,200 runs, and 1 to 2^32 usable frames.
 ///
 /// # Errors
 ///
-/// The stops of `accept_map`, and out of memory.
+/// - `MapFull`: the map has more than 3,200 runs
+/// - `NoRam`: no frame is usable
+/// - `TooMuchRam`: more than 2^32 frames are usable
+/// - `Memory`: the program ran out of memory
 fn accepted_map(alloc: Global, inputs: &Inputs) -> Result<Vec<Run>, Stop>
     ensures answers { Answers Stop.Memory (λ map.
         begin_with_map map.items (inputs_view inputs.now).options) result
