@@ -1,4 +1,5 @@
--- The file of early claims: a script without `sections`.
+-- The file of early claims: a script without the command `sections`, which runs before memory gets
+-- its nodes.
 use Rattle.std.specs.Prelude.{ℕ, Bool, false, if◌then◌else◌, List, [], codes, Option, Some, None, Result, Ok, Err}
 use Rattle.std.specs.Str.{bytes_eq}
 use Rattle.bm_base.specs.ResultSteps.{◌>>=◌, map_error}
@@ -18,12 +19,13 @@ use Rattle.boot_inputs.specs.Inputs.{FileNames, value_of_named_file}
 use Rattle.boot_inputs.specs.Reason.{InputsReason}
 use Rattle.program_end.specs.Program.{FileContents}
 
--- the act of a line, by its first word: that of a script's line, except that there is no command
--- `sections`
+-- the command of a line with the first word `name` and the further words `words`: that of a
+-- script's line, except that `sections` is refused
 abbrev pub claim_by_name : List ℕ → Words → Result Act ScriptLineFault
 claim_by_name name words = if bytes_eq name (codes "sections") then Err wrong.Form else act_by_name false name words
 
--- the lines of early claims: any command may occur more than once
+-- the rules for the lines of early claims: which commands there are, and that each command may
+-- occur any number of times
 abbrev pub claim_lines : ScriptKind Act Line
 claim_lines = record {
   forms = λ seen. claim_by_name;
@@ -31,11 +33,11 @@ claim_lines = record {
   line = λ number act. record { number = number; act = act };
 }
 
--- the lines of early claims, or the fault of the lowest line that has one
+-- the lines of early claims that have a command, or the fault of the first line that has one
 abbrev pub claims_of : List ℕ → Result (List Line) ScriptFault
 claims_of bytes = map_error (λ at. script_fault_at at.0 at.1) (lines_of claim_lines bytes)
 
--- the lines of the bytes, or their fault, which is that of a script
+-- the lines of early claims in these bytes, or their fault as the fault of an input file
 abbrev pub claims_or_fault : List ℕ → Result (List Line) Fault
 claims_or_fault bytes = map_error faults.Script (claims_of bytes)
 
@@ -43,11 +45,12 @@ claims_or_fault bytes = map_error faults.Script (claims_of bytes)
 abbrev pub claims_limit : ℕ
 claims_limit = 1048576
 
--- the lines of a file that may have a name; without a name there are none
+-- the lines of the file of early claims with this name, or why the file is refused; no lines if
+-- there is no name
 abbrev pub claims_of_optional_file : FileContents → Option (List ℕ) → Result (List Line) InputsReason
 claims_of_optional_file held None = Ok []
 claims_of_optional_file held (Some name) = value_of_named_file held inputs.Claims claims_limit claims_or_fault name
 
--- the lines of the file of early claims, by the name that it has
+-- the lines of the file of early claims, or why it is refused; no lines if `named` gives it no name
 abbrev pub claims_of_file : FileContents → FileNames → Result (List Line) InputsReason
 claims_of_file held named = claims_of_optional_file held (named inputs.Claims)

@@ -1,10 +1,12 @@
--- What a fault's error line says after the word for the file.
+-- What is wrong with an input file, as its error line says it: `word 3: memmap` in `bootmem:
+-- cmdline: word 3: memmap`.
 use Rattle.std.specs.Prelude.{ℕ, List}
 use Rattle.boot_inputs.specs.declared.fault.Diagnostic.{Diagnostic as DiagnosticBy}
 use Rattle.boot_inputs.specs.declared.fault.Diagnostic.TheVariants as told
 
--- What is wrong, and where: in the whole file; at an entry or a descriptor that ends too far, by
--- its index from 0; at a word or a line, by its number from 1; or at an offset in bytes.
+-- What is wrong with a file, and where. `Whole` is about the whole file. `Far` is an entry or
+-- descriptor that ends beyond 2^64 - 1, with its index from 0. `Word` and `Line` have the number of
+-- a word or a line, from 1. `Offset` has an offset in the file, in bytes.
 pub data Diagnostic : Type 0 where
   Whole : List ℕ → Diagnostic
   Far : List ℕ → ℕ → Diagnostic

@@ -1,4 +1,4 @@
--- The EFI memory map.
+-- The EFI memory map as an input file.
 use Rattle.std.specs.Prelude.{ℕ, Bool, nat_lt, List, length, map, codes, Option, Some, None, Result}
 use Rattle.bm_base.specs.ResultSteps.{map_error}
 use Rattle.efi_map.specs.declared.efi.EfiFault.{EfiFault}
@@ -12,19 +12,20 @@ use Rattle.boot_inputs.specs.declared.input.Input.TheVariants as inputs
 use Rattle.boot_inputs.specs.Diagnostic.{Diagnostic}
 use Rattle.boot_inputs.specs.File.{File, with_value}
 
--- the content of an EFI memory map as a boot has it: the entries, and the mirrored ranges as frames
+-- the content of an EFI memory map as a boot uses it: the entries for the e820 table, and the
+-- mirrored ranges as ranges of frames
 abbrev pub efi_map_in_frames : EfiContent → EfiMapView
 efi_map_in_frames m = record { entries = m.entries; mirrors = map frame_range_of m.mirrors }
 
--- the map of the bytes, or their fault
+-- the content of the EFI memory map in these bytes, or the fault of the bytes
 abbrev pub efi_or_fault : List ℕ → Result EfiContent Fault
 efi_or_fault bytes = map_error faults.Efi (efi_of bytes)
 
--- whether reading the file needs memory: it does if the file has a descriptor
+-- whether reading the file needs memory of this program: it does if the file has a descriptor
 abbrev pub efi_needs_memory : List ℕ → Bool
 efi_needs_memory bytes = nat_lt 0 (length (descriptors_of bytes))
 
--- the inputs with this EFI memory map
+-- the inputs `given` with `m` as the EFI memory map
 abbrev pub put_efi : EfiContent → InputsView → InputsView
 put_efi m given = record given { efi = Some (efi_map_in_frames m) }
 
@@ -37,8 +38,8 @@ efi_file = record {
   says = λ bytes given. with_value put_efi given (efi_or_fault bytes);
 }
 
--- what a fault's error line says after the word for the file; `None` for `Memory`, which isn't a
--- fault of the file's contents
+-- what the fault's error line says after `efi: `, such as `descriptor 0 too far`; `None` for
+-- `Memory`, which isn't a fault of the file's contents
 abbrev pub efi_diagnostic : EfiFault → Option Diagnostic
 efi_diagnostic efi.Header = Some (Diagnostic.Whole (codes "header"))
 efi_diagnostic efi.Length = Some (Diagnostic.Whole (codes "length"))

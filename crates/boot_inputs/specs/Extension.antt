@@ -1,4 +1,4 @@
--- The E820 extension (`setup_data` of the type `SETUP_E820_EXT`).
+-- The E820 extension (`setup_data` of the type `SETUP_E820_EXT`) as an input file.
 use Rattle.std.specs.Prelude.{ℕ, nat_lt, List, length, codes, Option, Some, None, Result}
 use Rattle.std.specs.Option.{option_map}
 use Rattle.e820_model.specs.declared.entry.Entry.{Entry}
@@ -12,11 +12,11 @@ use Rattle.boot_inputs.specs.declared.input.Input.TheVariants as inputs
 use Rattle.boot_inputs.specs.Diagnostic.{Diagnostic}
 use Rattle.boot_inputs.specs.File.{File, value_unless_fault, with_value}
 
--- the entries of the bytes, or their fault
+-- the entries of the E820 extension in these bytes, or the fault of the bytes
 abbrev pub extension_or_fault : List ℕ → Result (List Entry) Fault
 extension_or_fault bytes = value_unless_fault (option_map faults.Extension (ext_fault bytes)) (ext_entries_of bytes)
 
--- the inputs with these entries as those of the extension
+-- the inputs `given` with `entries` as the entries of the E820 extension
 abbrev pub put_extension : List Entry → InputsView → InputsView
 put_extension entries given = record given { extension = entries }
 
@@ -30,8 +30,8 @@ extension_file = record {
   says = λ bytes given. with_value put_extension given (extension_or_fault bytes);
 }
 
--- what a fault's error line says after the word for the file; `None` for `Memory`, which isn't a
--- fault of the file's contents
+-- what the fault's error line says after `e820ext: `, such as `entry 0 too far`; `None` for
+-- `Memory`, which isn't a fault of the file's contents
 abbrev pub extension_diagnostic : ExtFault → Option Diagnostic
 extension_diagnostic (extension.EntryTooFar index) = Some (Diagnostic.Far (codes "entry") index)
 extension_diagnostic extension.ExtHeader = Some (Diagnostic.Whole (codes "header"))

@@ -14,8 +14,9 @@ use Rattle.boot_inputs.specs.Slit.{slit_diagnostic}
 use Rattle.boot_inputs.specs.Srat.{srat_diagnostic}
 use Rattle.boot_inputs.specs.ZeroPage.{zero_page_diagnostic}
 
--- What the fault's error line says after the word for the file. "Too long" is the same for every
--- file; each other fault gets its text from the crate that reads the file.
+-- What the fault's error line says is wrong: `word 3: memmap` in `bootmem: cmdline: word 3:
+-- memmap`. The fault `TooLong` has the same text for every file. `None` is only for the variant
+-- `Memory` of a reader's faults.
 abbrev pub diagnostic_of : Fault → Option Diagnostic
 diagnostic_of faults.TooLong = Some (Diagnostic.Whole (codes "too long"))
 diagnostic_of (faults.ZeroPage fault) = Some (zero_page_diagnostic fault)
@@ -27,7 +28,8 @@ diagnostic_of (faults.Pages fault) = pages_diagnostic fault
 diagnostic_of (faults.Slit fault) = slit_diagnostic fault
 diagnostic_of (faults.Efi fault) = efi_diagnostic fault
 
--- the fault has an error line: it isn't the variant `Memory` of a reader's faults
+-- the fault has an error line; each fault has one, except for the variant `Memory` of a reader's
+-- faults
 abbrev pub HasErrorLine : Fault → Type 0
 HasErrorLine fault = IsSome (diagnostic_of fault)
 

@@ -4,9 +4,9 @@ use Rattle.boot_model.specs.Boot.{InputsView}
 use Rattle.boot_inputs.specs.declared.fault.Fault.{Fault}
 use Rattle.boot_inputs.specs.declared.input.Input.{Input}
 
--- Which input the file is (`input`), how many bytes it may have (`limit`), and whether reading
--- given bytes needs memory (`takes`). From the bytes and the inputs before the file, `says` gives
--- the inputs after it, or the first fault of the bytes.
+-- `input` says which input the file is, and `limit` how many bytes it may have. `takes` says
+-- whether reading some bytes needs memory of this program. From the file's bytes and the inputs so
+-- far, `says` gives the inputs with the file's value put in, or the first fault of the bytes.
 pub record File : Type 0 where
   pub input : Input
   pub limit : ℕ

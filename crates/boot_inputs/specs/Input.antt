@@ -1,9 +1,9 @@
--- The input files: their order of reading, and the word for each in error lines.
+-- The input files: the order in which they are read, and the word for each in error lines.
 use Rattle.std.specs.Prelude.{ℕ, List, codes}
 use Rattle.boot_inputs.specs.declared.input.Input.{Input}
 use Rattle.boot_inputs.specs.declared.input.Input.TheVariants as inputs
 
--- the place of an input in the order of reading
+-- the position of an input in the order in which the files are read, from 0
 abbrev pub input_place : Input → ℕ
 input_place inputs.ZeroPage = 0
 input_place inputs.Extension = 1
@@ -15,7 +15,7 @@ input_place inputs.Pages = 6
 input_place inputs.Slit = 7
 input_place inputs.Efi = 8
 
--- the word for the file in an error line
+-- the word for the file in an error line, such as `cmdline` in `bootmem: cmdline: open quote`
 abbrev pub input_word : Input → List ℕ
 input_word inputs.ZeroPage = codes "zeropage"
 input_word inputs.Extension = codes "e820ext"

@@ -12,16 +12,16 @@ use Rattle.boot_inputs.specs.declared.input.Input.TheVariants as inputs
 use Rattle.boot_inputs.specs.Diagnostic.{Diagnostic}
 use Rattle.boot_inputs.specs.File.{File, with_value}
 
--- the lines of the bytes, or their fault
+-- the lines of the page script in these bytes, or the fault of the bytes
 abbrev pub page_script_or_fault : List ℕ → Result (List PageLine) Fault
 page_script_or_fault bytes = map_error faults.Pages (page_lines_of bytes)
 
--- whether reading the file needs memory: it does if some line has a command
+-- whether reading the file needs memory of this program: it does if some line has a command
 abbrev pub page_script_needs_memory : Result (List PageLine) PageFault → Bool
 page_script_needs_memory (Ok lines) = nat_lt 0 (length lines)
 page_script_needs_memory (Err fault) = false
 
--- the inputs with these lines as those of the page script
+-- the inputs `given` with `lines` as the page script
 abbrev pub set_page_script : List PageLine → InputsView → InputsView
 set_page_script lines given = record given { page_lines = lines }
 
@@ -34,8 +34,8 @@ pages_file = record {
   says = λ bytes given. with_value set_page_script given (page_script_or_fault bytes);
 }
 
--- what a fault's error line says after the word for the file; `None` for `Memory`, which isn't a
--- fault of the file's contents
+-- what the fault's error line says after `pages: `, such as `line 2: number`; `None` for `Memory`,
+-- which isn't a fault of the file's contents
 abbrev pub pages_diagnostic : PageFault → Option Diagnostic
 pages_diagnostic (pages.BadLine line) = Some (Diagnostic.Line line (codes "form"))
 pages_diagnostic (pages.BadNumber line) = Some (Diagnostic.Line line (codes "number"))

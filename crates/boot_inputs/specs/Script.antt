@@ -12,16 +12,16 @@ use Rattle.boot_inputs.specs.declared.input.Input.TheVariants as inputs
 use Rattle.boot_inputs.specs.Diagnostic.{Diagnostic}
 use Rattle.boot_inputs.specs.File.{File, with_value}
 
--- the lines of the bytes, or their fault
+-- the lines of the early script in these bytes, or the fault of the bytes
 abbrev pub script_or_fault : List ℕ → Result (List Line) Fault
 script_or_fault bytes = map_error faults.Script (script_of bytes)
 
--- whether reading the file needs memory: it does if some line has a command
+-- whether reading the file needs memory of this program: it does if some line has a command
 abbrev pub script_needs_memory : Result (List Line) ScriptFault → Bool
 script_needs_memory (Ok lines) = nat_lt 0 (length lines)
 script_needs_memory (Err fault) = false
 
--- the inputs with these lines as those of the early script
+-- the inputs `given` with `lines` as the early script
 abbrev pub set_early_script : List Line → InputsView → InputsView
 set_early_script lines given = record given { lines = lines }
 
@@ -34,8 +34,8 @@ script_file = record {
   says = λ bytes given. with_value set_early_script given (script_or_fault bytes);
 }
 
--- what a fault's error line says after the word for the file; `None` for `Memory`, which isn't a
--- fault of the file's contents
+-- what the fault's error line says after `script: `, such as `line 2: alignment`; `None` for
+-- `Memory`, which isn't a fault of the file's contents
 abbrev pub script_diagnostic : ScriptFault → Option Diagnostic
 script_diagnostic (script.BadLine line) = Some (Diagnostic.Line line (codes "form"))
 script_diagnostic (script.BadNumber line) = Some (Diagnostic.Line line (codes "number"))

@@ -1,4 +1,4 @@
--- The firmware's table of distances (the ACPI table SLIT).
+-- The ACPI table SLIT, which has the distances between proximity domains, as an input file.
 use Rattle.std.specs.Prelude.{ℕ, Bool, false, nat_lt, List, codes, Option, Some, None, Result, Ok, Err}
 use Rattle.bm_base.specs.ResultSteps.{map_error}
 use Rattle.slit_zonelists.specs.declared.table.SlitFault.{SlitFault}
@@ -12,16 +12,16 @@ use Rattle.boot_inputs.specs.declared.input.Input.TheVariants as inputs
 use Rattle.boot_inputs.specs.Diagnostic.{Diagnostic}
 use Rattle.boot_inputs.specs.File.{File, with_value}
 
--- the distances of the bytes, or their fault
+-- the distances between domains in the bytes of a SLIT, or the fault of the bytes
 abbrev pub slit_or_fault : List ℕ → Result SlitView Fault
 slit_or_fault bytes = map_error faults.Slit (slit_of bytes)
 
--- whether reading the table needs memory: it does if the table has a domain
+-- whether reading the table needs memory of this program: it does if the table has a domain
 abbrev pub slit_needs_memory : Result SlitView SlitFault → Bool
 slit_needs_memory (Ok m) = nat_lt 0 m.count
 slit_needs_memory (Err fault) = false
 
--- the inputs with these distances
+-- the inputs `given` with `m` as the distances between domains
 abbrev pub set_slit : SlitView → InputsView → InputsView
 set_slit m given = record given { slit = Some m }
 
@@ -34,8 +34,8 @@ slit_file = record {
   says = λ bytes given. with_value set_slit given (slit_or_fault bytes);
 }
 
--- what a fault's error line says after the word for the file; `None` for `Memory`, which isn't a
--- fault of the file's contents
+-- what the fault's error line says after `slit: `, such as `checksum`; `None` for `Memory`, which
+-- isn't a fault of the file's contents
 abbrev pub slit_diagnostic : SlitFault → Option Diagnostic
 slit_diagnostic slit.Short = Some (Diagnostic.Whole (codes "short"))
 slit_diagnostic slit.Signature = Some (Diagnostic.Whole (codes "signature"))

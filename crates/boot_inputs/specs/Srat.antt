@@ -1,4 +1,5 @@
--- The firmware's table of domains (the ACPI table SRAT).
+-- The ACPI table SRAT, which has the proximity domains of processors and ranges of memory, as an
+-- input file.
 use Rattle.std.specs.Prelude.{ℕ, Bool, false, ◌||◌, nat_lt, List, length, codes, Option, Some, None, Result, Ok, Err}
 use Rattle.bm_base.specs.ResultSteps.{map_error}
 use Rattle.srat_reader.specs.declared.table.SratFault.{SratFault}
@@ -11,16 +12,18 @@ use Rattle.boot_inputs.specs.declared.input.Input.TheVariants as inputs
 use Rattle.boot_inputs.specs.Diagnostic.{Diagnostic}
 use Rattle.boot_inputs.specs.File.{File, with_value}
 
--- the table of the bytes, or their fault
+-- the processors and ranges of memory in the bytes of an SRAT, each with its domain; or the fault
+-- of the bytes
 abbrev pub srat_or_fault : List ℕ → Result SratView Fault
 srat_or_fault bytes = map_error faults.Srat (srat_of bytes)
 
--- whether reading the table needs memory: it does if the table has a processor or a range of memory
+-- whether reading the table needs memory of this program: it does if the table has a processor or a
+-- range of memory
 abbrev pub srat_needs_memory : Result SratView SratFault → Bool
 srat_needs_memory (Ok table) = nat_lt 0 (length table.processors) || nat_lt 0 (length table.blocks)
 srat_needs_memory (Err fault) = false
 
--- the inputs with this table of domains
+-- the inputs `given` with `table` as their SRAT
 abbrev pub set_srat : SratView → InputsView → InputsView
 set_srat table given = record given { domains = Some table }
 
@@ -33,8 +36,8 @@ srat_file = record {
   says = λ bytes given. with_value set_srat given (srat_or_fault bytes);
 }
 
--- what a fault's error line says after the word for the file; `None` for `Memory`, which isn't a
--- fault of the file's contents
+-- what the fault's error line says after `srat: `, such as `entry length at 48`; `None` for
+-- `Memory`, which isn't a fault of the file's contents
 abbrev pub srat_diagnostic : SratFault → Option Diagnostic
 srat_diagnostic srat.Short = Some (Diagnostic.Whole (codes "short"))
 srat_diagnostic srat.Signature = Some (Diagnostic.Whole (codes "signature"))

@@ -21,22 +21,22 @@ use Rattle.boot_inputs.specs.Slit.{slit_file}
 use Rattle.boot_inputs.specs.Srat.{srat_file}
 use Rattle.boot_inputs.specs.ZeroPage.{zero_page}
 
--- the inputs, and the lines of early claims
+-- the inputs of a boot, and the lines of its early claims
 pub record InputsWithClaims : Type 0 where
   pub inputs : InputsView
   pub claims : List Line
 
--- both together
+-- the inputs `given` and the lines of early claims `lines` as one value
 abbrev pub with_claims : InputsView → List Line → InputsWithClaims
 with_claims given lines = record { inputs = given; claims = lines }
 
--- the inputs that the files give, without early claims
+-- the inputs with no early claims, or the reason why there are no inputs
 abbrev pub without_claims : Result InputsView InputsReason → Result InputsWithClaims InputsReason
 without_claims said = do
   given ← said
   Ok (with_claims given [])
 
--- what contracts see of both
+-- what contracts see of the inputs and the lines of early claims that the code returns
 abbrev pub inputs_with_claims_view : Inputs × Vec Line Global → InputsWithClaims
 inputs_with_claims_view given = with_claims (inputs_view given.0) given.1.items
 
@@ -48,7 +48,8 @@ files_before_claims = zero_page ∷ extension_file ∷ command_line ∷ srat_fil
 abbrev pub files_after_claims : List File
 files_after_claims = pages_file ∷ slit_file ∷ efi_file ∷ []
 
--- the inputs and the early claims after all files, from the inputs without any file
+-- the inputs `begun` with the values of all input files that have a name put in, and the lines of
+-- early claims; or the reason for the first file that is refused
 abbrev pub inputs_with_claims_of : FileContents → FileNames → InputsView → Result InputsWithClaims InputsReason
 inputs_with_claims_of held named begun = do
   early ← inputs_after_files held named files_before_claims begun

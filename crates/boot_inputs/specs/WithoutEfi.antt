@@ -11,7 +11,7 @@ use Rattle.boot_inputs.specs.declared.input.Input.TheVariants as inputs
 use Rattle.boot_inputs.specs.Inputs.{FileNames, inputs_of}
 use Rattle.program_end.specs.Program.{FileContents}
 
--- the names without that of the EFI memory map
+-- the names of the files, with no name for the EFI memory map
 abbrev pub without_efi : FileNames → FileNames
 without_efi named inputs.Efi = None
 without_efi named input = named input
@@ -25,7 +25,7 @@ has_efi_word bytes = list_any (λ word. bytes_eq (name_value_of word).0 (codes "
 abbrev pub LacksEfiWord : FileContents → FileNames → Type 0
 LacksEfiWord held named = IfSome (option_and_then held (named inputs.CommandLine)) (λ bytes. has_efi_word bytes ≡ false)
 
--- nothing follows the header of the EFI memory map, or there is no such file
+-- the file of the EFI memory map has no descriptor after its header, or there is no such file
 abbrev pub LacksDescriptors : FileContents → FileNames → Type 0
 LacksDescriptors held named = IfSome (option_and_then held (named inputs.Efi)) (λ bytes. descriptors_of bytes ≡ [])
 
@@ -34,13 +34,14 @@ pub record IsBeforeFiles (begun : InputsView) : Type 0 where
   pub options : begun.options ≡ no_options
   pub efi : begun.efi ≡ None
 
--- the inputs, with no EFI memory map
+-- the inputs `given` without an EFI memory map
 abbrev pub without_efi_map : InputsView → InputsView
 without_efi_map given = record given { efi = None }
 
--- Without the EFI file the other files are accepted too, and give the same inputs apart from its
--- map. Each address has the same claims with the file and without it. The boot gets the same map in
--- both cases, or stops for the same cause.
+-- What it means that the EFI file doesn't change the map. Without it the other files are accepted
+-- too, and give the same inputs, except that these have no EFI memory map. Each address has the
+-- same claims of e820 types with the file and without it. The boot accepts the same map in both
+-- cases, or stops for the same cause.
 pub record HasMapWithoutEfi (held : FileContents) (named : FileNames) (begun given : InputsView) : Type 0 where
   pub inputs : inputs_of held (without_efi named) begun ≡ Ok (without_efi_map given)
   pub claims : (x : ℕ) → claims given x ≡ claims (without_efi_map given) x

@@ -1,4 +1,4 @@
--- The zero page (`struct boot_params`).
+-- The zero page (`struct boot_params`) as an input file.
 use Rattle.std.specs.Prelude.{ℕ, false, List, codes, Result}
 use Rattle.std.specs.Option.{option_map}
 use Rattle.e820_table.specs.declared.zero_page.ZeroFault.{ZeroFault}
@@ -11,16 +11,16 @@ use Rattle.boot_inputs.specs.declared.input.Input.TheVariants as inputs
 use Rattle.boot_inputs.specs.Diagnostic.{Diagnostic}
 use Rattle.boot_inputs.specs.File.{File, value_unless_fault, with_value}
 
--- the page of the bytes, or their fault
+-- the content of the zero page in these bytes, or the fault of the bytes
 abbrev pub zero_page_or_fault : List ℕ → Result ZeroPageView Fault
 zero_page_or_fault bytes = value_unless_fault (option_map faults.ZeroPage (zero_fault bytes)) (zero_page_of bytes)
 
--- the inputs with the entries and the initrd of this zero page
+-- the inputs `given` with the entries and the initrd of `page`
 abbrev pub set_zero_page : ZeroPageView → InputsView → InputsView
 set_zero_page page given = record given { entries = page.entries; initrd = page.initrd }
 
--- the input file with the zero page, which is one page. Its entries go into an array with room for
--- all of them, so reading it needs no memory.
+-- The input file with the zero page: 4,096 bytes. Its entries go into an array with room for all of
+-- them, so reading it needs no memory of this program.
 abbrev pub zero_page : File
 zero_page = record {
   input = inputs.ZeroPage;
@@ -29,7 +29,7 @@ zero_page = record {
   says = λ bytes given. with_value set_zero_page given (zero_page_or_fault bytes);
 }
 
--- what a fault's error line says after the word for the file
+-- what the fault's error line says after `zeropage: `, such as `entry 3 too far`
 abbrev pub zero_page_diagnostic : ZeroFault → Diagnostic
 zero_page_diagnostic zero.WrongLength = Diagnostic.Whole (codes "wrong length")
 zero_page_diagnostic zero.TooFew = Diagnostic.Whole (codes "too few entries")

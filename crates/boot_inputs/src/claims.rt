@@ -1,6 +1,7 @@
-//! The file of early claims: a script without `sections`, which runs before memory gets its
-//! nodes. The boot takes its lines apart from the inputs (`Extra` of `boot_model`). So the file
-//! has no [`Reader`](crate::Reader), which would put them into the inputs.
+//! The file of early claims: a script without the command `sections`, which runs before memory gets
+//! its nodes. The boot gets the lines of this file separately from its inputs (`Extra` of
+//! `boot_model`). So the file has no [`Reader`](crate::Reader), since a reader puts its value into
+//! the inputs.
 
 ghost use Rattle.std.specs.Prelude.{◌≡◌, ◌<◌, ◌≤◌, ◌^◌, ℕ, length, map, Err, IfErr, IfOk, IfSome, IsErr, IsErrOf, IsNone, IsOk, IsOkAnd, List, Option};
 ghost use Rattle.bm_base.specs.Answers.{Answers};
@@ -62,13 +63,14 @@ impl ScriptLine for ClaimLine {
     }
 }
 
-/// Returns the command of a line. `name` is its first word, and `rest` the text after that.
+/// Returns the command of a line. `name` is the first word of the line, and `rest` the text after
+/// it.
 ///
 /// # Errors
 ///
-/// - `Form`: the line is `sections`, there is no command of this name, or the words don't have its
-///   form.
-/// - Any other fault of the words.
+/// - `Form`: the line is `sections`, there is no command `name`, or `rest` doesn't have the form
+///   that the command requires.
+/// - `Number`, `Align`, `ZeroSize` or `TooFar`: a number of the line is refused, as in a script.
 fn claim_by_name(name: &[u8], rest: &[u8]) -> Result<Act, ScriptLineFault>
     ensures value { result ≡ claim_by_name name.now (words_in separators.Script rest.now) }
     ensures bounds { IfOk result HasBounds }
@@ -80,12 +82,12 @@ fn claim_by_name(name: &[u8], rest: &[u8]) -> Result<Act, ScriptLineFault>
     <Line as ScriptLine>::by_name(false, name, rest)
 }
 
-/// Reads the file of early claims, and returns the lines that have a command, in their order.
-/// There must be fewer than 2^32 bytes.
+/// Reads `bytes`, the contents of a file of early claims, and returns the lines that have a
+/// command, in their order. There must be fewer than 2^32 bytes.
 ///
 /// # Errors
 ///
-/// - The fault of the lowest line that has one. A line `sections` has the fault `BadLine`.
+/// - the fault of the first line that has one; a line `sections` has the fault `BadLine`
 /// - `Memory`: no line has a fault and some line has a command, but the program ran out of memory.
 pub fn read_claims(alloc: Global, bytes: &[u8]) -> Result<Vec<Line>, ScriptFault>
     requires { length bytes.now < 2 ^ 32 }
@@ -122,7 +124,8 @@ fn lines_of_claims(alloc: Global, claims: &[ClaimLine]) -> Result<Vec<Line>, Mem
     Ok(lines)
 }
 
-/// Returns the fault of a script for what is wrong with the line of this number.
+/// Returns the fault of a script whose line `line` has the fault `wrong`. `line` is the line's
+/// number, from 1.
 fn script_fault_at(line: u32, wrong: ScriptLineFault) -> ScriptFault
     ensures { result ≡ script_fault_at line wrong }
 {
@@ -137,7 +140,7 @@ fn script_fault_at(line: u32, wrong: ScriptLineFault) -> ScriptFault
 }
 
 /// Fetches and reads the file of early claims, and returns its lines. Fetches nothing and returns
-/// no lines if the file has no name. An error always names this file.
+/// no lines if the file has no name. `Unread` and `Faulty` name the input `Claims`.
 ///
 /// # Errors
 ///
@@ -171,11 +174,11 @@ pub(crate) fn fetch_claims<F: Files, N: Names>(
     }
 }
 
-/// Reads the bytes of the file of early claims. An error names this file.
+/// Returns the lines of early claims in `bytes`, the contents of the file.
 ///
 /// # Errors
 ///
-/// - `Faulty`: a line has a fault
+/// - `Faulty` with the input `Claims`: a line has a fault
 /// - out of memory
 fn claims_or_reason(alloc: Global, bytes: &[u8]) -> Result<Vec<Line>, NoInputs>
     requires { length bytes.now ≤ claims_limit }

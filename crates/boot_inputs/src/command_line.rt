@@ -1,4 +1,4 @@
-//! The command line of the kernel as an input. The boot gets its options, but not its text.
+//! The kernel's command line as an input. The boot gets the options that it sets, but not its text.
 
 ghost use Rattle.std.specs.Prelude.{◌≡◌, ◌≤◌, ℕ, IsErrOf, List};
 ghost use Rattle.std.specs.Option.{option_map};
@@ -13,7 +13,7 @@ use boot_model::Inputs;
 use boot_options::{OptionFault, read_options};
 use std::alloc::Global;
 
-/// The reader of a command line.
+/// Reads the kernel's command line, and puts its options into the inputs.
 pub struct CommandLines;
 
 impl Reader for CommandLines {
@@ -48,8 +48,8 @@ pub fn exhaustion_is_no_line_fault()
     ensures { (bytes : List ℕ) → ¬ IsErrOf (options_of bytes) OptionFault.Memory }
 {}
 
-/// Returns what the fault's error line says, after the word for the file. Returns `None` only for
-/// `Memory`, which isn't a fault of the file's contents.
+/// Returns what the fault's error line says after `cmdline: `, such as `word 3: memmap`. Returns
+/// `None` only for `Memory`, which isn't a fault of the file's contents.
 pub(crate) fn command_line_diagnostic(fault: OptionFault) -> Option<Diagnostic>
     ensures { option_map diagnostic_view result ≡ command_line_diagnostic fault }
 {

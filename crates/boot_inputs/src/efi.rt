@@ -13,7 +13,7 @@ use boot_model::{Inputs, mirrors_are_whole_frames};
 use efi_map::{EfiFault, read_efi};
 use std::alloc::Global;
 
-/// The reader of an EFI memory map.
+/// Reads an EFI memory map, and puts its entries and its mirrored ranges into the inputs.
 pub struct EfiMaps;
 
 impl Reader for EfiMaps {
@@ -49,8 +49,8 @@ pub fn exhaustion_is_no_efi_fault()
     ensures { (bytes : List ℕ) → ¬ IsErrOf (efi_of bytes) EfiFault.Memory }
 {}
 
-/// Returns what the fault's error line says, after the word for the file. Returns `None` only for
-/// `Memory`, which isn't a fault of the file's contents.
+/// Returns what the fault's error line says after `efi: `, such as `descriptor 0 too far`. Returns
+/// `None` only for `Memory`, which isn't a fault of the file's contents.
 pub(crate) fn efi_diagnostic(fault: EfiFault) -> Option<Diagnostic>
     ensures { option_map diagnostic_view result ≡ efi_diagnostic fault }
 {

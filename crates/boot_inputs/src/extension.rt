@@ -15,7 +15,7 @@ use boot_model::Inputs;
 use e820_table::{ExtFault, read_ext};
 use std::alloc::Global;
 
-/// The reader of an E820 extension.
+/// Reads an E820 extension, and puts its entries into the inputs.
 pub struct Extensions;
 
 impl Reader for Extensions {
@@ -52,8 +52,8 @@ pub fn exhaustion_is_no_ext_fault()
     ensures { (bytes : List ℕ) → ext_fault bytes ≢ Some ExtFault.Memory }
 {}
 
-/// Returns what the fault's error line says, after the word for the file. Returns `None` only for
-/// `Memory`, which isn't a fault of the file's contents.
+/// Returns what the fault's error line says after `e820ext: `, such as `entry 0 too far`. Returns
+/// `None` only for `Memory`, which isn't a fault of the file's contents.
 pub(crate) fn extension_diagnostic(fault: ExtFault) -> Option<Diagnostic>
     ensures { option_map diagnostic_view result ≡ extension_diagnostic fault }
 {

@@ -29,10 +29,11 @@ use srat_reader::SratFault;
 /// has a fault, or the boot stops.
 pub type InputsReason = program_end::Reason<Input, Fault, Cause>;
 
-/// Why there are no inputs: a reason, or out of memory.
+/// Why there are no inputs: an [`InputsReason`], or out of memory.
 pub type NoInputs = program_end::NoResult<InputsReason>;
 
-/// What a fault's error line says after the word for the file.
+/// What is wrong with an input file, as its error line says it: `word 3: memmap` in `bootmem:
+/// cmdline: word 3: memmap`.
 #[derive(Clone, Copy, Debug, PartialEq, Eq)]
 pub enum Diagnostic {
     /// What is wrong with the whole file.
@@ -44,7 +45,7 @@ pub enum Diagnostic {
     Word(u32, &'static str),
     /// The number of a line, from 1, and what is wrong with it.
     Line(u32, &'static str),
-    /// What is wrong, and its offset in the file, in bytes.
+    /// What is wrong, and at which offset in the file, in bytes.
     Offset(&'static str, u32),
 }
 
@@ -56,13 +57,13 @@ pub enum Fault {
     TooLong,
     /// A fault of the zero page.
     ZeroPage(ZeroFault),
-    /// A fault of the extension.
+    /// A fault of the E820 extension.
     Extension(ExtFault),
-    /// A fault of the command line.
+    /// A fault of the kernel's command line.
     CommandLine(OptionFault),
     /// A fault of the SRAT.
     Srat(SratFault),
-    /// A fault of the script.
+    /// A fault of the early script, or of the file of early claims.
     Script(ScriptFault),
     /// A fault of the page script.
     Pages(PageFault),
@@ -73,9 +74,9 @@ pub enum Fault {
 }
 
 impl Fault {
-    /// Returns what the fault's error line says, after the word for the file. Returns `None` only
-    /// for the variant `Memory` of a reader's fault, which no file has
-    /// (`exhaustion_is_no_file_fault`).
+    /// Returns what the fault's error line says is wrong: `word 3: memmap` in `bootmem: cmdline:
+    /// word 3: memmap`. Returns `None` only for the variant `Memory` of a reader's fault, which no
+    /// file has (`exhaustion_is_no_file_fault`).
     pub fn diagnostic(self) -> Option<Diagnostic>
         ensures { option_map diagnostic_view result ≡ diagnostic_of self }
     {

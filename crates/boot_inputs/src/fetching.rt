@@ -27,7 +27,8 @@ pub trait Names {
 }
 
 /// Fetches and reads one input file, and puts its value into the inputs. Changes nothing and
-/// allocates nothing if the file has no name. An error always names the input of this reader.
+/// allocates nothing if the file has no name. `Unread` and `Faulty` name the input of the reader
+/// `R`.
 ///
 /// # Errors
 ///
@@ -61,7 +62,9 @@ pub fn add_file<R: Reader, F: Files, N: Names>(
 ///
 /// # Errors
 ///
-/// Those of `add_file`.
+/// - `Unread`: the file couldn't be fetched
+/// - `Faulty`: the file is longer than its limit, or its bytes have a fault
+/// - out of memory
 fn fetch<R: Reader, F: Files>(
     alloc: Global,
     files: &mut F,
@@ -81,7 +84,8 @@ fn fetch<R: Reader, F: Files>(
     read::<R>(alloc, &bytes, inputs)
 }
 
-/// Fetches the file of that name, up to `limit` bytes. An error names this input.
+/// Returns the bytes of the file `name`, of which there may be at most `limit`. `Unread` and
+/// `Faulty` name `input`.
 ///
 /// # Errors
 ///
@@ -113,7 +117,7 @@ pub(crate) fn fetch_bytes<F: Files>(
     }
 }
 
-/// Reads the bytes of a file, and puts their value into the inputs.
+/// Reads `bytes`, the contents of a file, and puts their value into the inputs.
 ///
 /// # Errors
 ///

@@ -14,12 +14,13 @@ pub enum Input {
     CommandLine,
     /// The firmware's table of domains (the ACPI table SRAT).
     Srat,
-    /// The script of early allocations.
+    /// The early script: calls of memblock, such as allocations, that run once memory has its
+    /// nodes.
     Script,
     /// The early claims: a script that runs before memory gets its nodes. `bootmem` has no such
     /// file.
     Claims,
-    /// The page script.
+    /// The page script: requests to the page allocator after the handover.
     Pages,
     /// The firmware's table of distances between domains (the ACPI table SLIT).
     Slit,
@@ -28,7 +29,8 @@ pub enum Input {
 }
 
 impl Input {
-    /// Returns the word for the file in an error line.
+    /// Returns the word for the file in an error line, such as `cmdline` in `bootmem: cmdline: open
+    /// quote`.
     pub fn input_word(self) -> &'static str
         ensures { result.now ≡ input_word self }
     {

@@ -27,7 +27,7 @@ use boot_model::Inputs;
 use script_reader::Line;
 use std::alloc::Global;
 
-/// The list of the readers of all files, in the order in which they are read.
+/// The readers of all files of `bootmem`, in the order in which the files are read.
 pub(crate) type ReadersFromZeroPage = (ZeroPages, ReadersFromExtension);
 
 /// The readers from the E820 extension on.
@@ -120,7 +120,8 @@ pub fn read_inputs_with_claims<F: Files, N: Names>(
 ///
 /// # Errors
 ///
-/// Those of [`read_inputs_with_claims`].
+/// - `Unread` or `Faulty`: the first file that can't be fetched, or that has a fault
+/// - out of memory, at any file
 fn add_files_with_claims<F: Files, N: Names>(
     alloc: Global,
     files: &mut F,

@@ -27,7 +27,8 @@ pub fn exhaustion_is_no_file_fault()
     ReadersFromZeroPage::exhaustion_is_no_fault_of_any();
 }
 
-/// Law: "out of memory" is never a fault of a file that is read with early claims.
+/// Law: "out of memory" is never a fault of a file's contents for a program that also reads a file
+/// of early claims.
 pub fn exhaustion_is_no_fault_with_claims()
     ensures { (held : FileContents) (named : FileNames) (begun : InputsView)
         (input : AnyInput) (fault : AnyFault) →

@@ -19,8 +19,8 @@
 //! those of a script, except `sections`. They run before memory gets its nodes, and aren't part of
 //! the inputs. `bootmem` has no such file.
 //!
-//! [`add_file`] handles every file: it looks up the name, fetches the file up to its limit, and
-//! reads it into the inputs. What differs between the files is in one value per file, a
+//! [`add_file`] handles each of these eight files: it looks up the name, fetches the file up to its
+//! limit, and reads it into the inputs. What differs between the files is in one value per file, a
 //! [`Reader`], in a module of its own. The reader says which [`Input`] the file is, how many bytes
 //! it may have, and how they are read. The definition of a file is one value too, a `File` of
 //! `specs/File.antt`. [`Diagnostic`] is the content of a fault's error line.
@@ -31,9 +31,9 @@
 //! layer above implements it.
 //!
 //! The layer above can rely on this. The result is the inputs that the caller passes, updated with
-//! the values that the definition gives for the files' bytes. A file is reported unread only if
-//! the number of faults counted for its name has risen. The program may run out of memory at any
-//! time; [`NoInputs`] reports this separately from what is wrong with the files.
+//! the values that the definition gives for the files' bytes. A file is reported unread only if the
+//! number of faults counted for its name has risen. The program may run out of memory at any time;
+//! [`NoInputs`] reports this separately from what is wrong with the files.
 //!
 //! A law is an empty function whose contract is a proven fact. In contracts, a name means the
 //! definition in `specs/`, here or in a crate below.

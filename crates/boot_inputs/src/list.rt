@@ -1,5 +1,5 @@
-//! A list of input files as a type: a reader and the rest of the list. What is true after several
-//! files were read is proved once, for any list.
+//! A list of input files as a type: a pair of a reader and the rest of the list, or `()` for the
+//! empty list. What is true after several files were read is proved once, for any list.
 
 ghost use Rattle.std.specs.Prelude.{◌≡◌, All, IsTrue, List, [], ◌∷◌};
 ghost use Rattle.boot_model.specs.View.{inputs_view};
@@ -14,9 +14,9 @@ use bm_io::Files;
 use boot_model::Inputs;
 use std::alloc::Global;
 
-/// A list of readers of input files.
+/// A list of readers of input files, as a type.
 pub trait Readers {
-    // The files, in their order.
+    // The definitions of the files, in the order of the list.
     ghost list: { List File };
 
     /// Reads each file of the list that has a name, in order, and puts its value into the inputs.

@@ -1,4 +1,4 @@
-//! The page script as an input: what is requested of the page allocator after the boot.
+//! The page script as an input: requests to the page allocator, which run after the boot.
 
 ghost use Rattle.std.specs.Prelude.{◌≡◌, ◌≤◌, ℕ, IsErrOf, List};
 ghost use Rattle.std.specs.Option.{option_map};
@@ -13,7 +13,7 @@ use boot_model::Inputs;
 use page_alloc::{PageFault, read_pages};
 use std::alloc::Global;
 
-/// The reader of a page script.
+/// Reads a page script, and puts its lines into the inputs.
 pub struct PageScripts;
 
 impl Reader for PageScripts {
@@ -48,8 +48,8 @@ pub fn exhaustion_is_no_page_script_fault()
     ensures { (bytes : List ℕ) → ¬ IsErrOf (page_lines_of bytes) PageFault.Memory }
 {}
 
-/// Returns what the fault's error line says, after the word for the file. Returns `None` only for
-/// `Memory`, which isn't a fault of the file's contents.
+/// Returns what the fault's error line says after `pages: `, such as `line 2: number`. Returns
+/// `None` only for `Memory`, which isn't a fault of the file's contents.
 pub(crate) fn pages_diagnostic(fault: PageFault) -> Option<Diagnostic>
     ensures { option_map diagnostic_view result ≡ pages_diagnostic fault }
 {

@@ -1,4 +1,4 @@
-//! An input file as one value: which file it is, how many bytes it may have, and how they are read
+//! An input file as one type: which file it is, how many bytes it may have, and how they are read
 //! into the inputs.
 
 ghost use Rattle.std.specs.Prelude.{◌≡◌, ◌≤◌, length, IsErrOf, IsOk, IsTrue};
@@ -14,9 +14,10 @@ use crate::input::Input;
 use boot_model::Inputs;
 use std::alloc::Global;
 
-/// The reader of an input file.
+/// An input file: which one it is, how many bytes it may have, and how they are read.
 pub trait Reader {
-    // The file: which one it is, its limit, what its bytes mean, and which bytes need memory.
+    // The definition of the file: which input it is, its limit in bytes, what its bytes mean, and
+    // which bytes need memory of this program to be read.
     ghost file: { File };
 
     /// Returns which input this reader reads.
@@ -28,12 +29,12 @@ pub trait Reader {
         ensures { result ≡ file.limit };
 
     /// Reads `bytes`, the contents of the file, and puts their value into the inputs. There must be
-    /// at most as many bytes as the limit allows.
+    /// at most `limit` bytes.
     ///
     /// # Errors
     ///
     /// - the first fault of the bytes
-    /// - out of memory, only if the bytes have no fault and need memory
+    /// - out of memory, only if the bytes have no fault and their value must be allocated
     fn read(alloc: Global, bytes: &[u8], inputs: &mut Inputs) -> Result<(), Misread>
         requires within { length bytes.now ≤ file.limit }
         ensures says { Answers misreads.Memory (λ done. inputs_view inputs.new) result

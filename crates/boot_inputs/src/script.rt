@@ -15,7 +15,7 @@ use early_script::scripts_place_sections_once;
 use script_reader::{ScriptFault, read_script};
 use std::alloc::Global;
 
-/// The reader of an early script.
+/// Reads an early script, and puts its lines into the inputs.
 pub struct Scripts;
 
 impl Reader for Scripts {
@@ -51,8 +51,8 @@ pub fn exhaustion_is_no_script_fault()
     ensures { (bytes : List ℕ) → ¬ IsErrOf (script_of bytes) ScriptFault.Memory }
 {}
 
-/// Returns what the fault's error line says, after the word for the file. Returns `None` only for
-/// `Memory`, which isn't a fault of the file's contents.
+/// Returns what the fault's error line says after `script: `, such as `line 2: alignment`. Returns
+/// `None` only for `Memory`, which isn't a fault of the file's contents.
 pub(crate) fn script_diagnostic(fault: ScriptFault) -> Option<Diagnostic>
     ensures { option_map diagnostic_view result ≡ script_diagnostic fault }
 {

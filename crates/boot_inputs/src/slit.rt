@@ -1,4 +1,4 @@
-//! The firmware's table of distances between domains as an input.
+//! The ACPI table SLIT, which has the distances between proximity domains, as an input.
 
 ghost use Rattle.std.specs.Prelude.{◌≡◌, ◌≤◌, ℕ, length, IsErrOf, List};
 ghost use Rattle.std.specs.Option.{option_map};
@@ -13,7 +13,7 @@ use boot_model::Inputs;
 use slit_zonelists::{SlitFault, read_slit};
 use std::alloc::Global;
 
-/// The reader of a table of distances.
+/// Reads a SLIT, and puts its distances into the inputs.
 pub struct Slits;
 
 impl Reader for Slits {
@@ -48,8 +48,8 @@ pub fn exhaustion_is_no_slit_fault()
     ensures { (bytes : List ℕ) → ¬ IsErrOf (slit_of bytes) SlitFault.Memory }
 {}
 
-/// Returns what the fault's error line says, after the word for the file. Returns `None` only for
-/// `Memory`, which isn't a fault of the file's contents.
+/// Returns what the fault's error line says after `slit: `, such as `checksum`. Returns `None` only
+/// for `Memory`, which isn't a fault of the file's contents.
 pub(crate) fn slit_diagnostic(fault: SlitFault) -> Option<Diagnostic>
     ensures { option_map diagnostic_view result ≡ slit_diagnostic fault }
 {

@@ -1,4 +1,5 @@
-//! The firmware's table of domains as an input. A boot distinguishes a table without entries (`no
+//! The ACPI table SRAT, which has the proximity domains of processors and ranges of memory, as an
+//! input. The boot distinguishes a table without ranges of memory (the report `nodes` prints `no
 //! blocks`) from a missing table (`absent`).
 
 ghost use Rattle.std.specs.Prelude.{◌≡◌, ◌≤◌, ℕ, length, IsErrOf, List};
@@ -14,7 +15,7 @@ use boot_model::Inputs;
 use srat_reader::{SratFault, read_srat};
 use std::alloc::Global;
 
-/// The reader of an SRAT.
+/// Reads an SRAT, and puts its processors and ranges of memory into the inputs.
 pub struct Srats;
 
 impl Reader for Srats {
@@ -49,8 +50,8 @@ pub fn exhaustion_is_no_srat_fault()
     ensures { (bytes : List ℕ) → ¬ IsErrOf (srat_of bytes) SratFault.Memory }
 {}
 
-/// Returns what the fault's error line says, after the word for the file. Returns `None` only for
-/// `Memory`, which isn't a fault of the file's contents.
+/// Returns what the fault's error line says after `srat: `, such as `entry length at 48`. Returns
+/// `None` only for `Memory`, which isn't a fault of the file's contents.
 pub(crate) fn srat_diagnostic(fault: SratFault) -> Option<Diagnostic>
     ensures { option_map diagnostic_view result ≡ srat_diagnostic fault }
 {

@@ -12,7 +12,7 @@ use boot_model::Inputs;
 use e820_table::{ZeroFault, read_zero_page};
 use std::alloc::Global;
 
-/// The reader of a zero page: its entries, and its initrd if there is one.
+/// Reads a zero page, and puts its entries, and its initrd if there is one, into the inputs.
 pub struct ZeroPages;
 
 impl Reader for ZeroPages {
@@ -39,7 +39,7 @@ impl Reader for ZeroPages {
     fn exhaustion_is_no_fault() {}
 }
 
-/// Returns what the fault's error line says, after the word for the file.
+/// Returns what the fault's error line says after `zeropage: `, such as `entry 3 too far`.
 pub(crate) fn zero_page_diagnostic(fault: ZeroFault) -> Diagnostic
     ensures { diagnostic_view result ≡ zero_page_diagnostic fault }
 {
