@@ -1,6 +1,7 @@
--- The options of the command line, as lines. The kernel prints no such list. The words are those
--- of the calls in `parse_memmap_one` (`e820__range_add`, `e820__range_remove`,
--- `e820__range_update`); the formats are this project's own.
+-- The report `options`: the options that the kernel's command line sets for the memory set-up, as
+-- lines. The kernel prints no such list. The words are those of the calls in `parse_memmap_one`
+-- (`e820__range_add`, `e820__range_remove`, `e820__range_update`); the formats are this project's
+-- own.
 use Rattle.std.specs.Prelude.{ℕ, Bool, if◌then◌else◌, Option, Some, None, List, [], ◌++◌, codes, decimal}
 use Rattle.bm_base.specs.Text.{hex_text}
 use Rattle.e820_model.specs.declared.entry.Edit.{Edit}
@@ -14,7 +15,9 @@ use Rattle.report_memory.specs.Lines.{indexed_lines, range_text}
 abbrev pub kind_text : ℕ → List ℕ
 kind_text kind = decimal kind ++ codes " "
 
--- the text of an edit: what the edit does, its types, and its range
+-- the text of an edit of the map (from `mem=` or `memmap=`), as in `add 1
+-- 0x0000000000100000..0x00000000001fffff`: what the edit does, the types that it names, and its
+-- range
 abbrev pub edit_text : Edit → List ℕ
 edit_text (edits.Add range kind) = codes "add " ++ kind_text kind ++ range_text range
 edit_text (edits.Remove range kind) = codes "remove " ++ kind_text kind ++ range_text range
@@ -22,7 +25,7 @@ edit_text (edits.RemoveAll range) = codes "remove-all " ++ range_text range
 edit_text (edits.Change range from to) = codes "change " ++ kind_text from ++ kind_text to ++ range_text range
 edit_text edits.Clear = codes "clear"
 
--- the line of an edit; the index isn't printed
+-- the line of an edit of the map; the index isn't printed
 abbrev pub edit_line : ℕ → Edit → List ℕ
 edit_line n edit = edit_text edit ++ codes "\n"
 
@@ -42,6 +45,8 @@ crash_range_text range = hex_text range.start ++ codes " " ++ crash_end_text ran
 abbrev pub crash_range_line : ℕ → ℕ → CrashRange → List ℕ
 crash_range_line base n range = codes "crash range " ++ crash_range_text range ++ codes " base " ++ hex_text base ++ codes "\n"
 
+-- a line for each range of `crashkernel=RANGE:SIZE,..[@BASE]`, or nothing if the command line
+-- doesn't have this form
 abbrev pub plain_lines : Option CrashPlainView → List ℕ
 plain_lines None = []
 plain_lines (Some plain) = indexed_lines (crash_range_line plain.base) 0 plain.ranges
@@ -64,8 +69,8 @@ numa_line numa_off = if numa_off then codes "numa off\n" else []
 abbrev pub efi_line : Bool → List ℕ
 efi_line add_efi = if add_efi then codes "efi add\n" else []
 
--- the options: the edits in the order of the command line, then the crash area, then `numa=off`,
--- and then `add_efi_memmap`
+-- the report `options`: the edits of the map in the order of the command line, then the requested
+-- crash area, then `numa=off`, and then `add_efi_memmap`
 abbrev pub options_text : OptionsView → List ℕ
 options_text chosen =
     indexed_lines edit_line 0 chosen.edits ++ crash_lines chosen.crash ++ numa_line chosen.numa_off ++ efi_line chosen.add_efi

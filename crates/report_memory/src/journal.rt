@@ -1,5 +1,6 @@
-//! Writes the journal: what happened to memory, item by item. [`put_item`] writes an item without
-//! its number, since the report `nodes` prints some of the items without numbers.
+//! Writes the report `journal`: a line for each journal item, which is one recorded change of
+//! memblock. [`put_item`] writes an item without its number, since the report `nodes` prints some
+//! of the items without numbers.
 
 ghost use Rattle.std.specs.Prelude.{◌+◌, ◌^◌, ◌<◌};
 ghost use Rattle.bm_base.specs.PutsText.{PutsText};
@@ -11,7 +12,7 @@ use crate::ranges::{put_range, put_word_range};
 use bm_base::{Memory, Range, put_dec, put_hex, put_text};
 use boot_journal::{Item, Journal, Owner, Which};
 
-/// Appends the text of the journal: a line for each item, oldest first.
+/// Appends the report `journal`: a line for each item, oldest first, numbered from 1.
 ///
 /// # Errors
 ///
@@ -22,7 +23,8 @@ pub fn put_journal(text: &mut Vec<u8>, journal: &Journal) -> Result<(), Memory>
     put_indexed_lines(text, journal.items(), put_item_line)
 }
 
-/// Appends the line for an item of the journal: its number, counted from 1, and the item.
+/// Appends the line of a journal item, as in `12: trim`: its number, which is `index` + 1, and its
+/// text.
 fn put_item_line(text: &mut Vec<u8>, index: u64, item: &Item) -> Result<(), Memory>
     requires { index + 1 < 2 ^ 64 }
     ensures { PutsText text.old text.new result (item_line index item.now) }
@@ -33,7 +35,8 @@ fn put_item_line(text: &mut Vec<u8>, index: u64, item: &Item) -> Result<(), Memo
     put_text(text, b"\n")
 }
 
-/// Appends an item: the name of its call, and its values.
+/// Appends the text of a journal item, without a number: a word for the memblock call, and the
+/// values of the call, as in `free 0x0000000000001000..0x0000000000001fff`.
 ///
 /// # Errors
 ///
@@ -62,7 +65,7 @@ pub fn put_item(text: &mut Vec<u8>, item: &Item) -> Result<(), Memory>
     }
 }
 
-/// Appends a claim: its owner and its range.
+/// Appends the text of an item that claims a range: `claim`, the owner and the range.
 fn put_claim(text: &mut Vec<u8>, range: &Range, owner: Owner) -> Result<(), Memory>
     ensures { PutsText text.old text.new result (item_text (Item.Claim range.now owner)) }
 {
@@ -72,7 +75,8 @@ fn put_claim(text: &mut Vec<u8>, range: &Range, owner: Owner) -> Result<(), Memo
     put_range(text, range)
 }
 
-/// Appends the direction of searches from this item on: `on` if they go upward.
+/// Appends `upward on` if searches go from the lowest address up from this item on, or `upward off`
+/// if they go from the highest down.
 fn put_upward(text: &mut Vec<u8>, on: bool) -> Result<(), Memory>
     ensures { PutsText text.old text.new result (item_text (Item.Upward on)) }
 {
@@ -84,8 +88,8 @@ fn put_upward(text: &mut Vec<u8>, on: bool) -> Result<(), Memory>
     }
 }
 
-/// Appends the growth of a table: which table, its new place, and the number of records that it
-/// has room for there.
+/// Appends the text of an item that grows a table of memblock: which table, its new address, and
+/// the number of records that it has room for there.
 fn put_growth(text: &mut Vec<u8>, which: Which, place: u64, room: u64) -> Result<(), Memory>
     ensures { PutsText text.old text.new result (item_text (Item.Grown which place room)) }
 {

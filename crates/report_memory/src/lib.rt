@@ -16,10 +16,10 @@
 //! byte. An index is right-aligned in four columns. Each owner and each table has one name.
 //! `bm_base` writes numbers.
 //!
-//! The layer above may rest on this: a `put_` call appends exactly the text of its definition and
-//! changes nothing else. It fails only with `Memory`, and only if the text has too little room
-//! (`PutsText` of `bm_base`). The text is incomplete then, and the caller discards it. In
-//! contracts, a name means the definition in `specs/`.
+//! The layer above can rely on this: a `put_` call appends exactly the text of its definition and
+//! changes nothing else. It fails only with `Memory`, and only if the text's capacity is too small
+//! for the new text (`PutsText` of `bm_base`). The text is incomplete then, and the caller discards
+//! it. In contracts, a name means the definition in `specs/`.
 #![tactic(auto)]
 
 mod journal;

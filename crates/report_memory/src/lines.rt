@@ -8,8 +8,8 @@ ghost use Rattle.report_memory.specs.Lines.{indexed_lines};
 use bm_base::Memory;
 
 /// Appends one line for each element, in their order. `put` appends the line; it gets the element
-/// and its index, from 0 on. The clause `lines` is for a `put` that also allocates other memory,
-/// the clause `puts` for one that doesn't.
+/// and its index, from 0 on. The clause `lines` is for a `put` that also allocates other memory.
+/// The clause `puts` is for a `put` that allocates only for the text.
 ///
 /// # Errors
 ///

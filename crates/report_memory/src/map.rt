@@ -1,5 +1,5 @@
-//! Writes the map: a line for each run. The names of types are here and not next to their numbers
-//! (`e820_model`), since only a report needs them.
+//! Writes the report `map`: a line for each run of the map. The names of e820 types are here and
+//! not next to their numbers (`e820_model`), since only a report needs them.
 
 ghost use Rattle.std.specs.Prelude.{◌≡◌};
 ghost use Rattle.bm_base.specs.PutsText.{PutsText};
@@ -13,7 +13,8 @@ use e820_model::{
     E820_TYPE_RESERVED, E820_TYPE_RESERVED_KERN, E820_TYPE_SOFT_RESERVED, E820_TYPE_UNUSABLE, Run,
 };
 
-/// Returns the name of a type (`enum e820_type`).
+/// Returns the name of an e820 type (`enum e820_type`), such as `usable` for 1, or `other` for an
+/// unknown type.
 fn e820_type_name(kind: u32) -> &'static str
     ensures { result.now ≡ e820_type_name kind }
 {
@@ -31,7 +32,7 @@ fn e820_type_name(kind: u32) -> &'static str
     }
 }
 
-/// Appends the text of the map: a line for each run.
+/// Appends the report `map`: a line for each run, in the order of `runs`.
 ///
 /// # Errors
 ///
@@ -42,7 +43,8 @@ pub fn put_map(text: &mut Vec<u8>, runs: &[Run]) -> Result<(), Memory>
     put_indexed_lines(text, runs, put_map_line)
 }
 
-/// Appends the line for a run of the map: its range, and the number and name of its type.
+/// Appends the line of a run of the map: its range, and the number and name of its type. The index
+/// isn't printed.
 fn put_map_line(text: &mut Vec<u8>, index: u64, run: &Run) -> Result<(), Memory>
     ensures { PutsText text.old text.new result (map_line index run.now) }
 {

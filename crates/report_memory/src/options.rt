@@ -1,5 +1,6 @@
-//! Writes the options that the command line sets for the memory set-up, as they were read. Their
-//! effects are in other reports: those of the map, the nodes and the crash area.
+//! Writes the report `options`: the options that the kernel's command line sets for the memory
+//! set-up, as they were read. Their effects are in other reports: those of the map, the nodes and
+//! the crash area.
 
 ghost use Rattle.std.specs.Prelude.{◌++◌, codes};
 ghost use Rattle.std.specs.Option.{option_map};
@@ -14,9 +15,9 @@ use crate::ranges::{put_range, put_word_range};
 use bm_base::{Memory, put_dec, put_hex, put_text};
 use boot_options::{CrashOption, CrashPlain, CrashRange, Edit, Options};
 
-/// Appends the text of the options: a line for each edit of the map, in the order of the command
-/// line, then those of the requested crash area. Lines for `numa=off` and `add_efi_memmap` follow,
-/// if the command line has them.
+/// Appends the report `options`: a line for each edit of the map (`mem=`, `memmap=`) in the order
+/// of the command line, and then the lines of the requested crash area. Lines for `numa=off` and
+/// `add_efi_memmap` follow, if the command line has them.
 ///
 /// # Errors
 ///
@@ -30,7 +31,7 @@ pub fn put_options(text: &mut Vec<u8>, options: &Options) -> Result<(), Memory>
     put_efi_line(text, options.add_efi)
 }
 
-/// Appends the line of an edit.
+/// Appends the line of an edit of the map. The index isn't printed.
 fn put_edit_line(text: &mut Vec<u8>, index: u64, edit: &Edit) -> Result<(), Memory>
     ensures { PutsText text.old text.new result (edit_line index edit.now) }
 {
@@ -38,7 +39,8 @@ fn put_edit_line(text: &mut Vec<u8>, index: u64, edit: &Edit) -> Result<(), Memo
     put_text(text, b"\n")
 }
 
-/// Appends the text of an edit: what the edit does, its types, and its range.
+/// Appends the text of an edit of the map, as in `add 1 0x0000000000100000..0x00000000001fffff`:
+/// what the edit does, the types that it names, and its range.
 fn put_edit(text: &mut Vec<u8>, edit: &Edit) -> Result<(), Memory>
     ensures { PutsText text.old text.new result (edit_text edit.now) }
 {

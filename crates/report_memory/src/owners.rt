@@ -1,4 +1,5 @@
-//! Writes the names of owners and tables, and who owns which bytes.
+//! Writes the report `owners`, who owns which bytes, and the names of owners and of memblock's
+//! tables.
 
 ghost use Rattle.std.specs.Prelude.{◌≡◌, ◌++◌, decimal};
 ghost use Rattle.bm_base.specs.PutsText.{PutsText};
@@ -10,8 +11,8 @@ use crate::ranges::{put_index, put_range};
 use bm_base::{Memory, put_dec, put_text};
 use boot_journal::{Journal, Owner, OwnerRun, Which};
 
-/// Appends a line for each run of bytes with one owner: its index, its range and its owner. The
-/// owners are those after the last item of the journal.
+/// Appends the report `owners`: a line for each run of bytes with one owner. The line has an index
+/// from 0, the range and the owner. The owners are those after the last item of the journal.
 ///
 /// # Errors
 ///
@@ -22,7 +23,7 @@ pub fn put_owners(text: &mut Vec<u8>, journal: &Journal) -> Result<(), Memory>
     put_indexed_lines(text, journal.owners(), put_owner_line)
 }
 
-/// Appends the line of a run of bytes with one owner.
+/// Appends the line of a run of bytes with one owner: `index`, the range and the owner.
 fn put_owner_line(text: &mut Vec<u8>, index: u64, run: &OwnerRun) -> Result<(), Memory>
     ensures { PutsText text.old text.new result (owner_line index run.now) }
 {
@@ -33,7 +34,7 @@ fn put_owner_line(text: &mut Vec<u8>, index: u64, run: &OwnerRun) -> Result<(), 
     put_text(text, b"\n")
 }
 
-/// Appends the name of an owner, and its number if it has one.
+/// Appends the name of an owner, and its number if it has one, as in `kernel` or `node-data 0`.
 ///
 /// # Errors
 ///
@@ -71,7 +72,7 @@ fn put_numbered_owner(text: &mut Vec<u8>, word: &[u8], number: u32) -> Result<()
     put_dec(text, u64::from(number), 0)
 }
 
-/// Returns the name of a table.
+/// Returns the name of one of memblock's two tables: `memory` or `reserved`.
 pub fn memblock_table_name(which: Which) -> &'static str
     ensures { result.now ≡ memblock_table_name which }
 {

@@ -7,7 +7,9 @@ ghost use Rattle.report_memory.specs.Lines.{index_text, range_text};
 
 use bm_base::{Memory, Range, put_dec, put_hex, put_text};
 
-/// Appends the first and the last byte of a range.
+/// Appends the addresses of the first and the last byte of a range, as in
+/// `0x0000000000001000..0x0000000000001fff`. For an empty range the second address is one below the
+/// first, or 0 if the first is 0.
 ///
 /// # Errors
 ///
@@ -20,7 +22,7 @@ pub fn put_range(text: &mut Vec<u8>, range: &Range) -> Result<(), Memory>
     put_hex(text, range.end().saturating_sub(1))
 }
 
-/// Appends a word and a range.
+/// Appends `word`, and then the addresses of the first and the last byte of the range.
 ///
 /// # Errors
 ///
@@ -32,7 +34,7 @@ pub fn put_word_range(text: &mut Vec<u8>, word: &[u8], range: &Range) -> Result<
     put_range(text, range)
 }
 
-/// Appends the index at the start of a line, counted from 0.
+/// Appends the index at the start of a line: right-aligned in four columns, and followed by `: `.
 ///
 /// # Errors
 ///

@@ -1,6 +1,6 @@
-//! Writes the heads of both tables: where each table is, and how full it is. A table that grows
-//! moves and doubles its room. Its records don't show that, so the heads have a report of their
-//! own.
+//! Writes the report `tables`: the address of each of memblock's two tables, and how full it is. A
+//! table that grows moves and doubles its room. Its records don't show that, so there is a report
+//! for it.
 
 ghost use Rattle.bm_base.specs.PutsText.{PutsText};
 ghost use Rattle.report_memory.specs.TablesText.{table_line, tables_text};
@@ -10,7 +10,7 @@ use bm_base::{Memory, put_dec, put_hex, put_text};
 use boot_journal::Which;
 use memblock_ranges::{Head, Heads};
 
-/// Appends the text of both heads: a line for each table.
+/// Appends the report `tables`: a line for each of memblock's two tables, from the table's head.
 ///
 /// # Errors
 ///
@@ -22,7 +22,8 @@ pub fn put_tables(text: &mut Vec<u8>, heads: &Heads) -> Result<(), Memory>
     put_table_line(text, Which::Reserved, &heads.reserved)
 }
 
-/// Appends the line for a table: its place, its room in records, and the number of its records.
+/// Appends the line of a table: its address, the number of records that it has room for, and the
+/// number of records that it has.
 fn put_table_line(text: &mut Vec<u8>, which: Which, head: &Head) -> Result<(), Memory>
     ensures { PutsText text.old text.new result (table_line which head.now) }
 {
