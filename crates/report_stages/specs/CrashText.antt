@@ -1,15 +1,18 @@
--- The outcome of the crash area, as lines of this project's own.
+-- The report `crash`: where the crash area (`crashkernel=`) is reserved, or why it isn't, as lines
+-- of this project's own.
 use Rattle.std.specs.Prelude.{ℕ, Option, Some, None, List, [], ◌++◌, codes}
 use Rattle.bm_base.specs.Range.{RangeView}
 use Rattle.crash_kernel.specs.declared.crash.Crash.{Crash}
 use Rattle.crash_kernel.specs.declared.crash.Crash.TheVariants as crash
 use Rattle.report_memory.specs.Lines.{range_text}
 
--- the line of the crash area's low part; nothing if there is none
+-- the line of the crash area's low part, a further range below 4 GiB; nothing if there is none
 abbrev pub crash_low_line : Option RangeView → List ℕ
 crash_low_line None = []
 crash_low_line (Some low) = codes "crash low " ++ range_text low ++ codes "\n"
 
+-- the report `crash`: a line with the range of the area, and one with its low part; or a line with
+-- the reason why there is no area
 abbrev pub crash_text : Crash → List ℕ
 crash_text crash.Nothing = codes "crash none\n"
 crash_text (crash.At main low) = codes "crash at " ++ range_text main ++ codes "\n" ++ crash_low_line low

@@ -19,7 +19,7 @@ use std::alloc::Global;
 /// The number of blocks of the largest order in 4 GiB.
 pub(crate) const BATCH_BLOCKS: u64 = 1024;
 
-/// The number of frames in these blocks.
+/// The number of 4-KiB frames in 4 GiB.
 pub(crate) const BATCH_FRAMES: u64 = BATCH_BLOCKS << MAX_ORDER;
 
 /// Appends a line for each block of the row, 1,024 lines at a time. The row's blocks must have the
@@ -46,7 +46,8 @@ pub(crate) fn put_row_in_batches(text: &mut Vec<u8>, row: &BlockRow) -> Result<(
     Ok(())
 }
 
-/// Returns the lines of the first 4 GiB of a row.
+/// Returns the lines of the first 1,024 blocks (4 GiB) of a row. The row must consist of blocks of
+/// the order `MAX_ORDER` and have at least one, and must begin and end at multiples of 4 GiB.
 ///
 /// # Errors
 ///
@@ -65,8 +66,8 @@ fn first_batch(alloc: Global, row: &BlockRow) -> Result<Vec<u8>, Memory>
     Ok(lines)
 }
 
-/// Overwrites the addresses in the lines of a batch. Afterwards the lines are those of the blocks
-/// from address `number * 2^32` on.
+/// Overwrites the addresses in the lines of a batch, the lines of the 1,024 blocks in 4 GiB.
+/// Afterwards the lines are those of the blocks from address `number * 2^32` on.
 fn overwrite_batch_addresses(batch: &mut Vec<u8>, number: u64)
     requires small { number < 2 ^ 32 }
     requires whole { length batch.old.items % 1024 ≡ 0 }
@@ -77,7 +78,8 @@ fn overwrite_batch_addresses(batch: &mut Vec<u8>, number: u64)
     replace_batch_digits(batch, &last_digits(number));
 }
 
-/// Overwrites the first eight of the sixteen digits of the address in each line of a batch.
+/// Overwrites the first eight of the sixteen digits of the address in each line of a batch, which
+/// has 1,024 lines of the same length.
 fn replace_batch_digits(batch: &mut [u8], digits: &[u8; 8])
     requires whole { length batch.old % 1024 ≡ 0 }
     requires long { 17 * 1024 ≤ length batch.old }
@@ -91,7 +93,7 @@ fn replace_batch_digits(batch: &mut [u8], digits: &[u8; 8])
     }
 }
 
-/// Returns `number`, which must be below 2^32, as eight hexadecimal digits.
+/// Returns `number`, which must be below 2^32, as eight lower-case hexadecimal digits.
 fn last_digits(number: u64) -> [u8; 8]
     requires { number < 2 ^ 32 }
     ensures { result ≡ last_digits number }
@@ -105,6 +107,7 @@ fn last_digits(number: u64) -> [u8; 8]
     digits
 }
 
+/// Returns the lower-case hexadecimal digit of a number below 16, as an ASCII byte.
 fn hex_digit(digit: u64) -> u8
     requires { digit < 16 }
     ensures { result ≡ digit_glyph false digit }

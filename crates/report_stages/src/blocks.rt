@@ -1,10 +1,9 @@
-//! Writes the free blocks: where each is, and how large.
+//! Writes the report `blocks`: the address and the order of each free block.
 //!
-//! There may be millions of blocks, nearly all of the largest order and next to each other. The
-//! room for the whole text is allocated once. A row is a sequence of consecutive blocks of the
-//! same order, node and zone. The lines of long rows are written in batches
-//! ([`put_row_in_batches`]). The other lines, and those at the ends of long rows, are written one
-//! by one.
+//! There may be millions of blocks, nearly all of the largest order and next to each other. So the
+//! room for the whole text is allocated once. A row is a sequence of consecutive blocks of the same
+//! order, node and zone. The lines of long rows are written in batches ([`put_row_in_batches`]).
+//! The other lines, and those at the ends of long rows, are written one by one.
 
 ghost use Rattle.std.specs.Prelude.{◌≡◌, ◌+◌, ◌*◌, ◌^◌, ◌<◌, ◌≤◌, ◌++◌, OnOk, length};
 ghost use Rattle.bm_base.specs.PutsText.{PutsText};
@@ -24,8 +23,8 @@ use buddy_handover::{Block, BlockRow, Buddy, MAX_ORDER};
 /// 0x0123456789abcdef` and a newline.
 const LONGEST_LINE: usize = 56;
 
-/// Appends the free blocks: a line for each, in ascending order. Allocates the room for the whole
-/// text at once.
+/// Appends the report `blocks`: a line for each free block, in ascending order of addresses.
+/// Allocates the room for the whole text at once.
 ///
 /// # Errors
 ///
@@ -51,7 +50,7 @@ fn count_blocks(rows: &[BlockRow]) -> u64
     count
 }
 
-/// Appends the line of each block of all rows.
+/// Appends a line for each block of all rows, in order.
 fn put_rows(text: &mut Vec<u8>, rows: &[BlockRow]) -> Result<(), Memory>
     requires { AreAlignedBlocks (blocks_of_rows rows.now) }
     ensures { OnOk result (text.new.items
@@ -63,7 +62,8 @@ fn put_rows(text: &mut Vec<u8>, rows: &[BlockRow]) -> Result<(), Memory>
     Ok(())
 }
 
-/// Appends the line of each block of a row.
+/// Appends a line for each block of a row. A row is a sequence of consecutive blocks of the same
+/// order, node and zone.
 fn put_row(text: &mut Vec<u8>, row: &BlockRow) -> Result<(), Memory>
     requires { AreAlignedBlocks (blocks_of_row row.now) }
     ensures { OnOk result (text.new.items ≡ text.old.items ++ row_text row.now) }
@@ -74,8 +74,9 @@ fn put_row(text: &mut Vec<u8>, row: &BlockRow) -> Result<(), Memory>
     put_each_block(text, row)
 }
 
-/// Appends the line of each block of a row of the largest order. The lines from the first multiple
-/// of 4 GiB to the last are written in batches, those before and after one by one.
+/// Appends a line for each block of a row of the largest order, which must have at least 2,048
+/// blocks. The lines from the first multiple of 4 GiB to the last are written in batches of 1,024
+/// lines, and those before and after one by one.
 fn put_max_order_row(text: &mut Vec<u8>, row: &BlockRow) -> Result<(), Memory>
     requires great { row.now.order ≡ MAX_ORDER }
     requires many { 2 * 1024 ≤ row.now.count }
@@ -102,7 +103,7 @@ fn part_of_row(row: &BlockRow, skipped: u64, count: u64) -> BlockRow
     }
 }
 
-/// Appends the line of each block of a row, one after another.
+/// Appends a line for each block of a row, one after another.
 pub(crate) fn put_each_block(text: &mut Vec<u8>, row: &BlockRow) -> Result<(), Memory>
     requires { AreAlignedBlocks (blocks_of_row row.now) }
     ensures { PutsText text.old text.new result (row_text row.now) }
@@ -125,7 +126,8 @@ pub(crate) fn put_each_block(text: &mut Vec<u8>, row: &BlockRow) -> Result<(), M
     Ok(())
 }
 
-/// Appends the line of a block. Its first frame must be below `MAX_FRAMES`.
+/// Appends the line of a block: its node, zone and order, and the address of its first byte. Its
+/// first frame must be below `MAX_FRAMES`.
 fn put_block_line(text: &mut Vec<u8>, block: &Block) -> Result<(), Memory>
     requires { block.now.first < MAX_FRAMES }
     ensures { PutsText text.old text.new result (block_line 0 block.now) }

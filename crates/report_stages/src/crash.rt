@@ -1,5 +1,5 @@
-//! Writes the crash area: where it is, or why there is none. A boot continues without the area, so
-//! only this report has the reason.
+//! Writes the report `crash`: where the crash area is reserved, or why there is none. A boot
+//! continues without the area, so only this report has the reason.
 
 ghost use Rattle.bm_base.specs.PutsText.{PutsText};
 ghost use Rattle.report_stages.specs.CrashText.{crash_text, crash_low_line};
@@ -8,8 +8,8 @@ use bm_base::{Memory, Range, put_text};
 use crash_kernel::Crash;
 use report_memory::put_word_range;
 
-/// Appends where the crash area is, or why there is none. A second line has the area's low part,
-/// which is a further area below 4 GiB, if there is one.
+/// Appends the report `crash`: the range of the crash area, or why there is none. If the area has a
+/// low part, a further range below 4 GiB, a second line has it.
 ///
 /// # Errors
 ///
@@ -30,7 +30,8 @@ pub fn put_crash(text: &mut Vec<u8>, crash: &Crash) -> Result<(), Memory>
     }
 }
 
-/// Appends the line for the area's low part, if there is one.
+/// Appends the line of the crash area's low part, a further range below 4 GiB; nothing if there is
+/// none.
 fn put_crash_low_line(text: &mut Vec<u8>, low: &Option<Range>) -> Result<(), Memory>
     ensures { PutsText text.old text.new result (crash_low_line low.now) }
 {

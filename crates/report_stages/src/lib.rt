@@ -7,22 +7,22 @@
 //! documentation of the formats; the function that writes this line; and one call of
 //! `put_indexed_lines`. Each `put_` function appends the text of one report:
 //!
-//! - [`put_script`], [`put_pages`]: the outcome of each line of the early script, and of the page
-//!   script
-//! - [`put_nodes`]: whether the SRAT is used, and the nodes that memory got
+//! - [`put_script`], [`put_pages`]: the outcome of each line of the early script (except
+//!   `sections`), and of the page script
+//! - [`put_nodes`]: whether the SRAT is used, and which ranges of memory got which node
 //! - [`put_crash`]: the crash area
-//! - [`put_sections`]: where the data of the memory sections are
+//! - [`put_sections`]: the addresses of the data of the memory sections
 //! - [`put_zones`], [`put_buddyinfo`], [`put_blocks`]: the zones and the free blocks at the
 //!   handover
 //! - [`put_zonelists`]: the zones in the order in which a request on a node tries them
 //! - [`put_summary`]: the totals at the end of the boot
 //!
-//! The layer above may rest on this: a `put_` call appends exactly the text of its definition. It
+//! The layer above can rely on this: a `put_` call appends exactly the text of its definition. It
 //! fails only with `Memory`; the text is incomplete then, and the caller discards it. Except for
-//! [`put_blocks`] and [`put_zonelists`], which also allocate lists, a call fails only if the text
-//! has too little room (`PutsText` of `bm_base`). The text of the blocks may have millions of
-//! lines, so [`put_blocks`] allocates the room for all of them at once. In contracts, a name means
-//! the definition in `specs/`.
+//! [`put_blocks`] and [`put_zonelists`], which also allocate lists, a call fails only if the text's
+//! capacity is too small for the new text (`PutsText` of `bm_base`). The text of the blocks may
+//! have millions of lines, so [`put_blocks`] allocates the room for all of them at once. In
+//! contracts, a name means the definition in `specs/`.
 #![tactic(auto)]
 
 mod batches;

@@ -1,5 +1,5 @@
-//! Writes the zone lists: whether the firmware's distances are used, and in which order a request
-//! on a node tries the zones.
+//! Writes the report `zonelists`: whether the distances of the SLIT are used, and in which order an
+//! allocation for a node tries the zones.
 
 ghost use Rattle.std.specs.Prelude.{◌≡◌, ◌++◌, OnOk};
 ghost use Rattle.std.specs.List.{flat_map};
@@ -13,8 +13,9 @@ use bm_base::{Memory, put_text};
 use report_memory::put_indexed_lines;
 use slit_zonelists::{ListZone, Lists, SlitUse};
 
-/// Appends the zone lists: whether the SLIT is used, and a line for each node that has memory.
-/// Besides the text it allocates the list of these nodes and, one at a time, the list of each.
+/// Appends the report `zonelists`: whether the SLIT is used, and a line for each node that has
+/// memory. Besides the text it allocates the list of these nodes and, one node at a time, the
+/// node's list of zones.
 ///
 /// # Errors
 ///
@@ -27,8 +28,8 @@ pub fn put_zonelists(text: &mut Vec<u8>, lists: &Lists) -> Result<(), Memory>
     put_zonelist_lines(text, &nodes, lists)
 }
 
-/// Appends a line for each of the `nodes`. Besides the text it allocates the list of each node, one
-/// at a time.
+/// Appends a line for each of the `nodes`. Besides the text it allocates, one node at a time, the
+/// node's list of zones.
 fn put_zonelist_lines(text: &mut Vec<u8>, nodes: &[u32], lists: &Lists) -> Result<(), Memory>
     ensures { OnOk result
         (text.new.items ≡ text.old.items ++ indexed_lines (zonelist_line lists.now) 0 nodes.now) }
@@ -38,7 +39,7 @@ fn put_zonelist_lines(text: &mut Vec<u8>, nodes: &[u32], lists: &Lists) -> Resul
     })
 }
 
-/// Appends the line that says whether the SLIT is used.
+/// Appends the line that says whether the distances of the SLIT are used, as in `slit no srat`.
 fn put_slit_use_line(text: &mut Vec<u8>, used: SlitUse) -> Result<(), Memory>
     ensures { PutsText text.old text.new result (slit_use_line used) }
 {
@@ -47,7 +48,8 @@ fn put_slit_use_line(text: &mut Vec<u8>, used: SlitUse) -> Result<(), Memory>
     put_text(text, b"\n")
 }
 
-/// Appends whether the SLIT is used, and the reason if it isn't.
+/// Appends `used` if the distances of the SLIT are used, and otherwise why they aren't. `not valid`
+/// is followed by the row and the column of the first bad distance, both from 0.
 fn put_slit_use(text: &mut Vec<u8>, used: SlitUse) -> Result<(), Memory>
     ensures { PutsText text.old text.new result (slit_use_text used) }
 {
@@ -62,8 +64,9 @@ fn put_slit_use(text: &mut Vec<u8>, used: SlitUse) -> Result<(), Memory>
     }
 }
 
-/// Appends the line for a node: its number, and the zones of its list. Besides the text it
-/// allocates that list.
+/// Appends the line of a node, as in `Node 0: 0/Normal 0/DMA32 0/DMA`: the zones in the order in
+/// which an allocation for the node tries them. Besides the text it allocates the list of these
+/// zones.
 fn put_zonelist_line(
     text: &mut Vec<u8>,
     index: u64,
@@ -80,7 +83,7 @@ fn put_zonelist_line(
     put_text(text, b"\n")
 }
 
-/// Appends the zones of a list, in their order.
+/// Appends the zones of a zone list, in order, each as in ` 0/DMA32`.
 fn put_list_zones(text: &mut Vec<u8>, zones: &[ListZone]) -> Result<(), Memory>
     ensures { PutsText text.old text.new result (flat_map list_zone_text zones.now) }
 {
@@ -90,7 +93,7 @@ fn put_list_zones(text: &mut Vec<u8>, zones: &[ListZone]) -> Result<(), Memory>
     Ok(())
 }
 
-/// Appends an entry of a list: its node and its zone.
+/// Appends an entry of a zone list, as in ` 0/DMA32`: its node and its zone.
 fn put_list_zone(text: &mut Vec<u8>, entry: &ListZone) -> Result<(), Memory>
     ensures { PutsText text.old text.new result (list_zone_text entry.now) }
 {

@@ -1,6 +1,6 @@
-//! Writes the nodes: why the SRAT is or isn't used, and which memory is on which node. The ranges
-//! of a node are taken from the journal's `Node` items, since the result of the stage doesn't have
-//! them. Such an item has the same text as in the report `journal` (`put_item`).
+//! Writes the report `nodes`: why the SRAT is or isn't used, and which memory is on which node. The
+//! ranges of a node are those of the journal's `Node` items, since the result of the stage doesn't
+//! have them. Such an item has the same text as in the report `journal` (`put_item`).
 
 ghost use Rattle.bm_base.specs.PutsText.{PutsText};
 ghost use Rattle.numa_nodes.specs.Assignment.{nodes_view};
@@ -12,8 +12,9 @@ use boot_journal::{Item, Journal};
 use numa_nodes::{Nodes, Why};
 use report_memory::{put_indexed_lines, put_item};
 
-/// Appends why the SRAT is or isn't used, the domain of each node, the number of frames that no
-/// block covers, and a line for each journal item that gives a range its node.
+/// Appends the report `nodes`: why the SRAT is or isn't used, the proximity domain of each node,
+/// the number of frames of memory that lie in no range of the SRAT, and a line for each journal
+/// item that gives a range its node.
 ///
 /// # Errors
 ///
@@ -38,8 +39,9 @@ fn put_srat_use_line(text: &mut Vec<u8>, why: &Why) -> Result<(), Memory>
     put_text(text, b"\n")
 }
 
-/// Appends why the SRAT is or isn't used. If blocks overlap, their two numbers follow; if frames
-/// aren't covered, the number of these frames.
+/// Appends `used` if the SRAT is used, and otherwise why it isn't. A block is a range of memory in
+/// the SRAT. `overlap` is followed by the indices of two enabled blocks, and `not covered` by the
+/// number of frames of memory that lie in no block.
 fn put_srat_use(text: &mut Vec<u8>, why: &Why) -> Result<(), Memory>
     ensures { PutsText text.old text.new result (srat_use_text why.now) }
 {
@@ -58,7 +60,7 @@ fn put_srat_use(text: &mut Vec<u8>, why: &Why) -> Result<(), Memory>
     }
 }
 
-/// Appends the line for a node: its domain, and its number, which is `index`.
+/// Appends the line of a node: its proximity domain in the SRAT, and its number, which is `index`.
 fn put_domain_line(text: &mut Vec<u8>, index: u64, domain: &u32) -> Result<(), Memory>
     ensures { PutsText text.old text.new result (domain_line index domain.now) }
 {
@@ -67,7 +69,8 @@ fn put_domain_line(text: &mut Vec<u8>, index: u64, domain: &u32) -> Result<(), M
     put_text(text, b"\n")
 }
 
-/// Appends the number of frames that no block covers.
+/// Appends the line with the number of frames of memory that lie in no block (range of memory) of
+/// the SRAT.
 fn put_uncovered_line(text: &mut Vec<u8>, frames: u64) -> Result<(), Memory>
     ensures { PutsText text.old text.new result (uncovered_line frames) }
 {

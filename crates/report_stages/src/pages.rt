@@ -1,4 +1,4 @@
-//! Writes the outcome of each line of the page script.
+//! Writes the report `pages`: the outcome of each line of the page script.
 
 ghost use Rattle.bm_base.specs.PutsText.{PutsText};
 ghost use Rattle.report_stages.specs.PagesText.{page_answer_line, page_outcome_text, pages_text};
@@ -8,7 +8,8 @@ use bm_base::{Memory, put_dec, put_text};
 use page_alloc::{PageAnswer, PageOutcome};
 use report_memory::put_indexed_lines;
 
-/// Appends the outcomes of the page script: a line for each of its lines, in their order.
+/// Appends the report `pages`: a line for each line of the page script that has a command, in their
+/// order.
 ///
 /// # Errors
 ///
@@ -19,7 +20,8 @@ pub fn put_pages(text: &mut Vec<u8>, answers: &[PageAnswer]) -> Result<(), Memor
     put_indexed_lines(text, answers, put_page_answer_line)
 }
 
-/// Appends the line for an outcome: the number of the line in the script, and the outcome.
+/// Appends the line of an outcome, as in `3: no block`: the number of the line in the page script,
+/// and the outcome. The index isn't printed.
 fn put_page_answer_line(text: &mut Vec<u8>, index: u64, answer: &PageAnswer) -> Result<(), Memory>
     ensures { PutsText text.old text.new result (page_answer_line index answer.now) }
 {
@@ -29,7 +31,7 @@ fn put_page_answer_line(text: &mut Vec<u8>, index: u64, answer: &PageAnswer) -> 
     put_text(text, b"\n")
 }
 
-/// Appends the outcome of a line.
+/// Appends the outcome of a line of the page script, as in `no block`.
 fn put_page_outcome(text: &mut Vec<u8>, outcome: PageOutcome) -> Result<(), Memory>
     ensures { PutsText text.old text.new result (page_outcome_text outcome) }
 {

@@ -1,5 +1,5 @@
-//! Writes the outcome of each line of the early script. A line that is refused doesn't stop the
-//! boot, so its refusal is reported here, with the number of the line.
+//! Writes the outcome of each line of the early script or of the file of early claims. A line that
+//! is refused doesn't stop the boot, so its refusal is reported here, with the number of the line.
 
 ghost use Rattle.std.specs.Prelude.{◌≤◌, length};
 ghost use Rattle.bm_base.specs.PutsText.{PutsText};
@@ -15,7 +15,8 @@ use report_memory::{memblock_table_name, put_indexed_lines};
 /// The largest number of bytes of memory that one line of the script reads and reports.
 const MOST_PEEKED_BYTES: usize = 64;
 
-/// Appends the outcomes of the early script: a line for each of its lines, in their order.
+/// Appends the report `script` or `claims`: a line for each outcome of a line of the script, in
+/// order. The command `sections` has no outcome.
 ///
 /// # Errors
 ///
@@ -26,7 +27,8 @@ pub fn put_script(text: &mut Vec<u8>, answers: &[Answer]) -> Result<(), Memory>
     put_indexed_lines(text, answers, put_answer_line)
 }
 
-/// Appends the line for an outcome: the number of the line in the script, and the outcome.
+/// Appends the line of an outcome, as in `3: no gap`: the number of the line in the script, and the
+/// outcome. The index isn't printed.
 fn put_answer_line(text: &mut Vec<u8>, index: u64, answer: &Answer) -> Result<(), Memory>
     ensures { PutsText text.old text.new result (answer_line index answer.now) }
 {
@@ -36,7 +38,7 @@ fn put_answer_line(text: &mut Vec<u8>, index: u64, answer: &Answer) -> Result<()
     put_text(text, b"\n")
 }
 
-/// Appends the outcome of a line.
+/// Appends the outcome of a line of the early script, as in `no gap`.
 fn put_outcome(text: &mut Vec<u8>, outcome: &Outcome) -> Result<(), Memory>
     ensures { PutsText text.old text.new result (outcome_text outcome.now) }
 {
@@ -58,7 +60,8 @@ fn put_outcome(text: &mut Vec<u8>, outcome: &Outcome) -> Result<(), Memory>
     }
 }
 
-/// Appends which table found no place to grow to, and the number of records that it had room for.
+/// Appends which table of memblock had to grow and found no place, and the number of records that
+/// it has room for, which was too small.
 fn put_refused_growth(text: &mut Vec<u8>, which: Which, room: u64) -> Result<(), Memory>
     ensures { PutsText text.old text.new result (outcome_text (Outcome.NoGapForTable which room)) }
 {

@@ -1,5 +1,5 @@
-//! Writes the sections: where the table of roots, the roots, and the data of each section are. The
-//! roots come from `sparse_sections`, the rest from `section_maps`.
+//! Writes the report `sections`: the addresses of the table of roots, of each root, and of the data
+//! of each section with memory. `sparse_sections` places the roots, and `section_maps` the data.
 
 ghost use Rattle.bm_base.specs.PutsText.{PutsText};
 ghost use Rattle.report_stages.specs.SectionsText.{root_line, roots_text, section_line, sections_text};
@@ -10,8 +10,8 @@ use report_memory::put_indexed_lines;
 use section_maps::Placed;
 use sparse_sections::{RootPlace, Roots};
 
-/// Appends the sections: a line for the table of roots, one for each root, and one for each
-/// section with memory.
+/// Appends the report `sections`: a line for the table of roots, one for each root, and one for
+/// each section with memory.
 ///
 /// # Errors
 ///
@@ -26,7 +26,7 @@ pub fn put_sections(text: &mut Vec<u8>, roots: &Roots, placed: &[Placed]) -> Res
     Ok(())
 }
 
-/// Appends the line for the table of roots, and one for each root.
+/// Appends a line with the address of the table of roots, and one for each root.
 fn put_roots(text: &mut Vec<u8>, roots: &Roots) -> Result<(), Memory>
     ensures { PutsText text.old text.new result
         (roots_text (record { table = roots.now.table; roots = roots.now.roots.items })) }
@@ -37,7 +37,7 @@ fn put_roots(text: &mut Vec<u8>, roots: &Roots) -> Result<(), Memory>
     Ok(())
 }
 
-/// Appends the line of a root.
+/// Appends the line of a section root: its number and its address. The index isn't printed.
 fn put_root_line(text: &mut Vec<u8>, index: u64, root: &RootPlace) -> Result<(), Memory>
     ensures { PutsText text.old text.new result (root_line index root.now) }
 {
@@ -46,7 +46,8 @@ fn put_root_line(text: &mut Vec<u8>, index: u64, root: &RootPlace) -> Result<(),
     put_text(text, b"\n")
 }
 
-/// Appends the line of a section.
+/// Appends the line of a section: its number, its node, and the addresses of its page structures
+/// (`map`) and of its usage data. The index isn't printed.
 fn put_section_line(text: &mut Vec<u8>, index: u64, placed: &Placed) -> Result<(), Memory>
     ensures { PutsText text.old text.new result (section_line index placed.now) }
 {

@@ -1,5 +1,5 @@
-//! Writes the summary: the totals at the end of a boot. `debugfs_reports` counts them; the record
-//! of the numbers is here, since the lines are defined over it.
+//! Writes the report `summary`: the totals at the end of a boot. `debugfs_reports` counts them. The
+//! type [`Summary`] is here, since the lines are defined over it.
 
 ghost use Rattle.bm_base.specs.PutsText.{PutsText};
 ghost use Rattle.report_stages.specs.SummaryText.{fullness_line, number_line, summary_text};
@@ -12,9 +12,9 @@ use report_memory::memblock_table_name;
 /// How full a table of memblock is.
 #[derive(Clone, Copy, Debug, PartialEq, Eq)]
 pub struct Fullness {
-    /// The number of records that it has.
+    /// The number of records that the table has.
     pub records: u64,
-    /// The number of records that it has room for.
+    /// The number of records that the table has room for.
     pub room: u64,
 }
 
@@ -23,17 +23,20 @@ pub struct Fullness {
 pub struct Summary {
     /// The number of runs of the map.
     pub runs: u64,
-    /// The number of usable frames.
+    /// The number of usable frames of the map, below the limit of physical addresses.
     pub usable: u64,
-    /// The number of frames in free blocks.
+    /// The number of frames in the free blocks.
     pub free: u64,
+    /// How full `memblock.memory` is.
     pub memory: Fullness,
+    /// How full `memblock.reserved` is.
     pub reserved: Fullness,
     /// The number of free blocks.
     pub blocks: u64,
 }
 
-/// Appends the summary: six lines, with the numbers of runs, frames, blocks and records.
+/// Appends the report `summary`: six lines, for the runs of the map, the usable frames, the frames
+/// in free blocks, memblock's two tables, and the free blocks.
 ///
 /// # Errors
 ///
@@ -49,7 +52,7 @@ pub fn put_summary(text: &mut Vec<u8>, summary: &Summary) -> Result<(), Memory>
     put_number_line(text, b"blocks ", summary.blocks)
 }
 
-/// Appends a line with a word and a number.
+/// Appends a line: `word`, and directly after it the number in decimal.
 fn put_number_line(text: &mut Vec<u8>, word: &[u8], number: u64) -> Result<(), Memory>
     ensures { PutsText text.old text.new result (number_line word.now number) }
 {
@@ -57,7 +60,8 @@ fn put_number_line(text: &mut Vec<u8>, word: &[u8], number: u64) -> Result<(), M
     put_text(text, b"\n")
 }
 
-/// Appends the line for a table: the number of its records, and the number that it has room for.
+/// Appends the line of one of memblock's tables: the number of its records, and the number of
+/// records that it has room for.
 fn put_fullness_line(text: &mut Vec<u8>, which: Which, full: &Fullness) -> Result<(), Memory>
     ensures { PutsText text.old text.new result (fullness_line which full.now) }
 {

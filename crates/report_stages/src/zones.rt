@@ -1,7 +1,7 @@
 //! Writes the reports `zones` and `buddyinfo`. Both have a line for each span: the range of frames
-//! of one node in one zone. `zones` prints the range and its number of free frames, `buddyinfo`
-//! the number of free blocks of each order. Both count with `Buddy::count`, without a list of
-//! blocks.
+//! of one node in one zone. `zones` prints the span and the number of free frames of its node and
+//! zone. `buddyinfo` prints the number of free blocks of each order. Both count with
+//! `Buddy::count`, without a list of blocks.
 
 ghost use Rattle.std.specs.Prelude.{◌≡◌, ◌++◌, codes, decimal};
 ghost use Rattle.bm_base.specs.PutsText.{PutsText};
@@ -17,7 +17,8 @@ use buddy_handover::{Buddy, MAX_ORDER};
 use report_memory::put_indexed_lines;
 use zone_spans::Span;
 
-/// Appends the zones: a line for each span, with the number of its frames that are free.
+/// Appends the report `zones`: a line for each span, the range of frames of one node in one zone,
+/// with the number of free frames of this node and zone.
 ///
 /// # Errors
 ///
@@ -31,8 +32,8 @@ pub fn put_zones(text: &mut Vec<u8>, spans: &[Span], buddy: &Buddy) -> Result<()
     })
 }
 
-/// Appends the numbers of free blocks, in the format of `/proc/buddyinfo`: a line for each span,
-/// with the number of blocks of each order from 0 to 10.
+/// Appends the numbers of free blocks, in the format of `/proc/buddyinfo`: a line for each span
+/// (node and zone), with the number of free blocks of each order from 0 to 10.
 ///
 /// # Errors
 ///
@@ -46,7 +47,7 @@ pub fn put_buddyinfo(text: &mut Vec<u8>, spans: &[Span], buddy: &Buddy) -> Resul
     })
 }
 
-/// Returns the name of a zone (`zone_names`).
+/// Returns the name of a zone (`zone_names`), such as `DMA32`.
 pub fn zone_name(zone: Zone) -> &'static str
     ensures { result.now ≡ zone_name zone }
 {
@@ -57,8 +58,8 @@ pub fn zone_name(zone: Zone) -> &'static str
     }
 }
 
-/// Appends the line for a span: its bounds, the number of its frames, and the number of these that
-/// are free.
+/// Appends the line of a span: its first frame, the frame after its last, the number of its frames
+/// that are memory, and the number of free frames of its node and zone.
 fn put_zone_line(text: &mut Vec<u8>, index: u64, span: &Span, buddy: &Buddy) -> Result<(), Memory>
     ensures { PutsText text.old text.new result
         (zone_line (blocks_of (node_of_free_frame buddy.now)) index span.now) }
@@ -76,7 +77,8 @@ fn put_zone_line(text: &mut Vec<u8>, index: u64, span: &Span, buddy: &Buddy) -> 
     put_text(text, b"\n")
 }
 
-/// Appends the line for a span: the number of free blocks of each order.
+/// Appends the line of a span: its node, its zone, and the number of free blocks of each order from
+/// 0 to 10.
 #[tactic(auto, unfolding(crate::specs::ZonesText::buddyinfo_line))]
 fn put_buddyinfo_line(
     text: &mut Vec<u8>,
@@ -113,7 +115,8 @@ fn put_padded_zone(text: &mut Vec<u8>, zone: Zone) -> Result<(), Memory>
     put_text(text, name.as_bytes())
 }
 
-/// Appends the number of free blocks of each order in this node and zone.
+/// Appends the number of free blocks of each order from 0 to 10 in the node and zone of the span,
+/// each in six columns and followed by a space.
 #[tactic(auto, unfolding(crate::specs::ZonesText::block_counts_text))]
 fn put_block_counts(text: &mut Vec<u8>, span: &Span, buddy: &Buddy) -> Result<(), Memory>
     ensures { PutsText text.old text.new result
