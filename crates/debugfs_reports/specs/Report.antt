@@ -1,4 +1,4 @@
--- All reports, and the name and the text of each.
+-- The reports of a boot, and the name and the text of each.
 use Rattle.std.specs.Prelude.{ℕ, List, [], ◌∷◌, ◌++◌, codes, Option, find}
 use Rattle.std.specs.Str.{bytes_eq}
 use Rattle.address_runs.specs.Runs.{RunOf}
@@ -26,7 +26,7 @@ use Rattle.report_stages.specs.SummaryText.{summary_text}
 use Rattle.report_stages.specs.ListsText.{zonelists_text}
 use Rattle.report_stages.specs.ZonesText.{buddyinfo_text, zones_text}
 
--- the name of a report, by which a user requests it
+-- the name of a report, by which a user requests it, as in `--report buddyinfo`
 abbrev pub report_name : Report → List ℕ
 report_name reports.Map = codes "map"
 report_name reports.Options = codes "options"
@@ -55,25 +55,27 @@ all_reports =
     ∷ reports.Sections ∷ reports.Zones ∷ reports.Script ∷ reports.Tables ∷ reports.Buddyinfo ∷ reports.Blocks
     ∷ reports.Pages ∷ reports.Pagesinfo ∷ reports.Zonelists ∷ reports.Summary ∷ []
 
--- the reports of a program with early claims: those of `bootmem`, and the outcomes of the claims
+-- the reports of a program with early claims: those of `bootmem`, and the outcomes of the early
+-- claims
 abbrev pub reports_with_claims : List Report
 reports_with_claims = all_reports ++ reports.Claims ∷ []
 
--- the first report of the list that has this name
+-- the first report of the list that has the name, or `None` if none has it
 abbrev pub first_report_named : List Report → List ℕ → Option Report
 first_report_named reports name = find (λ report. bytes_eq name (report_name report)) reports
 
--- the report of `bootmem` with this name, if there is one
+-- the report of `bootmem` with the name, or `None` if there is none
 abbrev pub report_named : List ℕ → Option Report
 report_named name = first_report_named all_reports name
 
--- the records of memblock's two tables
+-- the records of memblock's two tables, each a range of addresses with its flags and its node
 pub record TableRecords : Type 0 where
   pub memory : List (RunOf LabelView)
   pub reserved : List (RunOf LabelView)
 
--- the text of a report, made from what contracts see of a boot and from the records at the heads of
--- memblock's tables
+-- The text of a report. `told` is what contracts see of the result of the boot. `records` has the
+-- records that are in the bytes of memblock's two tables; only the reports `memory` and `reserved`
+-- show them.
 abbrev pub render : Report → BootedView → TableRecords → List ℕ
 render reports.Map told records = map_text told.map
 render reports.Options told records = options_text told.options
@@ -95,10 +97,11 @@ render reports.Zonelists told records = zonelists_text told.lists
 render reports.Summary told records = summary_text (summary_of told)
 render reports.Claims told records = script_text told.claim_answers
 
--- the records that the boot's journal gives for both tables
+-- the records of memblock's two tables that result from the journal of the boot
 abbrev pub journal_records : BootedView → TableRecords
 journal_records told = record { memory = records_of which.Memory told.items; reserved = records_of which.Reserved told.items }
 
--- the text of a report if the records at the heads are those that the boot's journal gives
+-- the text of a report, if the bytes of memblock's two tables have the records that result from the
+-- journal of the boot
 abbrev pub report_text : Report → BootedView → List ℕ
 report_text report told = render report told (journal_records told)

@@ -14,13 +14,14 @@ use Rattle.boot_model.specs.Boot.{BootedView, booted_address_limit}
 abbrev pub total_frames_of_blocks : List Block → ℕ
 total_frames_of_blocks blocks = sum_by (λ b. 2 ^ b.order) blocks
 
--- how full a table is (`cnt` and `max` of `struct memblock_type`)
+-- how full a table is: its number of records, and the number that it has room for (`cnt` and `max`
+-- of `struct memblock_type`)
 abbrev pub fullness_of : Head → Fullness
 fullness_of head = record { records = head.count; room = head.room }
 
--- The totals of a boot. The usable frames are the frames of the map that the kernel can address
--- (`e820__memblock_setup`). The free frames are those that the page allocator gets
--- (`memblock_free_all`).
+-- The totals of a boot. The usable frames are the whole frames of memory of the map below the limit
+-- of physical addresses (`e820__memblock_setup`). The free frames are those that the page allocator
+-- gets (`memblock_free_all`).
 abbrev pub summary_of : BootedView → Summary
 summary_of told = record {
   runs = length told.map;

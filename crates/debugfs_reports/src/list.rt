@@ -1,4 +1,5 @@
-//! Lists of reports: names with commas between them, and the texts of all of them.
+//! Lists of reports, such as `map,zones`: tests the names in a list, finds the reports, and makes
+//! the texts of all of them.
 
 ghost use Rattle.std.specs.Prelude.{◌≡◌, IfOk, length, map, nat_lt};
 ghost use Rattle.std.specs.List.{flat_map};
@@ -14,16 +15,16 @@ use boot_model::Booted;
 use std::alloc::Global;
 use text_words::{Separators, next_part};
 
-/// Tests whether each name in the list is that of a report of `bootmem`. The empty list is one
-/// empty name, which no report has.
+/// Tests whether each name in the list, such as `map,zones`, is the name of a report of `bootmem`.
+/// The result is false for the empty list, which is one empty name.
 pub fn are_reports(list: &[u8]) -> bool
     ensures { result ≡ are_reports list.now }
 {
     are_names_of(&REPORTS, list)
 }
 
-/// Tests whether each name in the list is that of one of the known reports. The empty list is one
-/// empty name, which no report has.
+/// Tests whether each name in the list, such as `map,zones`, is the name of one of the `known`
+/// reports. The result is false for the empty list, which is one empty name.
 pub fn are_names_of(known: &[Report], list: &[u8]) -> bool
     ensures { result ≡ are_names_of known.now list.now }
 {
@@ -38,7 +39,8 @@ pub fn are_names_of(known: &[Report], list: &[u8]) -> bool
     true
 }
 
-/// Returns the reports of `bootmem` in the list, in its order. Skips names that none has.
+/// Returns the reports of `bootmem` whose names are in `list`, in the order of the list. Skips all
+/// other names.
 ///
 /// # Errors
 ///
@@ -49,7 +51,8 @@ pub fn reports_in(alloc: Global, list: &[u8]) -> Result<Vec<Report>, Memory>
     reports_named_in(alloc, &REPORTS, list)
 }
 
-/// Returns the known reports in the list, in its order. Skips names that none of them has.
+/// Returns those of the `known` reports whose names are in `list`, in the order of the list. Skips
+/// all other names.
 ///
 /// # Errors
 ///
@@ -69,8 +72,9 @@ pub fn reports_named_in(alloc: Global, known: &[Report], list: &[u8]) -> Result<
     Ok(reports)
 }
 
-/// Returns the texts of all reports in a list, in its order. If there are two or more, each text
-/// begins with its `== NAME` line. Joined together, the texts are the whole text of the list.
+/// Returns the text of each report in a list, in the order of the list. If the list has two or
+/// more, each text begins with the title line `== NAME`. Joined together, the texts are the whole
+/// text of the list.
 ///
 /// # Errors
 ///
@@ -96,8 +100,8 @@ pub fn render_all(
     Ok(texts)
 }
 
-/// Returns the part of one report in the text of a list of reports: its title line if the list has
-/// several reports, and then its text.
+/// Returns what one report contributes to the text of a list of reports: its title line `== NAME`
+/// if the list has several reports, and then its text.
 fn render_part(
     alloc: Global,
     report: Report,
@@ -115,7 +119,7 @@ fn render_part(
     Ok(text)
 }
 
-/// Appends the `== NAME` line of a report, if there are several reports.
+/// Appends the title line `== NAME` of a report, if the list has several reports.
 fn put_report_title(text: &mut Vec<u8>, several: bool, report: Report) -> Result<(), Memory>
     ensures { PutsText text.old text.new result (report_title several report) }
 {

@@ -23,9 +23,9 @@ use std::alloc::Global;
 pub enum Report {
     /// The map: each run, with the number and the name of its type.
     Map,
-    /// The options that the command line sets for the memory set-up.
+    /// The options that the kernel's command line sets for the memory set-up.
     Options,
-    /// Whether the SRAT is used, and the node of each range.
+    /// Whether the SRAT is used, and the node of each range of memory.
     Nodes,
     /// The records of `memblock.memory`.
     Memory,
@@ -33,27 +33,28 @@ pub enum Report {
     Reserved,
     /// The owner of each range of bytes.
     Owners,
-    /// Everything that happened to memory, item by item.
+    /// Each recorded change of memblock, oldest first.
     Journal,
-    /// The outcome of reserving the crash area.
+    /// Where the crash area is reserved, or why it isn't.
     Crash,
-    /// Where the roots, page structures and usage data of the sections are.
+    /// The addresses of the section roots, and of the page structures and usage data of each
+    /// section.
     Sections,
     /// The frames of each node and zone, and how many of them are free.
     Zones,
-    /// The outcome of each line of the early script.
+    /// The outcome of each line of the early script, except for the command `sections`.
     Script,
-    /// Where both tables are, and how full they are.
+    /// The address of each of memblock's two tables, and how full it is.
     Tables,
     /// The number of free blocks of each order, by node and zone.
     Buddyinfo,
-    /// Each free block.
+    /// Each free block: its node, zone, order and address.
     Blocks,
     /// The outcome of each line of the page script.
     Pages,
     /// The number of free blocks of each order after the page script, by node and zone.
     Pagesinfo,
-    /// The order in which requests on each node try the zones.
+    /// For each node, the order in which an allocation for it tries the zones.
     Zonelists,
     /// The totals at the end of the boot.
     Summary,
@@ -62,7 +63,7 @@ pub enum Report {
 }
 
 impl Report {
-    /// Returns the name of the report, as a list of reports has it.
+    /// Returns the name of the report, by which a user requests it, as in `--report buddyinfo`.
     pub fn name(self) -> &'static str
         ensures { result.now ≡ report_name self }
     {
@@ -112,7 +113,8 @@ pub const REPORTS: [Report; 18] = [
     Report::Summary,
 ];
 
-/// The reports of a program with early claims: those of `bootmem`, and the outcomes of the claims.
+/// The reports of a program with early claims: those of `bootmem`, and the outcomes of the early
+/// claims.
 pub const REPORTS_WITH_CLAIMS: [Report; 19] = [
     Report::Map,
     Report::Options,
@@ -135,14 +137,14 @@ pub const REPORTS_WITH_CLAIMS: [Report; 19] = [
     Report::Claims,
 ];
 
-/// Tests whether this is the name of the report.
+/// Tests whether `name` is the name of `report`.
 fn report_has_name(report: Report, name: &[u8]) -> bool
     ensures { result ≡ bytes_eq name.now (report_name report) }
 {
     name == report.name().as_bytes()
 }
 
-/// Returns the report of `bootmem` with this name, or `None` if none has it. Allocates nothing.
+/// Returns the report of `bootmem` with the name, or `None` if there is none. Allocates nothing.
 pub fn report_named(name: &[u8]) -> Option<Report>
     ensures { result ≡ report_named name.now }
 {
@@ -164,9 +166,9 @@ pub fn first_report_named(reports: &[Report], name: &[u8]) -> Option<Report>
     None
 }
 
-/// Returns the text of `report` for the boot with the results `booted`. `memory` and `reserved`
-/// show the records in the bytes at the heads of the two tables, even if the boot's journal gives
-/// other records. Allocates memory for the whole text.
+/// Returns the text of `report` for the boot with the results `booted`. The reports `memory` and
+/// `reserved` show the records in the bytes of memblock's two tables, even if the boot's journal
+/// gives other records. Allocates memory for the whole text.
 ///
 /// # Errors
 ///
@@ -182,7 +184,8 @@ pub fn render(alloc: Global, report: Report, booted: &Booted) -> Result<Vec<u8>,
     Ok(text)
 }
 
-/// Appends the text of a report.
+/// Appends the text of `report` for the boot with the results `booted`. The reports `memory` and
+/// `reserved` show the records in the bytes of memblock's two tables.
 ///
 /// # Errors
 ///
@@ -216,7 +219,12 @@ pub fn put_report(text: &mut Vec<u8>, report: Report, booted: &Booted) -> Result
     }
 }
 
-/// Appends the text of the summary.
+/// Appends the text of the report `summary`. Besides the text it allocates the list of rows of free
+/// blocks.
+///
+/// # Errors
+///
+/// - `Memory`: the program ran out of memory; the text is incomplete.
 fn put_booted_summary(text: &mut Vec<u8>, booted: &Booted) -> Result<(), Memory>
     requires { Ascend booted.now.map.items }
     ensures { OnOk result

@@ -1,7 +1,8 @@
 //! Counts the totals of a boot.
 //!
-//! Most of them are already in the result of the boot. The usable frames are counted along the
-//! runs of the map, and the free frames along the rows of free blocks.
+//! Most totals are already in the result of the boot. The usable frames are counted from the runs
+//! of the map. The free frames are counted from the rows of free blocks: a row is a sequence of
+//! consecutive blocks of the same order, node and zone.
 
 ghost use Rattle.std.specs.Prelude.{◌≡◌, ◌*◌, ◌^◌, ◌<◌, IfOk};
 ghost use Rattle.boot_model.specs.View.{booted_view};
@@ -16,7 +17,7 @@ use memblock_ranges::Head;
 use report_stages::{Fullness, Summary};
 
 /// Returns the totals at the end of a boot. The runs of its map must ascend; runs that touch may
-/// have the same type. Allocates the rows of free blocks.
+/// have the same type. Allocates a list of the rows of free blocks.
 ///
 /// # Errors
 ///
@@ -42,8 +43,8 @@ pub fn summary_of(booted: &Booted) -> Result<Summary, Memory>
     })
 }
 
-/// Returns the number of frames in the blocks of a row. A row without blocks has none, whatever
-/// its order is.
+/// Returns the number of frames in the blocks of a row. For a row without blocks the result is 0,
+/// whatever its order is.
 fn frames_in_row(row: &BlockRow) -> u64
     requires { row.now.count * 2 ^ row.now.order < 2 ^ 64 }
     ensures { result ≡ row.now.count * 2 ^ row.now.order }
@@ -54,8 +55,8 @@ fn frames_in_row(row: &BlockRow) -> u64
     row.count << row.order
 }
 
-/// Returns how full the table at this head is: its number of records, and the number that it has
-/// room for.
+/// Returns how full the table with this head is: its number of records, and the number of records
+/// that it has room for.
 fn fullness_of(head: &Head) -> Fullness
     ensures { result ≡ fullness_of head.now }
 {
