@@ -46,7 +46,7 @@ pub struct LaterResults {
     pub placed: Vec<Placed>,
     /// The outcome of each line of the early claims.
     pub claim_answers: Vec<Answer>,
-    /// The outcome of each line of the early script.
+    /// The outcome of each line of the early script, except for the command `sections`.
     pub answers: Vec<Answer>,
 }
 
