@@ -1,5 +1,6 @@
--- What an accepted command line of `bootmem` or `bootmem61` asks for. Both have one definition. It
--- takes the command of the program, and the names of the reports that only this program has.
+-- What an accepted command line of `bootmem` or `bootmem61` asks for. Both programs share one
+-- definition, `args_of`. Its arguments are the program's command for `clap`, and the names of the
+-- reports that this program has and `bootmem` doesn't.
 use Rattle.std.specs.Prelude.{ℕ, Bool, true, false, ◌&&◌, is_some, not, if◌then◌else◌, List, [], map, codes, Option, Some, None, String, string_bytes, unwrap_or}
 use Rattle.std.specs.Str.{bytes_eq}
 use Rattle.std.specs.declared.alloc.Global.{Global}
@@ -23,16 +24,18 @@ use Rattle.program_args.specs.ReportNames.{are_report_names, reports_of_bootmem6
 
 -- An accepted command line of `bootmem`. `named` gives the name of each input's file, if it has
 -- one. `begun` has the inputs that the command line itself gives. `reports` are the requested
--- reports. `made` is the number of entries of a made table, if one replaces the zero page.
+-- reports. `made` is the number of entries of the generated e820 table, if `--make` asks for one
+-- instead of a zero page.
 pub record BootmemArgsView : Type 0 where
   pub named : FileNames
   pub begun : InputsView
   pub reports : List Report
   pub made : Option ℕ
 
--- What the words of either program ask for. `named`, `begun` and `made` are those of
--- `BootmemArgsView`. `list` is the list of reports: names with commas between them. `claims` is the
--- name of the file of early claims, if there is one; `bootmem` has no option for it.
+-- What an accepted command line of either program asks for. `named`, `begun` and `made` mean the
+-- same as in `BootmemArgsView`. `list` is the list of reports: names with commas between them.
+-- `claims` is the name of the file of early claims, if there is one; `bootmem` has no option for
+-- it.
 pub record ProgramArgsView : Type 0 where
   pub named : FileNames
   pub begun : InputsView
@@ -40,15 +43,17 @@ pub record ProgramArgsView : Type 0 where
   pub made : Option ℕ
   pub claims : Option (List ℕ)
 
--- the part that `bootmem` uses of what the words ask for
+-- the part of an accepted command line that `bootmem` uses: all but the file of early claims, with
+-- the reports that the list names instead of the list
 abbrev pub bootmem_args : ProgramArgsView → BootmemArgsView
 bootmem_args args = record { named = args.named; begun = args.begun; reports = reports_in args.list; made = args.made }
 
--- the part that `bootmem61` uses of what the words ask for, which is all of it
+-- what an accepted command line asks `bootmem61` for: everything in `args`
 abbrev pub bootmem61_args : ProgramArgsView → ProgramArgsView
 bootmem61_args args = args
 
--- the name of each input's file for `bootmem61`: that of the early claims, and those of `bootmem`
+-- the name of each input's file for `bootmem61`: the value of `--claims` for the early claims, and
+-- for all others the name that `bootmem` has too
 abbrev pub named61 : ProgramArgsView → FileNames
 named61 args inputs.Claims = args.claims
 named61 args input = args.named input
@@ -57,7 +62,7 @@ named61 args input = args.named input
 abbrev pub bytes_of_words : List (String Global) → List (List ℕ)
 bytes_of_words words = map string_bytes words
 
--- the name of the argument that gives the input's file
+-- the name of the `clap` argument whose value is the name of the input's file
 abbrev pub argument_of : Input → List ℕ
 argument_of inputs.ZeroPage = codes "ZEROPAGE"
 argument_of inputs.Extension = codes "e820ext"
@@ -73,17 +78,19 @@ argument_of inputs.Efi = codes "efi"
 abbrev pub ArgValues : Type 0
 ArgValues = List ℕ → Option (List ℕ)
 
--- the values that `clap` found, by the name of the argument
+-- the value of the argument `name` in the rows that `clap` returns, one for each argument that it
+-- found
 abbrev pub arg_value_in : List Row → ArgValues
 arg_value_in rows name = first_of name rows
 
--- the name of the input's file, if the values have one; `bootmem` has no file of early claims
+-- the name of each input's file, if the arguments have it; none for the early claims, since
+-- `bootmem` has no such file
 abbrev pub file_name_in : ArgValues → FileNames
 file_name_in value inputs.Claims = None
 file_name_in value input = value (argument_of input)
 
--- whether the first entries have exactly one source: a made table, or a zero page, to which an
--- extension may add
+-- whether the e820 entries have exactly one source: `--make`, with neither ZEROPAGE nor
+-- `--e820ext`; or ZEROPAGE, with or without `--e820ext`
 abbrev pub has_one_source : ArgValues → Bool
 has_one_source value =
     if is_some (value (codes "make"))
@@ -102,15 +109,16 @@ address_width_in value = if is_flag_given value (codes "la57") then Bits52 else 
 abbrev pub default_list : List ℕ
 default_list = codes "buddyinfo"
 
--- the requested list of reports
+-- the value of `--report`, or the default list if the option isn't given
 abbrev pub requested_list : ArgValues → List ℕ
 requested_list value = unwrap_or (value (codes "report")) default_list
 
--- the requested list, if each name in it is one of `further` or that of a report of `bootmem`
+-- the requested list of reports, or `None` if a name in it is neither one of `further` nor the name
+-- of a report of `bootmem`
 abbrev pub report_list_in : List (List ℕ) → ArgValues → Option (List ℕ)
 report_list_in further value = if are_report_names further (requested_list value) then Some (requested_list value) else None
 
--- the name of the file of early claims, if the values have one
+-- the name of the file of early claims: the value of `--claims`, if there is one
 abbrev pub claims_name_in : ArgValues → Option (List ℕ)
 claims_name_in value = value (codes "claims")
 
@@ -120,9 +128,9 @@ abbrev pub command_line_inputs : Width → RangeView → List RangeView → Bool
 command_line_inputs width kernel mirrors upward =
     record (inputs_without_files width kernel) { mirrors = map frame_range_of mirrors; upward = upward }
 
--- What the values ask for; `None` if a value is refused, or if the first entries don't have exactly
--- one source. The name of a report is one of `bootmem`'s names, or one of `further`. `read` takes
--- from the result the part that the program uses.
+-- What the values of the arguments ask for; `None` if a value is refused, or if the e820 entries
+-- don't have exactly one source. A report may have any name that `bootmem` accepts, or one of
+-- `further`. `read` takes from the result the part that the program uses.
 abbrev pub args_by_values : {V : Type 0} → (ProgramArgsView → V) → List (List ℕ) → ArgValues → Option V
 args_by_values read further value = do
   source ← some_if (has_one_source value)
@@ -138,20 +146,22 @@ args_by_values read further value = do
     claims = claims_name_in value;
   }))
 
--- what the words ask for, read as the words of this command; `None` if `clap` refuses the words or
--- a value is refused
+-- what `words` ask for as the command line of `command`; `None` if `clap` refuses the words, or the
+-- value of an argument is refused
 abbrev pub args_of : {V : Type 0} → (ProgramArgsView → V) → App → List (List ℕ) → List (List ℕ) → Option V
 args_of read command further words =
     if is_faultless_for command words then args_by_values read further (arg_value_in (matches_of command words)) else None
 
--- what the values ask `bootmem` for
+-- what the values of the arguments ask `bootmem` for; `None` if a value is refused
 abbrev pub args_from_values : ArgValues → Option BootmemArgsView
 args_from_values value = args_by_values bootmem_args [] value
 
--- what the words ask `bootmem` for; `None` if `clap` refuses the words or a value is refused
+-- what the words after the program's name ask `bootmem` for; `None` if `clap` refuses the words, or
+-- the value of an argument is refused
 abbrev pub read_args : List (List ℕ) → Option BootmemArgsView
 read_args words = args_of bootmem_args bootmem_command [] words
 
--- what the words ask `bootmem61` for, `None` if they are refused
+-- what the words after the program's name ask `bootmem61` for; `None` if `clap` refuses the words,
+-- or the value of an argument is refused
 abbrev pub read_args61 : List (List ℕ) → Option ProgramArgsView
 read_args61 words = args_of bootmem61_args bootmem61_command reports_of_bootmem61 words

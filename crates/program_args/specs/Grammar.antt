@@ -1,5 +1,5 @@
--- The words after the program's name as those of one command of `clap`. The port defines which
--- words the command refuses (`fault_of`), and what it finds for each argument (`matches_of`).
+-- The command line of each program as a command of `clap`. The port of `clap` defines which words a
+-- command refuses (`fault_of`), and which value it finds for each argument (`matches_of`).
 use Rattle.std.specs.Prelude.{ℕ, ◌==◌, Bool, true, false, List, [], ◌∷◌, ◌++◌, Some, codes, fold, length}
 use Rattle.clap.specs.Words.{App, Rule, fault_of, new_app, new_rule, with_rule}
 use Rattle.clap.specs.declared.builder.action.ArgAction.{ArgAction}
@@ -10,7 +10,7 @@ use Rattle.clap.specs.declared.builder.action.ArgAction.TheVariants.{Set, SetTru
 abbrev pub OptionRow : Type 0
 OptionRow = List ℕ × ArgAction
 
--- the option as an argument of `clap`
+-- the option as an argument of `clap`, written `--NAME`
 abbrev pub option_rule : OptionRow → Rule
 option_rule option = record (new_rule option.0) { long = Some option.0; action = Some option.1 }
 
@@ -58,26 +58,27 @@ abbrev pub is_flag_action : ArgAction → Bool
 is_flag_action SetTrue = true
 is_flag_action _ = false
 
--- the command of the program with this name, without arguments, `--help` and `--version`; its words
--- don't begin with the program's name
+-- a command of `clap` with this name and no arguments, not even `--help` and `--version`; the words
+-- that it reads don't begin with the program's name
 abbrev pub bare_app : List ℕ → App
 bare_app name = record (new_app name) {
   top = record (new_app name).top { no_binary_name = true; disable_help_flag = true; disable_version_flag = true };
 }
 
--- a program as a command: its options and the name of the zero page, none of them mandatory
+-- the command of a program: its options and the argument ZEROPAGE, the name of the zero page's
+-- file; `clap` requires none of them
 abbrev pub program_command : List ℕ → List OptionRow → App
 program_command name options = with_positional (fold with_option (bare_app name) options) (codes "ZEROPAGE")
 
--- the command of `bootmem`
+-- the command line of `bootmem`, as a command of `clap`
 unfoldable pub bootmem_command : App
 bootmem_command = program_command (codes "bootmem") options
 
--- the command of `bootmem61`
+-- the command line of `bootmem61`, as a command of `clap`
 unfoldable pub bootmem61_command : App
 bootmem61_command = program_command (codes "bootmem61") options61
 
--- `clap` accepts the words for this command
+-- whether `clap` accepts the words for this command
 abbrev pub is_faultless_for : App → List (List ℕ) → Bool
 is_faultless_for command words = length (fault_of command words) == 0
 

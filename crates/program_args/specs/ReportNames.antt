@@ -10,15 +10,15 @@ use Rattle.debugfs_reports.specs.ReportList.{report_names_in}
 abbrev pub reports_of_bootmem61 : List (List ℕ)
 reports_of_bootmem61 = codes "claims" ∷ []
 
--- the name is one of `names`
+-- whether the name is one of `names`
 abbrev pub is_among : List (List ℕ) → List ℕ → Bool
 is_among names name = list_any (λ other. bytes_eq other name) names
 
--- the name is one of `further`, or that of a report of `bootmem`
+-- whether the name is one of `further`, or the name of a report of `bootmem`
 abbrev pub is_report_name : List (List ℕ) → List ℕ → Bool
 is_report_name further name = is_among further name || is_some (report_named name)
 
--- each name in the list, between its commas, is one of `further` or that of a report of `bootmem`;
--- the empty list has one empty name
+-- whether each name in the list is one of `further` or the name of a report of `bootmem`. Commas
+-- separate the names; the empty list is one empty name.
 abbrev pub are_report_names : List (List ℕ) → List ℕ → Bool
 are_report_names further list = list_all (is_report_name further) (report_names_in list)

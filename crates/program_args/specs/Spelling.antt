@@ -1,5 +1,5 @@
--- Spellings: the parts of a command line as a user writes them, for options with values, flags and
--- the name of the zero page.
+-- Command lines as a user writes them. A spelling is one part of a command line: an option with its
+-- value, a flag, or the name of the zero page's file.
 use Rattle.std.specs.Prelude.{◌≡◌, ℕ, ◌==◌, Bool, true, not, ◌&&◌, if◌then◌else◌, List, [], ◌∷◌, ◌++◌, codes, Some, None}
 use Rattle.std.specs.List.{flat_map, list_any}
 use Rattle.std.specs.Option.{option_or}
@@ -7,8 +7,9 @@ use Rattle.std.specs.Str.{bytes_eq}
 use Rattle.program_args.specs.Grammar.{has_value, is_flag_action, options}
 use Rattle.program_args.specs.Args.{ArgValues}
 
--- `two_word_option`: an option whose value is the next word. `one_word_option`: an option whose
--- value follows `=`. `flag`: a flag. `named`: the name of the zero page.
+-- `two_word_option` is an option whose value is the next word, `--NAME VALUE`. `one_word_option` is
+-- an option whose value follows `=`, `--NAME=VALUE`. `flag` is `--NAME`. `named` is the name of the
+-- zero page's file.
 pub data Spelling : Type 0 where
   two_word_option : List ℕ → List ℕ → Spelling
   one_word_option : List ℕ → List ℕ → Spelling
@@ -30,21 +31,22 @@ spelling_words (named name) = name ∷ []
 abbrev pub words_of_spellings : List Spelling → List (List ℕ)
 words_of_spellings ss = flat_map spelling_words ss
 
--- the name of the argument that a spelling gives a value to
+-- the name of the argument that a spelling gives a value
 abbrev pub spelling_argument : Spelling → List ℕ
 spelling_argument (two_word_option name value) = name
 spelling_argument (one_word_option name value) = name
 spelling_argument (flag name) = name
 spelling_argument (named name) = codes "ZEROPAGE"
 
--- the value of a spelling
+-- the value that a spelling gives its argument; `true` for a flag
 abbrev pub spelling_value : Spelling → List ℕ
 spelling_value (two_word_option name value) = value
 spelling_value (one_word_option name value) = value
 spelling_value (flag name) = codes "true"
 spelling_value (named name) = name
 
--- the value in the first spelling of the argument, if there is one
+-- the value that the first spelling of the argument gives it, or `None` if no spelling is of this
+-- argument
 abbrev pub first_spelled_value : List Spelling → ArgValues
 first_spelled_value [] argument = None
 first_spelled_value (s ∷ ss) argument =
@@ -58,7 +60,7 @@ is_option name = list_any (λ option. has_value option.1 && bytes_eq option.0 na
 abbrev pub is_flag : List ℕ → Bool
 is_flag name = list_any (λ option. is_flag_action option.1 && bytes_eq option.0 name) options
 
--- the value of an argument without a spelling: `false` for a flag, else none
+-- the value of an argument that has no spelling: `false` for a flag, else `None`
 abbrev pub default_value : ArgValues
 default_value argument = if is_flag argument then Some (codes "false") else None
 
@@ -71,15 +73,17 @@ abbrev pub is_plain_word : List ℕ → Bool
 is_plain_word [] = true
 is_plain_word (b ∷ bs) = not (b == 45)
 
--- The spelling is one of a known option or flag, or of the zero page's name. Neither the name nor a
--- value in a word of its own begins with a hyphen; after `=` any value may follow.
+-- The spelling is of an option or flag that `bootmem` has, or of the name of the zero page's file.
+-- That name doesn't begin with a hyphen, and neither does a value that is the next word. After `=`
+-- any value may follow.
 abbrev pub IsSpelling : Spelling → Type 0
 IsSpelling (two_word_option name value) = (is_option name ≡ true) × (is_plain_word value ≡ true)
 IsSpelling (one_word_option name value) = is_option name ≡ true
 IsSpelling (flag name) = is_flag name ≡ true
 IsSpelling (named name) = is_plain_word name ≡ true
 
--- each element is a spelling, and no two have the same argument
+-- each element is a spelling that `bootmem` accepts (`IsSpelling`), and no two give a value to the
+-- same argument
 abbrev pub AreSpellings : List Spelling → Type 0
 AreSpellings [] = Unit {0}
 AreSpellings (s ∷ ss) = IsSpelling s × (first_spelled_value ss (spelling_argument s) ≡ None) × AreSpellings ss

@@ -1,5 +1,5 @@
-//! An accepted command line as a value. The type has a file of its own, since its invariant keeps
-//! the bounds of the kernel's range, of the mirrored ranges and of the number of entries.
+//! An accepted command line as a value. The invariant of its type keeps the bounds of the kernel's
+//! range, of the mirrored ranges, and of the number of entries of a generated table.
 
 ghost use Rattle.std.specs.Prelude.{◌≡◌, IfSome};
 ghost use Rattle.std.specs.List.{All};
@@ -17,24 +17,25 @@ use clap::ArgMatches;
 use std::alloc::Global;
 
 /// What an accepted command line of `bootmem` or `bootmem61` asks for. File names and the list of
-/// reports aren't copied: they are parts of the words. A file name is looked up in the matches
+/// reports aren't copied: they are slices of the words. A file name is looked up in the matches
 /// that `clap` found.
 #[derive(Debug, Drop)]
 pub struct BootmemArgs<'w> {
     /// The values that `clap` found for the arguments.
     pub(crate) matches: ArgMatches<'w>,
-    /// The reports: names, separated by commas.
+    /// The requested reports: names, separated by commas.
     pub list: &'w str,
     /// The width of physical addresses.
     pub(crate) width: Width,
-    /// The mirrored memory: ranges of whole frames, in the order of the list.
+    /// The mirrored memory: ranges of whole frames in bytes, in the order of `--mirror`.
     pub(crate) mirrors: Vec<Range>,
     /// Whether memblock's searches go from the lowest address up, instead of from the highest
     /// down.
     pub(crate) upward: bool,
-    /// The range of the kernel's image.
+    /// The range of the kernel's image, in bytes.
     pub(crate) kernel: Range,
-    /// The number of entries of the generated table (`--make`), if one replaces the zero page.
+    /// The number of entries of the generated e820 table, if `--make` asks for one instead of a
+    /// zero page.
     pub made: Option<u32>,
     ghost kernel_fits: { IsKernel width kernel },
     ghost mirrors_fit: { All IsMirror mirrors.items },
@@ -55,8 +56,9 @@ impl BootmemArgs<'_> {
         arg_value_in(&self.matches, "claims")
     }
 
-    /// Returns the inputs of the boot that the command line itself gives, to which each file adds
-    /// its part. Fails only if out of memory.
+    /// Returns the inputs of a boot without files: the address width, the kernel's range, the
+    /// mirrored ranges and the direction of searches are those of the command line. Each file that
+    /// is read then adds its part. Fails only if out of memory.
     pub fn command_line_inputs(&self, alloc: Global) -> Result<Inputs, Memory>
         ensures { IfOk result (λ inputs. inputs_view inputs ≡ (bootmem_args_view self.now).begun) }
     {
@@ -101,7 +103,7 @@ impl<'a, 'w> Names for NamesWithClaims<'a, 'w> {
     }
 }
 
-/// Returns the name of the argument that gives the input's file.
+/// Returns the name of the `clap` argument whose value is the name of the input's file.
 fn argument_of(input: Input) -> &'static str
     ensures { result.now ≡ argument_of input }
 {

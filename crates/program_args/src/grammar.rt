@@ -1,6 +1,6 @@
-//! The command line of each program as a command of `clap`, and the matches that `clap` finds. All
-//! calls of `clap` are in this file. The other files see only the values of arguments, by the
-//! argument's name.
+//! The command line of each program as a command of `clap`, and the values that `clap` finds for
+//! its arguments. All calls of `clap` are in this file. The other files see only the value of an
+//! argument, by its name.
 
 ghost use Rattle.std.specs.Prelude.{◌≡◌, ◌≢◌, true, IfOk, OnOk, IsErrOf, [], fold};
 ghost use Rattle.std.specs.Option.{option_copied};
@@ -16,8 +16,8 @@ use clap::error::ErrorKind;
 use clap::{Arg, ArgAction, ArgMatches, Command};
 use std::alloc::Global;
 
-/// The name and action of each option. With [`ArgAction::Set`] an option takes a value, with
-/// [`ArgAction::SetTrue`] it is a flag.
+/// The name and action of each option of `bootmem`. With [`ArgAction::Set`] an option takes a
+/// value, with [`ArgAction::SetTrue`] it is a flag.
 const OPTIONS: [(&str, ArgAction); 13] = [
     ("la57", ArgAction::SetTrue),
     ("mirror", ArgAction::Set),
@@ -34,8 +34,8 @@ const OPTIONS: [(&str, ArgAction); 13] = [
     ("make", ArgAction::Set),
 ];
 
-/// Returns the values that `clap` finds in the words, for each argument of the command. The port
-/// of `clap` defines these values for simple commands.
+/// Returns the value that `clap` finds in `words` for each argument of the command. The port of
+/// `clap` defines these values for simple commands (`is_simple`).
 ///
 /// # Errors
 ///
@@ -61,8 +61,8 @@ pub fn match_words<'w>(
     }
 }
 
-/// Returns the error of this crate for an error of `clap`: `Memory` if `clap` is out of memory,
-/// and `Usage` for any other kind.
+/// Returns [`ArgsError::Memory`] if `clap` is out of memory, and [`ArgsError::Usage`] for any other
+/// error of `clap`.
 fn args_error_of_clap(kind: ErrorKind) -> ArgsError
     ensures { result ≡ errors.Usage → kind ≢ error_kinds.OutOfMemory }
 {
@@ -72,23 +72,23 @@ fn args_error_of_clap(kind: ErrorKind) -> ArgsError
     }
 }
 
-/// Returns the value that `clap` found for an argument, if there is one.
+/// Returns the value that `clap` found for the argument `name`, if there is one.
 pub fn arg_value_in<'w>(matches: &ArgMatches<'w>, name: &str) -> Option<&'w str>
     ensures { option_copied result ≡ first_of name.now (rows_of (found_of matches.now)) }
 {
     matches.get_str(name)
 }
 
-/// Tests whether the flag is among the words. For such a flag `clap` finds the value `true`, for
-/// any other flag `false`.
+/// Tests whether the flag is given on the command line. `clap` finds the value `true` for a flag
+/// that is given, and `false` for any other flag.
 pub fn is_flag_given(matches: &ArgMatches<'_>, flag: &str) -> bool
     ensures { result ≡ is_flag_given (arg_value_in (rows_of (found_of matches.now))) flag.now }
 {
     arg_value_in(matches, flag) == Some("true")
 }
 
-/// Returns the command line of `bootmem` for `clap`: its options and the name of the zero page.
-/// Fails only if out of memory.
+/// Returns the command line of `bootmem` as a command of `clap`: its options and the argument
+/// ZEROPAGE, the name of the zero page's file. Fails only if out of memory.
 pub fn bootmem_command<'w>(alloc: Global) -> Result<Command<'w>, Memory>
     ensures { IfOk result (λ command. app_of command ≡ bootmem_command) }
 {
@@ -96,8 +96,9 @@ pub fn bootmem_command<'w>(alloc: Global) -> Result<Command<'w>, Memory>
     with_positional(alloc, command, "ZEROPAGE")
 }
 
-/// Returns the command line of `bootmem61` for `clap`: that of `bootmem`, and the option for a file
-/// of early claims. Fails only if out of memory.
+/// Returns the command line of `bootmem61` as a command of `clap`: the options of `bootmem` and
+/// `--claims`, and the argument ZEROPAGE, the name of the zero page's file. Fails only if out of
+/// memory.
 pub fn bootmem61_command<'w>(alloc: Global) -> Result<Command<'w>, Memory>
     ensures { IfOk result (λ command. app_of command ≡ bootmem61_command) }
 {
@@ -106,8 +107,8 @@ pub fn bootmem61_command<'w>(alloc: Global) -> Result<Command<'w>, Memory>
     with_positional(alloc, with_claims, "ZEROPAGE")
 }
 
-/// Returns the command of the program with this name, without arguments. It has no `--help` and no
-/// `--version`, and its words don't begin with the program's name.
+/// Returns a command of `clap` with this name and no arguments. It has no `--help` and no
+/// `--version`, and the words that it reads don't begin with the program's name.
 fn bare_app<'w>(alloc: Global, name: &'w str) -> Command<'w>
     ensures { app_of result ≡ bare_app name.entry.now }
 {

@@ -17,9 +17,10 @@ const DEFAULT_KERNEL: Range = Range {
     size: 0x200_0000,
 };
 
-/// Returns the range of the kernel's image, or the default if `--kernel` isn't given (`value` is
-/// `None`). It ends at or below the limit of the width. Returns `None` exactly if the value is
-/// refused.
+/// Returns the range of the kernel's image that `value`, of the form `BASE,SIZE`, gives, or the
+/// default if `--kernel` isn't given (`value` is `None`). Returns `None` if `value` has another
+/// form, or if no image may lie in the range. The range must begin at or above 1 MiB, end at or
+/// below the limit of physical addresses, and consist of at least two whole frames.
 pub fn kernel_range_of(value: Option<&str>, width: Width) -> Option<Range>
     ensures value { result ≡ kernel_range_of width (option_copied value.entry) }
     ensures facts { IfSome result (IsKernel width) }
@@ -30,7 +31,8 @@ pub fn kernel_range_of(value: Option<&str>, width: Width) -> Option<Range>
     }
 }
 
-/// Returns the range that `BASE,SIZE` gives, if a kernel's image may lie there.
+/// Returns the range that the text `BASE,SIZE` gives, or `None` if the text has another form or no
+/// kernel's image may lie in the range (`is_kernel`).
 fn kernel_range_in(text: &[u8], width: Width) -> Option<Range>
     ensures value { result ≡ kernel_range_in width text.now }
     ensures facts { IfSome result (IsKernel width) }

@@ -1,6 +1,7 @@
-//! Mirrored memory, from the value of `--mirror`. Only whole frames are mirrored, so each range is
-//! cut to the whole frames that lie in it. The list is checked before memory is allocated for its
-//! ranges, so a refused list is never reported as out of memory.
+//! Mirrored memory, from the value of `--mirror`: a list of ranges, each written `BASE,SIZE`, with
+//! colons between them. Only whole frames are mirrored, so each range is cut to the whole frames
+//! that lie in it. The list is checked before memory is allocated for its ranges, so a refused list
+//! is never reported as out of memory.
 
 ghost use Rattle.std.specs.Prelude.{◌≡◌, IfOk, IfSome, IsErrOf, IsSome};
 ghost use Rattle.std.specs.List.{All};
@@ -18,16 +19,18 @@ use boot_options::read_whole_size;
 use std::alloc::Global;
 use text_words::{Separators, next_part, split_once};
 
-/// The greatest number of ranges in the list.
+/// The greatest number of ranges in the list of `--mirror`.
 const MOST_RANGES: usize = 64;
 
-/// Returns the mirrored ranges in the order of the list, each cut to whole frames. Ranges without a
-/// whole frame are left out. Returns an empty list if `--mirror` isn't given (`value` is `None`).
+/// Returns the mirrored ranges in the order of the list `value`, each cut to whole frames. Ranges
+/// without a whole frame are left out. Returns an empty list if `--mirror` isn't given (`value` is
+/// `None`).
 ///
 /// # Errors
 ///
-/// - [`ArgsError::Usage`] exactly if the list is refused.
-/// - [`ArgsError::Memory`] if this program is out of memory; never for a refused list.
+/// - [`ArgsError::Usage`]: the list has more than 64 ranges, or a part of it between colons isn't a
+///   range `BASE,SIZE`.
+/// - [`ArgsError::Memory`]: this program is out of memory. This never comes instead of `Usage`.
 pub fn mirrors_of_value(alloc: Global, value: Option<&str>) -> Result<Vec<Range>, ArgsError>
     ensures value { Answers ArgsError.Memory (λ ranges. ranges.items) result
         (or_refused (mirrors_of_value (option_copied value.entry))) }
@@ -44,7 +47,7 @@ pub fn mirrors_of_value(alloc: Global, value: Option<&str>) -> Result<Vec<Range>
     Ok(mirrors_in_list(alloc, list.as_bytes())?)
 }
 
-/// Tests whether the list has 1 to 64 ranges, separated by colons.
+/// Tests whether the list has 1 to 64 ranges `BASE,SIZE`, separated by colons.
 fn are_mirror_pieces(list: &[u8]) -> bool
     ensures { result ≡ are_mirror_pieces list.now }
 {
@@ -61,8 +64,8 @@ fn are_mirror_pieces(list: &[u8]) -> bool
     true
 }
 
-/// Returns the whole frames of each range of the list, leaving out ranges without one. Fails only
-/// if out of memory.
+/// Returns the ranges of the list, each cut to the whole frames in it, without the ranges that
+/// contain no whole frame. Fails only if out of memory.
 fn mirrors_in_list(alloc: Global, list: &[u8]) -> Result<Vec<Range>, Memory>
     ensures value { IfOk result (λ ranges. ranges.items ≡ mirrors_in_list list.now) }
     ensures facts { IfOk result (λ ranges. All IsMirror ranges.items) }
@@ -79,8 +82,8 @@ fn mirrors_in_list(alloc: Global, list: &[u8]) -> Result<Vec<Range>, Memory>
     Ok(mirrors)
 }
 
-/// Returns the whole frames in the piece's range, or `None` if the piece isn't a range or its range
-/// has no whole frame.
+/// Returns the range of the whole frames in the range `BASE,SIZE` that `piece` gives. Returns
+/// `None` if `piece` isn't such a range, or the range contains no whole frame.
 fn piece_frames(piece: &[u8]) -> Option<Range>
     ensures value { result ≡ piece_frames piece.now }
     ensures facts { IfSome result IsMirror }
@@ -89,9 +92,9 @@ fn piece_frames(piece: &[u8]) -> Option<Range>
     base_size_range(piece)?.whole_frames()
 }
 
-/// Returns the range in bytes that `BASE,SIZE` gives. Both are sizes as on the kernel's command
-/// line, with one comma between them and nothing else. Returns `None` exactly if the text has
-/// another form, or if BASE plus SIZE exceeds 2^64 - 1.
+/// Returns the range that the text `BASE,SIZE` gives. Both parts are numbers of bytes in the
+/// notation of the kernel's command line (`memparse`), as in `16M,32M`. Returns `None` if the text
+/// has another form, or if BASE plus SIZE exceeds 2^64 - 1.
 pub fn base_size_range(text: &[u8]) -> Option<Range>
     ensures { result ≡ base_size_range text.now }
 {

@@ -1,5 +1,5 @@
-//! Reads the command line. `clap` splits the words into options and values. This file checks the
-//! values afterwards, since `clap` doesn't know their meaning.
+//! Reads the program's command line. `clap` splits the words into options and values. This file
+//! then checks the values, since `clap` doesn't know their meaning.
 
 ghost use Rattle.std.specs.Prelude.{◌≡◌, IsErrOf, IsSome, ℕ, ◌+◌, ◌*◌, ◌/◌, ◌≤◌, ◌↔◌, List, map, true};
 ghost use Rattle.std.specs.Option.{option_copied};
@@ -28,7 +28,7 @@ use std::alloc::{AllocError, Global};
 /// Why reading the command line failed.
 #[derive(Clone, Copy, Debug, PartialEq, Eq)]
 pub enum ArgsError {
-    /// The command line isn't accepted.
+    /// The command line is refused.
     Usage,
     /// This program is out of memory.
     Memory,
@@ -45,7 +45,7 @@ impl From<Memory> for ArgsError {
     }
 }
 
-/// The list of reports without `--report`.
+/// The list of reports that is used if `--report` isn't given.
 const DEFAULT_LIST: &str = "buddyinfo";
 
 /// Returns what the words after the program's name ask `bootmem` for.
@@ -53,13 +53,15 @@ const DEFAULT_LIST: &str = "buddyinfo";
 /// The options with a value are `--mirror LIST`, `--cmdline F`, `--e820ext F`, `--srat F`,
 /// `--script F`, `--pages F`, `--slit F`, `--efi F`, `--kernel BASE,SIZE`, `--report LIST` and
 /// `--make N`. They may also be written `--NAME=VALUE`. The flags are `--la57` and `--bottom-up`.
-/// Each may be given at most once, in any order, and ZEROPAGE may stand anywhere. ZEROPAGE must be
-/// given, unless `--make` is; `--make` goes with neither ZEROPAGE nor `--e820ext`.
+/// Each may be given at most once, in any order. ZEROPAGE, the name of the zero page's file, may
+/// stand anywhere. Either ZEROPAGE or `--make` must be given. `--make` can't be given together with
+/// ZEROPAGE or `--e820ext`.
 ///
 /// # Errors
 ///
-/// - [`ArgsError::Usage`] exactly if the words aren't accepted, unless memory runs out first.
-/// - [`ArgsError::Memory`] if this program is out of memory, which may happen for any words.
+/// - [`ArgsError::Usage`]: the words are refused.
+/// - [`ArgsError::Memory`]: this program is out of memory. This may come instead of any other
+///   result.
 pub fn read_args<'w>(alloc: Global, words: &'w [String]) -> Result<BootmemArgs<'w>, ArgsError>
     ensures { Answers ArgsError.Memory bootmem_args_view result
         (or_refused (read_args (bytes_of_words words.entry.now))) }
@@ -70,13 +72,15 @@ pub fn read_args<'w>(alloc: Global, words: &'w [String]) -> Result<BootmemArgs<'
 
 /// Returns what the words after the program's name ask `bootmem61` for.
 ///
-/// The words are those of [`read_args`], and `--claims F` in addition, at most once. The list of
-/// reports may also have the name `claims`.
+/// The words follow the same rules as for [`read_args`], with two additions. `--claims F`, which
+/// may be given at most once, names a file of early claims. The list of `--report` may have the
+/// name `claims`.
 ///
 /// # Errors
 ///
-/// - [`ArgsError::Usage`] exactly if the words aren't accepted, unless memory runs out first.
-/// - [`ArgsError::Memory`] if this program is out of memory, which may happen for any words.
+/// - [`ArgsError::Usage`]: the words are refused.
+/// - [`ArgsError::Memory`]: this program is out of memory. This may come instead of any other
+///   result.
 pub fn read_args61<'w>(alloc: Global, words: &'w [String]) -> Result<BootmemArgs<'w>, ArgsError>
     ensures { Answers ArgsError.Memory program_args_view result
         (or_refused (read_args61 (bytes_of_words words.entry.now))) }
@@ -85,13 +89,14 @@ pub fn read_args61<'w>(alloc: Global, words: &'w [String]) -> Result<BootmemArgs
     args_of(alloc, command, &REPORTS_OF_BOOTMEM61, words)
 }
 
-/// Returns what the words ask for, read as the words of `command`. `further` has the names of the
+/// Returns what `words` ask for as the command line of `command`. `further` has the names of the
 /// reports that the program of this command has and `bootmem` doesn't.
 ///
 /// # Errors
 ///
-/// - [`ArgsError::Usage`] exactly if the words aren't accepted, unless memory runs out first.
-/// - [`ArgsError::Memory`] if this program is out of memory, which may happen for any words.
+/// - [`ArgsError::Usage`]: the words are refused.
+/// - [`ArgsError::Memory`]: this program is out of memory. This may come instead of any other
+///   result.
 fn args_of<'w>(
     alloc: Global,
     command: Command<'w>,
@@ -107,8 +112,8 @@ fn args_of<'w>(
     args_by_values(alloc, match_words(command, words)?, further)
 }
 
-/// Tests whether the first entries have exactly one source: a made table, or a zero page, to which
-/// an extension may add.
+/// Tests whether the e820 entries have exactly one source: `--make`, with neither ZEROPAGE nor
+/// `--e820ext`; or ZEROPAGE, with or without `--e820ext`.
 fn has_one_source(matches: &ArgMatches<'_>) -> bool
     ensures { result ≡ has_one_source (arg_value_in (rows_of (found_of matches.now))) }
 {
@@ -133,13 +138,14 @@ fn address_width_in(matches: &ArgMatches<'_>) -> Width
     }
 }
 
-/// Checks the values that `clap` found, and returns what they ask for.
+/// Checks the values that `clap` found, and returns what they ask for. `further` has the names of
+/// the reports that this program has and `bootmem` doesn't.
 ///
 /// # Errors
 ///
-/// - [`ArgsError::Usage`] exactly if a value is refused, or the first entries don't have one
-///   source.
-/// - [`ArgsError::Memory`] if this program is out of memory; never if anything is refused.
+/// - [`ArgsError::Usage`]: a value is refused, or the e820 entries don't have exactly one source
+///   (`has_one_source`).
+/// - [`ArgsError::Memory`]: this program is out of memory. This never comes instead of `Usage`.
 fn args_by_values<'w>(
     alloc: Global,
     matches: ArgMatches<'w>,
@@ -172,8 +178,8 @@ fn args_by_values<'w>(
     })
 }
 
-/// Returns the list of requested reports. Returns `None` if a name in it is neither one of
-/// `further` nor that of a report of `bootmem`.
+/// Returns the value of `--report`, or the default list if the option isn't given. Returns `None`
+/// if a name in the list is neither one of `further` nor the name of a report of `bootmem`.
 fn report_list_in<'w>(matches: &ArgMatches<'w>, further: &[&str]) -> Option<&'w str>
     ensures { option_copied result
         ≡ report_list_in (map (λ other. other.now) further.now)
