@@ -1,5 +1,5 @@
--- `bootmem` and `bootmem61` as programs over files. With status 0 the result is the text of the
--- requested reports.
+-- `bootmem` and `bootmem61` as programs over files. The result of a run without a failure is the
+-- text of the requested reports, and its exit status is 0.
 use Rattle.std.specs.Prelude.{ℕ, List}
 use Rattle.std.proofs.Common.{refl, inl}
 use Rattle.boot_inputs.specs.declared.input.Input.{Input}
@@ -8,7 +8,8 @@ use Rattle.boot_inputs.specs.Inputs.{FileNames}
 use Rattle.program_end.specs.Program.{Program}
 use Rattle.program_args.specs.Args.{BootmemArgsView, ProgramArgsView, named61}
 
--- the program that prints reports on a boot; `named` gives the names of its files
+-- the definition of a program that prints reports on a boot; `named` gives the names of the input
+-- files, from what the command line asks for
 abbrev pub reports_program : {W : Type 0} → (W → FileNames) → Program W Input (List ℕ)
 reports_program named = record {
   place = input_place;
@@ -18,8 +19,10 @@ reports_program named = record {
   statuses = λ text. inl refl;
 }
 
+-- the program `bootmem`
 abbrev pub bootmem : Program BootmemArgsView Input (List ℕ)
 bootmem = reports_program (λ wanted. wanted.named)
 
+-- the program `bootmem61`, which also reads a file of early claims
 abbrev pub bootmem61 : Program ProgramArgsView Input (List ℕ)
 bootmem61 = reports_program named61

@@ -1,4 +1,5 @@
--- What status 0 promises, if it is known what the files contain and what was written before.
+-- What exit status 0 promises, if it is known what the files contain and what was written to the
+-- output before.
 use Rattle.std.specs.Prelude.{◌≡◌, ℕ, List, Option, Some, Ok}
 use Rattle.std.specs.Io.KnownBytes.{Appends}
 use Rattle.program_end.specs.Program.{FileContents}
@@ -9,10 +10,11 @@ use Rattle.debugfs_reports.specs.ReportList.{report_list_text}
 use Rattle.program_run.specs.Outcome.{linux_extra, read_boot_inputs, read_boot_inputs61, reports_of_list61}
 use Rattle.program_args.specs.Args.{BootmemArgsView, ProgramArgsView}
 
--- The requested reports were appended whole. They describe the one boot that the command line and
--- the files' bytes determine. In this boot each usable frame is touched by a claim with a
--- recorded owner, or is in exactly one block (`each`). No other frame is in a block (`others`).
--- Each block is whole, and maximal.
+-- The whole text of the requested reports was appended to the output (`written`). It describes the
+-- one boot that the command line and the files' bytes determine (`words`, `inputs`, `boots`). In
+-- this boot each usable frame is touched by a claim with a recorded owner, or is in exactly one
+-- block (`each`). No other frame is in a block (`others`). Each block is aligned and free, lies in
+-- one node and one zone (`whole`), and is as large as possible (`maximal`).
 pub record AppendsReports (accepted : Option BootmemArgsView) (held : FileContents) (old new : Option (List ℕ)) : Type 0 where
   pub wanted : BootmemArgsView
   pub given : InputsView
@@ -26,8 +28,12 @@ pub record AppendsReports (accepted : Option BootmemArgsView) (held : FileConten
   pub whole : BlocksAreWhole given told
   pub maximal : BlocksAreMaximal given told
 
--- The same for `bootmem61`: the boot has the profile of Linux 6.1 and the early claims of the
--- files. Each fact is about this boot.
+-- For `bootmem61`: the whole text of the requested reports was appended to the output (`written`).
+-- It describes the one boot that the command line and the files' bytes determine, with the rules of
+-- Linux 6.1 and the early claims of the files (`words`, `inputs`, `boots`). In this boot each
+-- usable frame is touched by a claim with a recorded owner, or is in exactly one block (`each`). No
+-- other frame is in a block (`others`). Each block is aligned and free, lies in one node and one
+-- zone (`whole`), and is as large as possible (`maximal`).
 pub record AppendsReports61 (accepted : Option ProgramArgsView) (held : FileContents) (old new : Option (List ℕ)) : Type 0 where
   pub wanted : ProgramArgsView
   pub given : InputsWithClaims

@@ -16,8 +16,9 @@ use Rattle.report_memory.specs.OwnersText.{memblock_table_name}
 use Rattle.boot_inputs.specs.Inputs.{FileNames}
 use Rattle.program_args.specs.Args.{BootmemArgsView, ProgramArgsView, named61}
 
--- the line for a diagnostic of the input `name`. A fault of a file's bytes always has a diagnostic
--- (`HasErrorLine`).
+-- the error line for what is wrong with the file of an input, as in `bootmem: cmdline: word 3:
+-- memmap`. `program` is the program's name, and `name` the word for the input. `None` doesn't occur
+-- for a file's bytes (`HasErrorLine`).
 abbrev pub diagnostic_line : List ℕ → List ℕ → Option Diagnostic → List ℕ
 diagnostic_line program name None = memory_line program
 diagnostic_line program name (Some (Diagnostic.Whole what)) = program ++ (codes ": " ++ (name ++ (codes ": " ++ (what ++ codes "\n"))))
@@ -30,22 +31,26 @@ diagnostic_line program name (Some (Diagnostic.Line line what)) =
 diagnostic_line program name (Some (Diagnostic.Offset what offset)) =
     program ++ (codes ": " ++ (name ++ (codes ": " ++ (what ++ (codes " at " ++ (decimal offset ++ codes "\n"))))))
 
--- the line for a fault in the file of the input `name`
+-- the error line for a fault in the file of an input; `name` is the word for the input, such as
+-- `cmdline`
 abbrev pub named_input_fault_line : List ℕ → List ℕ → Fault → List ℕ
 named_input_fault_line program name fault = diagnostic_line program name (diagnostic_of fault)
 
--- the line for a full table with room for `room` records, if no free memory fits a larger one
+-- the error line of a boot that stops because the table `name` of memblock, with room for `room`
+-- records, is full and no free memory fits a larger one
 abbrev pub no_table_place_line : List ℕ → List ℕ → ℕ → List ℕ
 no_table_place_line program name room =
     program ++ (codes ": stopped: no place for table " ++ (name ++ (codes " room " ++ (decimal room ++ codes "\n"))))
 
--- the line for an allocation that the boot can't do without, if no free memory fits it; `number` is
--- the number of the node, root or section that the allocation is for
+-- the error line of a boot that stops because no free memory fits an allocation, as in `bootmem:
+-- stopped: no place for node-data 1`; `number` is the number of the node, root or section that the
+-- allocation is for
 abbrev pub no_numbered_place_line : List ℕ → List ℕ → ℕ → List ℕ
 no_numbered_place_line program name number =
     program ++ (codes ": stopped: no place for " ++ (name ++ (codes " " ++ (decimal number ++ codes "\n"))))
 
--- the line for an allocation that the boot can't do without, whether it is numbered or not
+-- the error line of a boot that stops because no free memory fits an allocation that it can't do
+-- without
 abbrev pub no_place_line : List ℕ → What → List ℕ
 no_place_line program (what.NodeData node) = no_numbered_place_line program (codes "node-data") node
 no_place_line program what.Roots = program ++ codes ": stopped: no place for roots\n"
@@ -53,7 +58,7 @@ no_place_line program (what.Root root) = no_numbered_place_line program (codes "
 no_place_line program (what.Usage section) = no_numbered_place_line program (codes "usage") section
 no_place_line program (what.Map section) = no_numbered_place_line program (codes "map") section
 
--- the line for the cause of a stop
+-- the error line that says why the boot stopped, as in `bootmem: stopped: no usable frame`
 abbrev pub stop_cause_line : List ℕ → Cause → List ℕ
 stop_cause_line program causes.NoRam = program ++ codes ": stopped: no usable frame\n"
 stop_cause_line program (causes.TooMuchRam frames) = program ++ (codes ": stopped: " ++ (decimal frames ++ codes " usable frames\n"))
@@ -61,31 +66,35 @@ stop_cause_line program (causes.MapFull runs) = program ++ (codes ": stopped: " 
 stop_cause_line program (causes.NoPlace thing) = no_place_line program thing
 stop_cause_line program (causes.NoTablePlace w room) = no_table_place_line program (memblock_table_name w) room
 
--- the file name that the accepted command line gives for an input, or the empty text if it gives
--- none; `named` says how a command line gives names
+-- the file name that an accepted command line gives for an input, or the empty text if it gives
+-- none or the command line is refused (`None`). `named` takes the file names from a command line.
 abbrev pub input_file_text : {W : Type 0} → (W → FileNames) → Option W → Input → List ℕ
 input_file_text named None input = []
 input_file_text named (Some wanted) input = unwrap_or (named wanted input) []
 
--- the line for a fault in the file of an input
+-- the error line for a fault in the file of `input`, as in `bootmem: cmdline: word 3: memmap`
 abbrev pub input_fault_line : List ℕ → Input → Fault → List ℕ
 input_fault_line program input fault = named_input_fault_line program (input_word input) fault
 
+-- the name of the program `bootmem` in its error lines
 abbrev pub bootmem_name : List ℕ
 bootmem_name = codes "bootmem"
 
+-- the name of the program `bootmem61` in its error lines
 abbrev pub bootmem61_name : List ℕ
 bootmem61_name = codes "bootmem61"
 
--- the line of the program with this name that says why it failed
+-- the error line that says why the program failed. `program` is its name, and `named` takes the
+-- file names from an accepted command line.
 abbrev pub program_failure_line : {W : Type 0} → List ℕ → (W → FileNames) → Option W → Failure InputsReason → List ℕ
 program_failure_line program named accepted failure =
     failure_line program (input_file_text named accepted) (input_fault_line program) (stop_cause_line program) failure
 
--- the line that says why `bootmem` failed; file names are those of the accepted command line
+-- the error line that says why `bootmem` failed; it has file names as on the accepted command line
 abbrev pub bootmem_failure_line : Option BootmemArgsView → Failure InputsReason → List ℕ
 bootmem_failure_line accepted failure = program_failure_line bootmem_name (λ wanted. wanted.named) accepted failure
 
--- the line that says why `bootmem61` failed; file names are those of the accepted command line
+-- the error line that says why `bootmem61` failed; it has file names as on the accepted command
+-- line
 abbrev pub bootmem61_failure_line : Option ProgramArgsView → Failure InputsReason → List ℕ
 bootmem61_failure_line accepted failure = program_failure_line bootmem61_name named61 accepted failure

@@ -1,5 +1,6 @@
--- The outcome of each program: what the command line and the contents of the files determine.
--- `held` gives the bytes of each file.
+-- The outcome of each program: the text of the reports, or the reason why there is none, as the
+-- command line and the contents of the files determine it. `held` gives the bytes of each file by
+-- its name.
 use Rattle.std.specs.Prelude.{ℕ, List, drop, take, Option, Some, None, Result, Ok}
 use Rattle.bm_base.specs.ResultSteps.{◌>>=◌, map_error}
 use Rattle.e820_table.specs.Made.{generated_entries}
@@ -18,13 +19,13 @@ use Rattle.program_end.specs.Fetches.{accepted_or_usage}
 use Rattle.program_args.specs.Args.{BootmemArgsView, ProgramArgsView, named61}
 use Rattle.script_reader.specs.declared.act.Line.{Line}
 
--- the value, or the cause of the stop as the reason why there is no report
+-- the value, or `Stopped` with the cause of the boot's stop as the reason why there is no report
 abbrev pub value_or_stopped : {A : Type 0} → Result A Cause → Result A InputsReason
 value_or_stopped answer = map_error reasons.Stopped answer
 
--- The inputs with a made table of this many entries, if there is a number. The first 128 entries
--- replace those of the zero page, the others replace those of the extension, and the initrd is
--- dropped.
+-- The inputs with a generated e820 table of `count` entries, or unchanged inputs without `--make`
+-- (`None`). The first 128 entries replace those of the zero page, the others replace those of the
+-- extension, and the initrd is dropped.
 abbrev pub with_made_table : Option ℕ → InputsView → InputsView
 with_made_table None given = given
 with_made_table (Some count) given = record given {
@@ -33,52 +34,57 @@ with_made_table (Some count) given = record given {
   extension = drop 128 (generated_entries count);
 }
 
--- the inputs of the boot, as the command line and its files give them
+-- the inputs of the boot that the command line and its files give, with the generated table of
+-- `--make`; or the reason for the first file that is refused
 abbrev pub read_boot_inputs : FileContents → BootmemArgsView → Result InputsView InputsReason
 read_boot_inputs held wanted = do
   given ← inputs_of held wanted.named wanted.begun
   Ok (with_made_table wanted.made given)
 
--- the text of the reports on a boot with these inputs
+-- the text of the reports on a boot with these inputs, or the cause for which the boot stops
 abbrev pub reports_on_boot : List Report → InputsView → Result (List ℕ) InputsReason
 reports_on_boot reports given = do
   told ← value_or_stopped (whole_boot given)
   Ok (report_list_text reports told)
 
--- the outcome of `bootmem`: the text that it writes, or the reason why there is none
+-- the outcome of `bootmem`: the text of the requested reports, or the reason why there is none.
+-- `accepted` is what the command line asks for, or `None` if it is refused.
 abbrev pub bootmem_outcome : Option BootmemArgsView → FileContents → Result (List ℕ) InputsReason
 bootmem_outcome accepted held = do
   wanted ← accepted_or_usage accepted
   given ← read_boot_inputs held wanted
   reports_on_boot wanted.reports given
 
--- the inputs with a made table, if there is a number; the early claims stay
+-- the inputs with the generated e820 table of `--make`, if there is one; the early claims are
+-- unchanged
 abbrev pub with_made_table61 : Option ℕ → InputsWithClaims → InputsWithClaims
 with_made_table61 made given = record { inputs = with_made_table made given.inputs; claims = given.claims }
 
--- the inputs of the boot and the early claims, as the command line of `bootmem61` and its files
--- give them
+-- the inputs of the boot and the early claims that the command line of `bootmem61` and its files
+-- give, with the generated table of `--make`; or the reason for the first file that is refused
 abbrev pub read_boot_inputs61 : FileContents → ProgramArgsView → Result InputsWithClaims InputsReason
 read_boot_inputs61 held wanted = do
   given ← inputs_with_claims_of held (named61 wanted) wanted.begun
   Ok (with_made_table61 wanted.made given)
 
--- what `bootmem61` gives a boot besides its inputs: the profile of Linux 6.1, and these early
+-- what a boot of `bootmem61` gets besides its inputs: the profile of Linux 6.1, and the early
 -- claims
 abbrev pub linux_extra : List Line → ExtraView
 linux_extra claims = record { profile = linux_profile; claims = claims }
 
--- the text of the reports on a boot of `bootmem61` with these inputs and early claims
+-- the text of the reports on a boot of `bootmem61` with these inputs and early claims, or the cause
+-- for which the boot stops
 abbrev pub reports_on_boot61 : List Report → InputsWithClaims → Result (List ℕ) InputsReason
 reports_on_boot61 reports given = do
   told ← value_or_stopped (whole_boot_with (linux_extra given.claims) given.inputs)
   Ok (report_list_text reports told)
 
--- the reports that the list asks `bootmem61` for
+-- the reports of `bootmem61` whose names are in the list, in the order of the list
 abbrev pub reports_of_list61 : List ℕ → List Report
 reports_of_list61 list = reports_named_in reports_with_claims list
 
--- the outcome of `bootmem61`: the text that it writes, or the reason why there is none
+-- the outcome of `bootmem61`: the text of the requested reports, or the reason why there is none.
+-- `accepted` is what the command line asks for, or `None` if it is refused.
 abbrev pub bootmem61_outcome : Option ProgramArgsView → FileContents → Result (List ℕ) InputsReason
 bootmem61_outcome accepted held = do
   wanted ← accepted_or_usage accepted

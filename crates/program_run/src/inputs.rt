@@ -1,5 +1,5 @@
-//! The inputs of the boot: what the named files contain. With `--make`, a generated table replaces
-//! the entries of the zero page and of the extension.
+//! The inputs of the boot: what the files named on the command line contain. With `--make`, a
+//! generated e820 table replaces the entries of the zero page and of the extension.
 
 ghost use Rattle.std.specs.Prelude.{◌≡◌, ◌<◌, IfErr, IfOk, IfSome, IsErr, IsSomeAnd, Some};
 ghost use Rattle.boot_inputs.specs.WithClaims.{inputs_with_claims_view};
@@ -22,8 +22,9 @@ use program_args::{BootmemArgs, NamesWithClaims};
 use script_reader::Line;
 use std::alloc::Global;
 
-/// Reads the files that the arguments of `bootmem` name, in their order. With `--make N`, a
-/// generated e820 table of N entries replaces the entries of the zero page and of the extension.
+/// Reads the files that the command line of `bootmem` names, in the order of `boot_inputs::Input`,
+/// and returns the inputs of the boot. With `--make N`, a generated e820 table of N entries
+/// replaces the entries of the zero page and of the extension.
 ///
 /// # Errors
 ///
@@ -51,12 +52,16 @@ pub fn read_boot_inputs<F: Files>(
     }
 }
 
-/// Reads the files that the arguments of `bootmem61` name, in their order. The inputs are those of
-/// [`read_boot_inputs`]. In addition it returns the lines of early claims, none without a file.
+/// Reads the files that the command line of `bootmem61` names, in the order of
+/// `boot_inputs::Input`. Returns the inputs of the boot, and the lines of early claims (none if no
+/// file of early claims is named). With `--make N`, a generated e820 table of N entries replaces
+/// the entries of the zero page and of the extension.
 ///
 /// # Errors
 ///
-/// Those of [`read_boot_inputs`].
+/// - `Reason::Unread` if a file can't be read, and `Reason::Faulty` if one has a fault. The first
+///   such file ends the call.
+/// - `Memory` if this program is out of memory.
 pub(crate) fn read_boot_inputs61<F: Files>(
     alloc: Global,
     names: &NamesWithClaims<'_, '_>,
@@ -82,9 +87,13 @@ pub(crate) fn read_boot_inputs61<F: Files>(
     }
 }
 
-/// Returns `inputs`. If `entries` is a number (2 to 3000), a made table of so many entries replaces
-/// the entries of the zero page and of the extension. Runs out of memory only for more than 128
-/// entries.
+/// Returns `inputs`, unchanged if `entries` is `None`. If `entries` is a number (2 to 3000), a
+/// generated e820 table of so many entries replaces the entries of the zero page and of the
+/// extension, and the initrd is dropped.
+///
+/// # Errors
+///
+/// - `Memory`: this program is out of memory; only for more than 128 entries.
 fn with_made_table(alloc: Global, inputs: Inputs, entries: Option<u32>) -> Result<Inputs, Memory>
     requires few { IfSome entries IsEntryCount }
     ensures made { IfOk result (λ given.
@@ -97,8 +106,12 @@ fn with_made_table(alloc: Global, inputs: Inputs, entries: Option<u32>) -> Resul
     }
 }
 
-/// Replaces the entries of the zero page and of the extension by a made table of `count` entries
-/// (2 to 3000). The inputs then have no initrd. Runs out of memory only for more than 128 entries.
+/// Returns `inputs` with a generated e820 table of `count` entries (2 to 3000) instead of the
+/// entries of the zero page and of the extension, and without an initrd.
+///
+/// # Errors
+///
+/// - `Memory`: this program is out of memory; only for more than 128 entries.
 fn with_made_entries(alloc: Global, inputs: Inputs, count: u32) -> Result<Inputs, Memory>
     requires few { IsEntryCount count }
     ensures made { IfOk result (λ given.

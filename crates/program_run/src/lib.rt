@@ -7,14 +7,15 @@
 //! (`boot_model`), and that gives the text of the reports (`debugfs_reports`). The kernel's command
 //! line is one of the input files.
 //!
-//! The layer above may rest on this: `run` does what `bootmem_outcome` says, unless a file can't be
-//! read, the output refuses the text, or this program is out of memory. In the first two cases a
-//! counter of faults rose, that of the file's name or that of the output. How a program ends, and
-//! which line it writes if it fails, is defined for any program over files (`program_end`); this
-//! one is `bootmem` (`specs/Bootmem.antt`).
+//! The layer above can rely on this: `run` does what `bootmem_outcome` says, unless a file can't be
+//! read, the output refuses the text, or this program is out of memory. If a file can't be read,
+//! the counter of faults for its name rose. If the output refuses the text, the counter of faults
+//! of the output rose. How a program ends, and which line it writes if it fails, is defined for any
+//! program over files (`program_end`). What is special to `bootmem` is in `specs/Bootmem.antt`.
 //!
-//! [`run61`] is the program `bootmem61`, with the same clauses. Its boot follows the rules of Linux
-//! 6.1 and runs early claims, and its outcome is `bootmem61_outcome`.
+//! [`run61`] is the program `bootmem61`. Its contract has the same clauses as that of `run`. Its
+//! boot follows the rules of Linux 6.1 and runs early claims, and its outcome is
+//! `bootmem61_outcome`.
 //!
 //! `bootmem_cli` and `bootmem61_cli` run them on the files and streams of the operating system.
 //! [`read_boot_inputs`] and [`reason_by_stop`] serve a caller that boots without writing reports

@@ -1,5 +1,5 @@
-//! Writes the error lines of `bootmem` and `bootmem61`. They differ in the program's name, and in
-//! the file names that a command line can give.
+//! Writes the error lines of `bootmem` and `bootmem61`. The lines of the two programs differ in the
+//! program's name, and in the file names that a command line can give.
 
 ghost use Rattle.std.specs.Prelude.{◌≡◌};
 ghost use Rattle.std.specs.Option.{option_map};
@@ -99,7 +99,8 @@ impl<'a, 'w> Lines<Input, Fault, Cause> for Bootmem61Lines<'a, 'w> {
     }
 }
 
-/// Writes to `err` the line `PROGRAM: NAME: FAULT` for `fault` in the file of the input `name`.
+/// Writes to `err` the line for `fault` in the file of an input, as in `bootmem: cmdline: word 3:
+/// memmap`. `program` is the program's name, and `name` the word for the input.
 fn put_input_fault_line<E: Sink>(
     err: &mut E,
     program: &'static str,
@@ -145,7 +146,8 @@ fn put_input_fault_line<E: Sink>(
     }
 }
 
-/// Writes to `err` the line for the cause of a stop.
+/// Writes to `err` the line that says why the boot stopped, as in `bootmem: stopped: no usable
+/// frame`.
 fn put_stop_cause_line<E: Sink>(err: &mut E, program: &'static str, cause: Cause)
     ensures { PutsLine E.Sink err.old err.new (stop_cause_line program.now cause) }
 {
@@ -171,7 +173,8 @@ fn put_stop_cause_line<E: Sink>(err: &mut E, program: &'static str, cause: Cause
     }
 }
 
-/// Writes to `err` why the boot stopped: no free memory fits the allocation `what`.
+/// Writes to `err` the line of a boot that stopped because no free memory fits the allocation
+/// `what`, as in `bootmem: stopped: no place for roots`.
 fn put_no_place_line<E: Sink>(err: &mut E, program: &'static str, what: What)
     ensures { PutsLine E.Sink err.old err.new (no_place_line program.now what) }
 {

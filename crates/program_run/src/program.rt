@@ -1,5 +1,5 @@
-//! The whole program over any files and outputs. It is generic in them, so one contract covers the
-//! files in memory of the tests and those of the operating system (`bootmem_cli`).
+//! The whole program `bootmem` over any files and outputs. It is generic in them, so one contract
+//! covers the files in memory that tests use and the files of the operating system (`bootmem_cli`).
 
 ghost use Rattle.std.specs.Prelude.{◌≡◌, ◌≢◌, ℕ, List, Some, Ok, IfErr, IfSome, IsNone, IsOkAnd, ◌⊎◌, flat_map};
 ghost use Rattle.std.specs.Io.KnownBytes.{Appends};
@@ -35,13 +35,14 @@ use program_args::{ArgsError, BootmemArgs, read_args};
 use program_end::{exit_status, put_end_line};
 use std::alloc::Global;
 
-/// Why there is no report: a reason, or out of memory.
+/// Why there is no report: a reason (the command line is refused, a file can't be read or has a
+/// fault, or the boot stops), or out of memory.
 pub type NoReport = NoInputs;
 
-/// Why the program didn't write its reports whole.
+/// Why the program didn't write its reports whole: there is no report, or the output failed.
 pub type Failure = program_end::Failure<InputsReason>;
 
-/// Returns why a boot that stops gives no report: the cause of the stop, or out of memory.
+/// Returns why there is no report on a boot that stops: the cause of the stop, or out of memory.
 pub fn reason_by_stop(stop: Stop) -> NoReport
     ensures { result ≡ reason_by_stop stop }
 {
@@ -56,21 +57,21 @@ pub fn reason_by_stop(stop: Stop) -> NoReport
 /// accepted. Returns the exit status:
 ///
 /// - 0: the reports were written whole.
-/// - 2: the command line isn't accepted; no file was read.
+/// - 2: the command line is refused; no file was read.
 /// - 3: a file that the command line names couldn't be read.
 /// - 4: `out` refused the text.
 /// - 5: a file has a fault.
-/// - 6: the boot stops for a cause, such as a map without a usable frame.
+/// - 6: the boot stops, for example because the map has no usable frame.
 /// - 7: out of memory.
 ///
 /// With status 0 nothing is written to `err`, and otherwise one line that says why the program
-/// failed. If `err` refuses it, the status stays the same. With 2, 3, 5 and 6 nothing is written to
-/// `out`. With 4 and 7 `out` may have the first part of the text.
+/// failed. If `err` refuses the line, the status stays the same. With status 2, 3, 5 or 6 nothing
+/// is written to `out`. With status 4 or 7 the first part of the text may have been written to
+/// `out`.
 ///
-/// The ghost `holds` gives the contents of each file if the type of `files` knows them. The type
-/// of files in memory does. For the files of the operating system `holds` is `None`, and the
-/// clauses on `bootmem_outcome` say nothing; but the code is generic, so the same code runs in
-/// both cases.
+/// The ghost `holds` gives the contents of each file if the type of `files` knows them. The type of
+/// files in memory does. For the files of the operating system `holds` is `None`, and the clauses
+/// on `bootmem_outcome` say nothing; but the code is generic, so the same code runs in both cases.
 pub fn run<F: Files, S: Sink, E: Sink>(
     alloc: Global,
     words: &[String],
@@ -144,8 +145,13 @@ pub fn run<F: Files, S: Sink, E: Sink>(
     exit_status(end)
 }
 
-/// Runs the program, and writes to `err` why it failed, if it did. Returns the exit status, or the
-/// failure.
+/// Runs the program: reads the command line and the input files, boots, and writes the reports to
+/// `out`. Returns the exit status 0.
+///
+/// # Errors
+///
+/// The reason why the reports weren't written whole. The line that says why is then written to
+/// `err`.
 fn run_to_end<F: Files, S: Sink, E: Sink>(
     alloc: Global,
     words: &[String],
@@ -184,7 +190,8 @@ fn run_to_end<F: Files, S: Sink, E: Sink>(
     }
 }
 
-/// Returns why a command line that wasn't accepted, or couldn't be read, gives no report.
+/// Returns why there is no report if reading the command line failed: it is refused (`Usage`), or
+/// the program is out of memory.
 pub(crate) fn reason_by_args_error(error: ArgsError) -> NoReport
     ensures { result ≡ reason_by_args_error error }
 {
@@ -194,7 +201,13 @@ pub(crate) fn reason_by_args_error(error: ArgsError) -> NoReport
     }
 }
 
-/// Writes the requested reports, once all of their texts are made. Returns status 0.
+/// Reads the input files, boots, and writes the requested reports to `out`, once the texts of all
+/// of them are made. Returns the exit status 0.
+///
+/// # Errors
+///
+/// - `NoResult`: there is no report, or the program ran out of memory; nothing was written.
+/// - `Output`: `out` refused the text, or ran out of memory for it; the first part may be written.
 fn write_reports<F: Files, S: Sink>(
     alloc: Global,
     wanted: &BootmemArgs<'_>,
@@ -213,7 +226,12 @@ fn write_reports<F: Files, S: Sink>(
     Ok(0)
 }
 
-/// Returns the texts of the requested reports, in the order of the list.
+/// Reads the input files, boots, and returns the texts of the requested reports, in the order of
+/// the list.
+///
+/// # Errors
+///
+/// The reason why there is no report, or out of memory.
 fn make_report_texts<F: Files>(
     alloc: Global,
     wanted: &BootmemArgs<'_>,
@@ -231,8 +249,12 @@ fn make_report_texts<F: Files>(
     reports_on_boot(alloc, inputs, wanted.list)
 }
 
-/// Boots with these inputs and returns the texts of the listed reports. `list` has the names of
-/// reports, separated by commas.
+/// Boots with these inputs and returns the texts of the reports whose names are in `list`,
+/// separated by commas.
+///
+/// # Errors
+///
+/// The cause for which the boot stops, or out of memory.
 fn reports_on_boot(alloc: Global, inputs: Inputs, list: &str) -> Result<Vec<Vec<u8>>, NoReport>
     ensures fetches { Fetches input_place (λ bytes_of_words.
         flat_map (λ text. text.items) bytes_of_words.items) result

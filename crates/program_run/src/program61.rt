@@ -1,5 +1,5 @@
-//! The whole program `bootmem61` over any files and outputs. It is `bootmem` ([`run`](crate::run))
-//! with another profile: its boot follows the rules of Linux 6.1, and runs early claims.
+//! The whole program `bootmem61` over any files and outputs. It differs from `bootmem`
+//! ([`run`](crate::run)) in its boot, which follows the rules of Linux 6.1 and runs early claims.
 
 ghost use Rattle.std.specs.Prelude.{◌≡◌, ◌≢◌, ℕ, List, Some, Ok, IfErr, IfSome, IsNone, IsOkAnd, ◌⊎◌, flat_map};
 ghost use Rattle.std.specs.Io.KnownBytes.{Appends};
@@ -36,11 +36,12 @@ use script_reader::Line;
 use std::alloc::Global;
 
 /// Reads the files that the command line names, boots with them, and writes the reports to `out`.
-/// This is [`run`](crate::run) for `bootmem61`: statuses, output and error output follow the same
-/// rules. It differs in these points:
+/// `words` are the words after the program's name. Exit statuses, output and error output follow
+/// the rules of [`run`](crate::run). `run61` differs from it in these points:
 ///
 /// - [`program_args::read_args61`] says which words are accepted. `--claims F` names a file of
-///   early claims, which is read after the script. `--report claims` prints the outcome of each.
+///   early claims, which is read after the script. `--report claims` prints the outcome of each of
+///   its lines.
 /// - The boot follows the profile of Linux 6.1 ([`Profile::linux_6_1`]). The early claims run
 ///   before memory gets its nodes.
 /// - An error line begins with `bootmem61: `.
@@ -120,8 +121,13 @@ pub fn run61<F: Files, S: Sink, E: Sink>(
     exit_status(end)
 }
 
-/// Runs the program, and writes to `err` why it failed, if it did. Returns the exit status, or the
-/// failure.
+/// Runs the program: reads the command line and the input files, boots, and writes the reports to
+/// `out`. Returns the exit status 0.
+///
+/// # Errors
+///
+/// The reason why the reports weren't written whole. The line that says why is then written to
+/// `err`.
 fn run61_to_end<F: Files, S: Sink, E: Sink>(
     alloc: Global,
     words: &[String],
@@ -161,7 +167,13 @@ fn run61_to_end<F: Files, S: Sink, E: Sink>(
     }
 }
 
-/// Writes the requested reports, once all of their texts are made. Returns status 0.
+/// Reads the input files, boots, and writes the requested reports to `out`, once the texts of all
+/// of them are made. Returns the exit status 0.
+///
+/// # Errors
+///
+/// - `NoResult`: there is no report, or the program ran out of memory; nothing was written.
+/// - `Output`: `out` refused the text, or ran out of memory for it; the first part may be written.
 fn write_reports61<F: Files, S: Sink>(
     alloc: Global,
     names: &NamesWithClaims<'_, '_>,
@@ -180,7 +192,12 @@ fn write_reports61<F: Files, S: Sink>(
     Ok(0)
 }
 
-/// Returns the texts of the requested reports, in the order of the list.
+/// Reads the input files, boots, and returns the texts of the requested reports, in the order of
+/// the list.
+///
+/// # Errors
+///
+/// The reason why there is no report, or out of memory.
 fn make_texts61<F: Files>(
     alloc: Global,
     names: &NamesWithClaims<'_, '_>,
@@ -198,8 +215,12 @@ fn make_texts61<F: Files>(
     reports_on_boot61(alloc, inputs, claims, names.wanted.list)
 }
 
-/// Boots with these inputs and early claims by the rules of Linux 6.1, and returns the texts of the
-/// listed reports. `list` has the names of reports, separated by commas.
+/// Boots with these inputs and early claims by the rules of Linux 6.1. Returns the texts of the
+/// reports whose names are in `list`, separated by commas.
+///
+/// # Errors
+///
+/// The cause for which the boot stops, or out of memory.
 fn reports_on_boot61(
     alloc: Global,
     inputs: Inputs,
