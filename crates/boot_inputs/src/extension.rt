@@ -25,8 +25,8 @@ impl Reader for Extensions {
         Input::Extension
     }
 
-    // At most 3,072 entries, which with the 128 of a zero page fill the kernel's table
-    // (`E820_MAX_ENTRIES`).
+    // A header of 16 bytes and at most 3,072 entries of 20 bytes. Together with the 128 entries of
+    // a zero page they fill the kernel's table (`E820_MAX_ENTRIES`).
     fn limit() -> u64 {
         61_456
     }

@@ -30,25 +30,26 @@ use std::alloc::Global;
 /// The readers of all files of `bootmem`, in the order in which the files are read.
 pub(crate) type ReadersFromZeroPage = (ZeroPages, ReadersFromExtension);
 
-/// The readers from the E820 extension on.
+/// The readers from that of the E820 extension to the last, in the order in which the files are
+/// read.
 type ReadersFromExtension = (Extensions, ReadersFromCommandLine);
 
-/// The readers from the command line on.
+/// The readers from that of the command line to the last, in the order in which the files are read.
 type ReadersFromCommandLine = (CommandLines, ReadersFromSrat);
 
-/// The readers from the SRAT on.
+/// The readers from that of the SRAT to the last, in the order in which the files are read.
 type ReadersFromSrat = (Srats, ReadersFromScript);
 
-/// The readers from the script of early allocations on.
+/// The readers from that of the early script to the last, in the order in which the files are read.
 type ReadersFromScript = (Scripts, ReadersFromPages);
 
-/// The readers from the page script on.
+/// The readers from that of the page script to the last, in the order in which the files are read.
 pub(crate) type ReadersFromPages = (PageScripts, ReadersFromSlit);
 
-/// The readers from the SLIT on.
+/// The readers from that of the SLIT to the last, in the order in which the files are read.
 type ReadersFromSlit = (Slits, ReadersFromEfi);
 
-/// The readers from the EFI memory map on.
+/// The reader of the EFI memory map, which is the last.
 type ReadersFromEfi = (EfiMaps, ());
 
 /// The readers of the files before the early claims, in the order in which they are read.

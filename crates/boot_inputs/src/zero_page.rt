@@ -1,5 +1,5 @@
-//! The zero page as an input. Its entries go into an array with room for all of them, so it is the
-//! only input file that can be read without allocating.
+//! The zero page as an input. Its entries go into an array with room for all of them, so this is
+//! the only input file whose bytes are always read without allocating.
 
 ghost use Rattle.std.specs.Prelude.{◌≡◌, ◌≤◌, length};
 ghost use Rattle.boot_inputs.specs.Diagnostic.{diagnostic_view};

@@ -125,8 +125,8 @@ fn end_of_memory(tables: &Tables) -> u64
     last.base + last.size
 }
 
-/// Makes searches go from the lowest address up if `upward` is set (`memblock_set_bottom_up`).
-/// Changes nothing if it isn't.
+/// Makes memblock's searches go from the lowest address up if `upward` is true
+/// (`memblock_set_bottom_up`). Changes nothing if `upward` is false.
 fn set_search_direction(memblock: &mut Memblock, upward: bool) -> Result<(), Refusal>
     requires { HasFirstItem memblock.old.journal.items }
     ensures ends { EndsAsStage (items_with_growths (direction_items upward)) refusal_for result

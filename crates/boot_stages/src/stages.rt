@@ -84,9 +84,9 @@ pub fn boot(alloc: Global, inputs: Inputs) -> Result<Booted, Stop>
 }
 
 /// Runs the boot with the profile and the early claims of `extra`, and returns all that it made.
-/// The steps are those of [`boot`], with two differences. Between steps 2 and 3, before memory gets
-/// its nodes, the lines of early claims run. The crash area and the spans of zones follow the rules
-/// of the profile.
+/// The steps are those of [`boot`], with two differences. The lines of early claims run after the
+/// first MiB is claimed and before memory gets its nodes. The crash area and the spans of zones
+/// follow the rules of the profile.
 ///
 /// # Errors
 ///

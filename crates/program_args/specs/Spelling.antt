@@ -52,11 +52,11 @@ first_spelled_value [] argument = None
 first_spelled_value (s ∷ ss) argument =
     if bytes_eq (spelling_argument s) argument then Some (spelling_value s) else first_spelled_value ss argument
 
--- whether the name is that of an option with a value
+-- whether the name is that of an option of `bootmem` that takes a value
 abbrev pub is_option : List ℕ → Bool
 is_option name = list_any (λ option. has_value option.1 && bytes_eq option.0 name) options
 
--- whether the name is that of a flag
+-- whether the name is that of a flag of `bootmem`, an option without a value
 abbrev pub is_flag : List ℕ → Bool
 is_flag name = list_any (λ option. is_flag_action option.1 && bytes_eq option.0 name) options
 

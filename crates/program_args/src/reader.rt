@@ -72,9 +72,13 @@ pub fn read_args<'w>(alloc: Global, words: &'w [String]) -> Result<BootmemArgs<'
 
 /// Returns what the words after the program's name ask `bootmem61` for.
 ///
-/// The words follow the same rules as for [`read_args`], with two additions. `--claims F`, which
-/// may be given at most once, names a file of early claims. The list of `--report` may have the
-/// name `claims`.
+/// The options with a value are those of `bootmem` (`--mirror LIST`, `--cmdline F`, `--e820ext F`,
+/// `--srat F`, `--script F`, `--pages F`, `--slit F`, `--efi F`, `--kernel BASE,SIZE`, `--report
+/// LIST` and `--make N`), and `--claims F`, which names a file of early claims. They may also be
+/// written `--NAME=VALUE`. The flags are `--la57` and `--bottom-up`. Each may be given at most
+/// once, in any order. ZEROPAGE, the name of the zero page's file, may stand anywhere. Either
+/// ZEROPAGE or `--make` must be given. `--make` can't be given together with ZEROPAGE or
+/// `--e820ext`. The list of `--report` may have the name `claims` too.
 ///
 /// # Errors
 ///
@@ -193,10 +197,11 @@ fn report_list_in<'w>(matches: &ArgMatches<'w>, further: &[&str]) -> Option<&'w 
     }
 }
 
-/// Law: if the words follow the grammar, reading them has the same result, a value or an error, as
-/// checking the values that they spell. The grammar allows options with values, flags, and the name
-/// of the zero page, in any order, but no argument twice. The value of an option is the next word
-/// or follows `=`. Neither the name nor a value that is the next word begins with a hyphen.
+/// Law: if the words after the program's name follow the grammar, `read_args` has the same result,
+/// a value or an error, as the check of the values that the words spell. The grammar allows options
+/// with values, flags, and the name of the zero page, in any order, but no argument twice. The
+/// value of an option is the next word or follows `=`. Neither the name nor a value that is the
+/// next word begins with a hyphen.
 pub fn spelled_args_are_read()
     ensures { (spellings : List Spelling) → AreSpellings spellings
         → read_args (words_of_spellings spellings) ≡ args_from_values (spelled_values spellings) }

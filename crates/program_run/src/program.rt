@@ -79,8 +79,8 @@ pub fn run<F: Files, S: Sink, E: Sink>(
     out: &mut S,
     err: &mut E,
 ) -> u8
-    // When each status comes, even if the files' contents are unknown. A refused command line
-    // gives 2, or 7 if out of memory.
+    // What exit status 2, 3 or 4 means, even if the files' contents are unknown. A refused command
+    // line gives 2, or 7 if the program runs out of memory.
     ensures usage { result ≡ 2 → IsNone (read_args (bytes_of_words words.now)) }
     ensures refused { IsNone (read_args (bytes_of_words words.now)) → (result ≡ 2) ⊎ (result ≡ 7) }
     ensures unread { result ≡ 3 → (input : AnyInput)
@@ -89,7 +89,8 @@ pub fn run<F: Files, S: Sink, E: Sink>(
     ensures unwritten { result ≡ 4 → Rose (S.faults out.old) (S.faults out.new) }
 
     // What stays as it was, even if the files' contents are unknown. If the command line is
-    // refused, the files and `out` stay. If there is no text, `out` stays.
+    // refused, no file is fetched and `out` is unchanged. With status 2, 3, 5 or 6 `out` is
+    // unchanged too. With status 7 it is unchanged unless memory ran out while it was written.
     ensures unfetched { IsNone (read_args (bytes_of_words words.now)) → files.new ≡ files.old }
     ensures unput { IsNone (read_args (bytes_of_words words.now)) → out.new ≡ out.old }
     ensures early { (result ≡ 2) ⊎ (result ≡ 3) ⊎ (result ≡ 5) ⊎ (result ≡ 6) → out.new ≡ out.old }
@@ -102,7 +103,8 @@ pub fn run<F: Files, S: Sink, E: Sink>(
         AppendsReports (read_args (bytes_of_words words.now)) held (S.written out.old)
         (S.written out.new)) }
 
-    // If the files' contents are known, the status and the output are those of the outcome.
+    // If the files' contents are known, the exit status and the output agree with the outcome,
+    // which the definitions give for the command line and these contents.
     ensures answers { IfSome (F.holds files.old) (λ held.
         MayEndWith bootmem (bootmem_outcome (read_args (bytes_of_words words.now)) held) result) }
     ensures written { result ≡ 0 → IfSome (F.holds files.old) (λ held.
@@ -120,8 +122,8 @@ pub fn run<F: Files, S: Sink, E: Sink>(
     ensures stopped { result ≡ 6 → IfSome (F.holds files.old) (λ held.
         IsStopped (bootmem_outcome (read_args (bytes_of_words words.now)) held)) }
 
-    // If no counter of faults rose, neither of `out` nor of a file, and the outcome is a text, the
-    // text is written unless the program runs out of memory.
+    // If the outcome is a text, the text is written, unless the program runs out of memory or a
+    // counter of faults rose: that of `out`, or that of a file's name.
     ensures complete { IfSome (F.holds files.old) (λ held. (text : List ℕ)
         → bootmem_outcome (read_args (bytes_of_words words.now)) held ≡ Ok text
         → ¬ Rose (S.faults out.old) (S.faults out.new)
@@ -130,8 +132,9 @@ pub fn run<F: Files, S: Sink, E: Sink>(
         (read_args (bytes_of_words words.now)) input)
         → (result ≡ 0) ⊎ (result ≡ 7)) }
 
-    // What `err` has: nothing with status 0, else the line for a failure with this status. The
-    // cause of this failure did occur, and the failure fits the outcome.
+    // What is written to `err`: nothing with status 0, else the line of a failure that has this
+    // exit status. What must happen before this failure did happen (`FailureHasCause`), and the
+    // failure fits the outcome.
     ensures silent { result ≡ 0 → err.new ≡ err.old }
     ensures line { result ≢ 0 → (failure : AnyFailure AnyReason) × (result ≡ failure_status failure)
         × PutsLine E.Sink err.old err.new

@@ -21,7 +21,7 @@ e820_type_name k =
     else codes "other"))))))))
 
 -- the line of a run, as in `0x0000000000100000..0x0000000007fdffff 1 usable`: its range, and the
--- number and name of its type; the index isn't printed
+-- number and name of its type; the index `n` isn't printed
 abbrev pub map_line : ℕ → RunOf ℕ → List ℕ
 map_line n r = range_text (range_of_run r) ++ codes " " ++ decimal r.value ++ codes " " ++ e820_type_name r.value ++ codes "\n"
 

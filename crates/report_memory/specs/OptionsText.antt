@@ -25,7 +25,7 @@ edit_text (edits.RemoveAll range) = codes "remove-all " ++ range_text range
 edit_text (edits.Change range from to) = codes "change " ++ kind_text from ++ kind_text to ++ range_text range
 edit_text edits.Clear = codes "clear"
 
--- the line of an edit of the map; the index isn't printed
+-- the line of an edit of the map; the index `n` isn't printed
 abbrev pub edit_line : ℕ → Edit → List ℕ
 edit_line n edit = edit_text edit ++ codes "\n"
 
@@ -41,7 +41,7 @@ unfoldable pub crash_range_text : CrashRange → List ℕ
 crash_range_text range = hex_text range.start ++ codes " " ++ crash_end_text range.end ++ codes " " ++ hex_text range.size
 
 -- the line of a range of `crashkernel=RANGE:SIZE,..[@BASE]`, with the base address of the area,
--- which is 0 if the kernel chooses the place; the index isn't printed
+-- which is 0 if the kernel chooses the place; the index `n` isn't printed
 abbrev pub crash_range_line : ℕ → ℕ → CrashRange → List ℕ
 crash_range_line base n range = codes "crash range " ++ crash_range_text range ++ codes " base " ++ hex_text base ++ codes "\n"
 

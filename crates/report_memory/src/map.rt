@@ -43,7 +43,7 @@ pub fn put_map(text: &mut Vec<u8>, runs: &[Run]) -> Result<(), Memory>
     put_indexed_lines(text, runs, put_map_line)
 }
 
-/// Appends the line of a run of the map: its range, and the number and name of its type. The index
+/// Appends the line of a run of the map: its range, and the number and name of its type. `index`
 /// isn't printed.
 fn put_map_line(text: &mut Vec<u8>, index: u64, run: &Run) -> Result<(), Memory>
     ensures { PutsText text.old text.new result (map_line index run.now) }

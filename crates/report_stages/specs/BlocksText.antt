@@ -13,7 +13,7 @@ use Rattle.report_memory.specs.Lines.{indexed_lines}
 use Rattle.bm_base.specs.Zones.{zone_name}
 
 -- the line of a block, as in `node 0 zone DMA32 order 10 0x0000000001000000`: its node, zone and
--- order, and the address of its first byte; the index isn't printed
+-- order, and the address of its first byte; the index `n` isn't printed
 abbrev pub block_line : ℕ → Block → List ℕ
 block_line n b =
     codes "node " ++ decimal b.node ++ codes " zone " ++ zone_name b.zone ++ codes " order " ++ decimal b.order ++ codes " "

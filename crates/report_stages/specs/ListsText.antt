@@ -27,7 +27,7 @@ abbrev pub list_zone_text : ListZone → List ℕ
 list_zone_text z = codes " " ++ decimal z.node ++ codes "/" ++ zone_name z.zone
 
 -- the line of a node, as in `Node 0: 0/Normal 0/DMA32 0/DMA`: the zones of its list in order; the
--- index isn't printed
+-- index `n` isn't printed
 abbrev pub zonelist_line : ZoneListsView → ℕ → ℕ → List ℕ
 zonelist_line k n node = codes "Node " ++ decimal node ++ codes ":" ++ flat_map list_zone_text (zone_list_of k node) ++ codes "\n"
 

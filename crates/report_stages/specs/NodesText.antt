@@ -38,7 +38,8 @@ abbrev pub uncovered_line : ℕ → List ℕ
 uncovered_line frames = codes "uncovered " ++ decimal frames ++ codes "\n"
 
 -- the line of a journal item that gives a range its node, as in `node 0
--- 0x0000000000001000..0x000000000009ffff`. Other items have no line, and the index isn't printed.
+-- 0x0000000000001000..0x000000000009ffff`. Other items have no line, and the index `n` isn't
+-- printed.
 abbrev pub node_line : ℕ → Item → List ℕ
 node_line n (item.Node range node) = codes "node " ++ decimal node ++ codes " " ++ range_text range ++ codes "\n"
 node_line n other = []

@@ -16,7 +16,7 @@ page_outcome_text outcomes.Taken = codes "taken"
 page_outcome_text outcomes.Unknown = codes "unknown"
 
 -- the line of an outcome, as in `3: no block`: the number of the line in the page script, and the
--- outcome; the index isn't printed
+-- outcome; the index `n` isn't printed
 abbrev pub page_answer_line : ℕ → PageAnswer → List ℕ
 page_answer_line n answer = decimal answer.line ++ codes ": " ++ page_outcome_text answer.outcome ++ codes "\n"
 

@@ -25,7 +25,7 @@ outcome_text outcomes.TooLargeKeep = codes "keep too large"
 outcome_text outcomes.TooLargeFill = codes "fill too large"
 
 -- the line of an outcome, as in `3: no gap`: the number of the line in the script, and the outcome;
--- the index isn't printed
+-- the index `n` isn't printed
 abbrev pub answer_line : ℕ → Answer → List ℕ
 answer_line n answer = decimal answer.line ++ codes ": " ++ outcome_text answer.outcome ++ codes "\n"
 

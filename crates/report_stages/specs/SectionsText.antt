@@ -13,12 +13,12 @@ abbrev pub roots_line : ℕ → List ℕ
 roots_line table = codes "roots " ++ hex_text table ++ codes "\n"
 
 -- the line of a section root, as in `root 0 0x000000007ffd8000`: its number and its address; the
--- index isn't printed
+-- index `n` isn't printed
 abbrev pub root_line : ℕ → RootPlace → List ℕ
 root_line n root = codes "root " ++ decimal root.number ++ codes " " ++ hex_text root.place ++ codes "\n"
 
 -- the line of a section: its number, its node, the address of its page structures (`map`) and that
--- of its usage data (`usage`); the index isn't printed
+-- of its usage data (`usage`); the index `n` isn't printed
 abbrev pub section_line : ℕ → Placed → List ℕ
 section_line n s =
     codes "section " ++ decimal s.section ++ codes " node " ++ decimal s.node ++ codes " map " ++ hex_text s.map ++ codes " usage "

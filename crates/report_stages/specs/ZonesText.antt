@@ -29,7 +29,8 @@ unfoldable pub frames_in_zone : ℕ → Zone → List Block → ℕ
 frames_in_zone node z blocks = sum_by (λ b. 2 ^ b.order) (filter (is_block_in_zone node z) blocks)
 
 -- the line of a span: its first frame, the frame after its last, the number of its frames that are
--- memory, and the number of frames in free blocks of this node and zone; the index isn't printed
+-- memory, and the number of frames in free blocks of this node and zone; the index `n` isn't
+-- printed
 abbrev pub zone_line : List Block → ℕ → Span → List ℕ
 zone_line blocks n s =
     codes "Node " ++ decimal s.node ++ codes ", zone " ++ zone_name s.zone ++ codes " start " ++ decimal s.start ++ codes " end "
@@ -50,7 +51,7 @@ unfoldable pub block_counts_text : List Block → ℕ → Zone → List ℕ
 block_counts_text blocks node z = flat_map (block_count_text blocks node z) (range_with_len 0 (MAX_ORDER + 1))
 
 -- the line of a span: its node, its zone, and the number of free blocks of each order from 0 to 10;
--- the index isn't printed
+-- the index `n` isn't printed
 unfoldable pub buddyinfo_line : List Block → ℕ → Span → List ℕ
 buddyinfo_line blocks n s =
     codes "Node " ++ decimal s.node ++ codes ", zone " ++ padded_zone s.zone ++ codes " "

@@ -21,7 +21,7 @@ pub fn put_pages(text: &mut Vec<u8>, answers: &[PageAnswer]) -> Result<(), Memor
 }
 
 /// Appends the line of an outcome, as in `3: no block`: the number of the line in the page script,
-/// and the outcome. The index isn't printed.
+/// and the outcome. `index` isn't printed.
 fn put_page_answer_line(text: &mut Vec<u8>, index: u64, answer: &PageAnswer) -> Result<(), Memory>
     ensures { PutsText text.old text.new result (page_answer_line index answer.now) }
 {

@@ -28,7 +28,7 @@ pub fn put_script(text: &mut Vec<u8>, answers: &[Answer]) -> Result<(), Memory>
 }
 
 /// Appends the line of an outcome, as in `3: no gap`: the number of the line in the script, and the
-/// outcome. The index isn't printed.
+/// outcome. `index` isn't printed.
 fn put_answer_line(text: &mut Vec<u8>, index: u64, answer: &Answer) -> Result<(), Memory>
     ensures { PutsText text.old text.new result (answer_line index answer.now) }
 {

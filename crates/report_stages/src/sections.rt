@@ -37,7 +37,7 @@ fn put_roots(text: &mut Vec<u8>, roots: &Roots) -> Result<(), Memory>
     Ok(())
 }
 
-/// Appends the line of a section root: its number and its address. The index isn't printed.
+/// Appends the line of a section root: its number and its address. `index` isn't printed.
 fn put_root_line(text: &mut Vec<u8>, index: u64, root: &RootPlace) -> Result<(), Memory>
     ensures { PutsText text.old text.new result (root_line index root.now) }
 {
@@ -47,7 +47,7 @@ fn put_root_line(text: &mut Vec<u8>, index: u64, root: &RootPlace) -> Result<(),
 }
 
 /// Appends the line of a section: its number, its node, and the addresses of its page structures
-/// (`map`) and of its usage data. The index isn't printed.
+/// (`map`) and of its usage data. `index` isn't printed.
 fn put_section_line(text: &mut Vec<u8>, index: u64, placed: &Placed) -> Result<(), Memory>
     ensures { PutsText text.old text.new result (section_line index placed.now) }
 {
