@@ -1,5 +1,5 @@
--- Small files, the inputs or faults that the definitions give for them, and the words of error
--- lines.
+-- Examples: small files, with the inputs or faults that the definitions give for them and the texts
+-- of error lines.
 use Rattle.std.proofs.Common.{◌≡◌, ℕ, ◌+◌, ◌*◌, ◌-◌, true, false, if◌then◌else◌, List, [], ◌∷◌, ◌++◌, codes, Option, Some, None, Ok, Err, refl}
 use Rattle.std.specs.Prelude.{replicate}
 use Rattle.std.specs.Str.{bytes_eq}
@@ -54,10 +54,11 @@ ram_and_reserved =
     0 ∷ 0x10 ∷ 0 ∷ 0 ∷ 0 ∷ 0 ∷ 0 ∷ 0 ∷ 0 ∷ 0x10 ∷ 0 ∷ 0 ∷ 0 ∷ 0 ∷ 0 ∷ 0 ∷ 1 ∷ 0 ∷ 0 ∷ 0 ∷
     0 ∷ 0x20 ∷ 0 ∷ 0 ∷ 0 ∷ 0 ∷ 0 ∷ 0 ∷ 0 ∷ 0x10 ∷ 0 ∷ 0 ∷ 0 ∷ 0 ∷ 0 ∷ 0 ∷ 2 ∷ 0 ∷ 0 ∷ 0 ∷ []
 
--- this and the next: the entries of that page
+-- the first entry of `ram_and_reserved`: RAM at 4 KiB
 abbrev ram : Entry
 ram = record { addr = 0x1000; size = 0x1000; kind = 1 }
 
+-- the second entry of `ram_and_reserved`: reserved at 8 KiB
 abbrev reserved : Entry
 reserved = record { addr = 0x2000; size = 0x1000; kind = 2 }
 
@@ -106,25 +107,27 @@ naming page ext line inputs.Extension = ext
 naming page ext line inputs.CommandLine = line
 naming page ext line other = None
 
--- what the bytes of a file give, or their fault
+-- an empty script or page script has no lines; a faulty line is reported by its number
 lines_are_said : (script_or_fault [] ≡ Ok []) × (script_or_fault (codes "free") ≡ Err (faults.Script (script.BadLine 1)))
     × (page_script_or_fault [] ≡ Ok []) × (page_script_or_fault (codes "give x") ≡ Err (faults.Pages (pages.BadNumber 1)))
 lines_are_said = (refl, refl, refl, refl)
 
+-- an SRAT of one processor, and the fault of an empty SRAT, SLIT and EFI memory map
 tables_are_said : (srat_or_fault one_processor ≡ Ok processor_alone) × (srat_or_fault [] ≡ Err (faults.Srat srat.Short))
     × (slit_or_fault [] ≡ Err (faults.Slit slit.Short)) × (efi_or_fault [] ≡ Err (faults.Efi efi.Header))
 unfolding entry_offsets_from is_whole_entry srat_entry_at
 tables_are_said = (refl, refl, refl, refl)
 
+-- a mirrored range of 4 KiB at 16 KiB is frame 4
 efi_gives : efi_map_in_frames (record { entries = []; mirrors = record { base = 0x4000; size = 0x1000 } ∷ [] })
     ≡ record { entries = []; mirrors = record { first = 4; count = 1 } ∷ [] }
 efi_gives = refl
 
--- `Memory` isn't a fault of a file's contents
+-- faults of a file's contents have an error line, and `Memory` has none
 of_bytes : HasErrorLine (faults.Srat srat.Short) × HasErrorLine faults.TooLong × (HasErrorLine (faults.Srat srat.Memory) → ⊥)
 of_bytes = (refl, refl, λ of. cc of)
 
--- this and the next four: the texts of error lines
+-- what the error line says for faults of the SRAT and the SLIT
 tables_told : (srat_diagnostic (srat.EntryLength 48) ≡ Some (Diagnostic.Offset (codes "entry length") 48))
     × (srat_diagnostic (srat.BlockTooFar 1048) ≡ Some (Diagnostic.Offset (codes "block too far") 1048))
     × (srat_diagnostic srat.Checksum ≡ Some (Diagnostic.Whole (codes "checksum"))) × (srat_diagnostic srat.Memory ≡ None)
@@ -132,6 +135,7 @@ tables_told : (srat_diagnostic (srat.EntryLength 48) ≡ Some (Diagnostic.Offset
     × (slit_diagnostic slit.Localities ≡ Some (Diagnostic.Whole (codes "localities")))
 tables_told = (refl, refl, refl, refl, refl, refl)
 
+-- what the error line says for faults of the zero page, the extension and the EFI memory map
 entries_told : (zero_page_diagnostic (zero.EntryTooFar 3) ≡ Diagnostic.Far (codes "entry") 3)
     × (zero_page_diagnostic zero.InitrdTooFar ≡ Diagnostic.Whole (codes "initrd too far"))
     × (extension_diagnostic (extension.EntryTooFar 3071) ≡ Some (Diagnostic.Far (codes "entry") 3071))
@@ -139,6 +143,7 @@ entries_told : (zero_page_diagnostic (zero.EntryTooFar 3) ≡ Diagnostic.Far (co
     × (efi_diagnostic efi.Length ≡ Some (Diagnostic.Whole (codes "length")))
 entries_told = (refl, refl, refl, refl, refl)
 
+-- what the error line says for faults of the command line
 words_told : (command_line_diagnostic (options.UserMapInvalid 12) ≡ Some (Diagnostic.Word 12 (codes "user map")))
     × (command_line_diagnostic (options.BadMem 1) ≡ Some (Diagnostic.Word 1 (codes "mem")))
     × (command_line_diagnostic (options.BadCrash 1) ≡ Some (Diagnostic.Word 1 (codes "crashkernel")))
@@ -146,7 +151,7 @@ words_told : (command_line_diagnostic (options.UserMapInvalid 12) ≡ Some (Diag
 words_told = (refl, refl, refl, refl)
 
 -- a file of early claims has the lines of a script, except `sections`, whatever follows it; the
--- lowest line with a fault is reported
+-- first line with a fault is reported
 claims_are_said : (claims_or_fault [] ≡ Ok [])
     × (claims_or_fault (codes "# sections\nfree 7") ≡ Ok (record { number = 2; act = acts.Free 7 } ∷ []))
     × (claims_or_fault (codes "free 7\nsections\nfree") ≡ Err (faults.Script (script.BadLine 2)))
@@ -190,8 +195,9 @@ with_script script inputs.ZeroPage = Some (codes "zp")
 with_script script inputs.Script = Some script
 with_script script other = None
 
--- Which bytes need memory to be read: never those of a zero page, but an entry, and a line with a
--- request.
+-- Reading needs memory of this program for an entry of an extension and for a script's line with a
+-- command. It needs none for a zero page, for a command line without edits, and for a script that
+-- has only comments.
 takes_examples : (zero_page.takes [] ≡ false) × (extension_file.takes one_entry ≡ true) × (command_line.takes (codes "quiet") ≡ false)
     × (script_file.takes (codes "# no act") ≡ false) × (script_file.takes (codes "free 7") ≡ true)
 unfolding entry_at

@@ -1,4 +1,5 @@
--- What the boot makes of small results of the e820 table, and the parts of a small memory.
+-- Examples: how the boot's first stages end for small results of the e820 table, and the journal
+-- items of a small memory.
 use Rattle.std.proofs.Common.{◌≡◌, inr, ⊎_elim, ℕ, true, List, [], ◌∷◌, None, Err, refl, arith}
 use Rattle.bm_base.specs.Range.{RangeView}
 use Rattle.address_runs.specs.Runs.{RunOf}
@@ -15,14 +16,16 @@ use Rattle.boot_stages.specs.Parts.{items_before_memory, limit_items, items_for_
 abbrev one_run : List (RunOf ℕ)
 one_run = record { base = 0x1000; size = 0x1000; value = 1 } ∷ []
 
--- this and the next: a kernel's image, and the values from which `parts` computes the first items
+-- the range of a kernel's image, for `early`
 abbrev image : RangeView
 image = record { base = 0x1000000; size = 0x2000000 }
 
+-- a boot with this kernel, no initrd, frames 1 and 2 mirrored, and searches that go upward
 abbrev early : EarlyInputs
 early = record { limit = 0x2000; kernel = image; initrd = None; mirrors = record { first = 1; count = 2 } ∷ []; upward = true }
 
--- the items of each part, if frames 1 and 2 are mirrored and searches go upward
+-- the journal items of a boot with `early` and one run of RAM, in the three parts in which the code
+-- writes them
 parts : (items_before_memory early ≡ item.Claim image owner.Kernel ∷ item.Claim (record { base = 0; size = 0x10000 }) owner.Low64K
     ∷ item.Limit 0x100000 ∷ item.Upward true ∷ [])
     × (items_for_memory_of_map early one_run ≡ item.Mem (record { base = 0x1000; size = 0x1000 }) ∷ item.Trim
@@ -30,12 +33,12 @@ parts : (items_before_memory early ≡ item.Claim image owner.Kernel ∷ item.Cl
     × (limit_items 0x4000 ≡ item.Limit 0x4000 ∷ item.Claim (record { base = 0; size = 0x100000 }) owner.Low1M ∷ [])
 parts = (refl, refl, refl)
 
--- the program may run out of memory before the first item
+-- a stage may end as out of memory before its first item is written
 wanting_first : EndsAsStage {A = Unit {0}} (items_with_growths (item.Trim ∷ [])) refusal_for (Err refusal.Memory) [] []
 unfolding items_with_growths
 wanting_first = inr (refl, record { count = 0; short = omega arith; stands = refl })
 
--- if there are no items, the program can't run out of memory
+-- a stage without items never ends as out of memory
 never_for_nothing : (old new : List Item) → EndsAsStage {A = Unit {0}} (items_with_growths []) refusal_for (Err refusal.Memory) old new → ⊥
 unfolding items_with_growths
 never_for_nothing old new ends = ⊎_elim (λ told. cc told.1) (λ cut. omega (arith, cut.1.short)) ends

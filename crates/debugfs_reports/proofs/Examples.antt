@@ -1,4 +1,4 @@
--- Worked examples of reports and lists of them.
+-- Examples of reports and of lists of reports.
 use Rattle.std.proofs.Common.{◌≡◌, ℕ, ◌-◌, true, false, [], ◌∷◌, codes, Some, None, refl}
 use Rattle.std.specs.Fmt.{digits}
 use Rattle.address_runs.specs.Runs.{RunOf}
@@ -63,8 +63,8 @@ made = record nothing {
   answers = record { line = 2; outcome = outcomes.NoGap } ∷ [];
 }
 
--- records at the heads that no journal item gives: the report of each table shows those at its own
--- head
+-- records in the bytes of the two tables that no journal item gives; the report on each table shows
+-- the records of that table
 abbrev page_at : ℕ → RunOf LabelView
 page_at base = record { base = base; size = 0x1000; value = plain_label }
 

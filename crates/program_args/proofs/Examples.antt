@@ -1,4 +1,4 @@
--- Small command lines and their parts, computed.
+-- Examples: what small command lines ask for.
 use Rattle.std.proofs.Common.{◌≡◌, ℕ, zero, suc, ◌++◌, true, false, List, [], ◌∷◌, codes, Option, Some, None, refl, if◌then◌else◌}
 use Rattle.std.specs.Option.{option_map}
 use Rattle.clap.proofs.OnLiterals.{clap_on_literals}
@@ -18,7 +18,8 @@ use Rattle.program_args.specs.Range.{base_size_range}
 use Rattle.program_args.specs.Spelling.{Spelling, two_word_option, spelled_values, is_flag, one_word_option, named, words_of_spellings, default_value}
 use Rattle.program_args.specs.Args.{ArgValues, BootmemArgsView, args_from_values, arg_value_in, command_line_inputs, file_name_in, has_one_source, is_flag_given, read_args, read_args61, requested_list, address_width_in}
 
--- what a command line asks for, with the file names as a list
+-- what a command line asks `bootmem` for, with one field for each file name, so that two of them
+-- can be compared by computing
 record Asked : Type 0 where
   zero_page : Option (List ℕ)
   extension : Option (List ℕ)
@@ -65,8 +66,8 @@ map_of_zp = record {
   made = None;
 }
 
--- `bootmem --report map zp`; the same with the name first and the value after `=`; the name alone,
--- which asks for the default report
+-- `bootmem --report map zp`; the same with the file name first and the value after `=`; the file
+-- name alone, which asks for the default report
 named_words : (asked (codes "--report" ∷ codes "map" ∷ codes "zp" ∷ []) ≡ Some map_of_zp)
     × (asked (codes "zp" ∷ codes "--report=map" ∷ []) ≡ Some map_of_zp)
     × (asked (codes "zp" ∷ []) ≡ Some (record map_of_zp { reports = reports.Buddyinfo ∷ [] }))

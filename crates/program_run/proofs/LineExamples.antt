@@ -1,4 +1,4 @@
--- The error line of each failure, computed.
+-- Examples: the error line of each failure.
 use Rattle.std.proofs.Common.{◌≡◌, codes, Some, None, refl}
 use Rattle.std.specs.Fmt.{digits}
 use Rattle.e820_table.specs.declared.extension.ExtFault.TheVariants as extension
@@ -20,14 +20,15 @@ use Rattle.program_run.specs.Stops.{reason_by_stop, reason_by_args_error}
 use Rattle.program_run.specs.Line.{diagnostic_line, named_input_fault_line, no_numbered_place_line, no_place_line, stop_cause_line, input_fault_line, bootmem_failure_line, bootmem61_failure_line, bootmem61_name, bootmem_name}
 use Rattle.program_run.proofs.OutcomeExamples.{wanting, wanting61}
 
--- out of memory isn't a reason, whichever crate reports it
+-- errors of the crates below as the reason why there is no report; out of memory stays apart from
+-- reasons
 no_report_examples : (reason_by_stop (stops.TooMuchRam 4294967297) ≡ errors.Reason (reasons.Stopped (causes.TooMuchRam 4294967297)))
     × (reason_by_stop stops.Memory ≡ errors.Memory)
     × (reason_by_args_error words.Usage ≡ errors.Reason reasons.Usage)
     × (reason_by_args_error words.Memory ≡ errors.Memory)
 no_report_examples = (refl, refl, refl, refl)
 
--- the line for each form of diagnostic
+-- the error line for each variant of `Diagnostic`, and for none
 told_lines : (diagnostic_line bootmem_name (codes "zeropage") (Some (Diagnostic.Whole (codes "initrd too far")))
     ≡ codes "bootmem: zeropage: initrd too far\n")
     × (diagnostic_line bootmem_name (codes "efi") (Some (Diagnostic.Far (codes "descriptor") 3))
@@ -42,7 +43,7 @@ told_lines : (diagnostic_line bootmem_name (codes "zeropage") (Some (Diagnostic.
 unfolding digits
 told_lines = (refl, refl, refl, refl, refl, refl)
 
--- the line for each failure
+-- the error lines for faults of input files
 fault_lines : (named_input_fault_line bootmem_name (codes "zeropage") (faults.ZeroPage (zero.EntryTooFar 3))
     ≡ codes "bootmem: zeropage: entry 3 too far\n")
     × (named_input_fault_line bootmem_name (codes "e820ext") (faults.Extension extension.ExtHeader) ≡ codes "bootmem: e820ext: header\n")
@@ -51,6 +52,7 @@ fault_lines : (named_input_fault_line bootmem_name (codes "zeropage") (faults.Ze
 unfolding digits
 fault_lines = (refl, refl, refl, refl)
 
+-- the error lines for a boot that stops
 stop_lines : (stop_cause_line bootmem_name (causes.MapFull 3201) ≡ codes "bootmem: stopped: 3201 map runs\n")
     × (stop_cause_line bootmem_name causes.NoRam ≡ codes "bootmem: stopped: no usable frame\n")
     × (stop_cause_line bootmem_name (causes.NoTablePlace which.Reserved 128)
@@ -62,6 +64,7 @@ stop_lines : (stop_cause_line bootmem_name (causes.MapFull 3201) ≡ codes "boot
 unfolding digits
 stop_lines = (refl, refl, refl, refl, refl, refl, refl)
 
+-- the error lines for a file that can't be read, a refused command line, and an output that fails
 other_lines : (bootmem_failure_line (Some (wanting (codes "zp"))) (failures.NoResult (errors.Reason (reasons.Unread inputs.Extension)))
     ≡ codes "bootmem: cannot read ext\n")
     × (bootmem_failure_line None (failures.NoResult (errors.Reason reasons.Usage)) ≡ codes "bootmem: usage\n")

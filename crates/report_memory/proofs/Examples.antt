@@ -1,4 +1,4 @@
--- Worked examples of reports and their parts.
+-- Examples of the reports of this crate and of their parts.
 use Rattle.std.proofs.Common.{◌≡◌, ℕ, true, false, [], ◌∷◌, ◌++◌, codes, None, Some, decimal, refl}
 use Rattle.std.specs.Fmt.{digits}
 use Rattle.bm_base.specs.Range.{RangeView}
@@ -27,13 +27,15 @@ line_examples : (indexed_lines (λ n x. decimal n ++ x) 8 (codes "a" ∷ codes "
 unfolding digits
 line_examples = (refl, refl, refl, refl, refl, refl)
 
--- this and the following: the report `map`
+-- a run of RAM, for the report `map`
 ram_at_1M : RunOf ℕ
 ram_at_1M = record { base = 0x100000; size = 0x7EE0000; value = 1 }
 
+-- a reserved run that follows `ram_at_1M`
 reserved_behind : RunOf ℕ
 reserved_behind = record { base = 0x7FE0000; size = 0x20000; value = 2 }
 
+-- the report `map` on two runs, and the names of some e820 types; an unknown type is `other`
 map_examples : (map_text (ram_at_1M ∷ reserved_behind ∷ [])
     ≡ codes "0x0000000000100000..0x0000000007fdffff 1 usable\n0x0000000007fe0000..0x0000000007ffffff 2 reserved\n")
     × (e820_type_name 0xEFFFFFFF ≡ codes "soft reserved")
@@ -42,11 +44,11 @@ map_examples : (map_text (ram_at_1M ∷ reserved_behind ∷ [])
 unfolding ram_at_1M reserved_behind digits
 map_examples = (refl, refl, refl, refl)
 
--- this and the following: the report `options`; the crash area is that of
--- `crashkernel=1G-2G:64M,2G-:128M@16M`
+-- the first MiB, for the examples of several reports
 first_MiB : RangeView
 first_MiB = record { base = 0; size = 0x100000 }
 
+-- the text of each kind of edit, in the report `options`
 edit_examples : (edit_text (edits.Add first_MiB 12) ≡ codes "add 12 0x0000000000000000..0x00000000000fffff")
     × (edit_text (edits.Remove first_MiB 1) ≡ codes "remove 1 0x0000000000000000..0x00000000000fffff")
     × (edit_text (edits.RemoveAll first_MiB) ≡ codes "remove-all 0x0000000000000000..0x00000000000fffff")
@@ -55,12 +57,15 @@ edit_examples : (edit_text (edits.Add first_MiB 12) ≡ codes "add 12 0x00000000
 unfolding first_MiB digits
 edit_examples = (refl, refl, refl, refl, refl)
 
+-- the first range of `crashkernel=1G-2G:64M,2G-:128M@16M`, for the report `options`
 up_to_2G : CrashRange
 up_to_2G = record { start = 0x40000000; end = Some 0x80000000; size = 0x4000000 }
 
+-- the second range of `crashkernel=1G-2G:64M,2G-:128M@16M`, which has no end
 from_2G : CrashRange
 from_2G = record { start = 0x80000000; end = None; size = 0x8000000 }
 
+-- the lines of a requested crash area: a range with an end, one without, and `,high` with `,low`
 crash_examples : (crash_range_line 0 0 up_to_2G
     ≡ codes "crash range 0x0000000040000000 0x0000000080000000 0x0000000004000000 base 0x0000000000000000\n")
     × (crash_range_line 0x1000000 1 from_2G ≡ codes "crash range 0x0000000080000000 - 0x0000000008000000 base 0x0000000001000000\n")
@@ -69,6 +74,7 @@ crash_examples : (crash_range_line 0 0 up_to_2G
 unfolding up_to_2G from_2G crash_range_text digits
 crash_examples = (refl, refl, refl)
 
+-- the whole report `options`: edits, then the crash area, `numa=off` and `add_efi_memmap`
 option_examples : options_text (record {
   edits = edits.Clear ∷ edits.Add first_MiB 1 ∷ [];
   crash = record { plain = None; high = None; low = Some 0x4000000 };
@@ -79,13 +85,14 @@ option_examples : options_text (record {
 unfolding first_MiB digits
 option_examples = refl
 
--- this and the following: the report `owners`
+-- a run with one owner, for the report `owners`
 low : RunOf Owner
 low = record { base = 0; size = 0x100000; value = owner.Low1M }
 
 of_kernel : RunOf Owner
 of_kernel = record { base = 0x1000000; size = 0x2000000; value = owner.Kernel }
 
+-- names of owners, with and without a number, and the report `owners` on two runs
 owner_examples : (owner_text (owner.Table which.Reserved) ≡ codes "table-reserved")
     × (owner_text (owner.NodeData 1) ≡ codes "node-data 1")
     × (owner_text (owner.Script 4294967295) ≡ codes "script 4294967295")
@@ -95,7 +102,7 @@ owner_examples : (owner_text (owner.Table which.Reserved) ≡ codes "table-reser
 unfolding low of_kernel digits
 owner_examples = (refl, refl, refl, refl, refl)
 
--- items of the report `journal`
+-- the text of each kind of journal item, and the report `journal` on two items
 item_examples : (item_text (item.Mem first_MiB) ≡ codes "mem 0x0000000000000000..0x00000000000fffff")
     × (item_text item.Trim ≡ codes "trim")
     × (item_text (item.Node first_MiB 3) ≡ codes "node 3 0x0000000000000000..0x00000000000fffff")
@@ -110,14 +117,14 @@ item_examples : (item_text (item.Mem first_MiB) ≡ codes "mem 0x000000000000000
 unfolding first_MiB digits
 item_examples = (refl, refl, refl, refl, refl, refl, refl, refl, refl, refl, refl)
 
--- this and the following: the reports of records, which don't print nodes; a record may end at byte
--- 2^64 - 1
+-- a record of node 1, for the reports of records, which don't print nodes
 of_node_1 : RunOf LabelView
 of_node_1 = record { base = 0x1000; size = 0x9E000; value = with_node (Some 1) plain_label }
 
 of_no_node : RunOf LabelView
 of_no_node = record { base = 0x100000; size = 0x7EE0000; value = plain_label }
 
+-- the lines of records have no node; a record may end at byte 2^64 - 1
 record_examples : (region_line 1 (record { base = 0x1000; size = 0xFFFFFFFFFFFFF000; flags = 0; node = 1024 })
     ≡ codes "   1: 0x0000000000001000..0xffffffffffffffff\n")
     × (records_text (of_node_1 ∷ of_no_node ∷ [])
@@ -125,7 +132,7 @@ record_examples : (region_line 1 (record { base = 0x1000; size = 0xFFFFFFFFFFFFF
 unfolding of_node_1 of_no_node digits
 record_examples = (refl, refl)
 
--- the report `tables`
+-- the report `tables` on a table that has grown and on one that hasn't
 table_lines : tables_text (record {
   memory = record { place = 0x9D000; room = 256; count = 129 };
   reserved = record { place = 0x2FFF000; room = 128; count = 2 };

@@ -1,4 +1,4 @@
--- Worked examples of reports and their parts.
+-- Examples of the reports of this crate and of their parts.
 use Rattle.std.proofs.Common.{◌≡◌, [], ◌∷◌, codes, Some, refl}
 use Rattle.std.specs.Fmt.{digits}
 use Rattle.hex.specs.Hex.{encode_with}
@@ -25,7 +25,7 @@ use Rattle.report_stages.specs.SectionsText.{sections_text}
 use Rattle.report_stages.specs.SummaryText.{summary_text}
 use Rattle.report_stages.specs.ZonesText.{buddyinfo_line, block_counts_text, frames_in_zone, zone_line}
 
--- the report `script`; a line has its number in the script, not in the report
+-- the report `script`; a line has its number in the script, not its index in the report
 script_examples : (outcome_text outcomes.Done ≡ codes "done")
     × (outcome_text outcomes.NoGap ≡ codes "no gap")
     × (outcome_text (outcomes.NoGapForTable which.Reserved 128) ≡ codes "no gap for table reserved room 128")
@@ -40,7 +40,7 @@ script_examples : (outcome_text outcomes.Done ≡ codes "done")
 unfolding digits encode_with
 script_examples = (refl, refl, refl, refl, refl, refl, refl, refl, refl, refl)
 
--- the report `pages`
+-- the report `pages`; a line has its number in the script, not its index in the report
 page_examples : (page_outcome_text page.Done ≡ codes "done")
     × (page_outcome_text page.NoBlock ≡ codes "no block")
     × (page_outcome_text page.Taken ≡ codes "taken")
@@ -50,18 +50,19 @@ page_examples : (page_outcome_text page.Done ≡ codes "done")
 unfolding digits
 page_examples = (refl, refl, refl, refl, refl)
 
--- the report `zonelists`
+-- the report `zonelists`: each text for whether the SLIT is used, and zone lists
 list_examples : (slit_use_line uses.Used ≡ codes "slit used\n") × (slit_use_line uses.Absent ≡ codes "slit absent\n")
     × (slit_use_line uses.NoSrat ≡ codes "slit no srat\n") × (slit_use_line (uses.NotValid 1 12) ≡ codes "slit not valid 1 12\n")
     × (list_zone_text (record { node = 12; zone = zone.Dma32 }) ≡ codes " 12/DMA32")
 unfolding digits
 list_examples = (refl, refl, refl, refl, refl)
 
--- this and the following: the report `nodes`
+-- the first MiB, for the report `nodes`
 first_MiB : RangeView
 first_MiB = record { base = 0; size = 0x100000 }
 
--- an item that gives no node has no line
+-- the report `nodes`: each text for whether the SRAT is used, and two whole reports; an item that
+-- gives no node has no line
 node_examples : (srat_use_line why.Off ≡ codes "numa off\n")
     × (srat_use_line why.NoBlocks ≡ codes "numa no blocks\n")
     × (srat_use_line why.TooManyDomains ≡ codes "numa too many domains\n")
@@ -77,13 +78,14 @@ node_examples : (srat_use_line why.Off ≡ codes "numa off\n")
 unfolding digits first_MiB
 node_examples = (refl, refl, refl, refl, refl, refl, refl, refl)
 
--- this and the following: the report `crash`
+-- a crash area at 4 GiB, for the report `crash`
 above_4G : RangeView
 above_4G = record { base = 0x100000000; size = 0x20000000 }
 
 low_part : RangeView
 low_part = record { base = 0x6F000000; size = 0x10000000 }
 
+-- the report `crash` for each outcome
 crash_examples : (crash_text crash.Nothing ≡ codes "crash none\n")
     × (crash_text crash.NoArea ≡ codes "crash no area\n")
     × (crash_text crash.InUse ≡ codes "crash in use\n")
@@ -93,17 +95,18 @@ crash_examples : (crash_text crash.Nothing ≡ codes "crash none\n")
 unfolding low_part digits above_4G
 crash_examples = (refl, refl, refl, refl, refl)
 
--- this and the following: the report `sections`
+-- a section, for the report `sections`
 low_section : Placed
 low_section = record { section = 0; node = 1; map = 0x7A00000; usage = 0x7FDAFC0 }
 
+-- the report `sections` with one section, and with none
 section_examples : (sections_text (record { table = 0x7FDC000; roots = record { number = 0; place = 0x7FDB000 } ∷ [] }) (low_section ∷ [])
     ≡ codes "roots 0x0000000007fdc000\nroot 0 0x0000000007fdb000\nsection 0 node 1 map 0x0000000007a00000 usage 0x0000000007fdafc0\n")
     × (sections_text (record { table = 0x1000; roots = [] }) [] ≡ codes "roots 0x0000000000001000\n")
 unfolding digits low_section
 section_examples = (refl, refl)
 
--- this and the following: the reports of blocks and zones
+-- a block of one frame, for the reports of blocks and zones
 one_frame : Block
 one_frame = record { order = 0; first = 1; node = 0; zone = zone.Dma }
 
@@ -116,6 +119,8 @@ far_block = record { order = 10; first = 0x100000; node = 12; zone = zone.Normal
 low_span : Span
 low_span = record { node = 0; zone = zone.Dma; start = 1; end = 4096; present = 3998 }
 
+-- lines of the reports `blocks`, `zones` and `buddyinfo`: only blocks of the span's node and zone
+-- are counted
 zone_examples : (indexed_lines block_line 0 (two_frames ∷ far_block ∷ [])
     ≡ codes "node 0 zone DMA order 1 0x0000000000002000\nnode 12 zone Normal order 10 0x0000000100000000\n")
     × (frames_in_zone 12 zone.Normal (one_frame ∷ two_frames ∷ far_block ∷ []) ≡ 1024)
