@@ -1,5 +1,5 @@
--- What a list of items, oldest first, makes of memory. Each definition names the items that change
--- something; the other items change nothing.
+-- The state of memory after a list of journal items, oldest first. Each definition lists the items
+-- that change its part of the state; the other items leave that part as it was.
 use Rattle.std.specs.Prelude.{ℕ, ◌<◌, Bool, false, if◌then◌else◌, Option, Some, None, List, [], ◌∷◌, fold}
 use Rattle.address_runs.specs.Runs.{RunOf, runs_of}
 use Rattle.address_runs.specs.Edits.{cover_range, uncover_range, relabel_range, replace_in_range, agree}
@@ -25,7 +25,7 @@ abbrev pub ItemsHaveBytes : List Item → Type 0
 ItemsHaveBytes [] = Unit {0}
 ItemsHaveBytes (i ∷ is) = ItemHasBytes i × ItemsHaveBytes is
 
--- the owner of each byte
+-- the owner of each byte, or None if the byte is unclaimed
 abbrev pub Owners : Type 0
 Owners = ℕ → Option Owner
 
@@ -38,18 +38,19 @@ owners_after f i = f
 abbrev pub no_owners : Owners
 no_owners x = None
 
--- the owner of each byte: that of the newest claim or free that covers the byte, or none if there
--- is no such item
+-- the owner of each byte after the items. The newest Claim or Free item that covers the byte
+-- decides: after a Claim it is that item's owner, after a Free None. It is None if no such item
+-- covers the byte.
 abbrev pub owner_of : List Item → Owners
 owner_of items = fold owners_after no_owners items
 
--- a byte keeps what it carries if all bytes of its frame carry the same; otherwise it carries
--- nothing afterwards (`memblock_trim_memory`)
+-- the labels after a trim (`memblock_trim_memory`). A byte keeps its label if all bytes of its
+-- 4 KiB frame have the same label. Otherwise it gets None, so it is no longer memory.
 unfoldable pub trim_frames : Labels → Labels
 trim_frames f x = if each_in (frame_around x) (λ y. agree same_label (f y) (f x)) then f x else None
 
--- memory and its labels after an item (`memblock_add`, `memblock_trim_memory`, `memblock_set_node`,
--- `memblock_mark_mirror`)
+-- the label of each byte after an item, or None if the byte isn't memory (`memblock_add`,
+-- `memblock_trim_memory`, `memblock_set_node`, `memblock_mark_mirror`)
 abbrev pub memory_after : Labels → Item → Labels
 memory_after f (item.Mem range) = cover_range range plain_label f
 memory_after f item.Trim = trim_frames f
@@ -60,18 +61,18 @@ memory_after f i = f
 abbrev pub no_memory : Labels
 no_memory x = None
 
--- the label of each byte of memory
+-- the label of each byte after the items, or None if the byte isn't memory
 abbrev pub memory_of : List Item → Labels
 memory_of items = fold memory_after no_memory items
 
--- the tag of each byte after the items: whether it is memory and, if so, its node, if it has one,
--- and whether it is mirrored
+-- the tag of each byte after the items: whether it is memory and, if so, its node (or none) and
+-- whether it is mirrored
 abbrev pub tag_of : List Item → ℕ → Tag
 tag_of items x = tag_for (memory_of items x)
 
--- The limit of allocations: 0 at first, then that of the newest Limit item
--- (`memblock.current_limit`). A query has no limit of its own: an allocation searches below the
--- smaller of the limit and its own maximum (`memblock_find_in_range_node`).
+-- the limit of allocations after an item: the newest Limit item's address; 0 before the first Limit
+-- item (`memblock.current_limit`). An allocation ends at or below both the limit and its own
+-- maximum (`memblock_find_in_range_node`).
 abbrev pub limit_after : ℕ → Item → ℕ
 limit_after l (item.Limit at) = at
 limit_after l i = l
@@ -79,8 +80,8 @@ limit_after l i = l
 abbrev pub limit_of : List Item → ℕ
 limit_of items = fold limit_after 0 items
 
--- whether a search returns the lowest address instead of the highest: false at first, then as the
--- newest Upward item says (`memblock_set_bottom_up`)
+-- whether searches return the lowest address instead of the highest, after an item: the value of
+-- the newest Upward item; false before the first one (`memblock_set_bottom_up`)
 abbrev pub upward_after : Bool → Item → Bool
 upward_after up (item.Upward on) = on
 upward_after up i = up
@@ -88,6 +89,7 @@ upward_after up i = up
 abbrev pub upward_of : List Item → Bool
 upward_of items = fold upward_after false items
 
--- the runs of bytes of one owner
+-- the claimed bytes as a list of runs, lowest first: each run is a range of bytes with one owner,
+-- and is as long as possible
 unfoldable pub owner_runs_of : List Item → List (RunOf Owner)
 owner_runs_of items = runs_of same_owner (owner_of items)

@@ -1,5 +1,5 @@
--- The label of a byte of memory, which is what the byte carries; and the labels that a table gives
--- all bytes.
+-- The label of a byte of memory: its node and whether it is mirrored; and the labels that a table
+-- gives all bytes.
 use Rattle.std.specs.Prelude.{ℕ, Bool, true, false, Option, Some, None}
 use Rattle.memblock_model.specs.declared.label.Tag.{Tag}
 use Rattle.memblock_model.specs.declared.label.Tag.TheVariants as tag
@@ -28,12 +28,12 @@ with_node node label = record label { node = node }
 abbrev pub with_mirror : LabelView → LabelView
 with_mirror label = record label { mirror = true }
 
--- the tag of a byte, from the label that the memory table gives it
+-- the tag of a byte with this label in the memory table: `Absent` if it has none
 abbrev pub tag_for : Option LabelView → Tag
 tag_for None = tag.Absent
 tag_for (Some label) = tag.Memory label.node label.mirror
 
--- the node of a tag, if it has one
+-- the node in a tag, or None if the byte isn't memory or has no node yet
 abbrev pub node_of_tag : Tag → Option ℕ
 node_of_tag tag.Absent = None
 node_of_tag (tag.Memory node mirror) = node

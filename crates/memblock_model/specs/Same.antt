@@ -29,7 +29,7 @@ same_bool false false = true
 abbrev pub same_label : LabelView → LabelView → Bool
 same_label a b = same_node_or_none a.node b.node && same_bool a.mirror b.mirror
 
--- the index of the owner's variant
+-- a different number for each variant of `Owner`
 abbrev pub variant_of : Owner → ℕ
 variant_of owner.Kernel = 0
 variant_of owner.Low64K = 1
@@ -46,8 +46,8 @@ variant_of (owner.Usage n) = 11
 variant_of (owner.Map n) = 12
 variant_of (owner.Script n) = 13
 
--- the number in an owner: a node, a root, a section or an ID. For the owner of a table's new place
--- it is 1 for the reserved table and 0 for the memory table. It is 0 for owners without a number.
+-- the number in an owner: of a node, a section root, a section, or an ID of the script. For `Table`
+-- it is 1 for the reserved table and 0 for the memory table. For owners without a number it is 0.
 abbrev pub owner_number : Owner → ℕ
 owner_number (owner.Table which.Reserved) = 1
 owner_number (owner.NodeData n) = n

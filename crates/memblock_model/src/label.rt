@@ -7,11 +7,11 @@ use std::marker::Model;
 /// flags 0.
 pub const MIRROR_FLAG: u32 = 2;
 
-/// The label in a table's record: the node, or `None` if the memory has none yet, and whether the
-/// memory is mirrored.
+/// The label in a record of a memblock table: the node, or `None` if the memory has none yet, and
+/// whether the memory is mirrored.
 ///
-/// The type guarantees that a node's number is below 1,024 (the greatest `MAX_NUMNODES` of
-/// x86-64) and that the flags are [`MIRROR_FLAG`] or 0.
+/// The type guarantees that a node's number is below 1,024 (the greatest `MAX_NUMNODES` of x86-64)
+/// and that the flags are [`MIRROR_FLAG`] or 0.
 #[derive(Clone, Copy, Debug, PartialEq, Eq)]
 pub struct Label {
     node: Option<u32>,
@@ -52,8 +52,9 @@ impl Label {
         }
     }
 
-    /// Returns a label with this node, or with none if `node` is `None`. The node must be below
-    /// 1,024. The label is mirrored if `flags` is [`MIRROR_FLAG`].
+    /// Returns a label with this node, or without a node if `node` is `None`. The node must be
+    /// below 1,024. The label is mirrored if `flags` equals [`MIRROR_FLAG`], and not mirrored
+    /// otherwise.
     pub fn from_parts(node: Option<u32>, flags: u32) -> Label
         requires { unwrap_or node 0 < 1024 }
         ensures { result ≡ record { node = node; mirror = flags == 2 } }
@@ -90,7 +91,7 @@ impl Label {
         self.node
     }
 
-    /// Returns whether the memory is mirrored.
+    /// Tests whether the memory is mirrored.
     pub fn has_mirror_flag(self) -> bool
         ensures { result ≡ self.mirror }
     {
@@ -105,8 +106,9 @@ impl Label {
     }
 }
 
-/// The node of a byte of memory, and whether the byte is mirrored, as the items give them. Unlike
-/// a [`Label`], it may have a node of any number, since an item may have one.
+/// The marks of a byte of memory: its node, if it has one, and whether it is mirrored. The
+/// journal's items set them. A [`Label`] says the same, but its node must be below 1,024. Here the
+/// node may be any u32, as in [`crate::Item::Node`].
 #[derive(Clone, Copy, PartialEq, Eq)]
 pub struct Marks {
     node: Option<u32>,
@@ -157,7 +159,8 @@ impl Marks {
         }
     }
 
-    /// Returns the tag of a byte that carries these marks.
+    /// Returns the tag of a memory byte with these marks: [`Tag::Memory`] with the same node and
+    /// mirror flag.
     pub fn tag(self) -> Tag
         ensures { result ≡ tag_for (Some self) }
     {
@@ -168,12 +171,12 @@ impl Marks {
     }
 }
 
-/// The tag of a byte: what the memory table says of it.
+/// The tag of a byte: whether it is memory and, if so, its node and whether it is mirrored.
 #[derive(Clone, Copy, Debug, PartialEq, Eq)]
 pub enum Tag {
     /// The byte isn't memory.
     Absent,
-    /// The byte is memory, of the node or of none yet (`MAX_NUMNODES`), mirrored
-    /// (`MEMBLOCK_MIRROR`) or not.
+    /// The byte is memory. `node` is its node, or `None` if it has none yet (`MAX_NUMNODES` in the
+    /// kernel). `mirror` is true if it is mirrored (`MEMBLOCK_MIRROR`).
     Memory { node: Option<u32>, mirror: bool },
 }

@@ -16,8 +16,9 @@ ghost use Rattle.memblock_model.specs.Items.{trim_frames, owners_after, owner_of
 ghost use Rattle.memblock_model.specs.Tables.{table_of, table_after, room_of, room_after, moved_to, moved_after, records_of};
 ghost use Rattle.memblock_model.specs.Search.{is_allowed_mirror, fits_in, top_place_in, best_place_in};
 
-/// Law: appending an item to a list changes owners, memory, limit and search direction as the
-/// definition of the item says, at every address.
+/// Law: the state after a list of items and one more item follows from the state after the list and
+/// from that last item alone. The state is the owner and the label of each byte, the limit of
+/// allocations, and the direction of searches.
 pub fn appended_item_acts_last()
     ensures owners { (items : List Item) (i : Item) →
         owner_of (items ++ i ∷ []) ≡ owners_after (owner_of items) i }
@@ -29,8 +30,8 @@ pub fn appended_item_acts_last()
         upward_of (items ++ i ∷ []) ≡ upward_after (upward_of items) i }
 {}
 
-/// Law: a table's labels, room and place after a new item depend only on the item and on the same
-/// table's labels, room and place before it. They don't depend on the owners.
+/// Law: a table's labels, room (in records) and address after a new item depend only on the item
+/// and on the same table's labels, room and address before it. They don't depend on the owners.
 pub fn tables_need_no_owners()
     ensures says { (w : Which) (items : List Item) (i : Item) →
         table_of w (items ++ i ∷ []) ≡ table_after w (table_of w items) i }
@@ -47,9 +48,9 @@ pub fn tests_decide_equality()
 {}
 
 /// Law: the runs of owners and the records of a table are in ascending order. They don't overlap,
-/// none is empty, and equal neighbours are merged. In these lists each address has the owner or
-/// label that the items give it. This holds if the items give nothing to addresses at or above
-/// 2^64.
+/// none is empty, and equal neighbours are merged. They state the same owner or label for each
+/// address as the items do. This holds if the items give no address at or above 2^64 an owner or
+/// label.
 pub fn lists_are_runs()
     ensures owners { (items : List Item) → IsEmptyFrom (2 ^ 64) (owner_of items) →
         IsRunsOf (owner_of items) (owner_runs_of items) }
@@ -57,14 +58,15 @@ pub fn lists_are_runs()
         IsRunsOf (table_of w items) (records_of w items) }
 {}
 
-/// Law: after a trim, either all bytes of a frame carry one label, or none carries any.
+/// Law: after a trim, either all bytes of a frame are memory with the same label, or none is
+/// memory.
 pub fn trimmed_frame_is_whole()
     ensures { (f : Labels) (x y : ℕ) → covers (frame_around x) y ≡ true →
         trim_frames f y ≡ trim_frames f x }
 {}
 
-/// Law: a query fits at its top place. It fits at no greater address, or at no lower one if the
-/// search goes up. If there is no top place, it fits nowhere.
+/// Law: the address that `top_place_in` returns fits the query, and it is the greatest address that
+/// does, or the lowest if the search goes up. If it returns `None`, no address below 2^64 fits.
 pub fn top_is_outermost()
     ensures fits { (mode : Mode) (memory reserved : Labels) (q : Query) (a : ℕ) →
         top_place_in mode memory reserved q ≡ Some a →
@@ -82,9 +84,9 @@ pub fn top_is_outermost()
         fits_in mode.mirror memory reserved q b ≡ false }
 {}
 
-/// Law: a query fits at its best place. The best place is the top place of mirrored memory if
-/// there is one, else the top place of any memory. If there is no best place, the query fits
-/// nowhere.
+/// Law: `best_place_in` returns the address that `top_place_in` finds in mirrored memory or, if it
+/// finds none there, the one that it finds in any memory. The query fits at that address. If
+/// `best_place_in` returns `None`, the query fits at no address below 2^64.
 pub fn best_is_mirrored_first()
     ensures fits { (up : Bool) (memory reserved : Labels) (q : Query) (a : ℕ) →
         best_place_in up memory reserved q ≡ Some a → fits_in false memory reserved q a ≡ true }

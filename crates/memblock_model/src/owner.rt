@@ -16,23 +16,23 @@ pub enum Owner {
     Low1M,
     /// Memory that firmware sets aside for a driver (`E820_TYPE_SOFT_RESERVED`).
     Soft,
-    /// The new place of this table, which has grown (`memblock_double_array`).
+    /// The memory of this memblock table after it has grown (`memblock_double_array`).
     Table(Which),
-    /// The data of the node with this number (`alloc_node_data`).
+    /// The `pg_data_t` of the node with this number (`alloc_node_data`).
     NodeData(u32),
     /// The crash kernel's area (`reserve_crashkernel`).
     Crash,
     /// The crash kernel's area below 4 GiB (`reserve_crashkernel_low`).
     CrashLow,
-    /// The table of section roots (`memory_present`).
+    /// The `mem_section` array, which points to the section roots (`memory_present`).
     Roots,
-    /// The root of sections with this number (`sparse_index_alloc`).
+    /// The section root with this number: one page of `struct mem_section`s (`sparse_index_alloc`).
     Root(u32),
-    /// The usage data of a group of sections; the number is that of its first section
-    /// (`sparse_early_usemaps_alloc_pgdat_section`).
+    /// The usage data (`struct mem_section_usage`) of consecutive sections of one node. The number
+    /// is that of the first section (`sparse_early_usemaps_alloc_pgdat_section`).
     Usage(u32),
-    /// The page structures of the section with this number, or of the group whose first section it
-    /// is (`sparse_buffer_init`).
+    /// The page structures (`struct page`) of the section with this number. If consecutive sections
+    /// of one node share a buffer, the number is that of the first (`sparse_buffer_init`).
     Map(u32),
     /// An allocation of the early script with this ID.
     Script(u32),

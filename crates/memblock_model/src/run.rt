@@ -1,11 +1,12 @@
-//! A range and its owner: the record of the journal's list of owners.
+//! A range and its owner: an entry in the journal's list of owners.
 
 use crate::Owner;
 use address_runs::Stretch;
 use bm_base::Range;
 use std::marker::Model;
 
-/// A range of addresses and its owner. In a list of runs each range is as long as possible.
+/// A range of addresses whose bytes have one owner. In a list of such runs, touching ranges of the
+/// same owner are merged into one.
 #[derive(Clone, Copy, Debug, PartialEq, Eq)]
 pub struct OwnerRun {
     pub range: Range,
