@@ -1,7 +1,7 @@
--- The forms of a line: the words after the first one, and the act that they spell. If a line has
--- several faults, the one that is tested first is reported. Each definition tests in this order:
--- whether the words have the form, all numbers, the alignment, whether a size is 0, whether
--- `sections` occurs twice, and whether a range ends past 2^64 - 1.
+-- The forms of a line: for each command, the words after its name, and the act (the command as
+-- data) that they spell. If a line has several faults, the one that is tested first is reported.
+-- Each definition tests in this order: whether the words have the form, all numbers, the alignment,
+-- whether a size is 0, whether `sections` occurs twice, and whether a range ends past 2^64 - 1.
 use Rattle.std.specs.Prelude.{ℕ, ◌+◌, ◌-◌, ◌^◌, ◌<◌, ◌≤◌, Bool, true, false, IsTrue, if◌then◌else◌, List, [], ◌∷◌, codes, Option, Some, None, unwrap_or, Result, Ok, Err}
 use Rattle.std.specs.Int.{is_power_of_two}
 use Rattle.std.specs.Str.{bytes_eq}
@@ -32,7 +32,8 @@ greatest_len = 64
 abbrev pub greatest_u64 : ℕ
 greatest_u64 = 2 ^ 64 - 1
 
--- the words of the line `alloc ID SIZE ALIGN [min A] [max A] [node N [exact]]`, without `alloc`
+-- the words of the line `alloc ID SIZE ALIGN [min A] [max A] [node N [exact]]`, without `alloc` and
+-- the keywords; `exact` is true if the line has that word
 pub record AllocWords : Type 0 where
   pub id : List ℕ
   pub size : List ℕ
@@ -42,13 +43,15 @@ pub record AllocWords : Type 0 where
   pub node : Option (List ℕ)
   pub exact : Bool
 
--- whether the next word is `exact`, which may only follow a node, and the words after it
+-- if the line names a node and the next word is `exact`, true and the words after it; otherwise
+-- false and the words unchanged
 abbrev pub optional_exact : Option (List ℕ) → Words → Bool × Words
 optional_exact None words = (false, words)
 optional_exact (Some node) [] = (false, [])
 optional_exact (Some node) (w ∷ ws) = if bytes_eq w (codes "exact") then (true, ws) else (false, w ∷ ws)
 
--- the words after `alloc`, split by their place in the line; their numbers aren't read
+-- the words after `alloc`, by their meaning; `Form` if they don't have the form of an `alloc` line.
+-- Their numbers aren't read yet.
 abbrev pub alloc_words : Words → Result AllocWords ScriptLineFault
 alloc_words words = do
   id ← first_word words
@@ -138,7 +141,8 @@ act_by_name seen name words =
     (if bytes_eq name (codes "peek") then peek_line words else
     (if bytes_eq name (codes "sections") then sections_line seen words else Err wrong.Form))))))
 
--- the conditions that an act must meet so that it can be run
+-- what whoever runs the act can rely on: its sizes aren't 0, its alignment is a power of two, and a
+-- `peek` is of at most 64 bytes that end at or below 2^64 - 1
 abbrev pub HasBounds : Act → Type 0
 HasBounds (acts.Alloc id request) = (0 < request.size) × IsTrue (is_power_of_two request.align)
 HasBounds (acts.Reserve id range) = 0 < range.size

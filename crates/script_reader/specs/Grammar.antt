@@ -26,9 +26,9 @@ front_value (Err fault) = 0
 abbrev pub value_of_word : List ℕ → ℕ
 value_of_word word = front_value (size_of word)
 
--- the forms of a kind of script, in which each number is still an arbitrary word. Each form has
--- its words, the condition that each number is a size within its limit, and the act that the form
--- spells.
+-- the grammar of a kind of script. A `Form` is a way to write a line, with an arbitrary word in the
+-- place of each number. `words_of` gives the words of the line. `HasNumbers` says that the words
+-- for numbers are sizes within their limits. `act_of` gives the act that the line then spells.
 pub record Grammar (A : Type 0) : Type 1 where
   pub Form : Type 0
   pub words_of : Form → Words
@@ -39,19 +39,22 @@ pub record Grammar (A : Type 0) : Type 1 where
 abbrev pub HasLineForm : {A : Type 0} → Grammar A → Words → Type 0
 HasLineForm grammar words = (form : grammar.Form) × (words ≡ grammar.words_of form)
 
--- the words have a form, its numbers are sizes within their limits, and the act has these numbers
+-- the words have a form, the words for its numbers are sizes within their limits, and `act` is the
+-- act of that form
 pub record SpellsNumbers {A : Type 0} (grammar : Grammar A) (words : Words) (act : A) : Type 0 where
   pub form : grammar.Form
   pub spelled : words ≡ grammar.words_of form
   pub numbers : grammar.HasNumbers form
   pub asks : act ≡ grammar.act_of form
 
--- for acts without further conditions: an act whose numbers are right has no fault
+-- for a grammar whose acts have no conditions beyond their form and the limits of their numbers: no
+-- act has a further fault
 abbrev pub NeverFails : {A : Type 0} → A → ScriptLineFault → Type 0
 NeverFails act wrong = ⊥
 
--- the fault is the first condition that the words break: the form, then the numbers, then those
--- that `Fails` states for an act whose numbers are right
+-- the words have this fault: `Form` if they match no form, `Number` if they match a form but its
+-- numbers aren't all right. They have any other fault if their form and numbers are right, and
+-- `Fails` says that their act has it.
 abbrev pub HasWordsFault : {A : Type 0} → Grammar A → (A → ScriptLineFault → Type 0) → Words → ScriptLineFault → Type 0
 HasWordsFault grammar Fails words wrong.Form = (¬ (HasNoCommand words)) × (¬ (HasLineForm grammar words))
 HasWordsFault grammar Fails words wrong.Number =

@@ -16,8 +16,8 @@ abbrev pub is_comment : List ℕ → Bool
 is_comment [] = false
 is_comment (b ∷ bs) = b == 35
 
--- the act that the words of a line spell, by the form that the first word selects; None for a line
--- without words, and for a comment
+-- the act that the words of a line spell: `forms` gives it for the first word and the words after
+-- it. None for a line without words, and for a comment.
 abbrev pub act_by_forms : {A : Type 0} → (List ℕ → Words → Result A ScriptLineFault) → Words → Result (Option A) ScriptLineFault
 act_by_forms forms [] = Ok None
 act_by_forms forms (name ∷ words) = if is_comment name then Ok None else (do
@@ -25,30 +25,32 @@ act_by_forms forms (name ∷ words) = if is_comment name then Ok None else (do
   Ok (Some act))
 
 -- a kind of script. `forms` gives the act that a command's name and the words after it spell; its
--- flag is true if an earlier line has the act that may occur only once. The other fields say which
--- act that is, and make a line of a number and an act.
+-- flag is true if an earlier line has the act that may occur only once. `is_once` tests for that
+-- act. `line` makes a line from its number and its act.
 pub record ScriptKind (A L : Type 0) : Type 0 where
   pub forms : Bool → List ℕ → Words → Result A ScriptLineFault
   pub is_once : A → Bool
   pub line : ℕ → A → L
 
--- whether this line has the act that may occur only once; also true if the flag is true, which
--- means that an earlier line has it
+-- whether this line or an earlier one has the act that may occur only once; the flag is true if an
+-- earlier one has it
 abbrev pub has_once_command : {A L : Type 0} → ScriptKind A L → Bool → Option A → Bool
 has_once_command kind true act = true
 has_once_command kind false None = false
 has_once_command kind false (Some act) = kind.is_once act
 
--- the act of the line with this text, if it has a command
+-- the act of the line with this text, or None if it has no command; the flag is true if an earlier
+-- line has the act that may occur only once
 abbrev pub read_line : {A L : Type 0} → ScriptKind A L → Bool → List ℕ → Result (Option A) ScriptLineFault
 read_line kind seen text = act_by_forms (kind.forms seen) (words_in separators.Script text)
 
--- the line with this number, if it has a command
+-- the line with this number and act, or None if there is no act
 abbrev pub script_line_at : {A L : Type 0} → ScriptKind A L → ℕ → Option A → Option L
 script_line_at kind number act = option_map (kind.line number) act
 
--- the lines with these texts, numbered from `number` on; or the number of the lowest line that has
--- a fault, and what is wrong with it
+-- the lines that have a command, of the lines with these texts, numbered from `number` on; or, if
+-- one has a fault, the number of the first such line and its fault. `seen` is true if an earlier
+-- line has the act that may occur only once.
 abbrev pub script_lines_from : {A L : Type 0} → ScriptKind A L → Bool → ℕ → List (List ℕ) → Result (List L) (ℕ × ScriptLineFault)
 script_lines_from kind seen number [] = Ok []
 script_lines_from kind seen number (text ∷ texts) = do
@@ -56,8 +58,9 @@ script_lines_from kind seen number (text ∷ texts) = do
   lines ← script_lines_from kind (has_once_command kind seen act) (number + 1) texts
   Ok (cons_option (script_line_at kind number act) lines)
 
--- the lines of a script, which end with newlines. If the script ends with a newline, the empty
--- text after it is a line without words.
+-- the lines of a script that have a command, or the number and fault of the first line that has a
+-- fault. Newlines end lines. If the script ends with a newline, the empty text after it is a line
+-- without words.
 abbrev pub lines_of : {A L : Type 0} → ScriptKind A L → List ℕ → Result (List L) (ℕ × ScriptLineFault)
 lines_of kind bytes = script_lines_from kind false 1 (parts_in (separators.Byte 10) bytes)
 

@@ -56,12 +56,13 @@ word_after_key key [] = (None, [])
 word_after_key key (w ∷ []) = (None, w ∷ [])
 word_after_key key (w ∷ v ∷ ws) = if bytes_eq w key then (Some v, ws) else (None, w ∷ v ∷ ws)
 
--- the number that was read at the start of a word, if it takes the whole word
+-- the number that was read at the start of the word, if it takes the whole word
 abbrev pub number_if_whole : List ℕ → Result (ℕ × ℕ) NumFault → Result ℕ ScriptLineFault
 number_if_whole word (Ok found) = if found.1 == length word then Ok found.0 else Err wrong.Number
 number_if_whole word (Err fault) = Err wrong.Number
 
--- the number that the whole word spells: a size in bytes, with an optional suffix
+-- the number that the whole word spells, as `memparse` reads it: with an optional suffix, such as K
+-- for 2^10
 abbrev pub number_in_word : List ℕ → Result ℕ ScriptLineFault
 number_in_word word = number_if_whole word (size_of word)
 

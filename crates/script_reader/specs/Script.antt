@@ -11,7 +11,7 @@ use Rattle.script_reader.specs.declared.fault.ScriptFault.TheVariants as faults
 use Rattle.script_reader.specs.Forms.{act_by_name}
 use Rattle.script_reader.specs.Lines.{ScriptKind, lines_of}
 
--- the fault of a script, given the number of a line and what is wrong with it
+-- the fault of a script whose line with this number has this fault
 abbrev pub script_fault_at : ℕ → ScriptLineFault → ScriptFault
 script_fault_at line wrong.Form = faults.BadLine line
 script_fault_at line wrong.Number = faults.BadNumber line
@@ -30,10 +30,10 @@ is_sections (acts.Fill id byte) = false
 is_sections (acts.Peek at len) = false
 is_sections acts.Sections = true
 
--- the kind of script that an early script is: `sections` may occur only once
+-- early scripts as a kind of script: their commands, of which `sections` may occur only once
 abbrev pub script_lines : ScriptKind Act Line
 script_lines = record { forms = act_by_name; is_once = is_sections; line = λ number act. record { number = number; act = act } }
 
--- the lines of a script, or the fault of the lowest line that has one
+-- the lines of a script that have a command, or the fault of the first line that has one
 abbrev pub script_of : List ℕ → Result (List Line) ScriptFault
 script_of bytes = map_error (λ at. script_fault_at at.0 at.1) (lines_of script_lines bytes)

@@ -19,13 +19,14 @@ use Rattle.script_reader.specs.Spelling.{script_grammar, SpellsAct, Fails}
 abbrev pub HasSectionsLine : List (List ℕ) → Type 0
 HasSectionsLine texts = (text : List ℕ) × Contains texts text × HasWords Script text (codes "sections" ∷ [])
 
--- the line, which comes after the earlier lines, has this act, or no command (None)
+-- the line `text`, which follows the lines `earlier`, spells this act and isn't a second
+-- `sections`; for None, the line has no command
 abbrev pub LineHasAct : List (List ℕ) → List ℕ → Option Act → Type 0
 LineHasAct earlier text None = (words : Words) × HasWords Script text words × HasNoCommand words
 LineHasAct earlier text (Some act) =
     (words : Words) × HasWords Script text words × SpellsAct words act × (act ≡ acts.Sections → ¬ (HasSectionsLine earlier))
 
--- the line, which comes after the earlier lines, has this fault
+-- the line `text`, which follows the lines `earlier`, has this fault
 pub record LineHasFault (earlier : List (List ℕ)) (text : List ℕ) (wrong : ScriptLineFault) : Type 0 where
   pub words : Words
   pub spelled : HasWords Script text words
@@ -33,16 +34,16 @@ pub record LineHasFault (earlier : List (List ℕ)) (text : List ℕ) (wrong : S
   pub sections : (seen ≡ true) ↔ HasSectionsLine earlier
   pub fault : HasWordsFault script_grammar (Fails seen) words wrong
 
--- the lines, which come after the earlier ones, have no fault, and `lines` has their acts, each
--- with the number of its line, from 1 on
+-- the texts are lines that follow the lines `earlier` and have no fault. `lines` has the act of
+-- each that has a command, with the number of its line in the whole script, from 1 on.
 abbrev pub LinesHaveActs : List (List ℕ) → List (List ℕ) → List Line → Type 0
 LinesHaveActs earlier [] lines = lines ≡ []
 LinesHaveActs earlier (text ∷ texts) lines = (act : Option Act) × (others : List Line) × LineHasAct earlier text act
     × (lines ≡ cons_option (script_line_at script_lines (length earlier + 1) act) others)
     × LinesHaveActs (earlier ++ (text ∷ [])) texts others
 
--- among the lines, which come after the earlier ones, this is the fault of the first line that has
--- one
+-- `texts` are lines that follow the lines `earlier`, and `fault` is the fault of the first of
+-- `texts` that has one. The lines of `texts` before it have no fault.
 pub record IsFirstLineFault (earlier texts : List (List ℕ)) (fault : ScriptFault) : Type 0 where
   pub before : List (List ℕ)
   pub text : List ℕ

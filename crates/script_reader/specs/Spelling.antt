@@ -11,7 +11,7 @@ use Rattle.script_reader.specs.Numbers.{Words}
 use Rattle.script_reader.specs.Forms.{greatest_u64, greatest_id, greatest_node, greatest_byte, greatest_len}
 use Rattle.script_reader.specs.Grammar.{IsWithin, value_of_word, Grammar, SpellsNumbers}
 
--- the words that name a node, if any: `node N` or `node N exact`
+-- how a line names a node: not at all, as `node N`, or as `node N exact`
 pub data NodeWords : Type 0 where
   no_node : NodeWords
   near_node : (node : List ℕ) → NodeWords
@@ -72,8 +72,8 @@ HasLineNumbers (fill id byte) = IsWithin greatest_id id × IsWithin greatest_byt
 HasLineNumbers (peek address len) = IsWithin greatest_u64 address × IsWithin greatest_len len
 HasLineNumbers sections = Unit {0}
 
--- the act of a form whose numbers are sizes. Without `min` the lowest address is 0. Without `max`
--- there is no highest end, and without `node` no node is preferred.
+-- the act of a form whose words for numbers are sizes. Without `min` the lowest address is 0.
+-- Without `max` there is no highest end, and without `node` no node is preferred.
 abbrev pub act_of_form : LineForm → Act
 act_of_form (alloc id size align min max node) = acts.Alloc (value_of_word id) (record {
   size = value_of_word size;
@@ -120,8 +120,8 @@ pub record SpellsAct (words : Words) (act : Act) : Type 0 where
   pub size : HasSize act
   pub in_space : IsInSpace act
 
--- the fault is the first condition that this act doesn't meet; `seen` is true if an earlier line
--- is `sections`
+-- the fault is the first of the conditions on alignment, size and range that the act doesn't meet,
+-- or that it is a second `sections`; `seen` is true if an earlier line is `sections`
 abbrev pub Fails : Bool → Act → ScriptLineFault → Type 0
 Fails seen act wrong.Form = ⊥
 Fails seen act wrong.Number = ⊥

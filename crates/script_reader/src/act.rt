@@ -1,4 +1,5 @@
-//! The commands of a script: plain data, which the reader returns and the layer above runs.
+//! The commands of an early script. They are plain data: the reader returns them, and the crate
+//! `early_script` runs them.
 
 use bm_base::Range;
 use memblock_model::Request;
@@ -7,7 +8,7 @@ use memblock_model::Request;
 /// claimed.
 #[derive(Clone, Copy, Debug, PartialEq, Eq)]
 pub enum Act {
-    /// `alloc`: finds the best range for the request and claims it for the ID.
+    /// `alloc`: finds the best free range for the request and claims it for the ID.
     Alloc { id: u32, request: Request },
     /// `reserve`: claims exactly this range, wherever it is, for the ID. The range has at least 1
     /// byte.
@@ -21,11 +22,12 @@ pub enum Act {
     /// `peek`: prints the `len` bytes at address `at`. `len` is from 1 to 64, and `at + len` is at
     /// most 2^64 - 1.
     Peek { at: u64, len: u32 },
-    /// `sections`: sets up the memory sections at this point. It occurs at most once.
+    /// `sections`: sets up the memory sections at this point (`sparse_init`). It occurs at most
+    /// once.
     Sections,
 }
 
-/// A line of the script with a command.
+/// A line of the script that has a command.
 #[derive(Clone, Copy, Debug, PartialEq, Eq)]
 pub struct Line {
     /// The number of the line in the script, from 1 on. Lines without a command are counted too.

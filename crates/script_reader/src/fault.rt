@@ -1,13 +1,16 @@
-//! Two types of faults. [`ScriptLineFault`] says what is wrong with a line. [`ScriptFault`] has the
-//! number of the line too. The functions that read a line return a [`ScriptLineFault`], since only
+//! Two types of faults. [`ScriptLineFault`] says what is wrong with a line. [`ScriptFault`] also
+//! has the line's number. The functions that read a line return a [`ScriptLineFault`], since only
 //! the loop over the lines knows the number.
 
-/// What is wrong with a line. If several of these variants apply, the first one is reported.
+/// What is wrong with a line. If a line has several of these faults, the first in this list is
+/// reported.
 #[derive(Clone, Copy, Debug, PartialEq, Eq)]
 pub enum ScriptLineFault {
-    /// The words have the form of no command, whatever their numbers are.
+    /// The words don't match the form of any command (such as `free ID`), even if any word may
+    /// stand for a number.
     Form,
-    /// A word isn't entirely a number, or the number is above its limit.
+    /// The words match the form of a command, but a word in the place of a number isn't entirely a
+    /// number, or the number is above its limit.
     Number,
     /// The alignment isn't a power of two.
     Align,
@@ -20,14 +23,16 @@ pub enum ScriptLineFault {
     TooFar,
 }
 
-/// The reason why a script is refused. `line` is the number of the lowest line that has a fault,
-/// from 1 on. If the line has several faults, the first of these variants is reported.
+/// The reason why a script is refused. `line` is the number of the first line that has a fault,
+/// counted from 1. If that line has several faults, the first in this list is reported.
 #[derive(Clone, Copy, Debug, PartialEq, Eq)]
 pub enum ScriptFault {
-    /// The words of the line have the form of no command, whatever their numbers are.
+    /// The words don't match the form of any command (such as `free ID`), even if any word may
+    /// stand for a number.
     BadLine { line: u32 },
-    /// A word isn't entirely a number, or the number is above its limit: 2^32 - 1 for an ID, 1,023
-    /// for a node, 255 for a byte, and 64 for the length of a `peek`.
+    /// The words match the form of a command, but a word in the place of a number isn't entirely a
+    /// number, or the number is above its limit: 2^32 - 1 for an ID, 1,023 for a node, 255 for a
+    /// byte, and 64 for the length of a `peek`.
     BadNumber { line: u32 },
     /// The alignment isn't a power of two.
     BadAlign { line: u32 },

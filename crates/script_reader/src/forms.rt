@@ -23,7 +23,8 @@ use text_words::{Separators, next_word};
 /// # Errors
 ///
 /// - `Form`: there is no command of this name, or the words don't have its form.
-/// - Any other fault of the words.
+/// - `Number`, `Align`, `ZeroSize`, `SecondSections` or `TooFar`: the first of these faults that
+///   the words have.
 pub fn act_by_name(seen: bool, name: &[u8], rest: &[u8]) -> Result<Act, ScriptLineFault>
     ensures value { result ≡ act_by_name seen name.now (words_in separators.Script rest.now) }
     ensures bounds { IfOk result HasBounds }
@@ -64,8 +65,8 @@ struct AllocWords<'a> {
     exact: bool,
 }
 
-/// Splits the words `ID SIZE ALIGN [min A] [max A] [node N [exact]]` after `alloc`. The caller
-/// reads their numbers.
+/// Splits the text after `alloc` into the words `ID SIZE ALIGN [min A] [max A] [node N [exact]]`.
+/// Doesn't check that they are numbers.
 ///
 /// # Errors
 ///
@@ -102,8 +103,8 @@ fn alloc_words(text: &[u8]) -> Result<AllocWords<'_>, ScriptLineFault>
     })
 }
 
-/// Tests whether the next word is `exact`, and returns the text after it. If the next word isn't
-/// `exact`, or the line names no node, returns false and the unchanged text.
+/// If the line names a node and the next word is `exact`, returns true and the text after that
+/// word. Otherwise returns false and the text unchanged. `node` is the word with the node's number.
 fn optional_exact<'a>(node: Option<&'a [u8]>, text: &'a [u8]) -> (bool, &'a [u8])
     ensures { optional_exact (option_map (λ word. word.now) node.entry)
         (words_in separators.Script text.now)

@@ -24,9 +24,10 @@ pub fn each_line_has_its_words()
         HasWords Script text words → HasWords Script text others → words ≡ others }
 {}
 
-/// Law: a line is read as an act exactly if its words follow the grammar of that act, and it isn't
-/// a second `sections`. A line has no command exactly if it has no words or is a comment. Any
-/// other line has the fault of the first condition of the grammar that its words break.
+/// Law: a line is read as a command exactly if its words follow the grammar of that command, and it
+/// isn't a second `sections`. It is read as a line without a command exactly if it has no words or
+/// is a comment. Any other line has a fault: that of the first condition of the grammar that its
+/// words break.
 pub fn lines_of_spelling()
     ensures act { (seen : Bool) (text : List ℕ) (words : Words) (act : AnyAct) →
         HasWords Script text words →

@@ -1,5 +1,4 @@
-//! Reads a whole script of any kind: its lines one after another, up to the first that has a
-//! fault.
+//! Reads a whole script of any kind: its lines one after another, up to the first that has a fault.
 //!
 //! Only the list of lines allocates. If memory runs out, the rest of the script is still read, so
 //! that a fault in any line is found.
@@ -17,14 +16,15 @@ use bm_base::Memory;
 use std::alloc::Global;
 use text_words::{Separators, next_part, next_word};
 
-/// A line with a command. Each kind of script has its own type of lines.
+/// The type of the lines that have a command, for one kind of script. It defines which commands the
+/// kind has, how they are written, and which of them may occur only once.
 pub trait ScriptLine: Copy {
     ghost use Rattle.script_reader.specs.declared.fault.ScriptLineFault.{ScriptLineFault};
 
     type Act: Copy;
 
-    // `kind` defines the forms of the lines. `IsWithinLimits` holds for each line that is read,
-    // and `MayBeWrong` for each fault that a line can have.
+    // `kind` defines the forms of the lines. `IsWithinLimits` holds for each line that is read.
+    // `MayBeWrong` holds for each fault that a line can have.
     ghost kind: { ScriptKind Self.Act Self };
 
     ghost IsWithinLimits: { Self → Type 0 };
@@ -55,7 +55,8 @@ pub trait ScriptLine: Copy {
 /// The reason why a script can't be read.
 #[derive(Clone, Copy, Debug, PartialEq, Eq)]
 pub enum LinesError {
-    /// The number of the lowest line that has a fault, from 1 on, and what is wrong with it.
+    /// The number of the first line that has a fault, counted from 1, and what is wrong with that
+    /// line.
     Faulty(u32, ScriptLineFault),
     /// The program ran out of memory. This is returned only if no line has a fault.
     Memory,
@@ -80,7 +81,8 @@ impl From<Memory> for LinesError {
 ///
 /// # Errors
 ///
-/// - `Faulty`: the lowest line that has a fault, with the first fault of that line.
+/// - `Faulty`: some line has a fault. The error has the number of the first such line, and the
+///   first fault of that line.
 /// - `Memory`: no line has a fault and some line has a command, but the program ran out of memory.
 pub fn read_lines<L: ScriptLine>(alloc: Global, bytes: &[u8]) -> Result<Vec<L>, LinesError>
     requires { length bytes.now < 2 ^ 32 }
@@ -109,7 +111,8 @@ pub fn read_lines<L: ScriptLine>(alloc: Global, bytes: &[u8]) -> Result<Vec<L>, 
     Ok(lines?)
 }
 
-/// Returns the command of a line, or `None` if it has no words or is a comment.
+/// Returns the command of a line, or `None` if the line has no words or is a comment. `seen` is
+/// true if an earlier line has a command that may occur only once.
 ///
 /// # Errors
 ///
@@ -131,8 +134,8 @@ fn read_line<L: ScriptLine>(seen: bool, text: &[u8]) -> Result<Option<L::Act>, S
     Ok(Some(L::by_name(seen, name, rest)?))
 }
 
-/// Tests whether this line has the command that may occur only once, or `seen` is true, which
-/// means that an earlier line has it.
+/// Tests whether this line or an earlier one has the command that may occur only once. `act` is the
+/// command of this line, and `seen` is true if an earlier line has it.
 fn has_once_command<L: ScriptLine>(seen: bool, act: &Option<L::Act>) -> bool
     ensures { result ≡ has_once_command L.kind seen act.now }
 {

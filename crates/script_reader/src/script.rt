@@ -44,8 +44,8 @@ impl ScriptLine for Line {
 ///
 /// # Errors
 ///
-/// - The fault of the lowest line that has one. If that line has several, the first in the order
-///   of [`ScriptFault`].
+/// - The fault of the first line that has one. If that line has several, the first in the order of
+///   [`ScriptFault`].
 /// - `Memory`: no line has a fault and some line has a command, but the program ran out of memory.
 pub fn read_script(alloc: Global, bytes: &[u8]) -> Result<Vec<Line>, ScriptFault>
     requires { length bytes.now < 2 ^ 32 }
@@ -62,7 +62,7 @@ pub fn read_script(alloc: Global, bytes: &[u8]) -> Result<Vec<Line>, ScriptFault
     }
 }
 
-/// Returns the fault of a script, given the number of a line and what is wrong with it.
+/// Returns the fault of a script whose line with this number has the fault `wrong`.
 fn script_fault_at(line: u32, wrong: ScriptLineFault) -> ScriptFault
     ensures { result ≡ script_fault_at line wrong }
 {

@@ -16,7 +16,7 @@ use crate::fault::ScriptLineFault;
 use bm_base::{Range, read_size};
 use text_words::{Separators, next_word};
 
-/// Tests whether a line with this first word is a comment.
+/// Tests whether a line with this first word is a comment: the word begins with `#`.
 pub fn is_comment(word: &[u8]) -> bool
     ensures { result ≡ is_comment word.now }
 {
@@ -118,11 +118,12 @@ pub fn word_after_key<'a>(key: &[u8], text: &'a [u8]) -> (Option<&'a [u8]>, &'a 
     }
 }
 
-/// Returns the number that the whole word spells: a size in bytes, with an optional suffix.
+/// Returns the number that the whole word spells: decimal, hexadecimal after `0x` or octal after
+/// `0`, with an optional suffix such as K for 2^10 (`memparse`).
 ///
 /// # Errors
 ///
-/// - `Number`: the word isn't entirely a number.
+/// - `Number`: the word isn't entirely a number, or the number is above 2^64 - 1.
 pub fn number_in_word(word: &[u8]) -> Result<u64, ScriptLineFault>
     ensures value { result ≡ number_in_word word.now }
     ensures of_words { IfErr result IsWordFault }
@@ -150,7 +151,7 @@ pub fn number_within(most: u64, word: &[u8]) -> Result<u64, ScriptLineFault>
     Ok(value)
 }
 
-/// Returns the number that an optional word spells, at most `most`, or `None` if there is no word.
+/// Returns the number that the word spells, which is at most `most`, or `None` if there is no word.
 ///
 /// # Errors
 ///
