@@ -1,4 +1,5 @@
--- The marks of one byte, followed through items other than trims.
+-- The marks of one byte of memory (its node and its mirror flag), followed through items other than
+-- trims.
 use Rattle.std.specs.Prelude.{◌≡◌, ◌≢◌, ◌<◌, ◌+◌, ℕ, [], ◌∷◌, Bool, true, false, Option, List, fold}
 use Rattle.bm_base.specs.Range.{end_of}
 use Rattle.bm_base.specs.declared.range.TheConstants.{FRAME_SIZE}
@@ -45,7 +46,8 @@ ItemAgrees whole items first (item.Node range node) = EdgeAgrees whole items fir
 ItemAgrees whole items first (item.Mirror range) = EdgeAgrees whole items first range.base × EdgeAgrees whole items first (end_of range)
 ItemAgrees whole items first i = Unit {0}
 
--- `ItemAgrees` for each item of the last list
+-- for each item of the last list: at both ends of its range, the byte has the same marks as the
+-- frame's first byte, if the end is inside the frame
 abbrev pub ItemsAgree : Option LabelView → List Item → ℕ → List Item → Type 0
 ItemsAgree whole items first [] = Unit {0}
 ItemsAgree whole items first (i ∷ is) = ItemAgrees whole items first i × ItemsAgree whole items first is

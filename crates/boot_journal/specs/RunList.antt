@@ -1,4 +1,4 @@
--- What contracts see of a list of runs that grows at both ends.
+-- What contracts see of a list of runs (ranges of bytes with one owner) that grows at both ends.
 use Rattle.std.specs.Prelude.{ℕ, List}
 use Rattle.address_runs.specs.Runs.{RunOf}
 use Rattle.memblock_model.specs.declared.owner.Owner.{Owner}

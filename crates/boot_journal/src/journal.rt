@@ -1,8 +1,9 @@
-//! The journal: its items, and the runs of bytes with one owner.
+//! The journal: its items (one for each call of memblock that changed something), and the runs of
+//! bytes with one owner.
 //!
-//! Both change together, so both are here. An item that claims or frees memory first updates the
-//! runs, and then is appended. Looking up an owner therefore never goes through the items. The
-//! memory for both is allocated in one place (`ready`), before anything changes.
+//! Items and runs change together, so both are here. An item that claims or frees memory first
+//! updates the runs, and then is appended. Looking up an owner therefore never goes through the
+//! items. The memory for both is allocated in one place (`ready`), before anything changes.
 
 ghost use Rattle.std.specs.Prelude.{◌≡◌, ◌++◌, ◌∷◌, ◌+◌, ◌-◌, ◌^◌, ◌<◌, ◌≤◌, ℕ, Some, [], ◌↔◌, IsTrue, max, OnOk, OnErr, IfOk, vec_len, vec_capacity};
 ghost use Rattle.bm_base.specs.Range.{end_of};
@@ -18,8 +19,9 @@ use run_edits::{has_value_throughout, value_at};
 use std::alloc::Global;
 use std::marker::Model;
 
-/// The items of the boot, oldest first. Contracts see them and `spare`, the number of items that
-/// can be appended without allocating.
+/// The journal of a boot: one item for each call of memblock that changed something, oldest first.
+/// Contracts see the items and `spare`, the number of items that can be appended without
+/// allocating.
 ///
 /// The journal also keeps the runs of bytes with one owner, in ascending order, and whether some
 /// item marks memory as mirrored. Both follow from the items.
@@ -53,7 +55,7 @@ impl Model for Journal {
 }
 
 impl Journal {
-    /// Returns the journal of a boot in which nothing has happened.
+    /// Returns a journal without items. `spare` is 0, so appending an item allocates.
     pub fn new(alloc: Global) -> Journal
         ensures { result ≡ record { items = []; spare = 0 } }
     {
@@ -66,11 +68,12 @@ impl Journal {
     }
 
     /// Allocates memory so that at least `n` more items can be appended without allocating.
+    /// `spare`, the number of such items, becomes `n` unless it is greater already.
     ///
     /// # Errors
     ///
-    /// - `Memory`: the program ran out of memory; the journal is unchanged, and had memory for
-    ///   fewer than `n` items.
+    /// - `Memory`: the program ran out of memory; the journal is unchanged. This is possible only
+    ///   if `spare` was below `n`.
     pub fn ready(&mut self, n: u64) -> Result<(), Memory>
         ensures items { self.new.items ≡ self.old.items }
         ensures enough { OnOk result (n ≤ self.new.spare) }
@@ -91,11 +94,13 @@ impl Journal {
         Ok(())
     }
 
-    /// Appends an item, whose range must not be empty. `spare` falls by one, or stays 0.
+    /// Appends an item, whose range must not be empty. Allocates only if `spare` is 0; otherwise
+    /// `spare` falls by one.
     ///
     /// # Errors
     ///
-    /// - `Memory`: the program ran out of memory, and `spare` is 0; the journal is unchanged.
+    /// - `Memory`: the program ran out of memory; the journal is unchanged. This is possible only
+    ///   if `spare` was 0.
     pub fn push(&mut self, item: Item) -> Result<(), Memory>
         requires { ItemHasBytes item }
         ensures ok { OnOk result (self.new.items ≡ self.old.items ++ item ∷ []) }
@@ -111,8 +116,8 @@ impl Journal {
         Ok(())
     }
 
-    /// Appends an item, whose range must not be empty, without allocating. `spare` must be above
-    /// 0.
+    /// Appends an item, whose range must not be empty, without allocating. `spare` (the number of
+    /// items that there is memory for) must be above 0, and falls by one.
     pub fn push_ready(&mut self, item: Item)
         requires item { ItemHasBytes item }
         requires spare { 0 < self.old.spare }
@@ -134,7 +139,7 @@ impl Journal {
     }
 
     /// Returns the owner of the byte at address `x`, or `None` if it has none. The last claim or
-    /// release that covers the byte decides. Looks the byte up in the runs, without allocating.
+    /// free that covers the byte decides. Looks the byte up in the runs, without allocating.
     pub fn owner_at(&self, x: u64) -> Option<Owner>
         ensures { result ≡ owner_of self.now.items x }
     {
@@ -150,7 +155,7 @@ impl Journal {
         has_value_throughout(&self.owners, range, owner)
     }
 
-    /// Tests whether some item marks memory as mirrored. The journal keeps the result, so this
+    /// Tests whether some item marks memory as mirrored. The journal stores the answer, so this
     /// takes constant time.
     pub fn has_mirrors(&self) -> bool
         ensures { result ≡ has_mirrors self.now.items }
@@ -189,7 +194,8 @@ impl Journal {
     }
 }
 
-/// Tests whether this item or one before it marks memory as mirrored.
+/// Tests whether an item marks memory as mirrored, or `before` is true, which means that an earlier
+/// item does.
 fn has_mirrors_after(before: bool, item: &Item) -> bool
     ensures { result ≡ has_mirrors_after before item.now }
 {

@@ -6,16 +6,17 @@
 //! The journal says of each byte who owns it, whether it is memory, on which node, and whether it
 //! is mirrored.
 //!
-//! [`Journal::tag_at`] computes the tag of a byte from the items. The owner of a byte is needed
-//! more often, so the journal also keeps the runs of bytes with one owner, sorted. Each claim and
-//! each release updates them. [`Journal::owners`] returns these runs; [`Journal::owner_at`] and
-//! [`Journal::owns`] look up a byte or a range in them. All results are defined on the items
-//! alone, in `specs/Items.antt` of `memblock_model`.
+//! [`Journal::tag_at`] computes the tag of a byte (whether it is memory, its node, and whether it
+//! is mirrored) from the items. The owner of a byte is needed more often, so the journal also keeps
+//! the runs of bytes with one owner, sorted. Each claim and each free updates them.
+//! [`Journal::owners`] returns these runs; [`Journal::owner_at`] and [`Journal::owns`] look up a
+//! byte or a range in them. All results are defined on the items alone, in `specs/Items.antt` of
+//! `memblock_model`.
 //!
-//! The layer above may rely on two facts. A call appends its item, or runs out of memory and
-//! leaves the journal unchanged. After [`Journal::ready`] has succeeded for n items, the next n
-//! items are appended without allocating. Contracts see a journal as its items and the number
-//! `spare` of items that it has memory for. The range of an item is never empty.
+//! The layer above may rely on two facts. A call appends its item, or runs out of memory and leaves
+//! the journal unchanged. After [`Journal::ready`] has succeeded for n items, the next n items are
+//! appended without allocating. Contracts see a journal as its items and the number `spare` of
+//! items that it has memory for. The range of an item is never empty.
 //!
 //! In contracts, a name means the definition in `specs/`, here or in a crate below.
 #![tactic(auto)]

@@ -1,7 +1,7 @@
 //! Updates the runs of bytes with one owner, item by item.
 //!
-//! A claim replaces the previous owner of its bytes, and a release leaves its bytes without an
-//! owner (`memblock_reserve`, `memblock_phys_free`). Each is one edit of a sorted list of runs
+//! A claim replaces the previous owner of its bytes, and a free leaves its bytes without an owner
+//! (`memblock_reserve`, `memblock_phys_free`). Each is one edit of a sorted list of runs
 //! (`run_edits`). The edit has a file of its own so that its contract holds for any sorted list of
 //! runs.
 
@@ -16,8 +16,9 @@ use bm_base::Range;
 use memblock_model::{Item, Owner};
 use run_edits::{Change, Replace, Uncover, edit_without_cover};
 
-/// Updates the runs for an item. After a claim all bytes of its range have its owner; after a
-/// release none has an owner. There must be room for two more runs.
+/// Updates the runs of bytes with one owner for an item. After a claim all bytes of its range have
+/// its owner; after a free none has an owner. Other items change no owner. The item's range must
+/// not be empty, and there must be room for two more runs.
 pub fn update_owners(owners: &mut RunList, item: &Item)
     requires item { ItemHasBytes item.now }
     requires runs { AreRuns owners.old.items }
@@ -35,8 +36,8 @@ pub fn update_owners(owners: &mut RunList, item: &Item)
     }
 }
 
-/// Applies one change to the bytes of the range, without allocating. There must be room for two
-/// more runs.
+/// Gives all bytes of the range a new owner or none, as `change` says, without allocating. There
+/// must be room for two more runs.
 fn apply_change<C: Change<Owner>>(owners: &mut RunList, range: &Range, change: C)
     requires some { 0 < range.now.size }
     requires runs { AreRuns owners.old.items }

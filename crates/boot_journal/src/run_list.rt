@@ -159,9 +159,9 @@ impl Slots<OwnerRun> for RunList {
 }
 
 /// Tests whether inserting a run at index `i`, of `count` runs, should move the runs before it
-/// down, instead of moving those after it up. It should if there are fewer runs before it and
-/// there is room before the first run (`front`), or if there is no room after the last run
-/// (`behind`).
+/// down, instead of moving those after it up. There is room for `front` runs before the first run,
+/// and for `behind` runs after the last one. The answer is true if there is no room after the last
+/// run, or if there is room before the first run and fewer runs are before index `i` than after it.
 fn moves_lower_runs(i: usize, count: usize, front: usize, behind: usize) -> bool
     requires within { i ≤ count }
     requires room { 0 < front + behind }
@@ -185,7 +185,7 @@ fn insert_low(records: &mut Vec<OwnerRun>, front: usize, i: usize, run: OwnerRun
     records[front - 1 + i] = run;
 }
 
-/// Removes `n` runs from index `i` on, by moving the runs after them down.
+/// Removes the `n` runs from index `i` on, by moving the runs after them down.
 fn close_high(records: &mut Vec<OwnerRun>, i: usize, n: usize)
     requires { i + n ≤ vec_len records.old }
     ensures items { records.new.items ≡ take i records.old.items ++ drop (i + n) records.old.items }

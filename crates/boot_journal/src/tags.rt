@@ -1,9 +1,11 @@
-//! Computes the tag of one byte, by following the byte through the items.
+//! Computes the tag of one byte (whether it is memory, its node, and whether it is mirrored), by
+//! following the byte through the items.
 //!
 //! No result is stored, since a tag is needed only now and then, and the memory table has the
-//! records. Between two trims only the byte itself is followed. A trim keeps a frame only if all
-//! its bytes have the same marks (`memblock_trim_memory`). The marks change only at the ends of
-//! items' ranges, so only the ends that are inside the frame are compared.
+//! records. The marks of a memory byte are its node and its mirror flag. Between two trims only the
+//! marks of the byte itself are followed. A trim keeps a frame only if all its bytes have the same
+//! marks (`memblock_trim_memory`). The marks change only at the ends of items' ranges, so only the
+//! ends that are inside the frame are compared.
 
 ghost use Rattle.std.specs.Prelude.{◌≡◌, ◌<◌, ℕ, IsTrue, IfSome, None, false, length, position};
 ghost use Rattle.bm_base.specs.Range.{end_of};
@@ -15,7 +17,7 @@ use bm_base::{FRAME_SIZE, Range};
 use memblock_model::{Item, Marks, Tag};
 
 /// Returns the marks of the byte at `x` after an item other than a trim, or `None` if the byte
-/// isn't memory. `carried` has its marks before the item.
+/// isn't memory. `carried` has the byte's marks before the item.
 fn label_after(carried: Option<Marks>, item: &Item, x: u64) -> Option<Marks>
     ensures { result ≡ label_after x carried item.now }
 {
@@ -30,7 +32,7 @@ fn label_after(carried: Option<Marks>, item: &Item, x: u64) -> Option<Marks>
 }
 
 /// Returns the marks of the byte at `x` after these items, none of which is a trim, or `None` if
-/// it isn't memory. `whole` has its marks before them.
+/// the byte isn't memory. `whole` has the byte's marks before the items.
 fn label_after_items(whole: &Option<Marks>, items: &[Item], x: u64) -> Option<Marks>
     ensures { result ≡ label_after_items whole.now items.now x }
 {
@@ -46,8 +48,9 @@ fn first_trim(items: &[Item]) -> Option<usize>
     items.iter().position(|item| matches!(item, Item::Trim))
 }
 
-/// Tests whether the byte at `edge` has the same marks as the byte at `first`, the first byte of
-/// the frame. True for an edge outside the frame.
+/// Tests whether, after the items, the byte at `edge` has the same marks as the byte at `first`,
+/// which is the first byte of a frame. Before the items both had the marks `whole`. Returns true if
+/// `edge` isn't inside that frame.
 fn edge_agrees(whole: &Option<Marks>, items: &[Item], first: u64, edge: u64) -> bool
     ensures agrees { IsTrue result → EdgeAgrees whole.now items.now first edge }
     ensures differs { result ≡ false → EdgeDiffers whole.now items.now first edge }
@@ -58,8 +61,9 @@ fn edge_agrees(whole: &Option<Marks>, items: &[Item], first: u64, edge: u64) -> 
     label_after_items(whole, items, edge) == label_after_items(whole, items, first)
 }
 
-/// Tests [`edge_agrees`] for both ends of the item's range. True for an item that doesn't change
-/// marks.
+/// Tests whether, after the items, the byte at each end of this item's range has the same marks as
+/// the first byte of the frame at `first`. Ends that aren't inside that frame don't count. Returns
+/// true for an item that changes no marks.
 fn item_agrees(whole: &Option<Marks>, items: &[Item], first: u64, item: &Item) -> bool
     ensures agrees { IsTrue result → ItemAgrees whole.now items.now first item.now }
     ensures differs { result ≡ false → (e : ℕ) × EdgeDiffers whole.now items.now first e }
@@ -97,8 +101,8 @@ fn frame_agrees(whole: &Option<Marks>, items: &[Item], first: u64) -> bool
 }
 
 /// Returns the marks of the byte at `x` after these items, none of which is a trim, and then a
-/// trim. Before the items all bytes of its frame must have had the marks `whole`. Returns `None`
-/// unless all of them have the same marks before the trim.
+/// trim. Before the items all bytes of its frame must have had the marks `whole`. If the items give
+/// bytes of the frame different marks, the trim removes the frame, and the result is `None`.
 fn label_after_trim(whole: &Option<Marks>, items: &[Item], x: u64) -> Option<Marks>
     ensures { result ≡ label_after_trim whole.now items.now x }
 {
@@ -109,7 +113,7 @@ fn label_after_trim(whole: &Option<Marks>, items: &[Item], x: u64) -> Option<Mar
     label_after_items(whole, items, first)
 }
 
-/// Returns the tag of a byte with these marks.
+/// Returns the tag of a byte with these marks: [`Tag::Absent`] if it has none.
 fn tag_for(carried: Option<Marks>) -> Tag
     ensures { result ≡ tag_for carried }
 {
