@@ -1,6 +1,7 @@
--- Bytes at addresses, as contracts see them: the byte at each address, and the addresses that can
--- be written without allocating. A machine can write every address of its memory. This program can
--- write an address only after it has allocated memory for it, and the allocation may fail.
+-- Bytes at addresses, as contracts see them: the byte at each address, and the prepared addresses,
+-- which can be written without allocating. A machine can write every address of its memory. This
+-- program can write an address only after it has allocated memory for the byte (prepared the
+-- address), and the allocation may fail.
 use Rattle.std.specs.Prelude.{◌≡◌, ℕ, zero, suc, ◌+◌, ◌-◌, ◌<◌, ◌≤◌, Bool, false, ◌||◌, nat_le, nat_lt, if◌then◌else◌, List, [], ◌∷◌, length, slice_index, IsTrue}
 use Rattle.bm_base.specs.Range.{covers}
 
@@ -22,12 +23,12 @@ abbrev pub byte_of : List ExtentView → ℕ → ℕ
 byte_of [] x = 0
 byte_of (p ∷ ps) x = if is_in_extent p x then slice_index p.bytes (x - p.base) else byte_of ps x
 
--- whether the address is prepared: some extent has it
+-- whether the address is prepared (can be written without allocating): some extent has it
 abbrev pub is_prepared_at : List ExtentView → ℕ → Bool
 is_prepared_at [] x = false
 is_prepared_at (p ∷ ps) x = is_in_extent p x || is_prepared_at ps x
 
--- each of the n addresses from `a` on is prepared
+-- each of the n addresses from `a` on is prepared: it can be written without allocating
 abbrev pub ArePrepared : List ExtentView → ℕ → ℕ → Type 0
 ArePrepared ps a n = (x : ℕ) → a ≤ x → x < a + n → IsTrue (is_prepared_at ps x)
 

@@ -1,5 +1,5 @@
--- How the store keeps its bytes: as extents, each as long as possible. A range that was prepared
--- in parts is therefore in one extent.
+-- How the store keeps the bytes of its prepared addresses: as extents, each as long as possible. A
+-- range that was prepared in parts is therefore in one extent.
 use Rattle.std.specs.Prelude.{ℕ, ◌+◌, ◌-◌, ◌^◌, ◌<◌, ◌≤◌, List, [], ◌∷◌, ◌++◌, take, drop, length, slice_index_or}
 use Rattle.phys_store.specs.declared.extents.Extent.{Extent}
 use Rattle.phys_store.specs.Bytes.{ExtentView, end_of_extent, byte_of, bytes_at}
@@ -8,8 +8,8 @@ use Rattle.phys_store.specs.Bytes.{ExtentView, end_of_extent, byte_of, bytes_at}
 abbrev pub extent_view : Extent → ExtentView
 extent_view e = record { base = e.base; bytes = drop e.front e.bytes.items }
 
--- the extents ascend from address `e` on, none is empty, none touches the next, and none ends
--- above 2^64 - 1
+-- the extents begin at or above address `e` and are in ascending order. None is empty, none touches
+-- the next, and none ends above 2^64 - 1.
 abbrev pub AreSortedAndApart : ℕ → List ExtentView → Type 0
 AreSortedAndApart e [] = Unit {0}
 AreSortedAndApart e (p ∷ ps) =

@@ -1,16 +1,16 @@
-//! Reads and writes the extents of a store, without allocating. Each call finds the extent that
-//! has the first address. Extents don't touch, so that extent has the whole of a prepared range,
-//! and no call continues in another extent.
+//! Reads and writes the extents of a store, without allocating. Each call finds the extent that has
+//! the first address. Extents don't touch, so that extent has the whole of a prepared range, and no
+//! call continues in another extent.
 ghost use Rattle.std.specs.Prelude.{◌≡◌, MatchOption, Some, None, get_or, ℕ, ◌+◌, ◌-◌, ◌^◌, ◌<◌, ◌≤◌, ◌↔◌, true, ◌||◌, nat_le, min, max, map, length, slice_index, position, IsTrue};
 ghost use Rattle.phys_store.specs.Bytes.{end_of_extent, is_in_extent, byte_of, ArePrepared, WritesBytes, bytes_at};
 ghost use Rattle.phys_store.specs.Extents.{extent_view, nth_extent, AreSortedAndApart};
 
 use bm_base::Range;
 
-/// A run of consecutive prepared addresses, as long as possible, with the byte at each of them.
-/// The addresses right before and right after it aren't prepared. `Store::prepare` has allocated
-/// the bytes. There may be spare room before the first byte, so that an extent that grows downward
-/// is seldom moved.
+/// A run of consecutive prepared addresses, as long as possible, with the byte at each of them. An
+/// address is prepared if `Store::prepare` has allocated memory for its byte. The addresses right
+/// before and right after the extent aren't prepared. There may be spare room before the first
+/// byte, so that an extent that grows downward is seldom moved.
 #[derive(Debug, Drop)]
 pub struct Extent {
     /// The address of the first byte.
@@ -37,7 +37,7 @@ pub fn end_of_extent(extent: &Extent) -> u64
     extent.base + size_of_extent(extent)
 }
 
-/// Tests whether the extent has this address.
+/// Tests whether the address is inside the extent.
 fn is_in_extent(extent: &Extent, address: u64) -> bool
     ensures { result ≡ is_in_extent (extent_view extent.now) address }
 {
@@ -82,16 +82,17 @@ fn index_of_extent(extents: &[Extent], address: u64) -> Option<usize>
     index_by_linear_search(extents, address)
 }
 
-/// Like [`index_of_extent`], by a linear search of the extents.
+/// Returns the index of the extent that has this address, or `None` if no extent has it. Searches
+/// the extents one by one.
 fn index_by_linear_search(extents: &[Extent], address: u64) -> Option<usize>
     ensures { result ≡ position (λ e. is_in_extent (extent_view e) address) extents.now }
 {
     extents.iter().position(|e| is_in_extent(e, address))
 }
 
-/// Like [`index_of_extent`], by a binary search of the extents. Only the first extent that ends at
-/// or above the address can have it. If that extent ends exactly at the address, the next one
-/// begins above it, because extents don't touch.
+/// Returns the index of the extent that has this address, or `None` if no extent has it. The search
+/// is binary. Only the first extent that ends at or above the address can have it. If that extent
+/// ends exactly at the address, the next one begins above it, because extents don't touch.
 // A function of its own, so that the linear search is small enough to be inlined.
 #[inline(never)]
 fn index_by_binary_search(extents: &[Extent], address: u64) -> Option<usize>
@@ -121,7 +122,7 @@ fn extent_at(extents: &[Extent], address: u64) -> Option<&Extent>
     Some(&extents[i])
 }
 
-/// Like [`extent_at`], by a binary search of the extents.
+/// Returns the extent that has this address, or `None` if no extent has it. The search is binary.
 #[inline(never)]
 fn extent_by_binary_search(extents: &[Extent], address: u64) -> Option<&Extent>
     requires { AreSortedAndApart 0 (map extent_view extents.now) }
@@ -134,7 +135,8 @@ fn extent_by_binary_search(extents: &[Extent], address: u64) -> Option<&Extent>
     Some(&extents[i])
 }
 
-/// Tests whether each address of the range is prepared.
+/// Tests whether each address of the range is prepared, which means that memory for its byte has
+/// been allocated.
 pub fn are_prepared(extents: &[Extent], range: Range) -> bool
     requires { AreSortedAndApart 0 (map extent_view extents.now) }
     ensures { IsTrue result ↔ ArePrepared (map extent_view extents.now) range.base range.size }

@@ -94,7 +94,7 @@ fn largest(extents: &[Extent], first: usize, behind: usize) -> usize
     best
 }
 
-/// Appends `count` zeros.
+/// Appends `count` zeros to the bytes.
 ///
 /// # Errors
 ///
@@ -110,9 +110,9 @@ fn append_zeros(bytes: &mut Vec<u8>, count: usize) -> Result<(), Memory>
     Ok(())
 }
 
-/// Appends a copy of the bytes from index `from` on. The `Vec` is moved to a local variable
-/// meanwhile. The compiler then knows that its bytes don't overlap the `Vec` itself, and copies
-/// them in bulk.
+/// Appends to `bytes` a copy of its own bytes from index `from` on. The `Vec` is moved to a local
+/// variable meanwhile. The compiler then knows that its bytes don't overlap the `Vec` itself, and
+/// copies them in bulk.
 ///
 /// # Errors
 ///
@@ -155,9 +155,9 @@ fn move_up(bytes: &mut Vec<u8>, from: usize, more: usize) -> Result<(), Memory>
     Ok(())
 }
 
-/// Makes room for `down` bytes before the first byte of the extent. If there is too little, the
-/// new room is at least seven eighths of the extent's size. The bytes are therefore moved again
-/// only when there are nearly twice as many.
+/// Makes spare room for at least `down` bytes before the first byte of the extent. If the room has
+/// to grow, it grows by `down` bytes or by about seven eighths of the extent's size, whichever is
+/// more. The bytes are therefore moved again only when there are nearly twice as many.
 ///
 /// # Errors
 ///
@@ -210,7 +210,7 @@ fn bytes_of_extent(extent: &Extent) -> &[u8]
     &extent.bytes[front..]
 }
 
-/// Copies the bytes of the other extents into this one, which must contain all their addresses.
+/// Copies the bytes of the other extents into `extent`, which must contain all their addresses.
 fn copy_into_extent(extent: &mut Extent, others: &[Extent])
     requires some { 0 < length (extent_view extent.old).bytes }
     requires low { (i : ℕ) → i < length others.now
@@ -283,12 +283,12 @@ fn merge_touched_extents(
     Ok(())
 }
 
-/// Joins the extents of `reach` into one, or inserts a new extent of zeros if `reach` has none.
+/// Joins the touched extents into one, which has the addresses from `reach.low` to just below
+/// `reach.high`. If no extent is touched, inserts an extent of zeros with these addresses.
 ///
 /// # Errors
 ///
-/// - `Memory`: the program ran out of memory; the bytes and addresses of all extents are
-///   unchanged.
+/// - `Memory`: the program ran out of memory; the bytes and addresses of all extents are unchanged.
 fn merge_or_insert(extents: &mut Vec<Extent>, reach: TouchedExtents) -> Result<(), Memory>
     requires apart { AreSortedAndApart 0 (map extent_view extents.old.items) }
     requires joins { AreTouchedExtents
@@ -314,7 +314,8 @@ fn merge_or_insert(extents: &mut Vec<Extent>, reach: TouchedExtents) -> Result<(
     }
 }
 
-/// Prepares each address of the range. Prepared addresses stay prepared, and no byte changes.
+/// Prepares each address of the range: allocates memory for its byte, so that it can be written.
+/// Prepared addresses stay prepared, and no byte changes.
 ///
 /// # Errors
 ///

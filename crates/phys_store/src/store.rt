@@ -41,8 +41,9 @@ impl Store {
         }
     }
 
-    /// Prepares each address of the range. Prepared addresses stay prepared, and no other address
-    /// becomes prepared. No byte changes.
+    /// Prepares each address of the range: allocates memory for its byte, so that it can be
+    /// written. Prepared addresses stay prepared, and no other address becomes prepared. No byte
+    /// changes.
     ///
     /// # Errors
     ///
@@ -59,7 +60,7 @@ impl Store {
         Ok(())
     }
 
-    /// Tests whether each address of the range is prepared.
+    /// Tests whether each address of the range is prepared, so that writing it needs no allocation.
     pub fn is_prepared(&self, range: Range) -> bool
         ensures { IsTrue result ↔ ArePrepared self.now range.base range.size }
     {
