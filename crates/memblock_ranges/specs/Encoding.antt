@@ -8,7 +8,7 @@ use Rattle.address_runs.specs.Runs.{RunOf, run_end}
 use Rattle.memblock_model.specs.Labels.{LabelView}
 use Rattle.memblock_ranges.specs.declared.region.Region.{Region}
 
--- the number in each field of the 24 bytes
+-- the four fields in the 24 bytes of a record: base, size, flags and node
 unfoldable pub base_in : List ℕ → ℕ
 base_in bs = little_number 8 bs
 
@@ -21,7 +21,7 @@ flags_in bs = little_number 4 (drop 16 bs)
 unfoldable pub node_in : List ℕ → ℕ
 node_in bs = little_number 4 (drop 20 bs)
 
--- the four fields of any 24 bytes, without a check
+-- the four fields of any 24 bytes, which may be no valid record
 abbrev pub decode_region : List ℕ → Region
 decode_region bs = record { base = base_in bs; size = size_in bs; flags = flags_in bs; node = node_in bs }
 
@@ -29,29 +29,31 @@ decode_region bs = record { base = base_in bs; size = size_in bs; flags = flags_
 unfoldable pub encode_fields : ℕ → ℕ → ℕ → ℕ → List ℕ
 encode_fields base size flags node = little_bytes 8 base ++ (little_bytes 8 size ++ (little_bytes 4 flags ++ little_bytes 4 node))
 
--- `node_of_field` is the node that a node field means, or None for 1,024. `label_of` is the label
--- that the flags and the node field mean.
+-- the node that a record's node field means, or None for 1,024
 abbrev pub node_of_field : ℕ → Option ℕ
 node_of_field field = if field == 1024 then None else Some field
 
+-- the label that a record's flags and node field mean
 abbrev pub label_of : ℕ → ℕ → LabelView
 label_of flags field = record { node = node_of_field field; mirror = flags == 2 }
 
--- `flags_field` is the flags of a record with this label, and `node_field` its node field.
+-- the flags in the record of a range with this label: 2 if it is mirrored, else 0
 abbrev pub flags_field : LabelView → ℕ
 flags_field label = if label.mirror then 2 else 0
 
+-- the node field in the record of a range with this label: the node, or 1,024 if it has none
 abbrev pub node_field : LabelView → ℕ
 node_field label = unwrap_or label.node 1024
 
--- `decode_record` is the run of addresses that 24 bytes describe. `region_of` is the four fields
--- of a run, and `encode_record` the 24 bytes of a run.
+-- the record that 24 bytes encode: a run of addresses with one label
 abbrev pub decode_record : List ℕ → RunOf LabelView
 decode_record bs = record { base = base_in bs; size = size_in bs; value = label_of (flags_in bs) (node_in bs) }
 
+-- the four fields of the record for this run
 abbrev pub region_of : RunOf LabelView → Region
 region_of r = record { base = r.base; size = r.size; flags = flags_field r.value; node = node_field r.value }
 
+-- the 24 bytes of the record for this run
 abbrev pub encode_record : RunOf LabelView → List ℕ
 encode_record r = encode_fields r.base r.size (flags_field r.value) (node_field r.value)
 
@@ -61,7 +63,8 @@ unfoldable pub records_at : (ℕ → ℕ) → ℕ → ℕ → List (RunOf LabelV
 records_at f a zero = []
 records_at f a (suc n) = decode_record (bytes_at f a 24) ∷ records_at f (a + 24) n
 
--- the bytes of a table with room for n records: the records of these runs, then zeros
+-- the bytes of a table that has these records and room for n: the records, 24 bytes each, then
+-- zeros
 unfoldable pub encode_table : List (RunOf LabelView) → ℕ → List ℕ
 encode_table [] n = replicate (24 * n) 0
 encode_table (r ∷ rs) n = encode_record r ++ encode_table rs (n - 1)
@@ -72,8 +75,8 @@ pub record FitsRecord (r : RunOf LabelView) : Type 0 where
   pub node : node_field r.value ≤ 1024
   pub back : label_of (flags_field r.value) (node_field r.value) ≡ r.value
 
--- the 24 bytes are a record: its end is below 2^64, its flags are those of a label, and its node
--- is at most 1,024
+-- the 24 bytes are a valid record: its end is below 2^64, its flags are 0 or 2, and its node is at
+-- most 1,024
 pub record IsRecord (bs : List ℕ) : Type 0 where
   pub spells : bs ≡ encode_fields (base_in bs) (size_in bs) (flags_in bs) (node_in bs)
   pub within : base_in bs + size_in bs < 2 ^ 64

@@ -10,7 +10,7 @@ use Rattle.memblock_ranges.specs.Tables.{AreRecords}
 abbrev pub records_in_bytes : List ℕ → ℕ → List (RunOf LabelView)
 records_in_bytes bs count = records_at (slice_index bs) 0 count
 
--- the bytes are those of `count` records, which are in order
+-- the bytes are exactly those of `count` valid records in ascending order
 pub record AreRecordBytes (bs : List ℕ) (count : ℕ) : Type 0 where
   pub long : length bs ≡ 24 * count
   pub small : 24 * count < 2 ^ 64

@@ -1,4 +1,4 @@
--- What must be true of an item before a table can be edited as the item says.
+-- What must be true of a journal item before a table can be edited as the item says.
 use Rattle.std.specs.Prelude.{◌^◌, ◌≤◌}
 use Rattle.bm_base.specs.Range.{end_of}
 use Rattle.memblock_model.specs.declared.item.Item.{Item}

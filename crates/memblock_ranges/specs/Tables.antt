@@ -33,19 +33,21 @@ pub record PartKeptByEdits : Type 0 where
   pub others : ℕ → ℕ
   pub ready : ℕ → Bool
 
+-- the part of the store that an edit of the table of head `h` keeps
 abbrev pub part_kept_by_edits : List ExtentView → Head → PartKeptByEdits
 part_kept_by_edits s h =
     record { place = h.place; room = h.room; others = bytes_outside_table (byte_of s) h.place h.room; ready = is_prepared_at s }
 
--- `records_of_head` is the records, as runs, of the table that a head describes. `HasTable` says
--- that the store has this table.
+-- the records, as runs, of the table in the store that the head describes
 abbrev pub records_of_head : List ExtentView → Head → List (RunOf LabelView)
 records_of_head s h = records_at (byte_of s) h.place h.count
 
+-- the store has a valid table at the head's address, with the head's room and count
 abbrev pub HasTable : List ExtentView → Head → Type 0
 HasTable s h = IsTable (byte_of s) (is_prepared_at s) h.place h.room h.count
 
--- records in order: none is empty, no two that touch have the same label, and none ends past 2^64
+-- the records are in ascending order, none is empty, no two that touch have the same label, and
+-- none ends past 2^64
 pub record AreRecords (rs : List (RunOf LabelView)) : Type 0 where
   pub runs : AreRuns rs
   pub within : IsEmptyFrom (2 ^ 64) (value_at rs)
@@ -87,7 +89,7 @@ bytes_of t = record { base = t.place; size = 24 * t.room }
 abbrev pub table_range_in : Which → TablesView → RangeView
 table_range_in w t = bytes_of (table_in w t)
 
--- some address of the range belongs to a table
+-- some address of the range belongs to the array of a table
 abbrev pub OverlapsTable : TablesView → RangeView → Type 0
 OverlapsTable t r = (w : Which) × Meet (table_range_in w t) r
 
@@ -106,8 +108,8 @@ pub record IsInStore (t : TableView) (store : List ExtentView) : Type 0 where
       decode_region (bytes_at (byte_of store) (t.place + 24 * i) 24) ≡ region_of (get_or t.records i r)
   pub prepared : ArePrepared store t.place (24 * t.room)
 
--- the node fields that a new record may have; in the reserved table only 1,024, which means no
--- node (`memblock_add_range` with `MAX_NUMNODES`)
+-- a record that is added to this table may have this node field: at most 1,024 for the memory
+-- table, and only 1,024 (no node) for the reserved table (`memblock_add_range` with `MAX_NUMNODES`)
 abbrev pub MayBeNodeField : Which → ℕ → Type 0
 MayBeNodeField which.Memory node = node ≤ 1024
 MayBeNodeField which.Reserved node = node ≡ 1024
@@ -116,14 +118,16 @@ MayBeNodeField which.Reserved node = node ≡ 1024
 abbrev pub ArePlainRecords : List (RunOf LabelView) → Type 0
 ArePlainRecords rs = (x : ℕ) (label : LabelView) → value_at rs x ≡ Some label → label ≡ plain_label
 
--- the table that a head describes, as contracts see it, and the range of its bytes
+-- the table that a head describes, as contracts see it
 abbrev pub table_of_head : List ExtentView → Head → TableView
 table_of_head s h = record { records = records_of_head s h; place = h.place; room = h.room }
 
+-- the range of the array of the table that a head describes
 abbrev pub bytes_of_head : Head → RangeView
 bytes_of_head h = record { base = h.place; size = 24 * h.room }
 
--- two tables in one store: the records of both are in order, and the tables have no byte in common
+-- two valid tables in one store: the records of both are in order, the tables have no byte in
+-- common, and no record of the reserved table has a node or is mirrored
 pub record AreTables (s : List ExtentView) (m r : Head) : Type 0 where
   pub memory : HasTable s m
   pub reserved : HasTable s r
@@ -132,8 +136,8 @@ pub record AreTables (s : List ExtentView) (m r : Head) : Type 0 where
   pub reserved_records : AreRecords (records_of_head s r)
   pub plain : ArePlainRecords (records_of_head s r)
 
--- the table of head g moves to `place` with twice the room; its old bytes are 0, and nothing else
--- changes
+-- the table moves to `place` and has twice the room; its old bytes are 0, and nothing else changes.
+-- `s` and `g` are the store and the head before the move, `t` and `h` those after it.
 pub record MovesTable (s t : List ExtentView) (g h : Head) (place : ℕ) : Type 0 where
   pub list_is : records_of_head t h ≡ records_of_head s g
   pub table : HasTable t h

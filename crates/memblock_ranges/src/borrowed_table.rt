@@ -1,6 +1,6 @@
-//! A table borrowed from the store, as a sequence of records. Through these types the sweep of
-//! `run_edits` reads and writes the table's bytes in the store. Their invariant is that the bytes
-//! are a table, as its head describes it; this is true again after each step.
+//! A table borrowed from the store, as a sequence of records. Through these types `run_edits` reads
+//! and writes the table's bytes in the store. Their invariant is that the bytes are a table, as its
+//! head (its address, room and count) describes it; this is true again after each step.
 ghost use Rattle.std.specs.Prelude.{◌≡◌, ◌≤◌, ◌<◌, refl, get_or};
 ghost use Rattle.std.proofs.Props.{props};
 ghost use Rattle.phys_store.specs.Bytes.{byte_of, is_prepared_at};
@@ -12,7 +12,8 @@ use bm_base::Range;
 use phys_store::Store;
 use run_edits::{Rows, Slots};
 
-/// A table in the store, borrowed for reading.
+/// One of memblock's two tables, borrowed for reading: the store that has its bytes, and its head
+/// (its address, room and count).
 #[derive(Clone, Copy)]
 pub struct TableRef<'a> {
     pub store: &'a Store,
@@ -21,7 +22,8 @@ pub struct TableRef<'a> {
         head.now.room head.now.count } by { Prim.hlevel props },
 }
 
-/// A table in the store, borrowed for editing.
+/// One of memblock's two tables, borrowed for editing: the store that has its bytes, and its head
+/// (its address, room and count).
 #[derive(Drop)]
 pub struct TableMut<'a> {
     pub store: &'a mut Store,
@@ -30,7 +32,7 @@ pub struct TableMut<'a> {
         head.now.room head.now.count } by { Prim.hlevel props },
 }
 
-/// Returns the record in slot `i`.
+/// Decodes the record at index `i`, counted from 0, of the table that `head` describes.
 fn read_slot(store: &Store, head: &Head, i: u64) -> Record
     requires table { HasTable store.now head.now }
     requires used { i < head.now.count }

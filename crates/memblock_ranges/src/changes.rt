@@ -1,5 +1,5 @@
 //! Two changes of a label that `run_edits` doesn't have: giving it a node, and marking it as
-//! mirrored. The sweep applies a change to the label of each address in a range.
+//! mirrored. To edit a table, `run_edits` applies a change to the label of each address in a range.
 ghost use Rattle.std.specs.Prelude.{◌≡◌, ◌<◌, Some};
 ghost use Rattle.std.specs.Option.{option_map};
 ghost use Rattle.memblock_model.specs.Labels.{with_node, with_mirror};
@@ -7,8 +7,8 @@ ghost use Rattle.memblock_model.specs.Labels.{with_node, with_mirror};
 use memblock_model::Label;
 use run_edits::Change;
 
-/// A change that gives a label this node. An address without a label stays without one
-/// (`memblock_set_node`).
+/// A change that sets the node of a label to `node`. An address without a label isn't memory, and
+/// stays without one (`memblock_set_node`).
 #[derive(Clone, Copy)]
 pub struct SetNode {
     pub node: u32,
@@ -28,8 +28,8 @@ impl Change<Label> for SetNode {
     }
 }
 
-/// A change that marks a label as mirrored memory. An address without a label stays without one
-/// (`memblock_mark_mirror`).
+/// A change that marks a label as mirrored. An address without a label isn't memory, and stays
+/// without one (`memblock_mark_mirror`).
 #[derive(Clone, Copy)]
 pub struct SetMirror;
 

@@ -1,5 +1,5 @@
 //! The calls on one table of a store that aren't edits of its records. They borrow the store and
-//! the head.
+//! the table's head, which has its address, its room and its count.
 ghost use Rattle.std.specs.Prelude.{◌≡◌, ◌+◌, ◌*◌, ◌^◌, ◌<◌, length, get_or};
 ghost use Rattle.bm_base.specs.Range.{Meet};
 ghost use Rattle.phys_store.specs.Bytes.{ArePrepared};
@@ -16,8 +16,8 @@ use bm_base::Range;
 use phys_store::Store;
 use run_edits::Rows;
 
-/// Moves the head's table to address `place`, with twice the room, and fills the old bytes with
-/// zeros. The new bytes must be prepared, and must not overlap the old ones.
+/// Moves the table that `head` describes to address `place`, doubles its room, and fills its old
+/// bytes with zeros. The new bytes must be prepared, and must not overlap the old ones.
 pub fn relocate(store: &mut Store, head: &mut Head, place: u64)
     requires table { HasTable store.old head.old }
     requires small { place + 48 * head.old.room < 2 ^ 64 }
@@ -50,7 +50,8 @@ pub fn relocate(store: &mut Store, head: &mut Head, place: u64)
     };
 }
 
-/// Returns the record at index `i`, counted from 0, as plain numbers.
+/// Returns the record at index `i`, counted from 0, as plain numbers. `i` must be below the table's
+/// count.
 pub fn region(store: &Store, head: &Head, i: u64) -> Region
     requires table { HasTable store.now head.now }
     requires within { i < length (records_of_head store.now head.now) }
@@ -63,7 +64,7 @@ pub fn region(store: &Store, head: &Head, i: u64) -> Region
     region_of(&seen.get(i))
 }
 
-/// Returns a reader for the records of the head's table.
+/// Returns a reader for the records of the table that `head` describes.
 pub fn records<'a>(store: &'a Store, head: &Head) -> Records<'a>
     requires table { HasTable store.now head.now }
     requires records { AreRecords (records_of_head store.now head.now) }
@@ -75,7 +76,7 @@ pub fn records<'a>(store: &'a Store, head: &Head) -> Records<'a>
     )
 }
 
-/// Returns the range of the table's bytes: all of its room.
+/// Returns the range that the table's array takes: 24 bytes for each record that it has room for.
 pub fn bytes(head: &Head) -> Range
     requires { head.now.place + 24 * head.now.room < 2 ^ 64 }
     ensures { result ≡ bytes_of_head head.now }

@@ -1,6 +1,6 @@
 //! Laws for the layer above. They say how many records an edit may add. They also say that a table
-//! always has the records that a list of items gives it, if it is edited for each item that is
-//! appended to the list.
+//! always has the records that a list of journal items gives it, if it is edited for each item that
+//! is appended to the list.
 ghost use Rattle.std.specs.Prelude.{◌≡◌, ℕ, ◌+◌, ◌^◌, ◌<◌, ◌≤◌, None, List, [], ◌∷◌, ◌++◌, length};
 ghost use Rattle.bm_base.specs.Range.{RangeView, end_of};
 ghost use Rattle.address_runs.specs.Runs.{RunOf, value_at};
@@ -12,9 +12,10 @@ ghost use Rattle.memblock_model.specs.Items.{trim_frames};
 ghost use Rattle.memblock_model.specs.Tables.{table_of, table_after, records_for, records_of, uncovered_run_count};
 ghost use Rattle.memblock_ranges.specs.Steps.{RangeEndsInAddressSpace};
 
-/// Law: an edit adds few records. Covering a range adds at most one record for each uncovered
-/// piece of it (counted by `memblock_add_range`). Uncovering a range adds at most one. Giving a
-/// range a node adds at most two (`memblock_isolate_range`). Trimming adds none.
+/// Law: an edit adds few records. Adding a range to a table adds at most one record for each piece
+/// of the range that the table doesn't cover yet (`nr_new` in `memblock_add_range`). Removing a
+/// range adds at most one. Giving a range a node or a mirror flag adds at most two
+/// (`memblock_isolate_range`). Trimming adds none.
 pub fn edits_add_few_records()
     ensures covered { (r : RangeView) (label : LabelView) (f : Labels) → end_of r ≤ 2 ^ 64
         → IsEmptyFrom (2 ^ 64) f →
@@ -29,8 +30,8 @@ pub fn edits_add_few_records()
         length (records_for (trim_frames f)) ≤ length (records_for f) }
 {}
 
-/// Law: a range has at most one more uncovered piece than the table has records. If a range isn't
-/// empty and none of it is covered, it has exactly one uncovered piece.
+/// Law: if a table has n records, it leaves at most n + 1 pieces of a range uncovered. If it covers
+/// no byte of a range that isn't empty, the whole range is one such piece.
 pub fn uncovered_pieces_are_few()
     ensures few { (r : RangeView) (f : Labels) → end_of r ≤ 2 ^ 64 → IsEmptyFrom (2 ^ 64) f →
         uncovered_run_count r f ≤ length (records_for f) + 1 }
@@ -38,9 +39,10 @@ pub fn uncovered_pieces_are_few()
         ((x : ℕ) → r.base ≤ x → x < end_of r → f x ≡ None) → uncovered_run_count r f ≡ 1 }
 {}
 
-/// Law: if a table has the records of a list of items and is edited as one more item says, it then
-/// has the records of the longer list. If the item doesn't change the table, the table has the
-/// records of both lists without an edit.
+/// Law: assume that a table has the records of a list of items. If it is edited as one more item
+/// says, it has the records of the list with that item. If the item doesn't change the table, it
+/// has them without an edit. No record ends above 2^64 if none did before and the item's range
+/// doesn't.
 pub fn edited_tables_match_items()
     ensures edited { (w : Which) (items : List Item) (i : Item) (old new : List (RunOf LabelView)) →
         IsEmptyFrom (2 ^ 64) (table_of w items) → old ≡ records_of w items →

@@ -9,7 +9,7 @@ use crate::record::Record;
 use bm_base::Range;
 use run_edits::{Rows, seek, skip_ended, value_and_end};
 
-/// Counts the runs of the range's bytes that the table doesn't cover.
+/// Counts the pieces of the range that the table doesn't cover. Each piece is as long as possible.
 pub fn count_pieces<T: Rows<Record>>(table: &T, range: &Range) -> u64
     requires { AreRecords (T.list table.now) }
     ensures { result ≡ uncovered_run_count range.now (value_at (T.list table.now)) }
@@ -32,9 +32,9 @@ pub fn count_pieces<T: Rows<Record>>(table: &T, range: &Range) -> u64
     count
 }
 
-/// Returns 1 if a piece ends between two neighbouring bytes, else 0. `here` says that the first
-/// byte isn't covered, `there` that the second isn't, and `inside` that the second is in the
-/// range.
+/// Returns 1 if an uncovered piece of the range ends between two neighbouring bytes, else 0. `here`
+/// says that the first byte isn't covered, `there` that the second isn't, and `inside` that the
+/// second is in the range.
 fn ends_piece(here: bool, there: bool, inside: bool) -> u64
     ensures { result ≡ (if here && not (inside && there) then 1 else 0) }
 {

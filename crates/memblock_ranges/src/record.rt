@@ -15,7 +15,7 @@ pub const NO_NODE: u32 = 1024;
 /// A record as an edit sees it: a run of addresses with one label.
 pub type Record = RunOf<Label>;
 
-/// Returns the node that a node field means, or `None` for 1,024.
+/// Returns the node that a record's node field means, or `None` for 1,024.
 pub fn node_of_field(field: u32) -> Option<u32>
     ensures { result ≡ node_of_field field }
 {
@@ -59,7 +59,7 @@ pub fn decode_record(bytes: &[u8]) -> Record
     }
 }
 
-/// Encodes the four numbers, little-endian.
+/// Encodes the four fields of a record as 24 little-endian bytes.
 #[tactic(auto, unfolding(crate::specs::Encoding::encode_fields))]
 fn encode_fields(base: u64, size: u64, flags: u32, node: u32) -> [u8; 24]
     ensures { result ≡ encode_fields base size flags node }
@@ -85,7 +85,7 @@ pub fn encode_record(record: &Record) -> [u8; 24]
     )
 }
 
-/// Returns the record as plain numbers, from which it can be computed again.
+/// Returns the four fields of the record as plain numbers. The record can be computed from them.
 pub fn region_of(record: &Record) -> Region
     ensures region { result ≡ region_of record.now }
     ensures fits { FitsRecord record.now }

@@ -11,7 +11,8 @@ use crate::region::{RECORD_SIZE, Region, decode_region};
 use memblock_model::Label;
 use std::marker::Model;
 
-/// The records of a table, borrowed from the store. Contracts see the list of their runs.
+/// The records of a table, borrowed from the store. Contracts see them as a list of runs: ranges of
+/// addresses with a label.
 #[derive(Drop)]
 pub struct Records<'a> {
     bytes: &'a [u8],
@@ -52,8 +53,8 @@ impl Records<'_> {
         self.count
     }
 
-    /// Returns the record at index `i`, counted from 0. Its end is below 2^64, and its node at
-    /// most 1,024, which means none.
+    /// Returns the record at index `i`, which is counted from 0 and must be below the count. Its
+    /// end is below 2^64. Its node is at most 1,024, and 1,024 means that it has none.
     pub fn get(&self, i: u64) -> Region
         requires { i < length self.now }
         ensures region { (r : RunOf LabelView) → result ≡ region_of (get_or self.now i r) }

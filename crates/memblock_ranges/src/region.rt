@@ -1,5 +1,6 @@
-//! Records and heads as plain numbers. [`region_at`] reads a record with only the store and the
-//! head of a table. It decodes any 24 bytes, so a [`Region`] has no invariant.
+//! The record of a table and the head of a table, as plain numbers. [`region_at`] reads a record
+//! with only the store and the head of a table. It decodes any 24 bytes, so a [`Region`] has no
+//! invariant.
 ghost use Rattle.std.specs.Prelude.{◌≡◌, ◌+◌, ◌*◌, ◌^◌, ◌<◌, ◌≤◌, length};
 ghost use Rattle.phys_store.specs.Bytes.{byte_of, bytes_at};
 ghost use Rattle.memblock_ranges.specs.Encoding.{decode_region};
@@ -55,8 +56,8 @@ pub fn decode_region(bytes: &[u8]) -> Region
     }
 }
 
-/// Decodes the record at index `i`, counted from 0, of the head's table. A byte that isn't
-/// prepared reads as 0.
+/// Decodes the record at index `i`, counted from 0, of the table that `head` describes. Bytes whose
+/// address isn't prepared read as 0.
 pub fn region_at(store: &Store, head: &Head, i: u64) -> Region
     requires { head.now.place + 24 * i + 24 < 2 ^ 64 }
     ensures { result ≡ decode_region (bytes_at (byte_of store.now) (head.now.place + 24 * i) 24) }

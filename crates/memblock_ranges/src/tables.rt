@@ -1,6 +1,6 @@
 //! Both tables in one store. An edit of one table's records borrows the store and the head of that
-//! table, and calls the sweep of `run_edits`. A change tells the sweep what happens to the label
-//! of a single address. The other table is unchanged.
+//! table, and calls `run_edits` with a change: what happens to the label of a single address. The
+//! other table is unchanged.
 ghost use Rattle.std.specs.Prelude.{◌≡◌, ℕ, ◌+◌, ◌-◌, ◌*◌, ◌^◌, ◌<◌, ◌≤◌, ◌↔◌, ◌||◌, true, false, Some, [], length, get_or, OnOk, OnErr, IfOk, IsTrue};
 ghost use Rattle.bm_base.specs.Range.{covers, end_of, Meet};
 ghost use Rattle.phys_store.specs.Bytes.{byte_of, is_prepared_at, ArePrepared, WritesBytes, bytes_at};
@@ -31,7 +31,8 @@ use std::marker::Model;
 /// The number of records that a table has room for at first (`INIT_MEMBLOCK_REGIONS`).
 pub const FIRST_ROOM: u64 = 128;
 
-/// Both tables, in the bytes of the memory that they describe.
+/// memblock's two tables, stored in the bytes of the memory that they describe. Contracts see the
+/// records, address and room of each table, and the store with the bytes.
 #[derive(Debug, Drop)]
 pub struct Tables {
     store: Store,
@@ -58,7 +59,7 @@ impl Tables {
     ///
     /// # Errors
     ///
-    /// `Memory` if this program is out of memory.
+    /// - `Memory`: the program ran out of memory.
     #[tactic(auto, using(crate::proofs::NewLaws::first_table))]
     pub fn new(alloc: Global, kernel: Range) -> Result<Tables, Memory>
         requires { 8192 ≤ kernel.size }
@@ -97,7 +98,8 @@ impl Tables {
     }
 
     /// Returns the table's record at index `i`, which is counted from 0 and must be below the
-    /// table's count. Its end is below 2^64, and its node at most 1,024, which means none.
+    /// table's count. Its end is below 2^64. Its node is at most 1,024, and 1,024 means that it has
+    /// none.
     pub fn region(&self, which: Which, i: u64) -> Region
         requires { i < length (records_in which self.now) }
         ensures region { (r : RunOf LabelView)
@@ -121,8 +123,8 @@ impl Tables {
         }
     }
 
-    /// Counts the runs of the range's bytes that the table doesn't cover. Covering the range adds
-    /// at most that many records.
+    /// Counts the pieces of the range that the table doesn't cover. Inserting the range adds at
+    /// most that many records.
     pub fn pieces(&self, which: Which, range: Range) -> u64
         ensures { result ≡ uncovered_run_count range (value_at (records_in which self.now)) }
     {
@@ -146,7 +148,8 @@ impl Tables {
 
     /// Adds to the table the bytes of the range that it doesn't cover, with this node and no flag
     /// (`memblock_add_range`). Node 1,024 means none; for the reserved table it must be 1,024. The
-    /// range must not be empty, and the table must have room for its pieces ([`Tables::pieces`]).
+    /// range must not be empty, and the table must have room for as many more records as
+    /// [`Tables::pieces`] returns.
     pub fn insert(&mut self, which: Which, range: Range, node: u32)
         requires some { 0 < range.size }
         requires node { MayBeNodeField which node }
@@ -222,8 +225,8 @@ impl Tables {
         }
     }
 
-    /// Gives the node to the memory of the range, which keeps its flags (`memblock_set_node`). The
-    /// memory table must have room for two more records.
+    /// Gives the node, which must be below 1,024, to the memory of the range, which keeps its flags
+    /// (`memblock_set_node`). The memory table must have room for two more records.
     #[tactic(auto, using(crate::proofs::EditLaws::labels_tell))]
     pub fn set_node(&mut self, range: Range, node: u32)
         requires node { node < 1024 }
@@ -273,8 +276,8 @@ impl Tables {
         edit_without_cover(&mut live, &range, SetMirror);
     }
 
-    /// Cuts memory to whole frames: a byte keeps its label if all bytes of its frame have it, and
-    /// else is no longer memory (`memblock_trim_memory`).
+    /// Cuts memory to whole frames (`memblock_trim_memory`). A byte keeps its label if all bytes of
+    /// its 4 KiB frame have the same label; otherwise it is no longer memory.
     pub fn trim(&mut self)
         ensures memory { self.new.memory ≡ record self.old.memory {
           records = records_for
@@ -298,8 +301,8 @@ impl Tables {
     ///
     /// # Errors
     ///
-    /// `Memory` if this program is out of memory. The store is then unchanged, and some address of
-    /// the range wasn't prepared.
+    /// - `Memory`: the program ran out of memory; the store is unchanged. This error is possible
+    ///   only if some address of the range wasn't prepared.
     pub fn prepare(&mut self, range: Range) -> Result<(), Memory>
         ensures memory { self.new.memory ≡ self.old.memory }
         ensures reserved { self.new.reserved ≡ self.old.reserved }
@@ -341,7 +344,7 @@ impl Tables {
         }
     }
 
-    /// Tests whether an address of the range belongs to a table.
+    /// Tests whether the range has a byte of either table's array.
     pub fn overlaps_table(&self, range: Range) -> bool
         ensures { IsTrue result ↔ OverlapsTable self.now range }
     {

@@ -1,5 +1,5 @@
-//! Cuts each record to whole frames, in one pass from the lowest record up. The table is changed
-//! in place. A record is never split in two, so the pass needs no free slots.
+//! Cuts each record of the memory table to whole frames, in one pass from the lowest record up. The
+//! table is changed in place. A record is never split in two, so the pass needs no free slots.
 ghost use Rattle.std.specs.Prelude.{◌≡◌, ◌+◌, ◌-◌, ◌%◌, ◌<◌, ◌≤◌};
 ghost use Rattle.bm_base.specs.Range.{end_of};
 ghost use Rattle.address_runs.specs.Runs.{value_at};
@@ -12,8 +12,8 @@ use address_runs::Stretch;
 use bm_base::{FRAME_SIZE, Range};
 use run_edits::{Slots, write_run};
 
-/// Returns where the whole frames of the range begin and end. If the range has no whole frame, the
-/// first address isn't below the second.
+/// Returns the addresses where the first whole 4 KiB frame of the range begins and the last one
+/// ends. If the range has no whole frame, the first address isn't below the second.
 fn whole_frame_bounds(range: &Range) -> (u64, u64)
     ensures start { result.0 < result.1
         → result.0 ≡ range.now.base + (FRAME_SIZE - range.now.base % FRAME_SIZE) % FRAME_SIZE }
