@@ -1,15 +1,17 @@
--- Unclaimed memory and its runs (`__next_mem_range`, `for_each_free_mem_range`).
+-- Unclaimed memory and its runs, ranges as long as possible with one label (`__next_mem_range`,
+-- `for_each_free_mem_range`).
 use Rattle.std.specs.Prelude.{◌≡◌, ◌≢◌, ℕ, ◌+◌, ◌<◌, ◌≤◌, is_none, if◌then◌else◌, Option, Some, None, List}
 use Rattle.address_runs.specs.Runs.{RunOf, run_end, value_at}
 use Rattle.address_runs.specs.Sweep.{HasValueBetween}
 use Rattle.memblock_model.specs.Labels.{LabelView, Labels}
 use Rattle.memblock_ranges.specs.Tables.{TablesView}
 
--- unclaimed memory: the label of each byte that is memory and isn't claimed
+-- the label of each byte that is memory and isn't claimed; None for every other byte
 abbrev pub unclaimed_memory : Labels → Labels → Labels
 unclaimed_memory memory reserved x = if is_none (reserved x) then memory x else None
 
--- the unclaimed memory of two tables
+-- the label of each byte that the memory table covers and the reserved table doesn't; None for
+-- every other byte
 abbrev pub unclaimed_in_tables : TablesView → Labels
 unclaimed_in_tables t = unclaimed_memory (value_at t.memory.records) (value_at t.reserved.records)
 
@@ -20,8 +22,8 @@ pub record FreeRunsView : Type 0 where
   pub reserved : List (RunOf LabelView)
   pub at : ℕ
 
--- the unclaimed memory of both tables that the walk reads, also below the address that it has
--- reached
+-- the label of each byte of unclaimed memory in the two tables that the walk reads. It also has the
+-- bytes that the walk has passed.
 abbrev pub unclaimed_in_walk : FreeRunsView → Labels
 unclaimed_in_walk p = unclaimed_memory (value_at p.memory) (value_at p.reserved)
 

@@ -13,7 +13,7 @@ use Rattle.memblock_find.specs.declared.cursor.Cursor.{Cursor}
 abbrev pub nth_record : List (RunOf LabelView) → ℕ → RunOf LabelView
 nth_record rs i = get_or rs i (record { base = 0; size = 0; value = plain_label })
 
--- the records `rs` are in order, and only the first `count` of them can begin below address `at`
+-- the records `rs` are in order, and none but the first `count` of them begins below address `at`
 pub record OnlyFirstMayBegin (at : ℕ) (rs : List (RunOf LabelView)) (count : ℕ) : Type 0 where
   pub runs : AreRuns rs
   pub within : count ≤ length rs
@@ -34,18 +34,18 @@ pub record ExactlyFirstEndAtOrBelow (at : ℕ) (rs : List (RunOf LabelView)) (co
   pub before : (i : ℕ) → i < count → run_end (nth_record rs i) ≤ at
   pub behind : (i : ℕ) → count ≤ i → i < length rs → at < run_end (nth_record rs i)
 
--- `look` is a look downward from address `at`. All addresses from its bound to below `at` have
--- its label, and the address right below the bound has another. Its slot is the number of records
--- that begin below the bound.
+-- `look` says what the records give the addresses right below `at`. All addresses from its bound to
+-- just below `at` have its label, and the address right below the bound has another. Its slot is
+-- the number of records that begin below the bound.
 pub record IsLookDown (rs : List (RunOf LabelView)) (at : ℕ) (look : Look) : Type 0 where
   pub down : IsStretchWithBottom (value_at rs) look.bound at look.label
   pub next : ExactlyFirstBeginBelow look.bound rs look.slot
   pub order : look.bound ≤ at
   pub below : 0 < at → look.bound < at
 
--- `look` is a look upward from address `at`. All addresses from `at` to below its bound have its
--- label. The address at the bound has another, unless no record follows: then the bound is the
--- last address of 64 bits. Its slot is the number of records that end at or below the bound.
+-- `look` says what the records give the addresses from `at` on. All addresses from `at` to just
+-- below its bound have its label. The address at the bound has another, unless no record follows:
+-- then the bound is 2^64 - 1. Its slot is the number of records that end at or below the bound.
 pub record IsLookUp (rs : List (RunOf LabelView)) (at : ℕ) (look : Look) : Type 0 where
   pub stays : HasValueBetween (value_at rs) at look.bound look.label
   pub another : look.label ≢ None → value_at rs look.bound ≢ look.label
@@ -56,17 +56,18 @@ pub record IsLookUp (rs : List (RunOf LabelView)) (at : ℕ) (look : Look) : Typ
   pub ahead : at < 2 ^ 64 - 1 → at < look.bound
   pub left : at ≡ look.bound → IsEmptyFrom at (value_at rs)
 
--- the label of the addresses that both looks of the cursor describe, if these addresses are
--- unclaimed memory, else None
+-- the label of the addresses next to the cursor if they are unclaimed memory, else None
 abbrev pub unclaimed_label : Cursor → Option LabelView
 unclaimed_label c = if is_none c.reserved.label then c.memory.label else None
 
--- the cursor is a position of a walk down (`IsWalkDownAt`) or up (`IsWalkUpAt`): each of its two
--- looks is a look in that direction, from the cursor's address, at the records of one table
+-- the cursor is a position of a walk down: its two looks say what the memory table (`records`) and
+-- the reserved table (`claims`) give the addresses right below the cursor
 pub record IsWalkDownAt (records claims : List (RunOf LabelView)) (c : Cursor) : Type 0 where
   pub memory : IsLookDown records c.at c.memory
   pub reserved : IsLookDown claims c.at c.reserved
 
+-- the cursor is a position of a walk up: its two looks say what the memory table (`records`) and
+-- the reserved table (`claims`) give the addresses from the cursor on
 pub record IsWalkUpAt (records claims : List (RunOf LabelView)) (c : Cursor) : Type 0 where
   pub memory : IsLookUp records c.at c.memory
   pub reserved : IsLookUp claims c.at c.reserved

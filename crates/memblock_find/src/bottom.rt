@@ -1,6 +1,6 @@
 //! The search from below (`__memblock_find_range_bottom_up`). It walks over unclaimed memory from
-//! the window's start up, one stretch of a single label at a time. The first stretch with a place
-//! that fits has the lowest such place.
+//! the start of the query's window up, one stretch of a single label at a time. The first stretch
+//! in which the query fits has the lowest address at which it fits.
 ghost use Rattle.std.specs.Prelude.{◌≡◌, ◌≢◌, ℕ, ◌^◌, ◌≤◌, true, max, min, MatchOption, Option, Some, None};
 ghost use Rattle.address_runs.specs.Runs.{value_at};
 ghost use Rattle.address_runs.specs.Sweep.{HasValueBetween};
@@ -16,8 +16,9 @@ use bm_base::FRAME_SIZE;
 use memblock_model::{Label, Query};
 use memblock_ranges::Tables;
 
-/// Returns the least address of a place that fits the query, or `None`. If `mirror` is set, only
-/// mirrored memory is allowed. The size must be at least 1, and the alignment a power of two.
+/// Returns the least address at which the query fits, or `None` if it fits nowhere. If `mirror` is
+/// true, only mirrored memory is searched. The query's size must be at least 1, and its alignment a
+/// power of two.
 // Never compiled into `find`: with both loops in one function there are too few registers, which
 // costs time at each record.
 #[inline(never)]
@@ -46,9 +47,10 @@ pub fn find_upward(tables: &Tables, query: &Query, mirror: bool) -> Option<u64>
     None
 }
 
-/// Returns the least address, from `from` to just below `until`, of a place that fits the query,
-/// or `None`. `label` is the label of the addresses from `from` to below `until`, or `None` if
-/// none of them is unclaimed memory. A label must change at `until`.
+/// Returns the least address, from `from` to just below `until`, at which the query fits, or
+/// `None`. `label` is the label of all addresses from `from` to just below `until`, or `None` if
+/// none of them is unclaimed memory. The address `until` must have another label, unless `label` is
+/// `None`.
 fn lowest_place_in_stretch(
     query: &Query,
     mirror: bool,
@@ -75,8 +77,8 @@ fn lowest_place_in_stretch(
     first_between(from, until.min(query.hi), query.size, query.align)
 }
 
-/// Returns the least multiple of `align` at which `size` bytes lie between the addresses `low`
-/// and `high`, or `None`.
+/// Returns the least multiple of `align` at which `size` bytes lie between the addresses `low` and
+/// `high`, or `None` if there is none. `align` must be a power of two.
 fn first_between(low: u64, high: u64, size: u64, align: u64) -> Option<u64>
     requires { (k : ℕ) × (align ≡ 2 ^ k) }
     ensures { MatchOption result ((b : ℕ) → FitsBetween low high size align b → ⊥)

@@ -7,15 +7,15 @@ ghost use Rattle.memblock_find.specs.Walk.{OnlyFirstMayBegin, ExactlyFirstBeginB
 use crate::cursor::{Cursor, Look, RecordReaders};
 use memblock_ranges::Records;
 
-/// Returns the number of records that begin below the address `at`, by binary search.
+/// Returns the number of records that begin below address `at`. The search is binary.
 fn count_beginning_below(records: &Records<'_>, at: u64) -> u64
     ensures { ExactlyFirstBeginBelow at records.now result }
 {
     count_beginning_among(records, records.count(), at)
 }
 
-/// Returns the number of records that begin below the address `at`, by binary search. All of them
-/// must be among the first `count` records.
+/// Returns the number of records that begin below address `at`, by a binary search of the first
+/// `count` records. No later record may begin below `at`.
 fn count_beginning_among(records: &Records<'_>, count: u64, at: u64) -> u64
     requires { OnlyFirstMayBegin at records.now count }
     ensures { ExactlyFirstBeginBelow at records.now result }
@@ -36,8 +36,8 @@ fn count_beginning_among(records: &Records<'_>, count: u64, at: u64) -> u64
     low
 }
 
-/// Returns the label that the records give the addresses right below `at`, and how far down they
-/// have it. Exactly `slot` records must begin below `at`.
+/// Returns the label that the table gives the addresses right below `at`, and the lowest address
+/// down to which they have it. Exactly `slot` records must begin below `at`.
 pub fn look_down(records: &Records<'_>, slot: u64, at: u64) -> Look
     requires { ExactlyFirstBeginBelow at records.now slot }
     ensures { IsLookDown records.now at result }
@@ -66,8 +66,9 @@ pub fn look_down(records: &Records<'_>, slot: u64, at: u64) -> Look
     }
 }
 
-/// Returns the look of a walk that has come from `from` down to `at`. As long as the walk is above
-/// the bound of `look`, the result is `look`.
+/// Returns what the table says about the addresses right below `at`, for a walk that has come from
+/// `from` down to `at`. `look` is what it said at `from`, and stays valid while the walk is above
+/// its bound. At the bound the next record is read.
 fn look_after_move(records: &Records<'_>, look: Look, from: u64, at: u64) -> Look
     requires look { IsLookDown records.now from look }
     requires above { look.bound ≤ at }
@@ -81,9 +82,9 @@ fn look_after_move(records: &Records<'_>, look: Look, from: u64, at: u64) -> Loo
     }
 }
 
-/// Returns the look of a walk that jumps from `from` down to `at`, which may be far below the
-/// bound of `look`. The records in between aren't read: if the walk jumps over several, a binary
-/// search finds the next one.
+/// Returns what the table says about the addresses right below `at`, for a walk that jumps from
+/// `from` down to `at`. `look` is what it said at `from`; `at` may be far below its bound. The
+/// records in between aren't read: a binary search finds the next one.
 pub fn look_after_jump(records: &Records<'_>, look: Look, from: u64, at: u64) -> Look
     requires look { IsLookDown records.now from look }
     requires below { at ≤ from }
@@ -96,7 +97,8 @@ pub fn look_after_jump(records: &Records<'_>, look: Look, from: u64, at: u64) ->
     look_down(records, slot, at)
 }
 
-/// Starts a walk down at the address.
+/// Returns the position of a walk down that starts at address `at`. It takes a binary search in
+/// each table.
 // `#[inline]` is only a hint here, because the function has several callers. A cursor that isn't
 // inlined is returned through memory, which costs time in a search whose first gap fits.
 #[inline]
@@ -114,8 +116,9 @@ pub fn start_walk_down(lists: &RecordReaders<'_>, at: u64) -> Cursor
 }
 
 impl Cursor {
-    /// Returns the lowest address of the stretch that has the cursor's label. If the stretch is
-    /// unclaimed memory, the address below it isn't unclaimed memory of the same label.
+    /// Returns the lowest address of the stretch right below the cursor: down to it all addresses
+    /// have the cursor's label. If the stretch is unclaimed memory, the address below it isn't
+    /// unclaimed memory of the same label.
     pub fn bottom(&self) -> u64
         ensures { result ≡ max self.now.memory.bound self.now.reserved.bound }
     {

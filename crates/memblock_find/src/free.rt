@@ -1,6 +1,7 @@
-//! Finds runs of unclaimed memory one at a time: the next run below an address, or from an
-//! address on. To get the run after it, call again with its start (downward) or its end (upward).
-//! Each call takes two binary searches, and a step for each record that it passes.
+//! Finds runs of unclaimed memory one at a time: the next run below an address, or from an address
+//! on. A run is a range of unclaimed memory with one label, as long as possible. To get the run
+//! after it, call again with its start (downward) or its end (upward). Each call takes two binary
+//! searches, and a step for each record that it passes.
 ghost use Rattle.std.specs.Prelude.{◌≡◌, ◌-◌, ◌≤◌, MatchOption, IfSome, None};
 ghost use Rattle.address_runs.specs.Runs.{run_end, value_at};
 ghost use Rattle.address_runs.specs.Edits.{IsEmptyFrom};
@@ -16,15 +17,15 @@ use memblock_model::Label;
 use memblock_ranges::{Tables, node_field};
 use std::marker::Model;
 
-/// A run of unclaimed memory that has one label. In contracts it is a run of addresses with that
-/// label.
+/// A range of unclaimed memory that has one label. Contracts see it as a run: a range of addresses
+/// with that label.
 #[derive(Clone, Copy, Debug, PartialEq, Eq)]
 pub struct FreeRange {
-    /// The addresses of the run.
+    /// The addresses of the range.
     pub range: Range,
     /// The node, or 1,024 for none (`MAX_NUMNODES`).
     pub node: u32,
-    /// Whether the run is mirrored (`MEMBLOCK_MIRROR`).
+    /// Whether the range is mirrored (`MEMBLOCK_MIRROR`).
     pub mirror: bool,
 }
 
@@ -56,7 +57,7 @@ impl Model for FreeRange {
 }
 
 impl FreeRange {
-    /// Returns the run from `from` to below `until`, with this label.
+    /// Returns the range from `from` to just below `until`, with this label.
     fn between(from: u64, until: u64, label: Label) -> FreeRange
         requires { from ≤ until }
         ensures { result ≡ record { base = from; size = until - from; value = label } }
@@ -72,9 +73,9 @@ impl FreeRange {
     }
 }
 
-/// Returns the highest run of unclaimed memory that begins below `below`, or `None` if no address
-/// below it is unclaimed memory (`__next_mem_range_rev`). A run that continues above `below` is
-/// cut to end at `below`.
+/// Returns the highest run of unclaimed memory (with one label) that begins below the address
+/// `below`, or `None` if no address below it is unclaimed memory (`__next_mem_range_rev`). A run
+/// that continues above `below` is cut to end at `below`.
 pub fn prev_free(tables: &Tables, below: u64) -> Option<FreeRange>
     ensures { MatchOption result (HasValueBetween (unclaimed_in_tables tables.now) 0 below None)
         (IsRunBelow (unclaimed_in_tables tables.now) below) }
@@ -82,7 +83,9 @@ pub fn prev_free(tables: &Tables, below: u64) -> Option<FreeRange>
     prev_free_in_readers(&record_readers(tables), below)
 }
 
-/// Like [`prev_free`], with the readers of both tables instead of the tables.
+/// Returns the highest run of unclaimed memory that begins below the address `below`, or `None` if
+/// no address below it is unclaimed memory. A run that continues above `below` is cut to end at
+/// `below`. `lists` has the records of both tables.
 fn prev_free_in_readers(lists: &RecordReaders<'_>, below: u64) -> Option<FreeRange>
     ensures { MatchOption result (HasValueBetween
         (unclaimed_memory (value_at lists.now.memory) (value_at lists.now.reserved)) 0 below None)
@@ -99,9 +102,9 @@ fn prev_free_in_readers(lists: &RecordReaders<'_>, below: u64) -> Option<FreeRan
     None
 }
 
-/// Returns the lowest run of unclaimed memory that ends past `from`, or `None` if no address from
-/// `from` on is unclaimed memory (`__next_mem_range`). A run that begins below `from` is cut to
-/// begin at `from`.
+/// Returns the lowest run of unclaimed memory (with one label) that ends past `from`, or `None` if
+/// no address from `from` on is unclaimed memory (`__next_mem_range`). A run that begins below
+/// `from` is cut to begin at `from`.
 pub fn next_free(tables: &Tables, from: u64) -> Option<FreeRange>
     ensures { MatchOption result (IsEmptyFrom from (unclaimed_in_tables tables.now))
         (IsRunFrom (unclaimed_in_tables tables.now) from) }
@@ -109,7 +112,9 @@ pub fn next_free(tables: &Tables, from: u64) -> Option<FreeRange>
     next_free_in_readers(&record_readers(tables), from)
 }
 
-/// Like [`next_free`], with the readers of both tables instead of the tables.
+/// Returns the lowest run of unclaimed memory that ends past `from`, or `None` if no address from
+/// `from` on is unclaimed memory. A run that begins below `from` is cut to begin at `from`. `lists`
+/// has the records of both tables.
 fn next_free_in_readers(lists: &RecordReaders<'_>, from: u64) -> Option<FreeRange>
     ensures { MatchOption result (IsEmptyFrom from
         (unclaimed_memory (value_at lists.now.memory) (value_at lists.now.reserved)))
@@ -119,7 +124,8 @@ fn next_free_in_readers(lists: &RecordReaders<'_>, from: u64) -> Option<FreeRang
     find_run_up(lists, cursor_from(lists, from)).run
 }
 
-/// The first run of a walk up, and the position of the walk after it.
+/// The first run of unclaimed memory that a walk up has found, or `None`, and the position of the
+/// walk after it.
 #[derive(Clone, Copy)]
 struct FoundRun {
     run: Option<FreeRange>,
@@ -127,7 +133,7 @@ struct FoundRun {
 }
 
 /// Walks up to the end of the first run of unclaimed memory, or to the highest address if there is
-/// none. Returns the run and the position after it.
+/// none. Returns the run and the walk's position after it.
 fn find_run_up(lists: &RecordReaders<'_>, from: Cursor) -> FoundRun
     requires { IsWalkUpAt lists.now.memory lists.now.reserved from }
     ensures run { MatchOption result.run (IsEmptyFrom from.at
@@ -150,9 +156,9 @@ fn find_run_up(lists: &RecordReaders<'_>, from: Cursor) -> FoundRun
     FoundRun { run: None, cursor }
 }
 
-/// The runs of unclaimed memory from an address up, one after another. Each step reads only the
-/// records that the walk passes. Contracts see the records of both tables, and the address that
-/// the walk has reached.
+/// A walk up over the runs of unclaimed memory, which returns one after another. Each step reads
+/// only the records that the walk passes. Contracts see the records of both tables, and the address
+/// that the walk has reached.
 #[derive(Drop)]
 pub struct FreeRuns<'a> {
     lists: RecordReaders<'a>,
@@ -172,7 +178,7 @@ impl<'a> Model for FreeRuns<'a> {
 }
 
 impl FreeRuns<'_> {
-    /// Starts a walk at the address.
+    /// Returns a walk up that starts at address `at`.
     pub fn from(tables: &Tables, at: u64) -> FreeRuns<'_>
         ensures { result
             ≡ record {
@@ -187,8 +193,8 @@ impl FreeRuns<'_> {
         FreeRuns { lists, cursor }
     }
 
-    /// Returns the next run, or `None` if no unclaimed memory is left. It is the run that
-    /// [`next_free`] returns for the address that the walk has reached. The walk then continues at
+    /// Returns the next run of unclaimed memory, or `None` if there is none from the walk's address
+    /// on. The result is what [`next_free`] returns for that address. The walk then continues at
     /// the run's end.
     pub fn next_run(&mut self) -> Option<FreeRange>
         ensures run { MatchOption result (IsEmptyFrom self.old.at (unclaimed_in_walk self.old))

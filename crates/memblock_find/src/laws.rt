@@ -12,9 +12,9 @@ ghost use Rattle.memblock_model.specs.Search.{top_place_in, top_place, best_plac
 ghost use Rattle.memblock_ranges.specs.Tables.{TablesView};
 ghost use Rattle.memblock_find.specs.Unclaimed.{unclaimed_memory, unclaimed_in_tables, IsRunBelow, IsRunFrom};
 
-/// Law: if two tables have the records of a list of items, a search over the tables finds what a
-/// search over the items finds. Unclaimed memory is then what the items say is memory and has no
-/// owner.
+/// Law: if the two tables have the records that a list of journal items gives them, a search of the
+/// tables finds what a search defined on the items finds. Unclaimed memory is then what the items
+/// make memory and leave without an owner.
 pub fn searches_follow_the_items()
     ensures best { (items : List Item) (t : TablesView) (q : AnyQuery) →
         IsEmptyFrom (2 ^ 64) (table_of which.Memory items)
@@ -40,8 +40,8 @@ pub fn searches_follow_the_items()
         ≡ unclaimed_memory (table_of which.Memory items) (table_of which.Reserved items) }
 {}
 
-/// Law: there is at most one highest run below an address, and at most one lowest run from an
-/// address on.
+/// Law: at most one run is the highest run of unclaimed memory below an address, and at most one is
+/// the lowest from an address on.
 pub fn free_runs_are_unique()
     ensures below { (f : Labels) (below : ℕ) (r s : RunOf LabelView) → IsRunBelow f below r
         → IsRunBelow f below s → r ≡ s }

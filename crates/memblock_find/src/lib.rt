@@ -3,10 +3,11 @@
 //! Unclaimed memory is what `memblock.memory` covers and `memblock.reserved` doesn't. No function
 //! of this crate allocates memory or changes a table.
 //!
-//! - [`find`] is `memblock_find_in_range_node`. It returns the greatest address at which a place
-//!   fits a [`Query`], or the least. A place is aligned, in the window, above the first frame, and
-//!   all of it is unclaimed memory of one label. A [`Mode`] says in which direction to search, and
-//!   whether only mirrored memory is allowed.
+//! - [`find`] is `memblock_find_in_range_node`. It returns the greatest address at which a
+//!   [`Query`] fits, or the least. A query fits at an address if the range of its size there is
+//!   aligned, in the query's window, above the first frame, and entirely unclaimed memory of one
+//!   label. A [`Mode`] says in which direction to search, and whether only mirrored memory is
+//!   allowed.
 //! - [`prev_free`] and [`next_free`] return one run of unclaimed memory, below an address or from
 //!   an address on (`for_each_free_mem_range`). [`FreeRuns`] returns all runs from an address up,
 //!   one after another, and searches only once.
@@ -19,10 +20,10 @@
 //!
 //! A walk reads the records in place, and only those that it passes. A search therefore costs two
 //! binary searches, and one step for each record between the end of the window at which it begins
-//! and the place that it finds. A downward search for memory of a node, or for mirrored memory,
-//! reads only the label of a record that it skips. It continues at the end of the next record
-//! whose memory it may return. If it has passed several reserved records until then, a binary
-//! search finds the next one.
+//! and the address that it finds. A downward search for memory of a node, or for mirrored memory,
+//! reads only the label of a record that it skips. It continues at the end of the next record whose
+//! memory it may return. If it has passed several reserved records until then, a binary search
+//! finds the next one.
 #![tactic(auto)]
 
 mod bottom;

@@ -1,6 +1,6 @@
-//! The search for memory of a node, or for mirrored memory. It skips other memory one record at a
-//! time, and reads only the label of a record that it skips. It looks at the claims again only
-//! when it has found memory that it may return.
+//! The downward search for memory of a node, or for mirrored memory. It skips other memory one
+//! record at a time, and reads only the label of a record that it skips. It looks at the reserved
+//! table again only when it has found memory that it may return.
 ghost use Rattle.std.specs.Prelude.{◌≡◌, ℕ, ◌-◌, ◌^◌, ◌<◌, ◌≤◌, false, max, Some, None, length};
 ghost use Rattle.address_runs.specs.Runs.{run_end, value_at};
 ghost use Rattle.memblock_model.specs.Search.{top_place_in};
@@ -14,8 +14,8 @@ use bm_base::FRAME_SIZE;
 use memblock_model::{Label, Query};
 use memblock_ranges::{Records, Tables};
 
-/// Tests whether a search may return memory of this label. If `node` is given, the memory must be
-/// on it; if `mirror` is set, it must be mirrored.
+/// Tests whether a search may return memory with this label. If `node` is `Some`, the memory must
+/// be on that node. If `mirror` is true, the memory must be mirrored.
 pub fn is_allowed_label(mirror: bool, node: Option<u32>, label: Label) -> bool
     ensures { result ≡ is_allowed_label mirror node (Some label) }
 {
@@ -26,8 +26,9 @@ pub fn is_allowed_label(mirror: bool, node: Option<u32>, label: Label) -> bool
     allowed && (!mirror || label.has_mirror_flag())
 }
 
-/// Among the first `count` records, finds the last one whose memory the search may return. Returns
-/// the number of records up to and including that one, or 0 if there is none.
+/// Returns one more than the index of the last record, among the first `count`, whose memory the
+/// search may return, or 0 if there is none. The search may be for one `node`, for mirrored memory
+/// (`mirror`), or both.
 fn count_to_last_allowed(records: &Records<'_>, count: u64, mirror: bool, node: Option<u32>) -> u64
     requires { count ≤ length records.now }
     ensures within { result ≤ count }
@@ -58,8 +59,8 @@ pub fn end_of_records(records: &Records<'_>, count: u64) -> u64
 }
 
 impl Cursor {
-    /// Tests whether the search may return the memory at the cursor: there is memory at the
-    /// cursor, and its label is allowed.
+    /// Tests whether there is memory right below the cursor and the search may return it: it must
+    /// be on `node`, if that is `Some`, and mirrored, if `mirror` is true.
     fn is_allowed(&self, mirror: bool, node: Option<u32>) -> bool
         requires { is_allowed_label mirror node None ≡ false }
         ensures { result ≡ is_allowed_label mirror node self.now.memory.label }
@@ -70,8 +71,8 @@ impl Cursor {
         }
     }
 
-    /// Returns the walk, moved down to the end of the next record that the search may use, below
-    /// the one at the cursor. If there is no such record, moves it to address 0.
+    /// Returns the walk after a jump down: to the end of the next lower record of the memory table
+    /// that the search may return, or to address 0 if there is none.
     // Only a hint to inline, as at `start_walk_down`: this function has several callers too.
     #[inline]
     fn walk_down_to_allowed(
@@ -96,9 +97,9 @@ impl Cursor {
         }
     }
 
-    /// Returns the position of the walk after it has moved down to [`Cursor::bottom`]. If the
-    /// memory at the cursor isn't allowed in this search, the walk moves further down, to memory
-    /// that is.
+    /// Returns the position of the walk after its next step. If the search may return the memory
+    /// right below the cursor, the walk moves to [`Cursor::bottom`]. Otherwise it moves to the end
+    /// of the next lower record that the search may return, or to address 0 if there is none.
     fn down_to_allowed(&self, lists: &RecordReaders<'_>, mirror: bool, node: Option<u32>) -> Cursor
         requires narrow { is_allowed_label mirror node None ≡ false }
         requires down { IsWalkDownAt lists.now.memory lists.now.reserved self.now }
@@ -115,8 +116,8 @@ impl Cursor {
     }
 }
 
-/// Returns the greatest address of a place that fits the query, or `None`. If `mirror` is set,
-/// only mirrored memory is allowed. The query must name a node, or `mirror` must be set.
+/// Returns the greatest address at which the query fits, or `None` if it fits nowhere. If `mirror`
+/// is true, only mirrored memory is searched. The query must name a node, or `mirror` must be true.
 // Never compiled into `find`, and with its own loop: with both loops in one function there are too
 // few registers, which costs time at each record of a search for any memory.
 #[inline(never)]

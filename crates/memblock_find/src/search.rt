@@ -1,8 +1,8 @@
 //! The search (`memblock_find_in_range_node`), with the part that goes from the top down
-//! (`__memblock_find_range_top_down`). It walks over unclaimed memory from the window's end down,
-//! one stretch of a single label at a time. The first stretch with a place that fits has the
-//! highest such place. A search for memory of a node, or for mirrored memory, skips other memory
-//! (`node.rt`). The search from below is in `bottom.rt`.
+//! (`__memblock_find_range_top_down`). It walks over unclaimed memory from the end of the query's
+//! window down, one stretch of a single label at a time. The first stretch in which the query fits
+//! has the highest address at which it fits. A search for memory of a node, or for mirrored memory,
+//! skips other memory (`node.rt`). The search from below is in `bottom.rt`.
 ghost use Rattle.std.specs.Prelude.{◌≡◌, ◌≢◌, ℕ, ◌^◌, ◌≤◌, false, max, MatchOption, Option, Some, None};
 ghost use Rattle.address_runs.specs.Runs.{value_at};
 ghost use Rattle.address_runs.specs.Sweep.{HasValueBetween};
@@ -19,12 +19,13 @@ use bm_base::FRAME_SIZE;
 use memblock_model::{Label, Mode, Query};
 use memblock_ranges::Tables;
 
-/// Returns the greatest address of a place that fits the query, or the least if the mode searches
-/// upward. `None` means that no place fits.
+/// Returns the greatest address at which the query fits, or the least if `mode.up` is true. `None`
+/// means that it fits nowhere.
 ///
-/// A place is aligned, in the window and above the first frame. All of it is unclaimed memory of
-/// one label that the query allows, and is mirrored if the mode asks for that. The size must be at
-/// least 1, and the alignment a power of two.
+/// It fits at an address if the range of its size there is aligned, in the query's window, above
+/// the first frame, and entirely unclaimed memory of one label. That label must have the query's
+/// node, if it names one, and must be mirrored if `mode.mirror` is true. The size must be at least
+/// 1, and the alignment a power of two.
 pub fn find(tables: &Tables, query: &Query, mode: Mode) -> Option<u64>
     requires some { 1 ≤ query.now.size }
     requires aligned { (k : ℕ) × (query.now.align ≡ 2 ^ k) }
@@ -41,8 +42,8 @@ pub fn find(tables: &Tables, query: &Query, mode: Mode) -> Option<u64>
     }
 }
 
-/// Returns the greatest address of a place that fits the query, mirrored or not, or `None`. If the
-/// window ends above all memory, the walk begins where memory ends.
+/// Returns the greatest address at which the query fits, in mirrored or other memory, or `None`. If
+/// the query's window ends above all memory, the walk begins where memory ends.
 fn find_any_downward(lists: &RecordReaders<'_>, query: &Query) -> Option<u64>
     requires some { 1 ≤ query.now.size }
     requires aligned { (k : ℕ) × (query.now.align ≡ 2 ^ k) }
@@ -70,11 +71,11 @@ fn find_any_downward(lists: &RecordReaders<'_>, query: &Query) -> Option<u64>
     None
 }
 
-/// Returns the greatest address of a place that ends past `from` and at or below `until`, or
-/// `None`. `label` is the label of the addresses from `from` to below `until`, or `None` if none
-/// of them is unclaimed memory. If there is a label, the address right below `from` must have
-/// another. `low` is the lowest address that a place may have: the window's start or the second
-/// frame, whichever is higher.
+/// Returns the greatest address at which the query fits in a range that ends past `from` and at or
+/// below `until`, or `None`. `label` is the label of all addresses from `from` to just below
+/// `until`, or `None` if none of them is unclaimed memory. If there is a label, the address right
+/// below `from` must have another. `low` is the lowest address that the search may return: the
+/// start of the query's window or the second frame, whichever is higher.
 pub fn highest_place_in_stretch(
     query: &Query,
     low: u64,
@@ -104,7 +105,7 @@ pub fn highest_place_in_stretch(
 }
 
 /// Returns the greatest multiple of `align` at which `size` bytes lie between the addresses `low`
-/// and `high`, or `None`.
+/// and `high`, or `None` if there is none. `align` must be a power of two.
 fn last_between(low: u64, high: u64, size: u64, align: u64) -> Option<u64>
     requires { (k : ℕ) × (align ≡ 2 ^ k) }
     ensures { MatchOption result ((b : ℕ) → FitsBetween low high size align b → ⊥)

@@ -1,13 +1,13 @@
-//! The walk up: from an address to higher ones, as in `__next_mem_range`. It mirrors the walk
-//! down, except at the highest address. After the last record a look reaches up to 2^64 - 1, which
-//! no record covers, since each record ends below 2^64.
+//! The walk up: from an address to higher ones, as in `__next_mem_range`. It is the walk down
+//! (`down.rt`) in the other direction, except at the highest address. After the last record a look
+//! reaches up to 2^64 - 1, which no record covers, since each record ends below 2^64.
 ghost use Rattle.std.specs.Prelude.{◌≡◌, ◌≤◌, min};
 ghost use Rattle.memblock_find.specs.Walk.{ExactlyFirstEndAtOrBelow, IsLookUp, IsWalkUpAt};
 
 use crate::cursor::{Cursor, Look, RecordReaders};
 use memblock_ranges::Records;
 
-/// Returns the number of records that end at or below the address `at`, by binary search.
+/// Returns the number of records that end at or below address `at`. The search is binary.
 fn count_ending_by(records: &Records<'_>, at: u64) -> u64
     ensures { ExactlyFirstEndAtOrBelow at records.now result }
 {
@@ -25,8 +25,8 @@ fn count_ending_by(records: &Records<'_>, at: u64) -> u64
     low
 }
 
-/// Returns the label that the records give the addresses from `at` on, and how far up they have
-/// it. Exactly `slot` records must end at or below `at`.
+/// Returns the label that the table gives the addresses from `at` on, and the address up to which
+/// they have it. Exactly `slot` records must end at or below `at`.
 fn look_up(records: &Records<'_>, slot: u64, at: u64) -> Look
     requires { ExactlyFirstEndAtOrBelow at records.now slot }
     ensures { IsLookUp records.now at result }
@@ -55,8 +55,9 @@ fn look_up(records: &Records<'_>, slot: u64, at: u64) -> Look
     }
 }
 
-/// Returns the look of a walk that has come from `from` up to `at`. As long as the walk is below
-/// the bound of `look`, the result is `look`.
+/// Returns what the table says about the addresses from `at` on, for a walk that has come from
+/// `from` up to `at`. `look` is what it said at `from`, and stays valid while the walk is below its
+/// bound. At the bound the next record is read.
 fn look_after_move(records: &Records<'_>, look: Look, from: u64, at: u64) -> Look
     requires look { IsLookUp records.now from look }
     requires above { from ≤ at }
@@ -70,7 +71,8 @@ fn look_after_move(records: &Records<'_>, look: Look, from: u64, at: u64) -> Loo
     }
 }
 
-/// Starts a walk up at the address.
+/// Returns the position of a walk up that starts at address `at`. It takes a binary search in each
+/// table.
 pub fn cursor_from(lists: &RecordReaders<'_>, at: u64) -> Cursor
     ensures at { result.at ≡ at }
     ensures up { IsWalkUpAt lists.now.memory lists.now.reserved result }
@@ -85,8 +87,9 @@ pub fn cursor_from(lists: &RecordReaders<'_>, at: u64) -> Cursor
 }
 
 impl Cursor {
-    /// Returns the address at which the stretch that has the cursor's label ends. If the stretch
-    /// is unclaimed memory, that address isn't unclaimed memory of the same label.
+    /// Returns the address at which the stretch from the cursor on ends: up to it all addresses
+    /// have the cursor's label. If the stretch is unclaimed memory, the address at its end isn't
+    /// unclaimed memory of the same label.
     pub fn top(&self) -> u64
         ensures { result ≡ min self.now.memory.bound self.now.reserved.bound }
     {
