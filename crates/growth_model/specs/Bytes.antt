@@ -25,7 +25,8 @@ abbrev pub byte_with_tables : TableView → TableView → ℕ → ℕ → ℕ
 byte_with_tables memory reserved x b =
     if covers (bytes_of memory) x then table_byte_at memory x else (if covers (bytes_of reserved) x then table_byte_at reserved x else b)
 
--- the bytes at each table's place are the encoding of its records
+-- `f` gives the byte at each address: at the addresses of each table it is the encoding of the
+-- table's records
 abbrev pub TablesAreEncoded : TableView → TableView → (ℕ → ℕ) → Type 0
 TablesAreEncoded memory reserved f = (x : ℕ) → f x ≡ byte_with_tables memory reserved x (f x)
 
@@ -39,13 +40,13 @@ abbrev pub byte_with_item_tables : RangeView → List Item → ℕ → ℕ → �
 byte_with_item_tables kernel items x b =
     byte_with_tables (table_from_items which.Memory kernel items) (table_from_items which.Reserved kernel items) x b
 
--- whether the item `i`, if it is written after `items`, moves a table away from address `x`
+-- whether the item `i`, appended to `items`, moves a table away from address `x`
 abbrev pub is_vacated_by : RangeView → List Item → Item → ℕ → Bool
 is_vacated_by kernel items (item.Grown w place room) x = covers (table_bytes w kernel items) x
 is_vacated_by kernel items i x = false
 
--- whether one of the items `is`, if they are written after `items`, moves a table away from
--- address `x`
+-- whether one of the items `is`, appended to `items` one by one, moves a table away from address
+-- `x`
 abbrev pub is_vacated : RangeView → List Item → List Item → ℕ → Bool
 is_vacated kernel items [] x = false
 is_vacated kernel items (i ∷ is) x = is_vacated_by kernel items i x || is_vacated kernel (items ++ i ∷ []) is x
@@ -61,8 +62,8 @@ unfoldable pub byte_after_items : RangeView → List Item → List Item → ℕ 
 byte_after_items kernel items longer x b =
     byte_with_item_tables kernel longer x (if is_vacated kernel items (further_items items longer) x then 0 else b)
 
--- a fill: its range, the byte that it writes, and the number of items that the journal had when it
--- was made
+-- a fill (a write of one byte value to each address of a range): its range, its byte, and the
+-- number of items that the journal had when it was made
 pub record Fill : Type 0 where
   pub range : RangeView
   pub byte : ℕ
@@ -72,14 +73,15 @@ pub record Fill : Type 0 where
 abbrev pub byte_after_fill : Fill → ℕ → ℕ → ℕ
 byte_after_fill f x b = if covers f.range x then f.byte else b
 
--- the byte at address `x`, which was `b`, after the fills that were made when the journal had `n`
--- items; they are applied in their order
+-- the byte at address `x`, which was `b`, after those of the fills that were made when the journal
+-- had `n` items; they are applied in their order
 abbrev pub byte_after_fills : ℕ → List Fill → ℕ → ℕ → ℕ
 byte_after_fills n [] x b = b
 byte_after_fills n (f ∷ fs) x b = byte_after_fills n fs x (if (f.at == n) && covers f.range x then f.byte else b)
 
--- the byte at address `x`, outside the tables, after more items were appended to `items`, if it
--- was `b` before. Each appended item is followed by the fills that were made before the next one.
+-- the byte at address `x`, apart from what a table has there now, after the items of the second
+-- list were appended to `items`, if it was `b` before. A table that moves away leaves 0. After each
+-- appended item come the fills that were made before the next one.
 abbrev pub byte_outside_tables : RangeView → List Fill → List Item → List Item → ℕ → ℕ → ℕ
 byte_outside_tables kernel fills items [] x b = b
 byte_outside_tables kernel fills items (i ∷ is) x b =
@@ -97,14 +99,15 @@ abbrev pub AreFillsUpTo : ℕ → List Fill → Type 0
 AreFillsUpTo n [] = Unit {0}
 AreFillsUpTo n (f ∷ fs) = (f.at ≤ n) × AreFillsUpTo n fs
 
--- the journal has grown from `items` to `longer`, and the bytes have become `g` from `f`: each
+-- the journal has grown from `items` to `longer`, and the bytes have changed from `f` to `g`: each
 -- byte has changed only as the appended items say (`byte_after_items`)
 pub record Follows (kernel : RangeView) (items longer : List Item) (f g : ℕ → ℕ) : Type 0 where
   pub more : List Item
   pub goes_on : longer ≡ items ++ more
   pub each : (x : ℕ) → g x ≡ byte_after_items kernel items longer x (f x)
 
--- each byte is the one that the items and the fills define
+-- the byte that `f` gives at each address is the one that the items and the fills define
+-- (`byte_from_history`), and each fill was made when the journal had no more than these items
 pub record AreBytesFromHistory (kernel : RangeView) (items : List Item) (fills : List Fill) (f : ℕ → ℕ) : Type 0 where
   pub made : AreFillsUpTo (length items) fills
   pub each : (x : ℕ) → f x ≡ byte_from_history kernel items fills x

@@ -1,21 +1,22 @@
--- Changes of memblock. A change is a function of the items so far. Its value lists the items that
--- it writes, and says whether a table that had to grow found no place.
+-- Changes of memblock. A change is a function of the journal's items so far. Its value lists the
+-- items that it appends to the journal, and says whether a table that had to grow found no memory.
 use Rattle.std.specs.Prelude.{ℕ, Bool, if◌then◌else◌, Option, Some, None, List, [], ◌∷◌, ◌++◌}
 use Rattle.memblock_model.specs.declared.owner.Which.{Which}
 use Rattle.memblock_model.specs.declared.item.Item.{Item}
 
--- a refused growth, which found no place: the table, and the number of records that it has room
--- for, which was too small
+-- a growth that was refused because no free memory was found (`memblock_double_array` failed): the
+-- table, and the number of records that it has room for, which was too small
 pub record RefusedGrowth : Type 0 where
   pub which : Which
   pub room : ℕ
 
--- the steps of a change, each a group of items that is written as a whole or not at all; and the
--- growth that was refused, if one was
+-- what a change does: its steps, each a group of items that is written as a whole or not at all;
+-- and the growth that was refused, if one was
 pub record ChangeEffect : Type 0 where
   pub steps : List (List Item)
   pub refused : Option RefusedGrowth
 
+-- a change of memblock: what it does, given the journal's items so far
 abbrev pub Change : Type 0
 Change = List Item → ChangeEffect
 
@@ -24,7 +25,7 @@ abbrev pub items_of_steps : List (List Item) → List Item
 items_of_steps [] = []
 items_of_steps (s ∷ ss) = s ++ items_of_steps ss
 
--- the items after the change
+-- the journal's items after a change with this effect
 abbrev pub items_after_change : List Item → ChangeEffect → List Item
 items_after_change items o = items ++ items_of_steps o.steps
 
@@ -32,14 +33,15 @@ items_after_change items o = items ++ items_of_steps o.steps
 abbrev pub no_change : Change
 no_change items = record { steps = []; refused = None }
 
--- the change that writes these items in one step
+-- the change that appends these items to the journal in one step
 abbrev pub write_items : List Item → Change
 write_items written items = record { steps = written ∷ []; refused = None }
 
 abbrev pub write_item : Item → Change
 write_item i = write_items (i ∷ [])
 
--- the refused growth of a table that finds no place for twice its room: it writes no item
+-- the change of a table that must grow but finds no memory for twice its room: it writes no item,
+-- and the growth is refused
 abbrev pub refuse_growth : Which → ℕ → Change
 refuse_growth w room items = record { steps = []; refused = Some (record { which = w; room = room }) }
 
@@ -57,7 +59,6 @@ abbrev pub ◌>>◌ : Change → Change → Change
 abbrev pub if_due : (List Item → Bool) → Change → Change
 if_due due change items = if due items then change items else no_change items
 
--- the given change, but a refused growth is ignored: the items that were written until then stay
--- written
+-- the change, but without its refused growth, if it has one; what it wrote until then stays written
 abbrev pub ignore_refusal : Change → Change
 ignore_refusal change items = record { steps = (change items).steps; refused = None }

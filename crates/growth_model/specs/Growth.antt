@@ -1,6 +1,6 @@
--- The growth of the two tables (`memblock_double_array`), and the changes that may need it. A
--- table that grows claims its new place before it frees its old one, and its old bytes become 0.
--- The order of these items in the journal is this project's own choice.
+-- The growth of the two tables (`memblock_double_array`), and the changes that may need it. A table
+-- that grows claims its new place before it frees its old one, and its old bytes become 0. The
+-- order of these items in the journal is this project's own choice.
 use Rattle.std.specs.Prelude.{ℕ, ◌+◌, ◌-◌, ◌*◌, ◌/◌, Bool, nat_lt, min, Option, Some, None, List, [], ◌∷◌, length}
 use Rattle.std.specs.Option.{option_map, option_or}
 use Rattle.bm_base.specs.Range.{RangeView, end_of}
@@ -25,53 +25,55 @@ round_up_to_frames n = (n + (FRAME_SIZE - 1)) / FRAME_SIZE * FRAME_SIZE
 abbrev pub frames_for_bytes : ℕ → ℕ → RangeView
 frames_for_bytes place n = record { base = place; size = round_up_to_frames n }
 
--- the number of records of a table
+-- the number of records that a table has after the items
 abbrev pub record_count : Which → List Item → ℕ
 record_count w items = length (records_of w items)
 
--- the query for the new place of a table that has room for `room` records. It asks for frames for
--- twice as many records of 24 bytes, between the addresses `lo` and `hi`, on any node.
+-- the search for the new memory of a table that has room for `room` records: frames for twice as
+-- many records of 24 bytes, between the addresses `lo` and `hi`, on any node
 abbrev pub table_query : ℕ → ℕ → ℕ → Query
 table_query room lo hi = record { lo = lo; hi = hi; size = round_up_to_frames (48 * room); align = FRAME_SIZE; node = None }
 
--- the new place of the reserved table, which must not overlap the range `avoid` that is to be
--- claimed or freed. It is the best place above that range, or else the best one below it. In both
--- cases it ends at or below the limit.
+-- the new address of the reserved table, whose new bytes must not overlap the range `avoid` that is
+-- to be claimed or freed. It is the best address above that range, or else the best one below it.
+-- In both cases the new bytes end at or below the limit.
 abbrev pub place_beside_range : RangeView → ℕ → List Item → Option ℕ
 place_beside_range avoid room items = option_or
     (best_place items (table_query room (end_of avoid) (limit_of items)))
     (best_place items (table_query room 0 (min avoid.base (limit_of items))))
 
--- the item that frees the frames of a table's old place; there is none if the old place is the
--- built-in one, which is never freed
+-- the item that frees the frames that the table leaves; there is none if it leaves its built-in
+-- place, which is never freed
 abbrev pub items_freeing_old_place : ℕ → Option ℕ → List Item
 items_freeing_old_place room None = []
 items_freeing_old_place room (Some place) = item.Free (frames_for_bytes place (24 * room)) ∷ []
 
--- the items that a growth of the reserved table writes, all in one step; `old` is the place that
--- the table had moved to before, if it had moved
+-- the items that a growth of the reserved table to address `place` writes, all in one step; `old`
+-- is the address that the table had moved to before, if it had moved
 unfoldable pub reserved_growth_items : ℕ → Option ℕ → ℕ → List Item
 reserved_growth_items room old place =
     item.Grown which.Reserved place (2 * room)
     ∷ (item.Claim (frames_for_bytes place (48 * room)) (owner.Table which.Reserved)
     ∷ items_freeing_old_place room old)
 
+-- the growth of the reserved table to the address that was found; it is refused if none was
 unfoldable pub reserved_growth_at : ℕ → Option ℕ → Option ℕ → Change
 reserved_growth_at room old None = refuse_growth which.Reserved room
 reserved_growth_at room old (Some place) = write_items (reserved_growth_items room old place)
 
--- the growth of the reserved table before the range is claimed or freed; the new place doesn't
--- overlap that range
+-- the growth of the reserved table before the range `avoid` is claimed or freed; the table's new
+-- bytes don't overlap that range
 unfoldable pub reserved_growth : RangeView → Change
 reserved_growth avoid items =
     reserved_growth_at (room_of which.Reserved items) (moved_to which.Reserved items)
     (place_beside_range avoid (room_of which.Reserved items) items) items
 
--- whether the table lacks room for `more` records in addition to those that it has
+-- whether the table has too little room for `more` records in addition to those that it has
 abbrev pub is_full : Which → (List Item → ℕ) → List Item → Bool
 is_full w more items = nat_lt (room_of w items) (record_count w items + more items)
 
--- the number of runs of the range's bytes that the table doesn't cover
+-- the number of pieces of the range that the table doesn't cover, each as long as possible:
+-- covering the range adds at most that many records
 abbrev pub count_uncovered_pieces : Which → RangeView → List Item → ℕ
 count_uncovered_pieces w range items = uncovered_run_count range (table_of w items)
 
@@ -95,18 +97,19 @@ claim_range range who =
 unfoldable pub free_range : RangeView → Change
 free_range range = make_table_room which.Reserved max_records_added_by_split (reserved_growth range) >> write_item (item.Free range)
 
--- the frames of a table's old place; none if the old place is the built-in one
+-- the frames that the table leaves; none if it leaves its built-in place, which is never freed
 abbrev pub old_frames : ℕ → Option ℕ → Option RangeView
 old_frames room old = option_map (λ place. frames_for_bytes place (24 * room)) old
 
--- the change that frees the old place of the memory table. If it needs a growth that is refused,
--- the old place stays claimed, and the whole change isn't refused.
+-- the change that frees the frames that the memory table has left. If it needs a growth that is
+-- refused, these frames stay claimed, and the whole change isn't refused.
 abbrev pub free_old_place : Option RangeView → Change
 free_old_place None = no_change
 free_old_place (Some frames) = ignore_refusal (free_range frames)
 
--- the growth of the memory table to a place that was found: it claims the new place, which may
--- make the reserved table grow, then moves the table, then frees the old place
+-- the growth of the memory table to the address that was found: it claims the new memory, which may
+-- make the reserved table grow, then moves the table, then frees the old memory. It is refused if
+-- no address was found.
 unfoldable pub memory_growth_at : ℕ → Option ℕ → Option ℕ → Change
 memory_growth_at room old None = refuse_growth which.Memory room
 memory_growth_at room old (Some place) =
@@ -114,7 +117,7 @@ memory_growth_at room old (Some place) =
     >> write_item (item.Grown which.Memory place (2 * room))
     >> free_old_place (old_frames room old)
 
--- the growth of the memory table, to the best place below the limit
+-- the growth of the memory table, to the best address below the limit
 unfoldable pub memory_growth : Change
 memory_growth items =
     memory_growth_at (room_of which.Memory items) (moved_to which.Memory items)

@@ -20,12 +20,13 @@ attempt r limit lo mirror wanted =
     record { query = asked; mirror = mirror }
 
 -- the search on any node that follows the one on the request's node; none if the request names no
--- node, or allows only that node
+-- node, or allows only its own
 abbrev pub any_node_attempt : Request → ℕ → ℕ → Bool → Option ℕ → List Attempt
 any_node_attempt r limit lo mirror None = []
 any_node_attempt r limit lo mirror (Some node) = if r.exact then [] else attempt r limit lo mirror None ∷ []
 
--- the search on the request's node, and then the one on any node unless only that node is allowed
+-- the searches from `lo` on: on the request's node, and then on any node unless the request allows
+-- only its node
 abbrev pub node_attempts : Request → ℕ → ℕ → Bool → List Attempt
 node_attempts r limit lo mirror = attempt r limit lo mirror r.node ∷ any_node_attempt r limit lo mirror r.node
 
@@ -39,10 +40,11 @@ attempts_from r limit lo = node_attempts r limit lo true ++ node_attempts r limi
 abbrev pub attempts : Request → ℕ → List Attempt
 attempts r limit = attempts_from r limit r.min ++ (if r.min == 0 then [] else attempts_from r limit 0)
 
--- the place that the first successful search finds
+-- the address that the first successful search finds, or None if all fail
 abbrev pub first_found_place : List Item → List Attempt → Option ℕ
 first_found_place items [] = None
 first_found_place items (a ∷ rest) = option_or (top_place items a.query a.mirror) (first_found_place items rest)
 
+-- the address that an allocation gets, or None if all its searches fail
 abbrev pub place_for : Request → List Item → Option ℕ
 place_for r items = first_found_place items (attempts r (limit_of items))

@@ -7,8 +7,8 @@ use Rattle.memblock_model.specs.declared.item.Item.TheVariants as item
 use Rattle.growth_model.specs.Change.{RefusedGrowth, ChangeEffect, Change, items_after_change, write_item}
 use Rattle.growth_model.specs.Growth.{claim_range, free_range, add_range, set_range_node, set_range_mirror}
 
--- the change that writes the item. Before an added range, a node, a mirrored range, a claim or a
--- free it makes the growths that are needed. Other items are written without growth.
+-- the change that appends this item to the journal. Before a Mem, Node, Mirror, Claim or Free item
+-- it makes the growths that are needed. Other items are written without growth.
 abbrev pub change_writing_item : Item → Change
 change_writing_item (item.Mem range) = add_range range
 change_writing_item (item.Node range node) = set_range_node range node
@@ -17,7 +17,7 @@ change_writing_item (item.Claim range who) = claim_range range who
 change_writing_item (item.Free range) = free_range range
 change_writing_item i = write_item i
 
--- the items, or the refused growth if there is one
+-- the items if no growth was refused, else the refused growth
 abbrev pub unless_refused : Option RefusedGrowth → List Item → Result (List Item) RefusedGrowth
 unless_refused None items = Ok items
 unless_refused (Some refused) items = Err refused
@@ -26,7 +26,8 @@ unless_refused (Some refused) items = Err refused
 abbrev pub items_or_refusal : List Item → ChangeEffect → Result (List Item) RefusedGrowth
 items_or_refusal items o = unless_refused o.refused (items_after_change items o)
 
--- the items after all items of the list have been written, or the first growth that was refused
+-- the journal's items after all items of the first list have been written, each with the growth
+-- that it needs; or the first growth that was refused
 unfoldable pub carry_out_items : List Item → List Item → Result (List Item) RefusedGrowth
 carry_out_items [] items = Ok items
 carry_out_items (i ∷ is) items = items_or_refusal items (change_writing_item i items) >>= λ next. carry_out_items is next

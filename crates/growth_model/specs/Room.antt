@@ -19,8 +19,8 @@ pub record DoublesRoom (w : Which) (old new : List Item) : Type 0 where
   pub room : room_of w new ≡ 2 * room_of w old
   pub few : record_count w new ≤ record_count w old + 2
 
--- if neither growth of `make_table_room` is refused, the table then has room for `more` records
--- in addition to those that it has, and no third growth is needed
+-- if none of the growths of `make_table_room` is refused, the table then has room for `more`
+-- records in addition to those that it has, so no third growth is needed
 abbrev pub HasRoomAfter : Which → (List Item → ℕ) → Change → List Item → Type 0
 HasRoomAfter w more growth items =
     (make_table_room w more growth items).refused ≡ None

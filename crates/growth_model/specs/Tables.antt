@@ -38,7 +38,7 @@ AreDisjoint a b = (x : ℕ) → covers a x ≡ true → covers b x ≡ true → 
 abbrev pub IsUnclaimed : Owners → RangeView → Type 0
 IsUnclaimed own a = (x : ℕ) → covers a x ≡ true → own x ≡ None
 
--- each table lies where a table may lie, and they share no frame
+-- both tables lie where a table may lie, and they share no frame
 pub record AreTablePlaces (own : Owners) (memory reserved : RangeView) : Type 0 where
   pub first : IsTablePlace own memory
   pub second : IsTablePlace own reserved

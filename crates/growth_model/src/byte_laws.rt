@@ -1,13 +1,14 @@
 //! Laws about the byte at each address.
 //!
-//! `byte_from_history` computes it from the items and the fills. `byte_after_items` says how a call
-//! changes a byte, whatever it was before; contracts of calls use it. One law gives the bytes
-//! after two calls in turn, and another says that both definitions agree. A caller can therefore
-//! keep `AreBytesFromHistory` true from call to call and from fill to fill.
+//! The definition `byte_from_history` computes this byte from the journal's items and the fills.
+//! `byte_after_items` says how a call changes a byte, whatever it was before; contracts of calls
+//! use it. One law gives the bytes after two calls in turn, and another says that both definitions
+//! agree. A caller can therefore keep `AreBytesFromHistory` true from call to call and from fill to
+//! fill.
 //!
-//! At a table's place the byte is that of the table, whatever was written there before. When an
-//! item moves the table away, the byte becomes 0. Only the laws about one table's own bytes require
-//! that the two tables don't overlap.
+//! At the addresses of a table the byte is that of the table, whatever was written there before.
+//! When an item moves the table away, the byte becomes 0. Only the laws about one table's own bytes
+//! require that the two tables don't overlap.
 ghost use Rattle.std.specs.Prelude.{◌≡◌, ℕ, ◌*◌, true, false, List, [], ◌∷◌, ◌++◌, length};
 ghost use Rattle.bm_base.specs.Range.{RangeView, covers};
 ghost use Rattle.phys_store.specs.Bytes.{byte_of, bytes_at};
@@ -22,10 +23,11 @@ ghost use Rattle.memblock_ranges.specs.Tables.{TablesView, table_in, table_range
 ghost use Rattle.growth_model.specs.Tables.{TablesAreClaimed, TablesHaveRoom, OverlapsNoTable};
 ghost use Rattle.growth_model.specs.Bytes.{table_from_items, table_byte_at, byte_with_tables, TablesAreEncoded, byte_without_table, byte_after_items, byte_from_history, Fill, byte_after_fill, AreFillsUpTo, Follows, AreBytesFromHistory};
 
-/// Law: the effect of items on a byte can be computed in two parts. `byte_after_items` for some
-/// items, and then for the items after them, gives the byte after all of them. If all fills were
-/// made before the later items, `byte_from_history` for the earlier items, and then
-/// `byte_after_items` for the later ones, gives `byte_from_history` for all items.
+/// Law: the byte at an address can be computed call by call. `byte_after_items` for the items of
+/// one call, and then for those of the next call, gives the same byte as `byte_after_items` for the
+/// items of both. `byte_from_history` agrees with it: if no fill was made in between,
+/// `byte_after_items` turns the byte that the earlier items and the fills define into the one that
+/// all items and the fills define.
 pub fn byte_effects_compose()
     ensures after { (kernel : RangeView) (items more further : List Item) (x b : ℕ) →
         byte_after_items kernel (items ++ more) ((items ++ more) ++ further) x
@@ -47,8 +49,8 @@ pub fn newest_fill_decides()
 {}
 
 /// Law: the bytes after two calls in turn are those after one call that writes the items of both.
-/// After each call, the bytes at each table's place are the encoding of its records. If each byte
-/// is the one that the items and the fills define, that is still true after another call, and
+/// After each call, the bytes at each table's addresses are the encoding of its records. If each
+/// byte is the one that the items and the fills define, that is still true after another call, and
 /// after a fill that overlaps no table.
 pub fn bytes_compose_over_calls()
     ensures then { (kernel : RangeView) (items mid last : List Item) (f g h : ℕ → ℕ) →
@@ -69,8 +71,9 @@ pub fn bytes_compose_over_calls()
         → AreBytesFromHistory kernel items (fills ++ fill ∷ []) g }
 {}
 
-/// Law: the bytes at the place of each table are the encoding of its records, byte by byte and as
-/// a list.
+/// Law: assume that `TablesAreEncoded` holds and that both tables lie in claimed memory, apart from
+/// each other. Then each byte at a table's addresses is that of the encoding of its records. If the
+/// tables have room for their records, the bytes of each table, as a list, are that encoding.
 pub fn tables_are_encoded()
     ensures each { (w : Which) (kernel : RangeView) (items : List Item) (f : ℕ → ℕ) (x : ℕ)
         → TablesAreClaimed kernel items →
@@ -86,9 +89,10 @@ pub fn tables_are_encoded()
         ≡ encode_table (records_of w items) (room_of w items) }
 {}
 
-/// Law: assume that both tables are encoded in the store after an edit of one table's records.
-/// Then each byte inside a table is that of its encoding, and every other byte is unchanged. After
-/// a move of one table this is also true, except that the bytes at its old place are 0.
+/// Law: assume that an edit of one table's records changes no byte outside that table, and that
+/// both tables are encoded in the store after it. Then each byte inside a table is that of its
+/// encoding, and every other byte is unchanged. After a move of one table this is also true, except
+/// that the bytes that it left are 0.
 pub fn edits_change_only_table_bytes()
     ensures edited { (w : Which) (old new : TablesView) (records : List (RunOf LabelView)) →
         table_in w new ≡ record (table_in w old) { records = records } →

@@ -28,9 +28,9 @@ ghost use Rattle.growth_model.specs.Ends.{EndsAsChange, Allocates};
 ghost use Rattle.growth_model.specs.Tables.{AreDisjoint, IsUnclaimed, TablesAreClaimed, TablesHaveRoom, IsKernelImage, HasFirstItem, OverlapsNoTable, MayClaim};
 ghost use Rattle.growth_model.specs.Room.{IsInAddressSpace, DoublesRoom, HasRoomAfter};
 
-/// Law: if each of two calls ends as its change defines, both calls together end as the two
-/// changes together define. If the first call succeeds, they end as the second one does;
-/// otherwise they end with the error of the first.
+/// Law: if each of two calls ends as its change defines, both calls together end as the two changes
+/// together define. If the first call succeeds, they end as the second one does; otherwise the
+/// second isn't made, and they end with the error of the first.
 pub fn successive_calls_compose()
     ensures second { (result : Result (Unit {0}) Refusal) (old mid new : List Item)
         (first second : Change) →
@@ -51,8 +51,8 @@ pub fn first_claim_places_tables()
 {}
 
 /// Law: from the first claim on, both tables lie in claimed memory, apart from each other, after
-/// each allowed claim, however it ends. They also do after the free of a range that overlaps no
-/// table.
+/// each allowed claim, whether it succeeds or fails. This also holds after the free of a range that
+/// overlaps no table.
 pub fn claims_keep_table_places()
     ensures claimed { (kernel : RangeView) (result : Result (Unit {0}) Refusal)
         (old new : List Item) (range : RangeView) (who : Owner) →
@@ -68,8 +68,8 @@ pub fn claims_keep_table_places()
 {}
 
 /// Law: both tables still lie in claimed memory, apart from each other, after a call that adds
-/// memory, gives it a node or makes it mirrored, however the call ends. They also do after a trim,
-/// a new limit and a new search direction.
+/// memory, gives it a node or makes it mirrored, whether the call succeeds or fails. This also
+/// holds after a trim, a new limit and a new search direction.
 pub fn memory_edits_keep_table_places()
     ensures added { (kernel : RangeView) (result : Result (Unit {0}) Refusal) (old new : List Item)
         (range : RangeView) →
@@ -93,7 +93,7 @@ pub fn memory_edits_keep_table_places()
 {}
 
 /// Law: both tables still lie in claimed memory, apart from each other, after an allocation for any
-/// owner, however it ends.
+/// owner, whether it succeeds or fails.
 pub fn allocations_keep_table_places()
     ensures { (kernel : RangeView) (result : Result ℕ Refusal) (old new : List Item)
         (request : Request) (who : Owner) →
@@ -101,11 +101,11 @@ pub fn allocations_keep_table_places()
         (place_for request old) request.size who → TablesAreClaimed kernel new }
 {}
 
-/// Law: the place that a search finds is unclaimed and overlaps no table. The place of an
-/// allocation is unclaimed and ends at or below the limit. A new place for the reserved table
+/// Law: the range that a search finds is unclaimed and overlaps no table. The range that an
+/// allocation gets was unclaimed and ends at or below the limit. A new range for the reserved table
 /// begins at a frame boundary, overlaps no byte of the range `avoid`, and ends at or below the
-/// limit. After a growth of the memory table, however it ends, that table is in its old place or
-/// in a new one that ends at or below the limit.
+/// limit. After a growth of the memory table, whether it succeeds or fails, that table is where it
+/// was or in a new range that ends at or below the limit.
 pub fn found_places_are_free()
     ensures unclaimed { (items : List Item) (query : Query) (place : ℕ)
         → best_place items query ≡ Some place →
@@ -148,7 +148,7 @@ pub fn growth_doubles_room()
 
 /// Law: after two growths in a row a table has room for any claim, free, added range, node or
 /// mirrored range. The claim of an unclaimed range isn't refused if the reserved table has room for
-/// it, or finds a new place that doesn't overlap the range.
+/// it, or finds new memory that doesn't overlap the range.
 // A range has at most one uncovered piece more than the table has records. After one growth the
 // table may therefore still lack room for a few records. The second growth makes room for them.
 pub fn two_growths_are_enough()
