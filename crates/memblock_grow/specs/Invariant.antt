@@ -20,8 +20,8 @@ use Rattle.memblock_grow.specs.declared.places.AllocSettings.{AllocSettings}
 abbrev pub alloc_settings : ℕ → Bool → AllocSettings
 alloc_settings limit upward = record { limit = limit; upward = upward }
 
--- the tables, the limit and the direction of searches are those of the items; each table has room
--- for its records; and the frames of a place that a table moved to end below 2^64
+-- the tables, the limit and the direction of searches are those that the items define; each table
+-- has room for its records; and the frames of a table that has moved end below 2^64
 pub record TablesMatchItems (kernel : RangeView) (items : List Item) (t : TablesView) (at : AllocSettings) : Type 0 where
   pub memory : t.memory ≡ table_from_items which.Memory kernel items
   pub reserved : t.reserved ≡ table_from_items which.Reserved kernel items
@@ -39,25 +39,28 @@ pub record IsMemblock (kernel : RangeView) (items : List Item) (t : TablesView) 
   pub placed : HasFirstItem items → TablesAreClaimed kernel items
   pub spelled : TablesAreEncoded t.memory t.reserved (byte_of t.store)
 
--- `IsMemblockForSomeKernel`: the invariant holds with some range as the kernel's image.
--- `AllowsClaim`: it holds with one for which the claim is allowed (`MayClaim`). `AllowsFree`: it
--- holds with one for which the range to free overlaps no table.
+-- the invariant of a memblock holds, with some range as the kernel's image
 abbrev pub IsMemblockForSomeKernel : List Item → TablesView → AllocSettings → Type 0
 IsMemblockForSomeKernel items t at = (kernel : RangeView) × IsMemblock kernel items t at
 
+-- the invariant of a memblock holds, with some range as the kernel's image for which the claim is
+-- allowed (`MayClaim`)
 abbrev pub AllowsClaim : List Item → TablesView → AllocSettings → RangeView → Owner → Type 0
 AllowsClaim items t at range who = (kernel : RangeView) × IsMemblock kernel items t at × MayClaim kernel items range who
 
+-- the invariant of a memblock holds, with some range as the kernel's image for which the range to
+-- free overlaps no table
 abbrev pub AllowsFree : List Item → TablesView → AllocSettings → RangeView → Type 0
 AllowsFree items t at range = (kernel : RangeView) × IsMemblock kernel items t at × OverlapsNoTable kernel range items
 
--- for every range as the kernel's image: if the tables matched the items before the call, they
--- match the items after it
+-- what a call keeps, whichever range is the kernel's image: if the tables matched the items before
+-- the call, they match the items after it
 abbrev pub KeepsTables : List Item → TablesView → List Item → TablesView → AllocSettings → Type 0
 KeepsTables items t longer u at = (kernel : RangeView) → TablesMatchItems kernel items t at → TablesMatchItems kernel longer u at
 
--- for every range as the kernel's image: if the tables matched the items before the call and were
--- encoded in the bytes, each byte has changed only as the appended items say (`Follows`)
+-- what a call does to bytes, whichever range is the kernel's image: if the tables matched the items
+-- before the call and were encoded in the bytes, each byte has changed only as the appended items
+-- say (`Follows`)
 abbrev pub BytesFollowItems : List Item → TablesView → List Item → TablesView → AllocSettings → Type 0
 BytesFollowItems items t longer u at =
     (kernel : RangeView) → TablesMatchItems kernel items t at → TablesAreEncoded t.memory t.reserved (byte_of t.store)
@@ -67,6 +70,6 @@ BytesFollowItems items t longer u at =
 abbrev pub ChangesOnlyTables : TablesView → TablesView → Type 0
 ChangesOnlyTables t u = (x : ℕ) → byte_of u.store x ≡ byte_with_tables u.memory u.reserved x (byte_of t.store x)
 
--- each address that the store had prepared for writing is still prepared
+-- each address that was prepared for writing in the store `s` is prepared in `t`
 abbrev pub StayPrepared : List ExtentView → List ExtentView → Type 0
 StayPrepared s t = (x : ℕ) → IsTrue (is_prepared_at s x) → IsTrue (is_prepared_at t x)

@@ -10,12 +10,12 @@ use Rattle.growth_model.specs.Growth.{count_uncovered_pieces, max_records_added_
 use Rattle.memblock_grow.specs.declared.new_records.MaxNewRecords.{MaxNewRecords}
 use Rattle.memblock_grow.specs.declared.new_records.MaxNewRecords.TheVariants as more
 
--- the greatest number of records that an edit may add to a table. `new_records_by_items` computes
--- it from the journal's items, `new_records_in_table` from the table.
+-- the greatest number of records that an edit may add to a table, computed from the journal's items
 abbrev pub new_records_by_items : Which → MaxNewRecords → List Item → ℕ
 new_records_by_items w (more.PiecesOf range) = count_uncovered_pieces w range
 new_records_by_items w more.Two = max_records_added_by_split
 
+-- the greatest number of records that an edit may add to a table, computed from the table
 abbrev pub new_records_in_table : MaxNewRecords → TableView → ℕ
 new_records_in_table (more.PiecesOf range) t = uncovered_run_count range (value_at t.records)
 new_records_in_table more.Two t = 2

@@ -2,9 +2,9 @@
 //! and direction of searches (`aim`).
 //!
 //! Each call that changes memory calls a function that takes the parts of the memblock. This file
-//! proves that the parts still fit together wherever that call ends: the tables are those of the
-//! items, are encoded in their bytes, and lie in claimed memory, apart from each other. This is
-//! the invariant of a `Memblock`, so callers don't have to ensure it.
+//! proves that the parts still fit together whether that call succeeds or fails: the tables are
+//! those of the items, are encoded in their bytes, and lie in claimed memory, apart from each
+//! other. This is the invariant of a `Memblock`, so callers don't have to ensure it.
 //!
 //! A call that allocates memory of this program may run out of memory at any step. It then stops
 //! before that step, with the invariant intact.
@@ -47,9 +47,9 @@ use std::marker::Model;
 /// The memory of a machine at boot: the journal of what happened to it, and two tables that
 /// describe what is memory and what is claimed, in the bytes of that memory (`struct memblock`).
 ///
-/// The first claim must be that of the kernel's image; every other call that writes an item
-/// requires that it was made. If a call fails, the steps that it completed stay written, and the
-/// memblock can still be used.
+/// The first claim must be that of the kernel's image. Every other call that appends an item to the
+/// journal must come after it. If a call fails, the steps that it completed stay in the journal,
+/// and the memblock can still be used.
 #[derive(Debug, Drop)]
 pub struct Memblock {
     kernel: Range,
@@ -76,7 +76,7 @@ impl Memblock {
     ///
     /// # Errors
     ///
-    /// `Memory` if this program is out of memory.
+    /// - `Memory`: this program is out of memory.
     pub fn new(alloc: Global, kernel: Range) -> Result<Memblock, Memory>
         requires { IsKernelImage kernel }
         ensures kernel { IfOk result (λ m. m.kernel ≡ kernel) }
@@ -101,12 +101,12 @@ impl Memblock {
     }
 
     /// Makes room in the journal for at least `n` more items. After that, `n` calls that each
-    /// write one item, without a growth of a table, can't run out of memory.
+    /// append one item, without a growth of a table, can't run out of memory.
     ///
     /// # Errors
     ///
-    /// `Memory` if this program is out of memory. Nothing is then changed, and the journal had room
-    /// for fewer than `n` items.
+    /// - `Memory`: this program is out of memory; nothing is changed. This error is possible only
+    ///   if the journal had room for fewer than `n` items.
     pub fn ready(&mut self, n: u64) -> Result<(), Memory>
         ensures kernel { self.new.kernel ≡ self.old.kernel }
         ensures items { self.new.journal.items ≡ self.old.journal.items }
@@ -119,16 +119,18 @@ impl Memblock {
         self.journal.ready(n)
     }
 
-    /// Claims the range for the owner (`memblock_reserve`). The reserved table may have to grow.
-    /// If the table and the journal both have room, the call can't fail.
+    /// Claims the range for the owner (`memblock_reserve`). The reserved table may have to grow. If
+    /// the table and the journal both have room, the call can't fail.
     ///
     /// The range must not be empty. The first call must claim the kernel's image for
     /// [`Owner::Kernel`]. A claim for the script ([`Owner::Script`]) must not overlap a table.
     ///
     /// # Errors
     ///
-    /// - `NoGapForTable` if the reserved table has to grow and finds no place.
-    /// - `Memory` if this program is out of memory.
+    /// Growths that were completed before the error stay; the range isn't claimed.
+    ///
+    /// - `NoGapForTable`: the reserved table has to grow, and no free memory is found for it.
+    /// - `Memory`: this program is out of memory.
     pub fn claim(&mut self, range: Range, owner: Owner) -> Result<(), Refusal>
         requires some { 0 < range.size }
         requires may { MayClaim self.old.kernel self.old.journal.items range owner }
@@ -155,8 +157,10 @@ impl Memblock {
     ///
     /// # Errors
     ///
-    /// - `NoGapForTable` if the reserved table has to grow and finds no place.
-    /// - `Memory` if this program is out of memory.
+    /// Growths that were completed before the error stay; the range isn't freed.
+    ///
+    /// - `NoGapForTable`: the reserved table has to grow, and no free memory is found for it.
+    /// - `Memory`: this program is out of memory.
     pub fn free(&mut self, range: Range) -> Result<(), Refusal>
         requires some { 0 < range.size }
         requires begun { HasFirstItem self.old.journal.items }
@@ -174,14 +178,16 @@ impl Memblock {
     }
 
     /// Adds the range to memory, without a node; what is memory already keeps its node
-    /// (`memblock_add`). The memory table may have to grow, and then the reserved table for the
-    /// claim of its new place. If the memory table has room, and the journal has room for an item,
-    /// the call can't fail. The range must not be empty.
+    /// (`memblock_add`). The memory table may have to grow. Its new memory is then claimed, so the
+    /// reserved table may have to grow too. If the memory table has room, and the journal has room
+    /// for an item, the call can't fail. The range must not be empty.
     ///
     /// # Errors
     ///
-    /// - `NoGapForTable` if a table has to grow and finds no place.
-    /// - `Memory` if this program is out of memory.
+    /// Growths that were completed before the error stay; the range isn't added.
+    ///
+    /// - `NoGapForTable`: a table has to grow, and no free memory is found for it.
+    /// - `Memory`: this program is out of memory.
     pub fn add_memory(&mut self, range: Range) -> Result<(), Refusal>
         requires some { 0 < range.size }
         requires begun { HasFirstItem self.old.journal.items }
@@ -198,15 +204,15 @@ impl Memblock {
         memory::add_memory(&mut self.journal, &mut self.tables, self.aim, range)
     }
 
-    /// Gives the node, which is below 1,024, to the memory of the range (`memblock_set_node`).
+    /// Gives the node, which must be below 1,024, to the memory of the range (`memblock_set_node`).
     /// This may split a record at both ends of the range, so the memory table may have to grow. If
-    /// it has room for two more records, and the journal for an item, the call can't fail. The
-    /// range must not be empty.
+    /// the table has room for two more records, and the journal for an item, the call can't fail.
+    /// The range must not be empty.
     ///
     /// # Errors
     ///
-    /// - `NoGapForTable` if a table has to grow and finds no place.
-    /// - `Memory` if this program is out of memory.
+    /// - `NoGapForTable`: a table has to grow, and no free memory is found for it.
+    /// - `Memory`: this program is out of memory.
     pub fn set_node(&mut self, range: Range, node: u32) -> Result<(), Refusal>
         requires some { 0 < range.size }
         requires node { node < 1024 }
@@ -223,15 +229,15 @@ impl Memblock {
         memory::set_node(&mut self.journal, &mut self.tables, self.aim, range, node)
     }
 
-    /// Marks the memory of the range as mirrored; it keeps its nodes (`memblock_mark_mirror`).
-    /// This may split a record at both ends of the range, so the memory table may have to grow. If
-    /// it has room for two more records, and the journal for an item, the call can't fail. The
+    /// Marks the memory of the range as mirrored; it keeps its nodes (`memblock_mark_mirror`). This
+    /// may split a record at both ends of the range, so the memory table may have to grow. If the
+    /// table has room for two more records, and the journal for an item, the call can't fail. The
     /// range must not be empty.
     ///
     /// # Errors
     ///
-    /// - `NoGapForTable` if a table has to grow and finds no place.
-    /// - `Memory` if this program is out of memory.
+    /// - `NoGapForTable`: a table has to grow, and no free memory is found for it.
+    /// - `Memory`: this program is out of memory.
     pub fn set_mirror(&mut self, range: Range) -> Result<(), Refusal>
         requires some { 0 < range.size }
         requires begun { HasFirstItem self.old.journal.items }
@@ -247,11 +253,12 @@ impl Memblock {
         memory::set_mirror(&mut self.journal, &mut self.tables, self.aim, range)
     }
 
-    /// Cuts memory to whole frames (`memblock_trim_memory`).
+    /// Cuts memory to whole frames (`memblock_trim_memory`): each 4 KiB frame whose bytes aren't
+    /// all memory with the same label stops being memory.
     ///
     /// # Errors
     ///
-    /// `Memory` if this program is out of memory. Nothing is then changed.
+    /// - `Memory`: this program is out of memory; nothing is changed.
     pub fn trim(&mut self) -> Result<(), Memory>
         requires { HasFirstItem self.old.journal.items }
         ensures appends { AppendsItem result item.Trim self.old self.new }
@@ -270,7 +277,7 @@ impl Memblock {
     ///
     /// # Errors
     ///
-    /// `Memory` if this program is out of memory. Nothing is then changed.
+    /// - `Memory`: this program is out of memory; nothing is changed.
     pub fn set_limit(&mut self, at: u64) -> Result<(), Memory>
         requires { HasFirstItem self.old.journal.items }
         ensures appends { AppendsItem result (item.Limit at) self.old self.new }
@@ -282,12 +289,12 @@ impl Memblock {
         Ok(())
     }
 
-    /// Sets the direction of searches: from the lowest address up if `on` is set, else from the
-    /// highest down, as at first (`memblock_set_bottom_up`).
+    /// Sets the direction of searches: from the lowest address up if `on` is true, else from the
+    /// highest down, as in a new memblock (`memblock_set_bottom_up`).
     ///
     /// # Errors
     ///
-    /// `Memory` if this program is out of memory. Nothing is then changed.
+    /// - `Memory`: this program is out of memory; nothing is changed.
     pub fn set_upward(&mut self, on: bool) -> Result<(), Memory>
         requires { HasFirstItem self.old.journal.items }
         ensures appends { AppendsItem result (item.Upward on) self.old self.new }
@@ -299,10 +306,13 @@ impl Memblock {
         Ok(())
     }
 
-    /// Returns the greatest address of a place that fits the query, or the least if searches go
-    /// upward ([`Memblock::set_upward`]). A place is unclaimed memory of one label that the query
-    /// allows, aligned and in the window. It is in mirrored memory if one fits there. `None` means
-    /// that no place fits. The size must be at least 1, and the alignment a power of two.
+    /// Returns the greatest address at which the query fits, or the least if searches go upward
+    /// ([`Memblock::set_upward`]). `None` means that it fits nowhere. Mirrored memory is searched
+    /// first, and any memory only if the query doesn't fit there.
+    ///
+    /// The query fits at an address if the range of its size there is aligned, in the query's
+    /// window, above the first frame, and entirely unclaimed memory of one label with the query's
+    /// node. The size must be at least 1, and the alignment a power of two.
     pub fn find(&self, query: &Query) -> Option<u64>
         requires some { 1 ≤ query.now.size }
         requires aligned { (k : ℕ) × (query.now.align ≡ 2 ^ k) }
@@ -314,15 +324,14 @@ impl Memblock {
         places::best_place_in_tables(&self.journal, &self.tables, self.aim.upward, query)
     }
 
-    /// Finds a place for the request, claims it for the owner, and returns its address
-    /// (`memblock_alloc_range_nid`). The size must be at least 1, and the alignment a power of
-    /// two.
+    /// Finds free memory for the request, claims it for the owner, and returns its address
+    /// (`memblock_alloc_range_nid`). The size must be at least 1, and the alignment a power of two.
     ///
     /// # Errors
     ///
-    /// - `NoGap` if no search of the request finds a place. Nothing is then written.
-    /// - `NoGapForTable` if the reserved table has to grow and finds no place.
-    /// - `Memory` if this program is out of memory.
+    /// - `NoGap`: no search of the request finds free memory. Nothing is changed.
+    /// - `NoGapForTable`: the reserved table has to grow, and no free memory is found for it.
+    /// - `Memory`: this program is out of memory.
     pub fn alloc(&mut self, request: &Request, owner: Owner) -> Result<u64, Refusal>
         requires some { 1 ≤ request.now.size }
         requires aligned { (k : ℕ) × (request.now.align ≡ 2 ^ k) }
@@ -354,8 +363,8 @@ impl Memblock {
     ///
     /// # Errors
     ///
-    /// `Memory` if this program is out of memory. Nothing is then changed, and some address of the
-    /// range wasn't prepared.
+    /// - `Memory`: this program is out of memory; nothing is changed. This error is possible only
+    ///   if some address of the range had no memory of this program yet.
     pub fn fill(&mut self, range: Range, byte: u8) -> Result<(), Memory>
         requires { OverlapsNoTable self.old.kernel range self.old.journal.items }
         ensures kernel { self.new.kernel ≡ self.old.kernel }
@@ -385,7 +394,7 @@ impl Memblock {
         self.tables.read(at, into);
     }
 
-    /// Tests whether an address of the range belongs to a table.
+    /// Tests whether the range has a byte of either table's array.
     pub fn touches_table(&self, range: Range) -> bool
         ensures touches { IsTrue result
             ↔ OverlapsTableOfItems self.now.kernel range self.now.journal.items }
@@ -404,7 +413,8 @@ impl Memblock {
         &self.journal
     }
 
-    /// Returns both tables, which are those that the items define. No memory lies above 2^64.
+    /// Returns both tables. They have the records, the address and the room that the journal's
+    /// items define. No memory lies above 2^64.
     pub fn tables(&self) -> &Tables
         ensures tables { result.now ≡ self.now.tables }
         ensures memory { result.now.memory
@@ -473,8 +483,8 @@ fn memblock_is_four_parts(rt: HostRuntime) -> Result<(), std::test::Fail> {
     Ok(())
 }
 
-/// Law: a call that changes nothing keeps `ContinuesMemblock`, because no item was written and
-/// each byte is unchanged.
+/// Law: `ContinuesMemblock` holds from a memblock to itself, as it does for a call that changes
+/// nothing.
 pub fn no_items_no_change(memblock: &Memblock)
     ensures { ContinuesMemblock memblock.now memblock.now }
 {

@@ -1,9 +1,9 @@
 //! The memory table: its growth, added ranges, nodes and mirrored ranges.
 //!
-//! The new place of the table is claimed like any other range, so the reserved table may have to
-//! grow first. It may also have to grow when the old place is freed. If the growth for that free
-//! is refused, the old place stays claimed and the call continues (`memblock_double_array` ignores
-//! the failure too).
+//! The memory that the table moves to is claimed like any other range, so the reserved table may
+//! have to grow first. It may also have to grow when the old memory is freed. If the growth for
+//! that free is refused, the old memory stays claimed and the call continues
+//! (`memblock_double_array` ignores the failure too).
 ghost use Rattle.std.specs.Prelude.{◌≡◌, ◌⊎◌, ◌+◌, ◌-◌, ◌<◌, ◌≤◌, false, OnOk, OnErr, IsOk, IfSome};
 ghost use Rattle.phys_store.specs.Bytes.{ArePrepared};
 ghost use Rattle.memblock_model.specs.declared.owner.Which.TheVariants as tables_of;
@@ -27,12 +27,13 @@ use growth_model::Refusal;
 use memblock_ranges::{NO_NODE, Tables};
 use run_edits::range_end_fits;
 
-/// Frees the old place of the memory table, if there is one. If the reserved table can't grow for
-/// it, the old place stays claimed and the call still succeeds.
+/// Frees the memory that the memory table has left, if it isn't in the kernel's image. If the
+/// reserved table has to grow for that and can't, the memory stays claimed and the call still
+/// succeeds.
 ///
 /// # Errors
 ///
-/// `Memory` if this program is out of memory.
+/// - `Memory`: this program is out of memory.
 fn free_old_place(
     journal: &mut Journal,
     tables: &mut Tables,
@@ -56,15 +57,15 @@ fn free_old_place(
     }
 }
 
-/// Prepares the new place and claims it for the memory table. It first tests whether the claim
-/// would be refused, so that nothing is prepared for a claim that is refused. No item is written
-/// before the place is prepared.
+/// Prepares the range `place` for writing and claims it for the memory table. First tests whether
+/// the claim would be refused, so that nothing is prepared for a refused claim. No item is written
+/// before the range is prepared.
 ///
 /// # Errors
 ///
-/// - `NoGapForTable` if the reserved table has to grow and finds no place. Nothing is then written
-///   or prepared.
-/// - `Memory` if this program is out of memory.
+/// - `NoGapForTable`: the reserved table has to grow, and no free memory is found for it. Nothing
+///   is written or prepared.
+/// - `Memory`: this program is out of memory.
 fn claim_new_place(
     journal: &mut Journal,
     tables: &mut Tables,
@@ -94,12 +95,13 @@ fn claim_new_place(
     claim(journal, tables, aim, place, Owner::Table(Which::Memory))
 }
 
-/// Doubles the memory table's room, at the best place below the limit (`memblock_double_array`).
+/// Doubles the memory table's room and moves it to the best free memory below the limit
+/// (`memblock_double_array`).
 ///
 /// # Errors
 ///
-/// - `NoGapForTable` if a table has to grow and finds no place.
-/// - `Memory` if this program is out of memory.
+/// - `NoGapForTable`: a table has to grow, and no free memory is found for it.
+/// - `Memory`: this program is out of memory.
 fn grow_memory(
     journal: &mut Journal,
     tables: &mut Tables,
@@ -133,12 +135,12 @@ fn grow_memory(
     free_old_place(journal, tables, aim, old)
 }
 
-/// Doubles the memory table's room if it has no room for `more` records.
+/// Doubles the memory table's room if it has too little room for `more` records.
 ///
 /// # Errors
 ///
-/// - `NoGapForTable` if a table has to grow and finds no place.
-/// - `Memory` if this program is out of memory.
+/// - `NoGapForTable`: a table has to grow, and no free memory is found for it.
+/// - `Memory`: this program is out of memory.
 fn grow_memory_if_full(
     journal: &mut Journal,
     tables: &mut Tables,
@@ -165,13 +167,13 @@ fn grow_memory_if_full(
     }
 }
 
-/// Makes room in the memory table for `more` records: doubles the room as long as the table is
-/// full, at most twice.
+/// Makes room in the memory table for `more` records. Doubles the room while it is too small for
+/// them, at most twice, which is always enough.
 ///
 /// # Errors
 ///
-/// - `NoGapForTable` if a table has to grow and finds no place.
-/// - `Memory` if this program is out of memory.
+/// - `NoGapForTable`: a table has to grow, and no free memory is found for it.
+/// - `Memory`: this program is out of memory.
 fn make_memory_room(
     journal: &mut Journal,
     tables: &mut Tables,
@@ -201,8 +203,8 @@ fn make_memory_room(
 ///
 /// # Errors
 ///
-/// - `NoGapForTable` if a table has to grow and finds no place.
-/// - `Memory` if this program is out of memory.
+/// - `NoGapForTable`: a table has to grow, and no free memory is found for it.
+/// - `Memory`: this program is out of memory.
 pub fn add_memory(
     journal: &mut Journal,
     tables: &mut Tables,
@@ -234,8 +236,8 @@ pub fn add_memory(
 ///
 /// # Errors
 ///
-/// - `NoGapForTable` if a table has to grow and finds no place.
-/// - `Memory` if this program is out of memory.
+/// - `NoGapForTable`: a table has to grow, and no free memory is found for it.
+/// - `Memory`: this program is out of memory.
 pub fn set_node(
     journal: &mut Journal,
     tables: &mut Tables,
@@ -270,8 +272,8 @@ pub fn set_node(
 ///
 /// # Errors
 ///
-/// - `NoGapForTable` if a table has to grow and finds no place.
-/// - `Memory` if this program is out of memory.
+/// - `NoGapForTable`: a table has to grow, and no free memory is found for it.
+/// - `Memory`: this program is out of memory.
 pub fn set_mirror(
     journal: &mut Journal,
     tables: &mut Tables,

@@ -14,13 +14,14 @@ use run_edits::range_end_fits;
 /// The greatest number of records that an edit may add to a table.
 #[derive(Clone, Copy, Debug, PartialEq, Eq)]
 pub enum MaxNewRecords {
-    /// One for each run of the range's bytes that the table doesn't cover.
+    /// For adding this range: one record for each piece of the range that the table doesn't cover.
     PiecesOf(Range),
-    /// Two: one for each end of the range, where the edit may split a record.
+    /// For removing or changing a range: two, since the edit may split a record at each end of the
+    /// range.
     Two,
 }
 
-/// Tests whether the table lacks room for `more` records in addition to those that it has.
+/// Tests whether the table has too little room for `more` records in addition to those that it has.
 pub fn lacks_room(tables: &Tables, which: Which, more: &MaxNewRecords) -> bool
     ensures full { result ≡
         nat_lt (room_in which tables.now) (length (records_in which tables.now)

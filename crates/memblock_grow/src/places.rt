@@ -1,6 +1,6 @@
-//! Searches for the best place: in mirrored memory first, and then in any memory
-//! (`choose_memblock_flags`). Also computes the frames of the new place and of the old place of a
-//! table that grows (`memblock_double_array`).
+//! Searches for the best free address: in mirrored memory first, and then in any memory
+//! (`choose_memblock_flags`). Also computes the frames that a table that grows moves to and those
+//! that it leaves (`memblock_double_array`).
 
 ghost use Rattle.std.specs.Prelude.{◌≡◌, ◌≢◌, ℕ, ◌+◌, ◌*◌, ◌^◌, ◌<◌, ◌≤◌, SomeIff};
 ghost use Rattle.growth_model.specs.Growth.{round_up_to_frames};
@@ -21,7 +21,8 @@ pub struct AllocSettings {
     pub upward: bool,
 }
 
-/// Rounds a number of bytes up to frames, or returns `None` if it would exceed 2^64 - 1.
+/// Rounds a number of bytes up to whole 4 KiB frames, in bytes. Returns `None` if the result would
+/// exceed 2^64 - 1.
 fn round_up_to_frames(bytes: u64) -> Option<u64>
     ensures { SomeIff result (round_up_to_frames bytes < 2 ^ 64) (round_up_to_frames bytes) }
 {
@@ -29,9 +30,9 @@ fn round_up_to_frames(bytes: u64) -> Option<u64>
     Some(behind / FRAME_SIZE * FRAME_SIZE)
 }
 
-/// Returns the greatest address of a place in mirrored memory that fits the query, or the least if
-/// `upward` is set. Returns `None` if no place fits. It doesn't search if the journal has no item
-/// that mirrors memory.
+/// Returns the greatest address at which the query fits in mirrored memory, or the least if
+/// `upward` is true. Returns `None` if it fits nowhere there. Doesn't search if the journal has no
+/// item that marks memory as mirrored.
 fn mirrored_place(journal: &Journal, tables: &Tables, upward: bool, query: &Query) -> Option<u64>
     requires some { 1 ≤ query.now.size }
     requires aligned { (k : ℕ) × (query.now.align ≡ 2 ^ k) }
@@ -48,9 +49,9 @@ fn mirrored_place(journal: &Journal, tables: &Tables, upward: bool, query: &Quer
     find(tables, query, mode)
 }
 
-/// Returns the best place for the query, or `None` if no place fits. It is in mirrored memory if a
-/// place fits there. Of the places that fit it is the one with the greatest address, or with the
-/// least if `upward` is set.
+/// Returns the greatest address at which the query fits, or the least if `upward` is true. Mirrored
+/// memory is searched first, and any memory only if the query doesn't fit there. Returns `None` if
+/// it fits nowhere.
 pub fn best_place_in_tables(
     journal: &Journal,
     tables: &Tables,
@@ -72,9 +73,9 @@ pub fn best_place_in_tables(
     find(tables, query, mode)
 }
 
-/// Returns the frames for a table of `2 * room` records of 24 bytes, at the best place between the
-/// addresses `lo` and `hi`, or `None` if there is no place. If the size in bytes would exceed 2^64
-/// - 1, there is no place.
+/// Returns free frames for a table of `2 * room` records of 24 bytes, at the best address between
+/// `lo` and `hi`, in mirrored memory first. Returns `None` if there are none, or if the size in
+/// bytes would exceed 2^64 - 1.
 pub fn table_frames_between(
     journal: &Journal,
     tables: &Tables,
@@ -99,9 +100,9 @@ pub fn table_frames_between(
     Range::new(base, size)
 }
 
-/// Returns the frames for a table of `2 * room` records of 24 bytes: at the best place above the
-/// range `avoid`, else at the best one below it, or `None` if there is neither. The frames end at
-/// or below the limit.
+/// Returns free frames for a table of `2 * room` records of 24 bytes that don't overlap the range
+/// `avoid`: at the best address above that range, or else at the best one below it. Returns `None`
+/// if there are none. The frames end at or below the limit.
 pub fn table_frames_beside(
     journal: &Journal,
     tables: &Tables,
@@ -120,8 +121,8 @@ pub fn table_frames_beside(
     table_frames_between(journal, tables, upward, room, 0, avoid.base.min(limit))
 }
 
-/// Returns the frames of a table's old place, or `None` as long as the table is in its first
-/// place. They end below 2^64.
+/// Returns the frames that a table with this head takes, or `None` if it hasn't moved yet: its
+/// first frames, in the kernel's image, are never freed. The frames end below 2^64.
 pub fn old_place_frames(head: Head) -> Option<Range>
     requires far { head.room ≢ 128 → head.place + round_up_to_frames (24 * head.room) < 2 ^ 64 }
     ensures { result ≡ old_place_frames head.place head.room }

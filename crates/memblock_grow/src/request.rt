@@ -1,11 +1,11 @@
-//! The searches of an allocation, and the claim of the place that they find.
+//! The searches of an allocation, and the claim of the memory that they find.
 //!
-//! A round searches from an address up to the request's maximum or the limit, whichever is
-//! smaller. It first searches memory of the request's node and then, unless only that node is
-//! allowed, memory of any node. It makes these searches in mirrored memory, if there is any, and
-//! then again in all memory (`choose_memblock_flags`). The first round begins at the request's
-//! minimum. If it finds no place and there is a minimum, a second round begins at 0
-//! (`memblock_alloc_range_nid`, `memblock_alloc_internal`).
+//! A round searches from an address up to the request's maximum or the limit, whichever is smaller.
+//! It first searches memory of the request's node and then, unless only that node is allowed,
+//! memory of any node. It makes these searches in mirrored memory, if there is any, and then again
+//! in all memory (`choose_memblock_flags`). The first round begins at the request's minimum. If it
+//! finds nothing and there is a minimum, a second round begins at 0 (`memblock_alloc_range_nid`,
+//! `memblock_alloc_internal`).
 ghost use Rattle.std.specs.Prelude.{◌≡◌, ℕ, ◌+◌, ◌-◌, ◌^◌, ◌<◌, ◌≤◌, true, false, Some, IsOk, IfOk};
 ghost use Rattle.memblock_model.specs.declared.owner.Which.TheVariants as tables_of;
 ghost use Rattle.growth_model.specs.Growth.{count_uncovered_pieces, is_full};
@@ -24,9 +24,10 @@ use growth_model::{Refusal, Request};
 use memblock_find::{Mode, Query, find};
 use memblock_ranges::Tables;
 
-/// Returns the place that one search finds, or `None`: from address `lo` on, on this node (or on
-/// any if it is `None`), and only in mirrored memory if `mirror` is set. It is the highest place
-/// that fits, or the lowest if searches go upward.
+/// Returns the address that one search of the request finds, or `None`. It searches from address
+/// `lo` on, on `node` (or on any node if it is `None`), and only in mirrored memory if `mirror` is
+/// true. It finds the highest address at which the request fits, or the lowest if searches go
+/// upward.
 fn place_of_attempt(
     tables: &Tables,
     request: &Request,
@@ -52,9 +53,9 @@ fn place_of_attempt(
     find(tables, &query, mode)
 }
 
-/// Returns the place that is found from address `lo` on, or `None`. The first search is on the
-/// request's node. If it finds nothing, and other nodes are allowed too, a second one is on any
-/// node.
+/// Returns the address that is found from `lo` on, or `None`. The first search is on the request's
+/// node. If it finds nothing, and the request allows other nodes, a second one is on any node. If
+/// `mirror` is true, both search only mirrored memory.
 fn place_in(
     tables: &Tables,
     request: &Request,
@@ -74,8 +75,9 @@ fn place_in(
     place_of_attempt(tables, request, aim, lo, mirror, None)
 }
 
-/// Like [`place_in`] for mirrored memory. It doesn't search if the journal has no item that
-/// mirrors memory.
+/// Returns the address that is found in mirrored memory from `lo` on, or `None`: on the request's
+/// node or, if nothing is found there and the request allows other nodes, on any node. Doesn't
+/// search if the journal has no item that marks memory as mirrored.
 fn mirrored_place(
     journal: &Journal,
     tables: &Tables,
@@ -95,8 +97,8 @@ fn mirrored_place(
     place_in(tables, request, aim, lo, true)
 }
 
-/// Returns the place that one round finds, or `None`: from address `lo` on, first in mirrored
-/// memory, then in any memory.
+/// Returns the address that one round of searches finds from `lo` on, or `None`. The round searches
+/// mirrored memory first, then any memory.
 fn place_in_round(
     journal: &Journal,
     tables: &Tables,
@@ -116,7 +118,7 @@ fn place_in_round(
     place_in(tables, request, aim, lo, false)
 }
 
-/// Returns the place that the first round finds, from the request's minimum on, or else the one
+/// Returns the address that the first round finds, from the request's minimum on, or else the one
 /// that the second round finds, from 0 on. Returns `None` if neither finds one.
 fn place_for(
     journal: &Journal,
@@ -137,15 +139,15 @@ fn place_for(
     place_in_round(journal, tables, request, aim, 0)
 }
 
-/// Finds a place for the request, claims it for the owner, and returns its address
-/// (`memblock_alloc_range_nid`). If a place is found, the reserved table has room for it, and the
-/// journal for an item, the call can't fail.
+/// Finds free memory for the request, claims it for the owner, and returns its address
+/// (`memblock_alloc_range_nid`). If memory is found, the reserved table has room for the claim, and
+/// the journal for an item, the call can't fail.
 ///
 /// # Errors
 ///
-/// - `NoGap` if no search of the request finds a place. Nothing is then written.
-/// - `NoGapForTable` if the reserved table has to grow and finds no place.
-/// - `Memory` if this program is out of memory.
+/// - `NoGap`: no search of the request finds free memory. Nothing is changed.
+/// - `NoGapForTable`: the reserved table has to grow, and no free memory is found for it.
+/// - `Memory`: this program is out of memory.
 pub fn allocate(
     journal: &mut Journal,
     tables: &mut Tables,

@@ -1,8 +1,8 @@
 //! The reserved table: its growth, claims and frees.
 //!
-//! A growth avoids the range that is to be claimed or freed, so that the table never moves into
-//! it. The new place is claimed like any other range, and the old one is freed. A claim doubles
-//! the table's room up to twice before it writes its item.
+//! A growth avoids the range that is to be claimed or freed, so that the table never moves into it.
+//! The memory that the table moves to is claimed like any other range, and the old memory is freed.
+//! A claim doubles the table's room up to twice before it writes its item.
 ghost use Rattle.std.specs.Prelude.{◌≡◌, ◌≢◌, ◌+◌, ◌-◌, ◌<◌, ◌≤◌, false, None, Err, OnOk, OnErr, IsOk};
 ghost use Rattle.memblock_model.specs.declared.owner.Owner.{Owner as ModelOwner};
 ghost use Rattle.memblock_model.specs.Items.{owner_of};
@@ -25,15 +25,16 @@ use growth_model::Refusal;
 use memblock_ranges::{NO_NODE, Tables};
 use run_edits::range_end_fits;
 
-/// Doubles the reserved table's room, at a new place that doesn't overlap the range `avoid`
-/// (`memblock_double_array`). The growth is one step of three items, or of two if the table was
-/// still in the kernel's image. Everything that can fail comes before the first item: if there is
-/// no place, or this program is out of memory, nothing is written or prepared.
+/// Doubles the reserved table's room and moves it to free memory that doesn't overlap the range
+/// `avoid` (`memblock_double_array`). The growth writes two items together (the move, and the claim
+/// of the new memory), and a third (the free of the old memory) unless the table was still in the
+/// kernel's image. Everything that can fail comes before the first item, so if the growth fails
+/// nothing is written or prepared.
 ///
 /// # Errors
 ///
-/// - `NoGapForTable` if there is no place for the table.
-/// - `Memory` if this program is out of memory.
+/// - `NoGapForTable`: no free memory is found for the table.
+/// - `Memory`: this program is out of memory.
 fn grow_reserved(
     journal: &mut Journal,
     tables: &mut Tables,
@@ -84,12 +85,12 @@ fn grow_reserved(
     }
 }
 
-/// Doubles the reserved table's room if it has no room for `more` records.
+/// Doubles the reserved table's room if it has too little room for `more` records.
 ///
 /// # Errors
 ///
-/// - `NoGapForTable` if the reserved table has to grow and finds no place.
-/// - `Memory` if this program is out of memory.
+/// - `NoGapForTable`: the reserved table has to grow, and no free memory is found for it.
+/// - `Memory`: this program is out of memory.
 fn grow_reserved_if_full(
     journal: &mut Journal,
     tables: &mut Tables,
@@ -117,13 +118,13 @@ fn grow_reserved_if_full(
     }
 }
 
-/// Makes room in the reserved table for `more` records: doubles the room as long as the table is
-/// full, at most twice.
+/// Makes room in the reserved table for `more` records. Doubles the room while it is too small for
+/// them, at most twice, which is always enough.
 ///
 /// # Errors
 ///
-/// - `NoGapForTable` if the reserved table has to grow and finds no place.
-/// - `Memory` if this program is out of memory.
+/// - `NoGapForTable`: the reserved table has to grow, and no free memory is found for it.
+/// - `Memory`: this program is out of memory.
 fn make_reserved_room(
     journal: &mut Journal,
     tables: &mut Tables,
@@ -148,13 +149,12 @@ fn make_reserved_room(
     grow_reserved_if_full(journal, tables, aim, avoid, more)
 }
 
-/// Returns `Ok` if a claim of the range, which must be unclaimed, would not be refused. Changes and
-/// allocates nothing.
+/// Returns `Ok` if the table has room for a claim of the range or could grow for it. The range must
+/// be unclaimed. Changes and allocates nothing.
 ///
 /// # Errors
 ///
-/// `NoGapForTable` if the claim would be refused: the reserved table would have to grow and finds
-/// no place.
+/// - `NoGapForTable`: the reserved table would have to grow, and no free memory is found for it.
 // One growth is enough for the test: an unclaimed range is one piece, so one growth makes room for
 // it.
 pub fn check_claim(
@@ -191,8 +191,8 @@ pub fn check_claim(
 ///
 /// # Errors
 ///
-/// - `NoGapForTable` if the reserved table has to grow and finds no place.
-/// - `Memory` if this program is out of memory.
+/// - `NoGapForTable`: the reserved table has to grow, and no free memory is found for it.
+/// - `Memory`: this program is out of memory.
 pub fn claim(
     journal: &mut Journal,
     tables: &mut Tables,
@@ -226,8 +226,8 @@ pub fn claim(
 ///
 /// # Errors
 ///
-/// - `NoGapForTable` if the reserved table has to grow and finds no place.
-/// - `Memory` if this program is out of memory.
+/// - `NoGapForTable`: the reserved table has to grow, and no free memory is found for it.
+/// - `Memory`: this program is out of memory.
 pub fn free(
     journal: &mut Journal,
     tables: &mut Tables,

@@ -1,42 +1,44 @@
-//! What the stages of a boot allocate, and why a stage stops the boot. The stages for nodes, roots
-//! and maps share these types, so the boot converts their stops in one place.
+//! What the stages of a boot allocate, and why a stage stops the boot. The stages for nodes,
+//! section roots and memory maps share these types, so the boot converts their errors in one place.
 
 use bm_base::Memory;
 use memblock_model::Which;
 
-/// A section: a range of 128 MiB that has memory, with the node of its lowest frame of memory.
+/// A section: an aligned range of 128 MiB with some memory in it, and the node of its lowest frame
+/// of memory.
 #[derive(Clone, Copy, Debug, PartialEq, Eq)]
 pub struct Section {
     /// The section's number, counted from 0: its address divided by 128 MiB.
     pub number: u32,
-    /// The node, below 1,024.
+    /// The number of the node, below 1,024.
     pub node: u32,
 }
 
-/// An allocation without which the boot stops.
+/// What an allocation is for; the boot stops if the allocation fails.
 #[derive(Clone, Copy, Debug, PartialEq, Eq)]
 pub enum What {
-    /// The data of the node (`alloc_node_data`).
+    /// The `pg_data_t` of the node with this number (`alloc_node_data`).
     NodeData(u32),
-    /// The table of section roots (`memory_present`).
+    /// The `mem_section` array, which points to the section roots (`memory_present`).
     Roots,
-    /// The section root of this number (`sparse_index_alloc`).
+    /// The section root with this number (`sparse_index_alloc`).
     Root(u32),
-    /// The usage data of the sections from this one on
-    /// (`sparse_early_usemaps_alloc_pgdat_section`).
+    /// The usage data (`struct mem_section_usage`) of consecutive sections of one node, the first
+    /// of which has this number (`sparse_early_usemaps_alloc_pgdat_section`).
     Usage(u32),
-    /// The memory map of this section, or those of several sections that begin with this one
-    /// (`sparse_buffer_init`, `__populate_section_memmap`).
+    /// The memory map (page structures) of the section with this number, or of several sections,
+    /// the first of which has this number (`sparse_buffer_init`, `__populate_section_memmap`).
     Map(u32),
 }
 
 /// The reason why a stage stops the boot.
 #[derive(Clone, Copy, Debug, PartialEq, Eq)]
 pub enum StageStop {
-    /// No free place fits the allocation `what`.
+    /// No free memory was found for the allocation `what`.
     NoPlace { what: What },
-    /// A table of memblock had to grow and no place was found for it. `room` is the number of
-    /// records that it has room for, which was too small.
+    /// A table of memblock had to grow and no free memory was found for it
+    /// (`memblock_double_array`). `room` is the number of records that it has room for, which was
+    /// too small.
     NoTablePlace { which: Which, room: u64 },
     /// This program is out of memory.
     Memory,
