@@ -59,6 +59,7 @@ abbrev pub ◌>>◌ : Change → Change → Change
 abbrev pub if_due : (List Item → Bool) → Change → Change
 if_due due change items = if due items then change items else no_change items
 
--- the change, but without its refused growth, if it has one; what it wrote until then stays written
+-- the change without its refused growth: a refusal isn't reported, and what was written before it
+-- stays written
 abbrev pub ignore_refusal : Change → Change
 ignore_refusal change items = record { steps = (change items).steps; refused = None }

@@ -14,7 +14,8 @@ use Rattle.memblock_model.specs.Items.{Owners, owner_of}
 use Rattle.memblock_model.specs.Tables.{room_of, table_bytes}
 use Rattle.growth_model.specs.Growth.{record_count}
 
--- whether a table may lie in memory of this owner: any except an allocation of the early script
+-- whether a table may lie in memory of this owner: not in unclaimed memory (None), and not in an
+-- allocation of the early script
 abbrev pub may_hold_table : Option Owner → Bool
 may_hold_table None = false
 may_hold_table (Some (owner.Script id)) = false

@@ -71,8 +71,8 @@ impl Cursor {
         }
     }
 
-    /// Returns the walk after a jump down: to the end of the next lower record of the memory table
-    /// that the search may return, or to address 0 if there is none.
+    /// Returns the position of the walk after a jump down: to the end of the next lower record of
+    /// the memory table that the search may return, or to address 0 if there is no such record.
     // Only a hint to inline, as at `start_walk_down`: this function has several callers too.
     #[inline]
     fn walk_down_to_allowed(

@@ -39,17 +39,18 @@ pub record IsMemblock (kernel : RangeView) (items : List Item) (t : TablesView) 
   pub placed : HasFirstItem items → TablesAreClaimed kernel items
   pub spelled : TablesAreEncoded t.memory t.reserved (byte_of t.store)
 
--- the invariant of a memblock holds, with some range as the kernel's image
+-- the items, tables and settings are those of a valid memblock (`IsMemblock`), for some range as
+-- the kernel's image
 abbrev pub IsMemblockForSomeKernel : List Item → TablesView → AllocSettings → Type 0
 IsMemblockForSomeKernel items t at = (kernel : RangeView) × IsMemblock kernel items t at
 
--- the invariant of a memblock holds, with some range as the kernel's image for which the claim is
--- allowed (`MayClaim`)
+-- the items, tables and settings are those of a valid memblock, for some range as the kernel's
+-- image for which the claim of `range` for `who` is allowed (`MayClaim`)
 abbrev pub AllowsClaim : List Item → TablesView → AllocSettings → RangeView → Owner → Type 0
 AllowsClaim items t at range who = (kernel : RangeView) × IsMemblock kernel items t at × MayClaim kernel items range who
 
--- the invariant of a memblock holds, with some range as the kernel's image for which the range to
--- free overlaps no table
+-- the items, tables and settings are those of a valid memblock, for some range as the kernel's
+-- image for which `range` overlaps no table, so it may be freed
 abbrev pub AllowsFree : List Item → TablesView → AllocSettings → RangeView → Type 0
 AllowsFree items t at range = (kernel : RangeView) × IsMemblock kernel items t at × OverlapsNoTable kernel range items
 

@@ -9,7 +9,7 @@ use Rattle.bm_base.specs.declared.size.NumFault.{NumFault}
 use Rattle.script_reader.specs.declared.fault.ScriptLineFault.{ScriptLineFault}
 use Rattle.script_reader.specs.declared.fault.ScriptLineFault.TheVariants as wrong
 
--- the words of a line, or of the rest of one
+-- the words of a line, or of the rest of a line
 abbrev pub Words : Type 0
 Words = List (List ℕ)
 
