@@ -72,7 +72,7 @@ tag_of items x = tag_for (memory_of items x)
 
 -- the limit of allocations after an item: the newest Limit item's address; 0 before the first Limit
 -- item (`memblock.current_limit`). An allocation ends at or below both the limit and its own
--- maximum (`memblock_find_in_range_node`).
+-- maximum (`memblock_alloc_internal`).
 abbrev pub limit_after : ℕ → Item → ℕ
 limit_after l (item.Limit at) = at
 limit_after l i = l
