@@ -1,6 +1,6 @@
--- The effect of a put or a fetch, as a sequence of calls of the operating system. The parameters
--- `writes`, `reads` and `opens` are the relations for a single call: the ghost members of
--- `RawWriter`, `RawReader` and `RawFiles`.
+-- Puts and fetches as sequences of calls of the operating system. The parameters `writes`, `reads`
+-- and `opens` are the relations for a single call: the ghost members of `RawWriter`, `RawReader`
+-- and `RawFiles`.
 use Rattle.std.specs.Prelude.{◌≡◌, ℕ, ◌+◌, ◌<◌, ◌≤◌, List, [], ◌++◌, length, drop, Option, Some, None, Result, Ok, Err, ◌⊎◌, Vec}
 use Rattle.std.specs.declared.alloc.Global.{Global}
 use Rattle.bm_io.specs.declared.reading.Fetch.{Fetch}
@@ -9,8 +9,8 @@ use Rattle.bm_io.specs.declared.writing.Put.{Put}
 use Rattle.bm_io.specs.declared.writing.Put.TheVariants as put
 
 -- `HasTaken writes bytes before n after`: the stream took the first n of `bytes`, by writes that
--- lead from the state `before` to the state `after`. Each write was offered all remaining bytes
--- and took at least one.
+-- lead from its state `before` to its state `after`. Each write was offered all bytes that were
+-- not taken yet, and took at least one.
 pub data HasTaken {W : Type 0} (writes : W → List ℕ → Option ℕ → W → Type 0) (bytes : List ℕ) (before : W) : ℕ → W → Type 0 where
   nothing_taken : HasTaken writes bytes before 0 before
   took : {k n : ℕ} {mid after : W} → HasTaken writes bytes before k mid
@@ -24,7 +24,7 @@ pub data HasGiven {F : Type 0} (reads : F → Option (List ℕ) → F → Type 0
       → reads mid (Some bytes) after → 0 < length bytes → HasGiven reads before (given ++ bytes) after
 
 -- the result of a put: Ok once all bytes were taken, Failed at the first write that failed or took
--- nothing
+-- no byte, never Memory
 abbrev pub IsPutBy : {W : Type 0} → (W → List ℕ → Option ℕ → W → Type 0) → W → List ℕ → Result (Unit {0}) Put → W → Type 0
 IsPutBy writes before bytes (Ok done) after = HasTaken writes bytes before (length bytes) after
 IsPutBy {W} writes before bytes (Err put.Failed) after =

@@ -11,8 +11,8 @@ pub record MemFileView : Type 0 where
   pub name : List ℕ
   pub bytes : List ℕ
 
--- what contracts see of a `MemFiles`: the files, the numbers of the calls that are to fail, and
--- the numbers of calls, of failed calls and of bytes read
+-- what contracts see of a `MemFiles`: the files, the numbers of the calls that will fail, and how
+-- many calls, failed calls and bytes read there were so far
 pub record MemFilesView : Type 0 where
   pub files : List MemFileView
   pub failing : List ℕ
@@ -32,7 +32,7 @@ file_views files = map file_view files
 abbrev pub has_name : List ℕ → MemFile → Bool
 has_name name f = bytes_eq (string_bytes f.name) name
 
--- the bytes of the first file with the name, if there is one
+-- the bytes of the first file with the name, or `None` if no file has it
 abbrev pub file_bytes : List MemFileView → List ℕ → Option (List ℕ)
 file_bytes [] name = None
 file_bytes (f ∷ fs) name = if bytes_eq f.name name then Some f.bytes else file_bytes fs name
@@ -42,7 +42,7 @@ abbrev pub HaveOwnNames : List MemFileView → Type 0
 HaveOwnNames [] = Unit {0}
 HaveOwnNames (f ∷ fs) = IsNone (file_bytes fs f.name) × HaveOwnNames fs
 
--- the call with that number fails: it was planned to fail, or there is no file with the name
+-- the fetch with this number fails: the number is in `failing`, or no file has the name
 abbrev pub IsRefused : MemFilesView → ℕ → List ℕ → Type 0
 IsRefused held number name = Contains held.failing number ⊎ IsNone (file_bytes held.files name)
 

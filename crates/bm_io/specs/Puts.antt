@@ -7,8 +7,9 @@ use Rattle.bm_io.specs.declared.writing.Put.{Put}
 use Rattle.bm_io.specs.declared.writing.Put.TheVariants as put
 use Rattle.bm_io.specs.declared.writing.Sink.{Ghosts as SinkOf}
 
--- the contract of `Sink::put` for these bytes: `answer` is the result, `old` and `new` are the
--- output before and after, and `sink` has the ghost members of its type
+-- the contract of `Sink::put` for these bytes, or of several puts in a row that together have
+-- them: `answer` is the result, `old` and `new` are the output before and after, and `sink` has
+-- the ghost members of its type
 pub record Puts {S : Type 0} (sink : SinkOf S) (old new : S) (answer : Result (Unit {0}) Put) (bytes : List ℕ) : Type 0 where
   -- with Ok all bytes were appended, with an error the first of them (none, some or all)
   pub whole : OnOk answer (Appends (sink.written old) (sink.written new) bytes)

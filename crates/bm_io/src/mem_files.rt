@@ -1,5 +1,5 @@
-//! Files in memory, for tests and proofs. Contracts know the contents of the files. A test plans
-//! failures: it lists the numbers of the calls that are to fail.
+//! Files in memory, for tests and proofs. Contracts know what each file contains. A test chooses
+//! which calls of `fetch` fail, by their numbers.
 ghost use Rattle.std.specs.Prelude.{◌≡◌, ◌-◌, ◌^◌, ◌<◌, ◌≤◌, ◌↔◌, length, Option, Some, IfOk, IsErrOf, find};
 ghost use Rattle.std.specs.Option.{option_copied};
 ghost use Rattle.bm_io.specs.Counts.{count_after};
@@ -16,7 +16,8 @@ pub struct MemFile {
     pub bytes: Vec<u8>,
 }
 
-/// Files in memory, some of whose fetches fail as planned. Calls of `fetch` are numbered from 1.
+/// Files in memory. The calls of `fetch` are numbered from 1, and those whose numbers are in a
+/// list fail.
 #[derive(Drop)]
 pub struct MemFiles {
     files: Vec<MemFile>,
@@ -44,8 +45,9 @@ impl Model for MemFiles {
 }
 
 impl MemFiles {
-    /// Returns these files in memory. `failing` has the numbers of the calls of `fetch` that are
-    /// to fail, from 1. No two files may have the same name. Allocates nothing.
+    /// Returns the files as [`Files`], with no call counted yet. `failing` has the numbers of the
+    /// calls of `fetch` that will fail; the first call has number 1. No two files may have the
+    /// same name. Allocates nothing.
     pub fn new(files: Vec<MemFile>, failing: Vec<u64>) -> MemFiles
         requires { HaveOwnNames (file_views files.items) }
         ensures files { result.files ≡ file_views files.items }
@@ -71,13 +73,13 @@ impl Files for MemFiles {
 
     ghost taken = { λ s. s.taken };
 
-    /// Returns a copy of the file.
+    /// Returns a copy of the bytes of the file `name`, which may have at most `limit` bytes.
     ///
     /// # Errors
     ///
-    /// `Failed` if the call is one of those that are to fail, or no file has the name. Otherwise
-    /// `TooLong` if the file has more than `limit` bytes, and `Memory` if the copy can't be
-    /// allocated.
+    /// - `Failed` exactly if the number of this call is in `failing`, or no file has the name.
+    /// - Otherwise `TooLong` exactly if the file has more than `limit` bytes.
+    /// - `Memory` if the copy can't be allocated.
     fn fetch(&mut self, alloc: Global, name: &str, limit: u64) -> Result<Vec<u8>, Fetch>
         ensures bounded { IfOk result (λ bytes. length bytes.items ≤ limit) }
         ensures told { IfOk result (λ bytes. file_bytes self.old.files name.now

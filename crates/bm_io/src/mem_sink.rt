@@ -1,5 +1,5 @@
 //! An output in memory, for tests and proofs. Contracts know the bytes that were written. A test
-//! plans failures: it lists the numbers of the calls that are to fail.
+//! chooses which calls of `put` fail, by their numbers.
 ghost use Rattle.std.specs.Prelude.{◌≡◌, ◌+◌, ◌-◌, ◌/◌, ◌^◌, ◌<◌, ◌≤◌, [], ◌++◌, length, take, Some, Contains, OnOk, IsErrOf};
 ghost use Rattle.bm_io.specs.Counts.{count_after};
 ghost use Rattle.bm_io.specs.MemSink.{put_failures, out_of_memory_puts};
@@ -7,7 +7,8 @@ ghost use Rattle.bm_io.specs.MemSink.{put_failures, out_of_memory_puts};
 use crate::writing::{Put, Sink};
 use std::marker::Model;
 
-/// An output in memory, some of whose puts fail as planned. Calls of `put` are numbered from 1.
+/// An output in memory. The calls of `put` are numbered from 1, and those whose numbers are in a
+/// list fail.
 #[derive(Drop)]
 pub struct MemSink {
     written: Vec<u8>,
@@ -35,8 +36,8 @@ impl Model for MemSink {
 }
 
 impl MemSink {
-    /// Returns an empty output. `failing` has the numbers of the calls of `put` that are to fail,
-    /// from 1. Allocates nothing.
+    /// Returns an empty output. `failing` has the numbers of the calls of `put` that will fail;
+    /// the first call has number 1. Allocates nothing.
     pub fn new(failing: Vec<u64>) -> MemSink
         ensures written { result.written ≡ [] }
         ensures failing { result.failing ≡ failing.items }
@@ -53,7 +54,7 @@ impl MemSink {
         }
     }
 
-    /// Returns the bytes written so far.
+    /// Returns all bytes written so far, in order.
     pub fn written_bytes(&self) -> &[u8]
         ensures { result.now ≡ self.now.written }
     {
@@ -68,12 +69,13 @@ impl Sink for MemSink {
 
     ghost wants = { λ s. s.wants };
 
-    /// Appends the chunk.
+    /// Appends all bytes of the chunk.
     ///
     /// # Errors
     ///
-    /// `Failed` if the call is one of those that are to fail; the first half of the chunk, rounded
-    /// down, is then appended. `Memory` if the output can't grow; nothing is then appended.
+    /// - `Failed` if the number of this call is in `failing`. The first half of the chunk's bytes,
+    ///   rounded down, was appended.
+    /// - `Memory` if the output can't grow. Nothing was appended.
     fn put(&mut self, chunk: &[u8]) -> Result<(), Put>
         ensures whole { OnOk result (self.new.written ≡ self.old.written ++ chunk.now) }
         ensures half { IsErrOf result Put.Failed

@@ -21,27 +21,29 @@ pub enum Fetch {
 
 /// Files that can be fetched by name.
 pub trait Files {
-    // For each name, the bytes of the file with that name. `None` if the files are unknown.
+    // For each name, the bytes of the file with that name, or `None` if there is no such file. The
+    // whole member is `None` if contracts don't know what files contain.
     ghost holds: { Self → Option (List ℕ → Option (List ℕ)) };
 
-    // For each name, how often fetching the file with that name failed. An implementation may use
-    // one count for all names, and may count failures that a retry overcame.
+    // For each name, how many fetches of the file with that name failed so far. An implementation
+    // may use one counter for all names, and may count failures that a retry overcame.
     ghost faults: { Self → List ℕ → ℕ };
 
-    // The number of bytes that were read from files.
+    // The number of bytes read so far, from all files together.
     ghost taken: { Self → ℕ };
 
-    /// Returns all bytes of the file with the name. The file may have at most `limit` bytes.
+    /// Returns all bytes of the file `name`, which may have at most `limit` bytes.
     ///
     /// # Errors
     ///
-    /// `Failed` if the file couldn't be opened or read, `TooLong` if it has more than `limit`
-    /// bytes, and `Memory` if the program ran out of memory.
+    /// - `Failed` if the file doesn't exist, or couldn't be opened or read.
+    /// - `TooLong` if the file has more than `limit` bytes.
+    /// - `Memory` if the program ran out of memory.
     fn fetch(&mut self, alloc: Global, name: &str, limit: u64) -> Result<Vec<u8>, Fetch>
         ensures bounded { IfOk result (λ bytes. length bytes.items ≤ limit) }
         ensures told { IfOk result (λ bytes. IsKnownAs (holds self.old) name.now bytes.items) }
 
-        // What each error implies. `Memory` may happen at any time.
+        // What each error implies. `Memory` implies nothing, since memory may run out at any time.
         ensures failed { IsErrOf result Fetch.Failed
             → Rose (faults self.old name.now) (faults self.new name.now) }
         ensures too_long { IsErrOf result Fetch.TooLong

@@ -1,8 +1,8 @@
-//! Reads the files of the operating system.
+//! Fetches whole files of the operating system.
 //!
-//! A read may give only a part of a file, so a fetch opens the file and reads until the end. It is
-//! proved that a fetch makes exactly those calls, and that it returns `Failed` only if one of them
-//! fails.
+//! One read may return only a part of a file, so a fetch opens the file and reads until its end.
+//! It is proved that a fetch makes exactly these calls, and that it returns `Failed` only if one
+//! of them fails.
 ghost use Rattle.std.specs.Prelude.{◌≡◌, ℕ, ◌^◌, ◌<◌, ◌≤◌, length, None, IfSome, IfOk, IsErrOf};
 ghost use Rattle.bm_io.specs.Counts.{count_after, Rose, RoseByMoreThan};
 ghost use Rattle.bm_io.specs.Known.{IsKnownAs};
@@ -16,8 +16,8 @@ use std::alloc::Global;
 use std::marker::Model;
 use std::rt;
 
-/// The files of the operating system. Their contents are unknown to contracts. One counter of
-/// faults serves all names, and `taken` counts the bytes of every read.
+/// The files of the operating system. Contracts don't know what they contain. `faults` counts the
+/// failed fetches of all files together, and `taken` the bytes of all reads.
 #[derive(Drop)]
 pub struct RealFiles<D: RawFiles + Drop> {
     files: D,
@@ -37,8 +37,8 @@ impl<D: RawFiles + Drop> Model for RealFiles<D> {
 }
 
 impl<'a, R: rt::Files> RealFiles<SystemFiles<'a, R>> {
-    /// Returns access to the operating system's files through `runtime`; opens none of them. The
-    /// counts of faults and of bytes read begin at 0.
+    /// Returns access to the operating system's files through `runtime`, and opens no file yet.
+    /// The counters of failed fetches and of bytes read begin at 0.
     pub fn new(runtime: &'a R) -> RealFiles<SystemFiles<'a, R>>
         ensures faults { result.faults ≡ 0 }
         ensures taken { result.taken ≡ 0 }
@@ -52,13 +52,14 @@ impl<'a, R: rt::Files> RealFiles<SystemFiles<'a, R>> {
 }
 
 impl<D: RawFiles + Drop> RealFiles<D> {
-    /// Reads the whole file, which may have at most `limit` bytes. A failed read counts as a
-    /// fault.
+    /// Reads the open file to its end and returns its bytes, of which there may be at most
+    /// `limit`.
     ///
     /// # Errors
     ///
-    /// `Failed` if a read failed, `TooLong` if the file has more than `limit` bytes, `Memory` if
-    /// the program ran out of memory.
+    /// - `Failed` if a read failed. The counter of faults rises by 1.
+    /// - `TooLong` if the file has more than `limit` bytes.
+    /// - `Memory` if the program ran out of memory.
     fn read_whole<F: RawReader>(
         &mut self,
         file: &mut F,
@@ -106,12 +107,14 @@ impl<D: RawFiles + Drop> Files for RealFiles<D> {
 
     ghost taken = { λ s. s.taken };
 
-    /// Opens the file and reads all of it. It may have at most `limit` bytes.
+    /// Opens the file `name` and returns all its bytes, of which there may be at most `limit`.
     ///
     /// # Errors
     ///
-    /// `Failed` if the file couldn't be opened or a read failed; this counts as one fault.
-    /// `TooLong` if it has more than `limit` bytes, `Memory` if the program ran out of memory.
+    /// - `Failed` if the file couldn't be opened or a read failed. The counter of faults rises by
+    ///   1.
+    /// - `TooLong` if the file has more than `limit` bytes.
+    /// - `Memory` if the program ran out of memory.
     fn fetch(&mut self, alloc: Global, name: &str, limit: u64) -> Result<Vec<u8>, Fetch>
         ensures calls { (taken : ℕ)
             × IsFetchedBy D.opens D.File.reads self.old.files name.now limit result taken

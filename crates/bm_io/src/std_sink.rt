@@ -1,8 +1,8 @@
 //! An output to a stream of the operating system.
 //!
-//! A write may take only some of the bytes, so a put writes until all are taken. It is proved for
-//! every stream that a put makes exactly those writes, and fails only if one of them fails or
-//! takes nothing.
+//! One write may take only some of the bytes, so a put repeats the write with the remaining bytes
+//! until all are taken. It is proved for every stream that a put makes exactly these writes, and
+//! fails only if one of them fails or takes no byte.
 ghost use Rattle.std.specs.Prelude.{◌≡◌, ◌^◌, ◌<◌, ◌≤◌, OnOk, OnErr, IsErrOf};
 ghost use Rattle.std.specs.Io.KnownBytes.{Appends};
 ghost use Rattle.bm_io.specs.Counts.{count_after, Rose};
@@ -17,7 +17,7 @@ use std::io::Write;
 use std::marker::Model;
 
 /// An output to a stream of the operating system, such as standard output. Contracts know the
-/// written bytes only if they know the bytes of the stream. A put never runs out of memory.
+/// written bytes only if they know the stream's contents. A put never returns `Memory`.
 #[derive(Drop)]
 pub struct StdSink<W: RawWriter + Drop> {
     stream: W,
@@ -56,12 +56,13 @@ impl<W: RawWriter + Drop> Sink for StdSink<W> {
 
     ghost wants = { λ s. 0 };
 
-    /// Writes the chunk. If the stream takes only some of the bytes, the rest is written next,
-    /// until all bytes are taken.
+    /// Writes all bytes of the chunk to the stream. If the stream takes only some of them, the
+    /// rest is written next, until all are taken.
     ///
     /// # Errors
     ///
-    /// `Failed` if a write failed or took nothing; this counts as one fault. Never `Memory`.
+    /// - `Failed` if a write failed or took no byte. The counter of failed puts rises by 1.
+    /// - Never `Memory`.
     fn put(&mut self, chunk: &[u8]) -> Result<(), Put>
         ensures calls { IsPutBy W.writes self.old.stream chunk.now result self.new.stream }
         ensures whole { OnOk result

@@ -1,14 +1,15 @@
-//! The three calls of the operating system, one line each.
+//! The three calls of the operating system (open, read and write), one line each.
 //!
-//! These lines are the trusted edge: no contract can say that they reach the file or stream that
-//! they were given.
+//! These lines are trusted without a proof: no contract can say that such a call reaches the file
+//! or the stream that it is meant for.
 ghost use Rattle.bm_io.specs.Known.{TakesKnown, GivesKnown};
 
 use crate::raw::{RawFiles, RawReader, RawWriter};
 use std::io::{Read, Write};
 use std::{fs, rt};
 
-/// A stream or an open file of the operating system.
+/// A stream or an open file of the operating system (`inner`), to which a write or a read is one
+/// system call.
 #[derive(Drop)]
 pub struct SystemStream<T: Drop> {
     pub inner: T,
@@ -17,7 +18,7 @@ pub struct SystemStream<T: Drop> {
 impl<W: Write + Drop> RawWriter for SystemStream<W> {
     ghost contents = { λ s. W.contents s.inner };
 
-    // All that is known of a write: the stream's contents grew by the bytes that it took.
+    // All that contracts know of a write: the stream's contents grew by the bytes that it took.
     ghost writes = { λ before bytes taken after.
         TakesKnown (W.contents before.inner) (W.contents after.inner) bytes taken };
 
@@ -29,7 +30,8 @@ impl<W: Write + Drop> RawWriter for SystemStream<W> {
 impl<F: Read + Drop> RawReader for SystemStream<F> {
     ghost remaining = { λ s. F.remaining s.inner };
 
-    // All that is known of a read: the bytes that it gave were the next ones of the file.
+    // All that contracts know of a read: the bytes that it returned were the next ones of the
+    // file.
     ghost reads = { λ before given after.
         GivesKnown (F.remaining before.inner) (F.remaining after.inner) given };
 
@@ -38,7 +40,7 @@ impl<F: Read + Drop> RawReader for SystemStream<F> {
     }
 }
 
-/// The files that the runtime can open.
+/// The files of the operating system, which Rattle's runtime opens by name.
 #[derive(Drop)]
 pub struct SystemFiles<'a, R: rt::Files> {
     pub runtime: &'a R,
@@ -47,7 +49,7 @@ pub struct SystemFiles<'a, R: rt::Files> {
 impl<'a, R: rt::Files> RawFiles for SystemFiles<'a, R> {
     type File = SystemStream<R::File>;
 
-    // Nothing is known of the file that a name opens.
+    // Contracts know nothing of the file that is opened for a name.
     ghost opens = { λ before name opened after. Unit {0} };
 
     fn open(&mut self, name: &str) -> Option<SystemStream<R::File>> {

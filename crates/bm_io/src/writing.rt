@@ -1,12 +1,12 @@
 //! The trait of an output that the program writes to in chunks.
 //!
-//! The report and the line that reports an error are written to such outputs.
+//! Reports go to one such output, and the line that says why the program failed to another.
 ghost use Rattle.std.specs.Prelude.{◌≡◌, ℕ, ◌^◌, ◌<◌, ◌≤◌, List, Option, OnOk, OnErr, IsErrOf, ◌⊎◌};
 ghost use Rattle.std.specs.Io.KnownBytes.{Appends};
 ghost use Rattle.bm_io.specs.Counts.{Rose};
 ghost use Rattle.bm_io.specs.Known.{AppendsFront};
 
-/// Why a put failed: the output didn't take the whole chunk.
+/// Why a call of [`Sink::put`] failed.
 #[derive(Clone, Copy, Debug, PartialEq, Eq)]
 pub enum Put {
     /// The output refused the chunk.
@@ -17,22 +17,24 @@ pub enum Put {
 
 /// An output that takes bytes in chunks.
 pub trait Sink {
-    // The bytes written so far, or `None` if unknown.
+    // The bytes written so far, or `None` if contracts don't know them.
     ghost written: { Self → Option (List ℕ) };
 
-    // How often the output failed to take bytes. Failures that a retry overcame may be counted
-    // too.
+    // How many times the output refused bytes so far. Refusals that a retry overcame may be
+    // counted too.
     ghost faults: { Self → ℕ };
 
-    // The number of puts that failed with `Memory`.
+    // The number of puts so far that failed with `Memory`.
     ghost wants: { Self → ℕ };
 
-    /// Appends the chunk.
+    /// Appends all bytes of the chunk to the output.
     ///
     /// # Errors
     ///
-    /// `Failed` if the output refused the chunk, and `Memory` if it ran out of memory. In both
-    /// cases the first bytes of the chunk were appended: none, some or all.
+    /// - `Failed` if the output refused the chunk.
+    /// - `Memory` if the output ran out of memory.
+    ///
+    /// After either error the first bytes of the chunk were appended: none, some or all.
     fn put(&mut self, chunk: &[u8]) -> Result<(), Put>
         ensures whole { OnOk result (Appends (written self.old) (written self.new) chunk.now) }
         ensures front { OnErr result
@@ -42,7 +44,7 @@ pub trait Sink {
         ensures failed { IsErrOf result Put.Failed → Rose (faults self.old) (faults self.new) }
         ensures wanting { IsErrOf result Put.Memory → Rose (wants self.old) (wants self.new) }
 
-        // `wants` rises only with `Memory`.
+        // The counter `wants` rises only if this put returns `Memory`.
         ensures no_want { IsErrOf result Put.Memory ⊎ (wants self.new ≡ wants self.old) }
 
         // No counter falls or exceeds 2^64 - 1.
