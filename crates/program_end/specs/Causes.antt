@@ -12,13 +12,13 @@ use Rattle.program_end.specs.declared.failure.NoResult.TheVariants as errors
 use Rattle.program_end.specs.declared.failure.Reason.{Reason}
 use Rattle.program_end.specs.declared.failure.Reason.TheVariants as reasons
 
--- there is a name, and the counter of its faults rose
+-- there is a file name, and the counter of faults of this name rose
 abbrev pub FaultsRose : (before now : List ℕ → ℕ) → Option (List ℕ) → Type 0
 FaultsRose before now None = ⊥
 FaultsRose before now (Some name) = Rose (before name) (now name)
 
--- the error is one of three: out of memory; a file with a fault; or a file that couldn't be read,
--- which has a name whose counter of faults rose
+-- the error is one of three: out of memory; a file with a fault; or a file that couldn't be read.
+-- In the last case the input has a file name, and the counter of faults of this name rose.
 abbrev pub IsFileError : {I F C : Type 0} → (before now : List ℕ → ℕ) → (I → Option (List ℕ)) → NoResult (Reason I F C) → Type 0
 IsFileError before now named (errors.Reason reasons.Usage) = ⊥
 IsFileError before now named (errors.Reason (reasons.Unread input)) = FaultsRose before now (named input)
@@ -35,7 +35,7 @@ IsErrorOfInput input (errors.Reason (reasons.Stopped cause)) = ⊥
 IsErrorOfInput input errors.Memory = Unit {0}
 
 -- the command line is accepted and names a file for the input, and the counter of faults of this
--- name rose
+-- file's name rose
 abbrev pub InputFaultsRose : {W I A : Type 0} → Program W I A → (before now : List ℕ → ℕ) → Option W → I → Type 0
 InputFaultsRose program before now None input = ⊥
 InputFaultsRose program before now (Some wanted) input = FaultsRose before now (program.named wanted input)

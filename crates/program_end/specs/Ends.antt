@@ -1,5 +1,6 @@
--- How a program ends: what it wrote to its output and to the error output. `said` is the outcome:
--- the result that the command line and the files give, or the reason why they give none.
+-- How a program ends: its status, what it wrote to its output, and what it wrote to the error
+-- output. `said` is the outcome, which the command line and the files determine: the result, or
+-- the reason why there is none.
 use Rattle.std.specs.Prelude.{◌≡◌, ℕ, List, Option, Result, Ok, Err, IsOkAnd, ◌⊎◌}
 use Rattle.std.specs.Io.KnownBytes.{Appends}
 use Rattle.bm_io.specs.Counts.{Rose}
@@ -15,10 +16,10 @@ use Rattle.program_end.specs.declared.failure.Failure.TheVariants as failures
 use Rattle.program_end.specs.declared.failure.Reason.{Reason}
 use Rattle.program_end.specs.declared.failure.Reason.TheVariants as reasons
 
--- the end fits the outcome. If the program ended with a status, the outcome is a result with this
--- status, and its text was appended. If there is no result, the error fits the outcome. If the
--- output failed, the outcome is a result, and the first bytes of its text were appended (none,
--- some or all).
+-- how a program may end that writes the outcome `said` to its output. If it ended with a status,
+-- the outcome is a result with this status, and the result's text was appended. If it ended
+-- without a result, its error fits the outcome (`FitsError`). If the output failed, the outcome is
+-- a result, and the first bytes of its text were appended (none, some or all).
 abbrev pub WritesOutcome : {W I A F C : Type 0} → Program W I A → (old new : Option (List ℕ)) → End (Reason I F C) → Result A (Reason I F C)
     → Type 0
 WritesOutcome program old new (Ok status) said =
@@ -26,28 +27,28 @@ WritesOutcome program old new (Ok status) said =
 WritesOutcome program old new (Err (failures.NoResult error)) said = FitsError program.place error said
 WritesOutcome program old new (Err (failures.Output refusal)) said = IsOkAnd said (λ result. AppendsFront old new (program.text result))
 
--- What holds whether or not the files' contents are known. Without a result the output is
--- unchanged. If the output refused the text, its counter `faults` rose. If memory ran out for the
--- text, its counter `wants` rose.
+-- What happened to the output, even if the contents of the files are unknown. Without a result the
+-- output is unchanged. If the output refused the text, its counter `faults` rose. If memory ran
+-- out while the text was written, its counter `wants` rose.
 abbrev pub WritingHasCause : {S R : Type 0} → SinkOf S → (old new : S) → End R → Type 0
 WritingHasCause sink old new (Ok status) = Unit {0}
 WritingHasCause sink old new (Err (failures.NoResult error)) = new ≡ old
 WritingHasCause sink old new (Err (failures.Output put.Failed)) = Rose (sink.faults old) (sink.faults new)
 WritingHasCause sink old new (Err (failures.Output put.Memory)) = Rose (sink.wants old) (sink.wants new)
 
--- with a result the error output is unchanged; with a failure the line of the failure was written
--- (`PutsLine`)
+-- if the program ended with a result, the error output is unchanged; if it failed, the one line
+-- that says why was written to it, as far as the error output took it (`PutsLine`)
 abbrev pub PutsEndLine : {E R : Type 0} → SinkOf E → (Failure R → List ℕ) → (old new : E) → End R → Type 0
 PutsEndLine errors line old new (Ok status) = new ≡ old
 PutsEndLine errors line old new (Err failure) = PutsLine errors old new (line failure)
 
--- the failure fits the outcome. If there is no result, the error fits the outcome. If the output
--- failed, the outcome is a result.
+-- the outcome `said` allows this failure. If the failure is that there is no result, its error
+-- fits the outcome (`FitsError`). If it is that the output failed, the outcome is a result.
 abbrev pub FitsFailure : {W I A F C : Type 0} → Program W I A → Failure (Reason I F C) → Result A (Reason I F C) → Type 0
 FitsFailure program (failures.NoResult error) said = FitsError program.place error said
 FitsFailure program (failures.Output refusal) said = IsOkAnd said (λ result. Unit {0})
 
--- the outcome is the fault of some file
+-- the outcome is that some file has a fault
 abbrev pub IsFaulty : {I F C A : Type 0} → Result A (Reason I F C) → Type 0
 IsFaulty {I} {F} said = (input : I) × ((fault : F) × (said ≡ Err (reasons.Faulty input fault)))
 

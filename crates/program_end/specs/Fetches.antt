@@ -1,13 +1,14 @@
--- How a call that fetches files may end. `said` is the outcome that its definition gives. `place
--- input` is the position of the input in the order in which the files are read.
+-- How a call that fetches files may end. `said` is the outcome, which the command line and the
+-- files determine: a value, or the reason why there is none. `place input` is the position of the
+-- input's file in the order in which files are read.
 use Rattle.std.specs.Prelude.{◌≡◌, ℕ, ◌≤◌, Option, Some, None, Result, Ok, Err}
 use Rattle.program_end.specs.declared.failure.NoResult.{NoResult}
 use Rattle.program_end.specs.declared.failure.NoResult.TheVariants as errors
 use Rattle.program_end.specs.declared.failure.Reason.{Reason}
 use Rattle.program_end.specs.declared.failure.Reason.TheVariants as reasons
 
--- with this outcome the file of `input` is read: the command line is accepted, and no file before
--- this one is missing or has a fault
+-- a call with this outcome reads the file of `input`: the command line is accepted, and no file
+-- that is read before it is missing or has a fault
 abbrev pub ReachesFile : {I F C A : Type 0} → (I → ℕ) → I → Result A (Reason I F C) → Type 0
 ReachesFile place input (Ok value) = Unit {0}
 ReachesFile place input (Err reasons.Usage) = ⊥
@@ -15,21 +16,23 @@ ReachesFile place input (Err (reasons.Unread other)) = place input ≤ place oth
 ReachesFile place input (Err (reasons.Faulty other fault)) = place input ≤ place other
 ReachesFile place input (Err (reasons.Stopped cause)) = Unit {0}
 
--- the reason fits the outcome: it is the outcome's reason; or it is that the file of some input
--- couldn't be read, and the outcome reaches this file (`ReachesFile`)
+-- the outcome `said` allows a call to end with this reason. Either the reason is the outcome's
+-- own, or it is that some file couldn't be read which a call with this outcome reads
+-- (`ReachesFile`).
 abbrev pub FitsReason : {I F C A : Type 0} → (I → ℕ) → Reason I F C → Result A (Reason I F C) → Type 0
 FitsReason place reasons.Usage said = said ≡ Err reasons.Usage
 FitsReason place (reasons.Unread input) said = ReachesFile place input said
 FitsReason place (reasons.Faulty input fault) said = said ≡ Err (reasons.Faulty input fault)
 FitsReason place (reasons.Stopped cause) said = said ≡ Err (reasons.Stopped cause)
 
--- the error fits the outcome: it is out of memory, or its reason fits the outcome
+-- the outcome `said` allows a call to end with this error: the error is out of memory, or a reason
+-- that the outcome allows (`FitsReason`)
 abbrev pub FitsError : {I F C A : Type 0} → (I → ℕ) → NoResult (Reason I F C) → Result A (Reason I F C) → Type 0
 FitsError place (errors.Reason reason) said = FitsReason place reason said
 FitsError place errors.Memory said = Unit {0}
 
--- the call fetches what the outcome says: it ends with a value whose `view` is the outcome's
--- value, or with an error that fits the outcome
+-- how a call with the outcome `said` may end: with a value whose view is the outcome's value, or
+-- with an error that the outcome allows (`FitsError`)
 abbrev pub Fetches : {I F C A B : Type 0} → (I → ℕ) → (A → B) → Result A (NoResult (Reason I F C)) → Result B (Reason I F C) → Type 0
 Fetches place view (Ok value) said = said ≡ Ok (view value)
 Fetches place view (Err error) said = FitsError place error said

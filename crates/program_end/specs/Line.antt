@@ -18,8 +18,8 @@ use Rattle.program_end.specs.declared.failure.Reason.TheVariants as reasons
 abbrev pub unread_line : List ℕ → List ℕ → List ℕ
 unread_line program file = program ++ (codes ": cannot read " ++ (file ++ codes "\n"))
 
--- the line that says for which reason there is no result; the lines of faults and causes are the
--- program's own
+-- the line that says for which reason there is no result; each program has its own lines for
+-- faults and causes
 abbrev pub reason_line : {I F C : Type 0} → List ℕ → (I → List ℕ) → (I → F → List ℕ) → (C → List ℕ) → Reason I F C → List ℕ
 reason_line program file fault_line cause_line reasons.Usage = program ++ codes ": usage\n"
 reason_line program file fault_line cause_line (reasons.Unread input) = unread_line program (file input)
@@ -30,12 +30,12 @@ reason_line program file fault_line cause_line (reasons.Stopped cause) = cause_l
 abbrev pub memory_line : List ℕ → List ℕ
 memory_line program = program ++ codes ": out of memory\n"
 
--- the line for an output that refused the text, or for which memory ran out
+-- the line for a text that wasn't written whole: the output refused it, or memory ran out
 abbrev pub refusal_line : List ℕ → Put → List ℕ
 refusal_line program put.Failed = program ++ codes ": cannot write\n"
 refusal_line program put.Memory = memory_line program
 
--- the line that says what failed
+-- the line that says why the program failed
 abbrev pub failure_line : {I F C : Type 0} → List ℕ → (I → List ℕ) → (I → F → List ℕ) → (C → List ℕ) → Failure (Reason I F C) → List ℕ
 failure_line program file fault_line cause_line (failures.NoResult (errors.Reason reason)) =
     reason_line program file fault_line cause_line reason

@@ -16,7 +16,8 @@ reason_status (reasons.Unread input) = 3
 reason_status (reasons.Faulty input fault) = 5
 reason_status (reasons.Stopped cause) = 6
 
--- the exit status of a call without a result; 7 if it ran out of memory
+-- the exit status of a call that returns no result: that of its reason, or 7 if it ran out of
+-- memory
 abbrev pub error_status : {I F C : Type 0} → NoResult (Reason I F C) → ℕ
 error_status (errors.Reason reason) = reason_status reason
 error_status errors.Memory = 7
@@ -31,7 +32,7 @@ abbrev pub failure_status : {I F C : Type 0} → Failure (Reason I F C) → ℕ
 failure_status (failures.NoResult error) = error_status error
 failure_status (failures.Output refusal) = refusal_status refusal
 
--- how a program ends: with the status of a result, or with a failure
+-- how a program ends: with the exit status of its result, or with a failure
 abbrev pub End : Type 0 → Type 0
 End R = Result ℕ (Failure R)
 

@@ -1,4 +1,4 @@
-//! The ways in which a program fails, and their exit statuses.
+//! The ways in which `bootmem` or `bootaudit` can fail, and the exit status of each.
 
 ghost use Rattle.std.specs.Prelude.{◌≡◌};
 ghost use Rattle.program_end.specs.Status.{reason_status, failure_status, exit_status, error_status};
@@ -6,33 +6,35 @@ ghost use Rattle.program_end.specs.Status.{reason_status, failure_status, exit_s
 use bm_base::Memory;
 use bm_io::Put;
 
-/// Why the command line and the files give no result. `I` is the type of input files and `F` that
-/// of their faults. `C` is the type of causes: why files without a fault give no result.
+/// Why the command line and the files give no result. `I` names an input file, `F` is a fault of
+/// such a file, and `C` is a cause: why files without a fault give no result. For `bootmem` a
+/// cause is a stop of the boot; `bootaudit` has none.
 #[derive(Clone, Copy, Debug, PartialEq, Eq)]
 pub enum Reason<I, F, C> {
-    /// The command line isn't accepted. Status 2.
+    /// Status 2: the command line isn't accepted.
     Usage,
-    /// The file of this input couldn't be read. The files before it have no fault. Status 3.
+    /// Status 3: this input's file couldn't be read. The files that are read before it have no
+    /// fault.
     Unread(I),
-    /// The file of this input has this fault. The files before it have none. Status 5.
+    /// Status 5: this input's file has this fault. The files that are read before it have none.
     Faulty(I, F),
-    /// The files have no fault, but give no result, for this cause. Status 6.
+    /// Status 6: no file has a fault, but for this cause there is no result.
     Stopped(C),
 }
 
-/// Why a call returns no result: a reason `R`, or out of memory.
+/// Why a call returns no result: the program itself is out of memory, or another reason `R`.
 #[derive(Clone, Copy, Debug, PartialEq, Eq)]
 pub enum NoResult<R> {
     /// The command line and the files give no result, for this reason.
     Reason(R),
-    /// The program itself is out of memory. Status 7.
+    /// Status 7: the program itself is out of memory.
     Memory,
 }
 
-/// Why a program couldn't write its result.
+/// Why a program didn't write its whole result.
 #[derive(Clone, Copy, Debug, PartialEq, Eq)]
 pub enum Failure<R> {
-    /// There is no result, and nothing was written to the output.
+    /// There is no result to write, so nothing was written to the output.
     NoResult(NoResult<R>),
     /// The output refused the text (status 4), or ran out of memory (status 7). The first bytes of
     /// the text may have been written.
@@ -76,8 +78,8 @@ impl<I: Copy, F: Copy, C: Copy> Failure<Reason<I, F, C>> {
     }
 }
 
-/// Returns the exit status of a program's end: that of its result, 0 or 8, or that of its failure,
-/// 2 to 7.
+/// Returns the exit status of a program that ended in this way: for `Ok` the status that it holds,
+/// 0 or 8, and for a failure 2 to 7.
 pub fn exit_status<I: Copy, F: Copy, C: Copy>(end: Result<u8, Failure<Reason<I, F, C>>>) -> u8
     ensures { result ≡ exit_status end }
 {

@@ -8,13 +8,13 @@
 //!
 //! - [`Reason`], [`NoResult`] and [`Failure`] are the ways to fail.
 //! - [`exit_status`] is the exit status of each end: 2 to 7 for failures, 0 or 8 for a result.
-//! - [`Lines`] has the texts that differ between the programs. [`put_end_line`] writes to the
-//!   error output the one line that says why a program failed.
+//! - [`Lines`] has the texts of error lines that differ between the programs. [`put_end_line`]
+//!   writes to the error output the one line that says why a program failed.
 //!
-//! The layer above states what its calls do by two relations. `Fetches` (`specs/Fetches.antt`)
+//! The crates above state what their calls do by two relations. `Fetches` (`specs/Fetches.antt`)
 //! says how a call that fetches files may end, `WritesOutcome` (`specs/Ends.antt`) how a call that
-//! writes the result may end. A `Program` (`specs/Program.antt`) is what a program has of its own:
-//! the order of its input files, their names, and the text and status of a result.
+//! writes the result may end. A `Program` (`specs/Program.antt`) says what is different for each
+//! program: the order of its input files, their names, and the text and status of a result.
 //!
 //! In contracts, a name means the definition in `specs/`.
 #![tactic(auto)]

@@ -1,6 +1,6 @@
-//! Writes the line of a failure to the error output. The line is written in chunks, so no memory
-//! is allocated for it. If the error output refuses a chunk, the chunks after it aren't written,
-//! and nothing else changes.
+//! Writes the line that says why a program failed to the error output. The line is written in
+//! chunks, so no memory is allocated for it. If the error output refuses a chunk, the chunks after
+//! it aren't written; the exit status stays the same.
 
 ghost use Rattle.std.specs.Prelude.{◌≡◌, ℕ, List, flat_map};
 ghost use Rattle.program_end.specs.Ends.{PutsEndLine};
@@ -12,9 +12,9 @@ use bm_io::{Put, Sink, put_all};
 /// The texts in which one program's error lines differ from another's: its name, the names of its
 /// files, and the lines for faults `F` and causes `C`.
 pub trait Lines<I, F, C> {
-    // `program_name` is the program's name. `file_name` is the name of an input's file, empty if
-    // the input has no file. `fault_line` is the line for a fault of an input's file, and
-    // `cause_line` the line for a cause.
+    // `program_name` is the program's name. `file_name` is the name of an input's file on the
+    // command line, empty if the input has no file. `fault_line` is the line for a fault of an
+    // input's file, and `cause_line` the line for a cause.
     ghost program_name: { List ℕ };
 
     ghost file_name: { Self → I → List ℕ };
@@ -23,11 +23,12 @@ pub trait Lines<I, F, C> {
 
     ghost cause_line: { C → List ℕ };
 
-    /// Returns the program's name.
+    /// Returns the program's name, with which its error lines begin.
     fn program() -> &'static str
         ensures { result.now ≡ program_name };
 
-    /// Returns the name of the input's file, empty if the input has no file.
+    /// Returns the name of the input's file on the command line, or the empty text if the input
+    /// has no file.
     fn file(&self, input: I) -> &str
         ensures { result.now ≡ file_name self.now input };
 
@@ -35,7 +36,7 @@ pub trait Lines<I, F, C> {
     fn put_fault_line<E: Sink>(err: &mut E, input: I, fault: F)
         ensures { PutsLine E.Sink err.old err.new (fault_line input fault) };
 
-    /// Writes to `err` the line that says for which cause the files give no result.
+    /// Writes to `err` the error line for `cause`: why files without a fault give no result.
     fn put_cause_line<E: Sink>(err: &mut E, cause: C)
         ensures { PutsLine E.Sink err.old err.new (cause_line cause) };
 }
@@ -55,7 +56,7 @@ pub fn put_end_line<E: Sink, I: Copy, F: Copy, C: Copy, L: Lines<I, F, C>>(
     }
 }
 
-/// Writes to `err` the one line that says what failed.
+/// Writes to `err` the one line that says why the program failed.
 fn put_failure_line<E: Sink, I: Copy, F: Copy, C: Copy, L: Lines<I, F, C>>(
     err: &mut E,
     lines: &L,
@@ -94,8 +95,8 @@ fn put_unread_line<'a, E: Sink>(err: &mut E, program: &'a str, file: &'a str)
     put_line(err, &[program, ": cannot read ", file, "\n"])
 }
 
-/// Writes to `err` the line that says why the text couldn't be written: the output refused it, or
-/// memory ran out.
+/// Writes to `err` why the text of the result wasn't written whole: `PROGRAM: cannot write` if the
+/// output refused it, or `PROGRAM: out of memory`.
 fn put_refusal_line<'a, E: Sink>(err: &mut E, program: &'a str, refusal: Put)
     ensures { PutsLine E.Sink err.old err.new (refusal_line program.now refusal) }
 {
@@ -105,7 +106,7 @@ fn put_refusal_line<'a, E: Sink>(err: &mut E, program: &'a str, refusal: Put)
     }
 }
 
-/// Writes the chunks of a line to `err`, in order, up to the first chunk that `err` refuses.
+/// Writes the chunks of a line to `err` in order, and stops at the first chunk that `err` refuses.
 pub fn put_line<E: Sink>(err: &mut E, chunks: &[&str])
     ensures { PutsLine E.Sink err.old err.new (flat_map (λ chunk. chunk.now) chunks.now) }
 {
