@@ -12,7 +12,7 @@ pub record BlockLineView : Type 0 where
   pub order : ℕ
   pub at : ℕ
 
--- the bytes of a block
+-- the range of addresses of a block's bytes
 abbrev pub bytes_of_block : BlockLineView → RangeView
 bytes_of_block b = record { base = b.at; size = FRAME_SIZE * 2 ^ b.order }
 

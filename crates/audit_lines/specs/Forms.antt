@@ -23,7 +23,8 @@ map_type_name kind =
     (if kind == 128 then codes "usable kernel" else
     (if kind == 4026531839 then codes "soft reserved" else codes "other"))))))))
 
--- the line `A..A T NAME` of `map`: a run, its type, which isn't 0, and the name of that type
+-- the line `FIRST..LAST TYPE NAME` of `map`: a range of addresses, the number of its type, which
+-- isn't 0, and the name of that type
 unfoldable pub map_line_in : ℕ → List ℕ → Option MapLine
 map_line_in index text = do
   range ← range_at_start text
@@ -35,22 +36,22 @@ map_line_in index text = do
   nothing ← is_at_end left
   Some (record { range = range.0; kind = kind.0 })
 
--- whether there is a rest of the text, and it is empty
+-- whether the argument is the empty text
 abbrev pub is_empty_rest : Option (List ℕ) → Bool
 is_empty_rest (Some []) = true
 is_empty_rest (Some (b ∷ bs)) = false
 is_empty_rest None = false
 
--- whether the text is exactly this word
+-- whether the text and `word` are the same bytes
 unfoldable pub is_exactly : List ℕ → List ℕ → Bool
 is_exactly word text = is_empty_rest (rest_after word text)
 
--- whether there is a rest of the text, and it is a number
+-- whether the argument is a decimal number below 2^32, and nothing else
 abbrev pub is_number_rest : Option (List ℕ) → Bool
 is_number_rest None = false
 is_number_rest (Some text) = is_empty_rest (option_map (λ number. number.1) (number_in (2 ^ 32 - 1) text))
 
--- whether the text is this word followed by a number
+-- whether the text is `front` followed by a decimal number below 2^32, and nothing else
 unfoldable pub is_numbered : List ℕ → List ℕ → Bool
 is_numbered front text = is_number_rest (rest_after front text)
 
@@ -61,14 +62,16 @@ is_first_owner text =
     || is_exactly (codes "low-1m") text
     || is_exactly (codes "soft-reserved") text
 
--- whether the text is the name of an owner that claims memory after the start of the boot and has
--- no number: one of memblock's tables, a part of the crash area, or the table of roots
+-- whether the text is the name of an owner that claims memory later in the boot and has no number:
+-- one of memblock's tables, a part of the crash area, or the table of section roots (the kernel's
+-- `mem_section`)
 abbrev pub is_later_owner : List ℕ → Bool
 is_later_owner text =
     is_exactly (codes "table-memory") text || is_exactly (codes "table-reserved") text || is_exactly (codes "crash") text
     || is_exactly (codes "crash-low") text || is_exactly (codes "roots") text
 
--- whether the text is the name of an owner with a number, followed by that number
+-- whether the text is the name of an owner that has a number, followed by a number below 2^32,
+-- such as `node-data 1`
 abbrev pub is_numbered_owner : List ℕ → Bool
 is_numbered_owner text =
     is_numbered (codes "node-data ") text || is_numbered (codes "root ") text || is_numbered (codes "usage ") text
@@ -78,8 +81,8 @@ is_numbered_owner text =
 unfoldable pub is_owner : List ℕ → Bool
 is_owner text = is_first_owner text || is_later_owner text || is_numbered_owner text
 
--- the line `INDEX: A..A OWNER` of `owners`: the index of the line in four columns, a range, and the
--- name of its owner
+-- the range that the line `INDEX: FIRST..LAST OWNER` of `owners` states; INDEX is the number of
+-- the line, from 0, in four columns
 unfoldable pub owner_line_in : ℕ → List ℕ → Option RangeView
 owner_line_in index text = do
   colon ← rest_after (padded_decimal 4 index) text
@@ -89,7 +92,7 @@ owner_line_in index text = do
   known ← some_if (is_owner name)
   Some range.0
 
--- the zone whose name is at the start of the text, and the rest
+-- the zone whose name is at the start of the text, and the text after the name
 unfoldable pub zone_in : List ℕ → Option (Zone × List ℕ)
 zone_in text = dma32 (rest_after (codes "DMA32") text) (rest_after (codes "DMA") text) (rest_after (codes "Normal") text)
   where
@@ -103,7 +106,7 @@ zone_in text = dma32 (rest_after (codes "DMA32") text) (rest_after (codes "DMA")
 abbrev pub block_if_bounded : BlockLineView → Option BlockLineView
 block_if_bounded b = if nat_le b.order 10 && nat_le (end_of (bytes_of_block b)) (2 ^ 52) then Some b else None
 
--- the line `node N zone Z order O A` of `blocks`: a block of 2^O frames from A on
+-- the line `node N zone Z order O ADDRESS` of `blocks`: a block of 2^O frames from ADDRESS on
 unfoldable pub block_in : ℕ → List ℕ → Option BlockLineView
 block_in index text = do
   node_text ← rest_after (codes "node ") text

@@ -1,4 +1,4 @@
--- Ascending and disjoint ranges of lines, as contracts require them.
+-- What contracts say of the ranges that the lines of a report state: they ascend and are disjoint.
 use Rattle.std.specs.Prelude.{ℕ, ◌≤◌, List, [], ◌∷◌}
 use Rattle.bm_base.specs.Range.{RangeView, end_of}
 

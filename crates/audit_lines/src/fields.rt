@@ -1,5 +1,5 @@
-//! Reads the fields of a line. Each function reads a field at the start of a text, and returns it
-//! with the rest of the text.
+//! Reads the fields of a line: numbers, addresses and ranges. Each reader takes the field at the
+//! start of a text, and returns it with the text after it.
 
 ghost use Rattle.std.specs.Prelude.{◌≡◌, ◌≤◌, length, take, drop, IsTrue};
 ghost use Rattle.std.specs.List.{list_all};
@@ -9,15 +9,15 @@ ghost use Rattle.bm_base.specs.Size.{begins_with_zero};
 
 use bm_base::{Range, read_number};
 
-/// Returns the rest of the text after `front`, or `None` if the text doesn't begin with `front`.
+/// If the text begins with `front`, returns the text after it, else `None`.
 pub fn rest_after<'t>(text: &'t [u8], front: &[u8]) -> Option<&'t [u8]>
     ensures { option_map (λ rest. rest.now) result ≡ rest_after front.now text.now }
 {
     text.strip_prefix(front)
 }
 
-/// Returns the decimal number at the start of the text, and the rest. The number has no leading
-/// zeros and is at most `most`. Returns `None` if there is no such number.
+/// Returns the decimal number at the start of the text, and the text after it. Returns `None`
+/// unless the text begins with a number without leading zeros that is at most `most`.
 #[tactic(auto, unfolding(crate::specs::Fields::number_in))]
 pub fn number_in(text: &[u8], most: u32) -> Option<(u32, &[u8])>
     ensures { option_map (λ found. (found.0, found.1.now)) result ≡ number_in most text.now }
@@ -45,8 +45,8 @@ fn begins_with_zero(text: &[u8]) -> bool
     }
 }
 
-/// Returns the address at the start of the text, and the rest. An address is `0x` and sixteen
-/// lower-case hexadecimal digits. Returns `None` if there is no such address.
+/// Returns the address at the start of the text, and the text after it. An address is `0x` and
+/// sixteen lower-case hexadecimal digits. Returns `None` if the text doesn't begin with one.
 #[tactic(auto, unfolding(crate::specs::Fields::address_in))]
 pub fn address_in(text: &[u8]) -> Option<(u64, &[u8])>
     ensures { option_map (λ found. (found.0, found.1.now)) result ≡ address_in text.now }
@@ -61,7 +61,8 @@ pub fn address_in(text: &[u8]) -> Option<(u64, &[u8])>
     Some((value, rest))
 }
 
-/// Returns the first `count` bytes of the text, or all if there are fewer, and the rest.
+/// Splits the text after `count` bytes. If it has fewer bytes, the first part is the whole text
+/// and the second is empty.
 fn split_at_count(text: &[u8], count: usize) -> (&[u8], &[u8])
     ensures front { result.0.now ≡ take count text.now }
     ensures back { result.1.now ≡ drop count text.now }
@@ -96,9 +97,9 @@ fn is_lower_hex(byte: u8) -> bool
     byte.is_ascii_digit() || (b'a'..=b'f').contains(&byte)
 }
 
-/// Returns the range at the start of the text, and the rest. A range is written as the addresses
-/// of its first and its last byte; the last must be below 2^64 - 1. Returns `None` if there is no
-/// such range.
+/// Returns the range at the start of the text, and the text after it. A range is written as
+/// `A..B`, where `A` and `B` are the addresses of its first and its last byte. Returns `None` if
+/// the text doesn't begin with such a range, `B` is below `A`, or `B` is 2^64 - 1.
 #[tactic(auto, unfolding(crate::specs::Fields::range_at_start))]
 pub fn range_at_start(text: &[u8]) -> Option<(Range, &[u8])>
     ensures { option_map (λ found. (found.0, found.1.now)) result ≡ range_at_start text.now }

@@ -1,5 +1,4 @@
-//! Reads a line of each of the three reports. Each reader gets the text of a line without its
-//! newline.
+//! Reads one line of `map`, of `owners` and of `blocks`. The text of the line has no newline.
 
 ghost use Rattle.std.specs.Prelude.{◌≡◌, ◌-◌, ◌^◌};
 ghost use Rattle.std.specs.Option.{option_map};
@@ -20,7 +19,9 @@ impl ReportLine for MapLine {
 
     ghost extent = { λ l. l.range };
 
-    /// Returns the run that the line `A..A T NAME` states, or `None` if the text has another form.
+    /// Returns the run that the line `FIRST..LAST TYPE NAME` states, such as
+    /// `0x0000000000001000..0x000000000009fbff 1 usable`. Returns `None` if the text has another
+    /// form.
     #[tactic(auto, unfolding(crate::specs::Forms::map_line_in))]
     fn read(_index: u64, text: &[u8]) -> Option<MapLine> {
         let Some((range, rest)) = range_at_start(text) else {
@@ -51,8 +52,8 @@ impl ReportLine for Range {
 
     ghost extent = { λ r. r };
 
-    /// Returns the range that the line `INDEX: A..A OWNER` states, or `None` if the text has
-    /// another form.
+    /// Returns the range that the line `INDEX: FIRST..LAST OWNER` states. The owner's name is
+    /// checked but not returned. Returns `None` if the text has another form.
     #[tactic(auto, unfolding(crate::specs::Forms::owner_line_in))]
     fn read(index: u64, text: &[u8]) -> Option<Range> {
         let rest = rest_after(rest_after_index(text, index)?, b": ")?;
@@ -83,8 +84,8 @@ impl ReportLine for BlockLine {
 
     ghost extent = { bytes_of_block };
 
-    /// Returns the block that the line `node N zone Z order O A` states, or `None` if the text has
-    /// another form.
+    /// Returns the free block that the line `node N zone Z order O ADDRESS` states. Returns `None`
+    /// if the text has another form, or if the block ends above 2^52.
     #[tactic(auto, unfolding(crate::specs::Forms::block_in))]
     fn read(_index: u64, text: &[u8]) -> Option<BlockLine> {
         let (node, rest) = number_in(rest_after(text, b"node ")?, u32::MAX)?;
@@ -111,8 +112,8 @@ fn is_at_end(text: &[u8]) -> Option<()>
     if text.is_empty() { Some(()) } else { None }
 }
 
-/// Returns the rest of the text after `index`, which is right-aligned in four columns. Returns
-/// `None` if the text doesn't begin with this index.
+/// If the text begins with the number `index`, right-aligned in four columns, returns the text
+/// after it, else `None`.
 fn rest_after_index(text: &[u8], index: u64) -> Option<&[u8]>
     ensures { option_map (λ rest. rest.now) result ≡ rest_after (padded_decimal 4 index) text.now }
 {
@@ -141,8 +142,8 @@ fn map_type_name(kind: u32) -> &'static [u8]
     }
 }
 
-/// Returns the zone whose name is at the start of the text, and the rest. Returns `None` if no
-/// zone's name is there.
+/// Returns the zone whose name is at the start of the text, and the text after the name. Returns
+/// `None` if the text doesn't begin with `DMA`, `DMA32` or `Normal`.
 #[tactic(auto, unfolding(crate::specs::Forms::zone_in))]
 fn zone_in(text: &[u8]) -> Option<(Zone, &[u8])>
     ensures { option_map (λ found. (found.0, found.1.now)) result ≡ zone_in text.now }
@@ -157,7 +158,8 @@ fn zone_in(text: &[u8]) -> Option<(Zone, &[u8])>
     Some((Zone::Normal, rest))
 }
 
-/// Returns the block, or `None` if its order is above 10 or it ends above 2^52.
+/// Returns the block of 2^`order` frames from address `at` on, or `None` if its order is above 10
+/// or it ends above address 2^52.
 fn block_if_bounded(node: u32, zone: Zone, order: u32, at: u64) -> Option<BlockLine>
     ensures { result
         ≡ block_if_bounded (record { node = node; zone = zone; order = order; at = at }) }

@@ -1,4 +1,4 @@
-//! A line of the report `map` and a line of the report `blocks`, as records.
+//! What a line of the report `map` and a line of the report `blocks` state, as records.
 
 ghost use Rattle.std.specs.Prelude.{◌≡◌};
 ghost use Rattle.audit_lines.specs.Blocks.{bytes_of_block};
@@ -7,27 +7,29 @@ ghost use Rattle.bm_base.specs.Range.{end_of};
 use bm_base::{FRAME_SIZE, Range, Zone};
 use std::marker::Model;
 
-/// A line of the report `map`: a run of the finished map, and its type.
+/// A line of the report `map`: a range of addresses that all have one type in the finished memory
+/// map.
 #[derive(Clone, Copy, Debug, PartialEq, Eq)]
 pub struct MapLine {
-    /// The addresses of the run.
+    /// The range of addresses.
     pub range: Range,
-    /// The type (`enum e820_type`), above 0.
+    /// The type of the memory (`enum e820_type`), above 0.
     pub kind: u32,
 }
 
-/// A line of the report `blocks`: a free block of the page allocator. It ends at or below 2^52.
+/// A line of the report `blocks`: a free block of the page allocator. The block ends at or below
+/// address 2^52.
 #[derive(Clone, Copy, Debug, PartialEq, Eq)]
 pub struct BlockLine {
     /// The number of the node.
     pub node: u32,
-    /// The zone.
+    /// The zone to which the line assigns the block.
     pub zone: Zone,
-    /// The order, from 0 to 10: the block has 2^`order` frames. The kernel's orders are below its
-    /// `MAX_ORDER`, which is 11.
+    /// The order, from 0 to 10: the block has 2^`order` frames of 4096 bytes. The kernel's orders
+    /// are below its `MAX_ORDER`, which is 11.
     pub order: u32,
-    /// The address of the first byte. The reader doesn't require that it is a multiple of the
-    /// block's size.
+    /// The address of the block's first byte. The reader accepts any address, even if it isn't a
+    /// multiple of the block's size.
     pub at: u64,
 }
 

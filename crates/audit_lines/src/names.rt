@@ -6,7 +6,7 @@ ghost use Rattle.audit_lines.specs.Forms.{is_first_owner, is_exactly, is_later_o
 use crate::fields::{number_in, rest_after};
 
 /// Tests whether the text is an owner's name as the report `owners` prints it: `kernel`, `initrd`,
-/// `crash`, `map 3` and so on. An owner is whoever claimed a range of reserved memory.
+/// `crash`, `map 3` and so on. An owner says for what a range of memory was reserved.
 #[tactic(auto, unfolding(crate::specs::Forms::is_owner))]
 pub fn is_owner(text: &[u8]) -> bool
     ensures { result ≡ is_owner text.now }
@@ -25,8 +25,9 @@ fn is_first_owner(text: &[u8]) -> bool
         || is_exactly(text, b"soft-reserved")
 }
 
-/// Tests whether the text is the name of an owner that claims memory after the start of the boot
-/// and has no number: one of memblock's tables, a part of the crash area, or the table of roots.
+/// Tests whether the text is the name of an owner that claims memory later in the boot and has no
+/// number: one of memblock's tables, a part of the crash area, or the table of section roots (the
+/// kernel's `mem_section`).
 fn is_later_owner(text: &[u8]) -> bool
     ensures { result ≡ is_later_owner text.now }
 {
@@ -37,7 +38,8 @@ fn is_later_owner(text: &[u8]) -> bool
         || is_exactly(text, b"roots")
 }
 
-/// Tests whether the text is the name of an owner with a number, followed by that number.
+/// Tests whether the text is the name of an owner that has a number, followed by a number below
+/// 2^32, such as `node-data 1`.
 fn is_numbered_owner(text: &[u8]) -> bool
     ensures { result ≡ is_numbered_owner text.now }
 {
@@ -48,7 +50,7 @@ fn is_numbered_owner(text: &[u8]) -> bool
         || is_numbered(text, b"script ")
 }
 
-/// Tests whether the text is exactly this word.
+/// Tests whether the text and `word` are the same bytes.
 #[tactic(auto, unfolding(crate::specs::Forms::is_exactly))]
 fn is_exactly(text: &[u8], word: &[u8]) -> bool
     ensures { result ≡ is_exactly word.now text.now }
@@ -59,7 +61,7 @@ fn is_exactly(text: &[u8], word: &[u8]) -> bool
     }
 }
 
-/// Tests whether the text is `front`, followed by a number below 2^32 and nothing else.
+/// Tests whether the text is `front` followed by a decimal number below 2^32, and nothing else.
 #[tactic(auto, unfolding(crate::specs::Forms::is_numbered))]
 fn is_numbered(text: &[u8], front: &[u8]) -> bool
     ensures { result ≡ is_numbered front.now text.now }

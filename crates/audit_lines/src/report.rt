@@ -1,4 +1,4 @@
-//! Reads a report: lines of one form, ascending and without overlap.
+//! Reads a report: lines of one form, whose ranges of addresses ascend and don't overlap.
 
 ghost use Rattle.std.specs.Prelude.{◌≡◌, ◌+◌, ◌<◌, ◌≤◌, ◌^◌, ℕ, List, Option, length, map, IfOk, IsErrOf, [], ◌∷◌, IfSome, IfNone};
 ghost use Rattle.audit_lines.specs.Lines.{AscendApart};
@@ -9,19 +9,20 @@ ghost use Rattle.bm_base.specs.ResultSteps.{map_error};
 
 use std::alloc::Global;
 
-/// What is wrong with a line of a report. Lines are numbered from 1.
+/// What is wrong with a line of a report. `line` is the number of the line, from 1.
 #[derive(Clone, Copy, Debug, PartialEq, Eq)]
 pub enum LineFault {
-    /// The line isn't a line of this report, or it lacks its newline.
+    /// The text of the line doesn't have the form of this report's lines, or doesn't end with a
+    /// newline.
     Form { line: u64 },
-    /// The range of the line begins below the end of the line before it.
+    /// The range of the line begins below the end of the range of the line before it.
     Order { line: u64 },
 }
 
 /// Why a report is refused.
 #[derive(Clone, Copy, Debug, PartialEq, Eq)]
 pub enum ReadError {
-    /// The first line that has a fault, and what is wrong with it.
+    /// What is wrong with the first line that has a fault.
     Fault(LineFault),
     /// The program ran out of memory.
     Memory,
@@ -38,30 +39,31 @@ impl From<LineFault> for ReadError {
     }
 }
 
-/// A line of a report.
+/// A line of the report `map`, `owners` or `blocks`, as a type that [`read_report`] can read.
 pub trait ReportLine: Copy + Drop {
-    // the line that a text spells at an index of the report, counted from 0
+    // `form index text`: the line that the text spells as line number `index` of the report,
+    // counted from 0; `None` if it spells none
     ghost form: { ℕ → List ℕ → Option Self };
 
     // the range of addresses that the line states
     ghost extent: { Self → RangeView };
 
-    /// Returns the line that the text spells, or `None` if the text isn't a line of this form. The
-    /// text has no newline; `index` is the index of the line in the report, from 0 on.
+    /// Returns the line that the text spells, or `None` if the text isn't a line of this report.
+    /// The text has no newline. `index` is the number of the line in the report, counted from 0.
     fn read(index: u64, text: &[u8]) -> Option<Self>
         ensures { result ≡ form index text.now };
 
-    /// Returns the address of the line's first byte.
+    /// Returns the first address of the range that the line states.
     fn base(&self) -> u64
         ensures { result ≡ (extent self.now).base };
 
-    /// Returns the address after the line's last byte.
+    /// Returns the address after the last one of the range that the line states.
     fn end(&self) -> u64
         ensures { result ≡ end_of (extent self.now) };
 }
 
-/// Reads a report, and returns its lines. Their ranges are ascending and disjoint. There are at
-/// most as many lines as bytes in the report.
+/// Reads the bytes of a report, and returns its lines. Their ranges ascend and are disjoint. There
+/// are at most as many lines as bytes.
 ///
 /// # Errors
 ///
@@ -93,12 +95,12 @@ pub fn read_report<L: ReportLine>(alloc: Global, bytes: &[u8]) -> Result<Vec<L>,
     Err(ReadError::Fault(LineFault::Form { line: index + 1 }))
 }
 
-/// Returns the line that the text spells. `index` is its index in the report, from 0. Its range
-/// must begin at or above address `at`.
+/// Returns the line that the text spells as line number `index` of the report, counted from 0. The
+/// line's range must begin at or above address `at`, where the range of the line before it ends.
 ///
 /// # Errors
 ///
-/// - `Form`: the text isn't a line of this report.
+/// - `Form`: the text doesn't have the form of this report's lines.
 /// - `Order`: the range of the line begins below `at`.
 fn report_line_at<L: ReportLine>(index: u64, at: u64, text: &[u8]) -> Result<L, LineFault>
     requires { index + 1 < 2 ^ 64 }
@@ -113,8 +115,8 @@ fn report_line_at<L: ReportLine>(index: u64, at: u64, text: &[u8]) -> Result<L, 
     Ok(line)
 }
 
-/// Returns the first line, without its newline, and the text after the newline. Returns `None` if
-/// there is no newline.
+/// Returns the first line of the text, without its newline, and the text after that newline.
+/// Returns `None` if the text has no newline.
 pub fn cut_line(text: &[u8]) -> Option<(&[u8], &[u8])>
     ensures line { IfSome result (λ found. split_lines text.now
         ≡ (found.0.now ∷ (split_lines found.1.now).0, (split_lines found.1.now).1)) }
