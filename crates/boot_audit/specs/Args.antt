@@ -1,4 +1,4 @@
--- What the command line of `bootaudit` asks for.
+-- The command line of `bootaudit`: `[--la57] MAP OWNERS BLOCKS`.
 use Rattle.std.specs.Prelude.{ℕ, ◌==◌, ◌&&◌, Bool, true, not, if◌then◌else◌, List, [], ◌∷◌, codes, Option, Some, None}
 use Rattle.std.specs.Str.{bytes_eq}
 use Rattle.bm_base.specs.declared.width.Width.{Width}
@@ -6,15 +6,14 @@ use Rattle.bm_base.specs.declared.width.Width.TheVariants as widths
 use Rattle.boot_audit.specs.declared.failure.SavedReport.{SavedReport}
 use Rattle.boot_audit.specs.declared.failure.SavedReport.TheVariants as reports
 
--- what an accepted command line gives: the width of physical addresses, and the names of the three
--- files
+-- an accepted command line: the width of physical addresses, and the names of the three files
 pub record AuditArgsView : Type 0 where
   pub width : Width
   pub map_name : List ℕ
   pub owners_name : List ℕ
   pub blocks_name : List ℕ
 
--- the name of the report's file
+-- the name of the file with this report
 abbrev pub report_file_name : AuditArgsView → SavedReport → List ℕ
 report_file_name wanted reports.Map = wanted.map_name
 report_file_name wanted reports.Owners = wanted.owners_name
@@ -33,7 +32,8 @@ three_file_names width (m ∷ o ∷ b ∷ []) =
     else None
 three_file_names width other = None
 
--- what the words `[--la57] MAP OWNERS BLOCKS` give; addresses have 52 bits with `--la57`, else 46
+-- the width of addresses (52 bits with `--la57`, else 46) and the file names in the words
+-- `[--la57] MAP OWNERS BLOCKS`; `None` if the words have another form
 abbrev pub read_audit_args : List (List ℕ) → Option AuditArgsView
 read_audit_args [] = None
 read_audit_args (w ∷ ws) =

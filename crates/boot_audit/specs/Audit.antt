@@ -27,6 +27,6 @@ bootaudit = record {
   statuses = verdict_statuses;
 }
 
--- the outcome `said` is a verdict other than `Sound`
+-- the outcome `said` is a verdict, and not `Sound`
 abbrev pub IsUnsound : Result Verdict AuditReason → Type 0
 IsUnsound said = (verdict : Verdict) × ((said ≡ Ok verdict) × (verdict ≢ verdicts.Sound))

@@ -1,4 +1,4 @@
--- What status 0 promises, if it is known what the files contain.
+-- What exit status 0 of `bootaudit` promises, if it is known what the files contain.
 use Rattle.std.specs.Prelude.{◌≡◌, Option, Some, Ok}
 use Rattle.bm_base.specs.Width.{address_limit_of}
 use Rattle.program_end.specs.Program.{FileContents}
@@ -6,8 +6,8 @@ use Rattle.boot_audit.specs.Conserved.{LinesConserveMemory}
 use Rattle.boot_audit.specs.Outcome.{SavedView, saved_in_files}
 use Rattle.boot_audit.specs.Args.{AuditArgsView}
 
--- the command line is accepted, the three texts are well-formed, and their lines show that memory
--- was conserved
+-- the command line is accepted, the three files that it names are well-formed reports, and their
+-- lines show that memory was conserved
 pub record FilesConserveMemory (accepted : Option AuditArgsView) (held : FileContents) : Type 0 where
   pub wanted : AuditArgsView
   pub lines : SavedView

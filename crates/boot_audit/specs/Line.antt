@@ -16,12 +16,13 @@ use Rattle.boot_audit.specs.declared.judgement.Verdict.TheVariants as verdicts
 use Rattle.boot_audit.specs.Reason.{AuditReason}
 use Rattle.boot_audit.specs.Args.{AuditArgsView, report_file_name}
 
--- the text of a verdict on a block: the number of its line in the report `blocks`, from 1 on, and
--- what is wrong
+-- the text of a verdict on a block: the number of its line in the report `blocks`, from 1, and
+-- then `what`, which says what is wrong
 abbrev pub block_fault_text : ℕ → List ℕ → List ℕ
 block_fault_text line what = codes "not sound: block at line " ++ (decimal line ++ what)
 
--- the text of a verdict on a frame: the address of its first byte, and what is wrong
+-- the text of a verdict on a frame: the address of its first byte, and then `what`, which says
+-- what is wrong
 abbrev pub frame_fault_text : ℕ → List ℕ → List ℕ
 frame_fault_text frame what = codes "not sound: frame " ++ (hex_text (FRAME_SIZE * frame) ++ what)
 
@@ -34,17 +35,18 @@ verdict_text (verdicts.NotFree frame) = frame_fault_text frame (codes " not free
 verdict_text (verdicts.Lost frame) = frame_fault_text frame (codes " lost\n")
 verdict_text (verdicts.NotMaximal line) = block_fault_text line (codes " not maximal\n")
 
--- the name of a report
+-- the name of a report in error lines
 abbrev pub report_word : SavedReport → List ℕ
 report_word reports.Map = codes "map"
 report_word reports.Owners = codes "owners"
 report_word reports.Blocks = codes "blocks"
 
--- the error line for a fault of one line of the report `name`; lines are counted from 1
+-- the error line for line number `line` (from 1) of the report `name`; `what` says what is wrong
+-- with it
 abbrev pub numbered_line : List ℕ → ℕ → List ℕ → List ℕ
 numbered_line name line what = codes "bootaudit: " ++ (name ++ (codes ": line " ++ (decimal line ++ (codes ": " ++ (what ++ codes "\n")))))
 
--- the error line for a fault of one line, by the kind of fault
+-- the error line for a fault of a line of the report `name`: `form` or `order`
 abbrev pub line_fault_line : List ℕ → LineFault → List ℕ
 line_fault_line name (line_faults.Form line) = numbered_line name line (codes "form")
 line_fault_line name (line_faults.Order line) = numbered_line name line (codes "order")
@@ -58,7 +60,8 @@ named_fault_line name (faults.Line fault) = line_fault_line name fault
 abbrev pub report_fault_line : SavedReport → ReportFault → List ℕ
 report_fault_line report fault = named_fault_line (report_word report) fault
 
--- the text for a cause; the audit has none, so this text is never written
+-- the text for a cause why well-formed reports give no verdict; there is no such cause, so this
+-- text is never written
 abbrev pub impossible_cause_text : NoCause → List ℕ
 impossible_cause_text cause = []
 

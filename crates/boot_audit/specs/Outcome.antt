@@ -1,5 +1,5 @@
--- The outcome of the audit: what the command line and the contents of the files determine. `held`
--- gives the bytes of each file.
+-- The outcome of the audit, which the command line and the contents of the files determine. `held`
+-- gives the bytes of the file with a name, or `None` if there is no such file.
 use Rattle.std.specs.Prelude.{ℕ, nat_lt, if◌then◌else◌, List, length, Option, Some, None, Result, Ok, Err}
 use Rattle.bm_base.specs.Range.{RangeView}
 use Rattle.bm_base.specs.ResultSteps.{◌>>=◌, map_error}
@@ -19,8 +19,8 @@ use Rattle.boot_audit.specs.Reason.{AuditReason}
 use Rattle.boot_audit.specs.Verdicts.{verdict_on_lines}
 use Rattle.boot_audit.specs.Args.{AuditArgsView}
 
--- the lines of a report, from the bytes of its file (`None` if the file can't be read), or the
--- reason why there are none; a file may have at most 512 MiB
+-- the lines of a report, or the reason why there are none. The last argument has the bytes of the
+-- report's file, or is `None` if there is no such file. A file may have at most 512 MiB.
 abbrev pub lines_in_file : {L : Type 0} → (ℕ → List ℕ → Option L) → (L → RangeView) → SavedReport → Option (List ℕ)
     → Result (List L) AuditReason
 lines_in_file form extent report None = Err (reasons.Unread report)
@@ -34,7 +34,8 @@ pub record SavedView : Type 0 where
   pub owners : List RangeView
   pub blocks : List BlockLineView
 
--- the lines of the three files, or the reason for the first file that gives none
+-- the lines of the three files, or the reason why the first file that has a fault gives none; the
+-- files are read in the order `map`, `owners`, `blocks`
 abbrev pub saved_in_files : FileContents → AuditArgsView → Result SavedView AuditReason
 saved_in_files held wanted = do
   map_lines ← lines_in_file map_line_in (λ l. l.range) reports.Map (held wanted.map_name)
@@ -46,7 +47,8 @@ saved_in_files held wanted = do
 abbrev pub verdict_for_args : AuditArgsView → SavedView → Verdict
 verdict_for_args wanted lines = verdict_on_lines (address_limit_of wanted.width) lines.map_lines lines.owners lines.blocks
 
--- the outcome of the audit: the verdict on the three files, or the reason why there is none
+-- the outcome of the audit: the verdict on the three files, or the reason why there is none.
+-- `accepted` is the command line, or `None` if it was refused.
 abbrev pub audit_outcome : Option AuditArgsView → FileContents → Result Verdict AuditReason
 audit_outcome accepted held = do
   wanted ← accepted_or_usage accepted

@@ -13,6 +13,6 @@ audit_args_view names = record {
   blocks_name = names.blocks.now;
 }
 
--- what contracts see of the saved lines
+-- what contracts see of the lines of the three saved reports
 abbrev pub saved_view : Saved → SavedView
 saved_view saved = record { map_lines = saved.map.items; owners = saved.owners.items; blocks = saved.blocks.items }

@@ -8,22 +8,22 @@ ghost use Rattle.boot_audit.specs.View.{audit_args_view};
 use crate::failure::SavedReport;
 use bm_base::Width;
 
-/// What an accepted command line gives: the width of physical addresses and the names of three
+/// An accepted command line of `bootaudit`: the width of physical addresses and the names of three
 /// files.
 #[derive(Clone, Copy)]
 pub struct AuditArgs<'w> {
     /// The width of physical addresses: 52 bits with `--la57`, else 46.
     pub width: Width,
-    /// The file of the report `map`.
+    /// The name of the file with the report `map`.
     pub map: &'w str,
-    /// The file of the report `owners`.
+    /// The name of the file with the report `owners`.
     pub owners: &'w str,
-    /// The file of the report `blocks`.
+    /// The name of the file with the report `blocks`.
     pub blocks: &'w str,
 }
 
 impl<'w> AuditArgs<'w> {
-    /// Returns the name of the report's file.
+    /// Returns the name of the file with this report.
     pub fn report_file_name(&self, report: SavedReport) -> &'w str
         ensures { result.now ≡ report_file_name (audit_args_view self.now) report }
     {
@@ -35,8 +35,8 @@ impl<'w> AuditArgs<'w> {
     }
 }
 
-/// Returns the width and the file names that the words give, or `None` exactly if the words aren't
-/// accepted.
+/// Reads the words `[--la57] MAP OWNERS BLOCKS`, which follow the program's name. Returns the
+/// width of addresses and the three file names, or `None` if the words have another form.
 pub fn read_audit_args(words: &[String]) -> Option<AuditArgs<'_>>
     ensures { option_map audit_args_view result ≡ read_audit_args (map string_bytes words.now) }
 {

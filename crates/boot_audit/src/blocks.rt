@@ -1,4 +1,5 @@
-//! Tests of a single block: its address is a multiple of its size, and it lies in its zone.
+//! Tests of a single line of the report `blocks`: the block's address is a multiple of its size,
+//! and its frames are in the zone that the line names.
 
 ghost use Rattle.std.specs.Prelude.{◌≡◌, ◌^◌, ◌<◌, length, not};
 ghost use Rattle.boot_audit.specs.Frames.{frames_of_block, is_aligned, is_in_zone, same_zone};
@@ -8,8 +9,9 @@ ghost use Rattle.bm_base.specs.Range.{end_of};
 use audit_lines::BlockLine;
 use bm_base::{FRAME_SIZE, Zone, zone_of};
 
-/// Returns the number of the first line, counted from 1, whose block isn't at a multiple of its
-/// size.
+/// Returns the number of the first line, counted from 1, whose block's address isn't a multiple of
+/// the block's size in bytes. Returns `None` if there is no such line. There must be fewer than
+/// 2^32 blocks.
 pub fn first_misaligned(blocks: &[BlockLine]) -> Option<u32>
     requires { length blocks.now < 2 ^ 32 }
     ensures { result ≡ first_line_passing (λ b. not (is_aligned b)) 1 blocks.now }
@@ -22,7 +24,9 @@ pub fn first_misaligned(blocks: &[BlockLine]) -> Option<u32>
     None
 }
 
-/// Returns the number of the first line, counted from 1, whose block has a frame outside its zone.
+/// Returns the number of the first line, counted from 1, whose block has a frame outside the zone
+/// that the line names. Returns `None` if there is no such line. There must be fewer than 2^32
+/// blocks.
 pub fn first_in_wrong_zone(blocks: &[BlockLine]) -> Option<u32>
     requires { length blocks.now < 2 ^ 32 }
     ensures { result ≡ first_line_passing (λ b. not (is_in_zone b)) 1 blocks.now }
@@ -41,8 +45,8 @@ fn is_aligned(block: &BlockLine) -> bool
     block.at % (FRAME_SIZE << block.order) == 0
 }
 
-/// Tests whether each frame of the block is in its zone. Each zone is one range of frames, so it is
-/// enough to test the first and the last frame.
+/// Tests whether each frame of the block is in the zone that its line names. A zone is one range
+/// of frames, so it is enough to test the first and the last frame.
 fn is_in_zone(block: &BlockLine) -> bool
     ensures { result ≡ is_in_zone block.now }
 {
@@ -62,7 +66,7 @@ pub fn same_zone(first: Zone, second: Zone) -> bool
     }
 }
 
-/// Returns the number of the block's first frame.
+/// Returns the number of the block's first frame: its address divided by 4096.
 pub fn first_frame(block: &BlockLine) -> u64
     ensures value { result ≡ (frames_of_block block.now).base }
     ensures small { result < 2 ^ 52 }

@@ -23,13 +23,16 @@ use std::alloc::Global;
 /// The greatest number of bytes of a saved report: 512 MiB.
 const MOST_REPORT_BYTES: u64 = 536_870_912;
 
-/// Fetches the three files that the command line names and returns their lines. In each report the
-/// lines are ascending and disjoint.
+/// Fetches the three files that the command line names, in the order `map`, `owners`, `blocks`,
+/// and returns their lines. In each report the ranges of the lines ascend and are disjoint. There
+/// are fewer than 2^32 blocks.
 ///
 /// # Errors
 ///
-/// - `AuditReason::Unread` if a file can't be read, and `AuditReason::Faulty` if it contains more
-///   than 512 MiB or a line has a fault. The first such file ends the call.
+/// The first file with an error ends the call.
+///
+/// - `AuditReason::Unread` if the file can't be read.
+/// - `AuditReason::Faulty` if the file contains more than 512 MiB, or a line has a fault.
 /// - `Memory` if this program is out of memory.
 pub fn fetch_saved<F: Files>(
     alloc: Global,
@@ -57,8 +60,13 @@ pub fn fetch_saved<F: Files>(
     })
 }
 
-/// Fetches the file `name` and returns the lines of this report. Errors are those of
-/// [`fetch_saved`], for this file.
+/// Fetches the file `name` and reads it as the report `report`. Returns its lines.
+///
+/// # Errors
+///
+/// - `AuditReason::Unread` if the file can't be read.
+/// - `AuditReason::Faulty` if the file contains more than 512 MiB, or a line has a fault.
+/// - `Memory` if this program is out of memory.
 fn fetch_lines<F: Files, L: ReportLine>(
     alloc: Global,
     files: &mut F,

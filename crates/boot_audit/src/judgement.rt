@@ -13,42 +13,46 @@ use crate::sweep::sweep;
 use audit_lines::{BlockLine, MapLine};
 use bm_base::{Memory, Range, Width};
 
-/// The verdict of an audit: memory was conserved, or the first fault. A frame (4096 bytes; frame n
-/// begins at address 4096 n) is usable if all its bytes are memory, and touched if any of its bytes
-/// has an owner in the report `owners`. `line` is a line of the report `blocks`, counted from 1.
+/// The verdict of an audit: memory was conserved, or the first fault. Frame n has the 4096 bytes
+/// from address 4096 n on. It is usable if all its bytes are memory in the report `map`, and
+/// touched if any of its bytes has an owner in the report `owners`. `line` is the number of a line
+/// of the report `blocks`, from 1.
 #[derive(Clone, Copy, Debug, PartialEq, Eq)]
 pub enum Verdict {
     /// Memory was conserved. Each usable frame is either touched or in exactly one block, and each
-    /// frame of a block is usable and untouched. Each block is aligned, lies in its zone, and
-    /// couldn't merge with its buddy.
+    /// frame of a block is usable and untouched. The address of each block is a multiple of its
+    /// size, and its frames are in its zone. No block could merge with its buddy.
     Sound,
-    /// The first line whose block isn't at a multiple of its size.
+    /// The first line whose block's address isn't a multiple of the block's size.
     Misaligned { line: u32 },
-    /// The first line whose block has a frame outside its zone.
+    /// The first line whose block has a frame outside the zone that the line names.
     WrongZone { line: u32 },
     /// The lowest frame that is in a block but not free: it isn't usable, or it is touched.
     NotFree { frame: u64 },
     /// The lowest frame that is usable and untouched, but in no block.
     Lost { frame: u64 },
-    /// The first line whose block could merge: its order is below 10, and blocks of its node and
-    /// zone cover its parent, which is the block together with its buddy.
+    /// The first line whose block could merge with its buddy: its order is below 10, and blocks of
+    /// its node and zone cover both the block and its buddy (`__find_buddy_pfn`).
     NotMaximal { line: u32 },
 }
 
-/// The lines of the three reports of one boot. In each report they are ascending and disjoint.
+/// The lines of the three reports of one boot. In each report the ranges of the lines ascend and
+/// are disjoint.
 #[derive(Debug, Drop)]
 pub struct Saved {
     /// The lines of the report `map`.
     pub map: Vec<MapLine>,
-    /// The ranges in the report `owners`.
+    /// The ranges of the report `owners`, without the owners' names.
     pub owners: Vec<Range>,
     /// The lines of the report `blocks`.
     pub blocks: Vec<BlockLine>,
 }
 
 /// Returns the verdict on saved reports, for physical addresses of this width: `Sound`, or the
-/// first fault. Kinds of faults are tried in the order of the variants of [`Verdict`]. Allocates
-/// nothing, so the result is always `Ok`. A frame in the verdict is below 2^40.
+/// first fault. The kinds of faults are tried in the order of the variants of [`Verdict`]. In each
+/// report the ranges of the lines must ascend and be disjoint, and there must be fewer than 2^32
+/// blocks. Allocates nothing, so the result is always `Ok`. A frame number in the verdict is below
+/// 2^40.
 pub fn judge(saved: &Saved, width: Width) -> Result<Verdict, Memory>
     requires map_order { AscendApart (map (λ l. l.range) saved.now.map.items) }
     requires owner_order { AscendApart (map (λ r. r) saved.now.owners.items) }

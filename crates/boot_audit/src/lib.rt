@@ -1,11 +1,11 @@
-//! Audits saved reports: do the reports `map`, `owners` and `blocks` of one boot show that memory
-//! was conserved?
+//! Audits saved reports: decides whether the reports `map`, `owners` and `blocks` of one boot show
+//! that memory was conserved.
 //!
 //! A frame is *usable* if all its bytes are memory (type 1 or 128) below the limit of addresses,
 //! and *touched* if one of its bytes has an owner. Memory was *conserved* if each usable frame is
-//! either touched or in exactly one free block, and no other frame is in a block. Also, each block
-//! must be aligned, lie in its zone, and not be able to merge with its buddy
-//! (`specs/Conserved.antt`).
+//! either touched or in exactly one free block, and no other frame is in a block. Also, the
+//! address of each block is a multiple of its size, its frames are in its zone, and it couldn't
+//! merge with its buddy (`specs/Conserved.antt`).
 //!
 //! - [`judge`] gives the verdict on the lines of the reports: `Sound`, or the first fault
 //!   (`specs/Verdicts.antt`).
@@ -15,9 +15,9 @@
 //!   three reports that the command line names (`audit_lines`), and writes the verdict.
 //!   `audit_outcome` (`specs/Outcome.antt`) defines what it writes.
 //!
-//! The layer above may rest on this: `audit` does what `audit_outcome` says, unless a file can't be
-//! read, the output refuses the text, or this program is out of memory. `bootaudit` runs it on the
-//! files and streams of the operating system.
+//! The crates above can rely on this: `audit` writes what `audit_outcome` says, unless a file
+//! can't be read, the output refuses the text, or this program is out of memory. The program
+//! `bootaudit` calls `audit` with the files and streams of the operating system.
 //!
 //! In contracts, a name means the definition in `specs/`.
 #![tactic(auto)]

@@ -13,8 +13,8 @@ use bm_io::Sink;
 use itoa::Buffer;
 use program_end::{Lines, put_line};
 
-/// Writes the audit's error lines. `names` is the accepted command line, or `None` if it was
-/// refused.
+/// The error lines of `bootaudit`. `names` is the accepted command line, whose file names the
+/// lines cite, or `None` if the command line was refused.
 #[derive(Clone, Copy)]
 pub struct AuditLines<'a, 'w> {
     pub names: &'a Option<AuditArgs<'w>>,
@@ -48,7 +48,8 @@ impl<'a, 'w, C: Copy> Lines<SavedReport, ReportFault, C> for AuditLines<'a, 'w> 
     fn put_cause_line<E: Sink>(_err: &mut E, _cause: C) {}
 }
 
-/// Writes to `err` the line for a fault of the report `word`.
+/// Writes to `err` the line for a fault of the report with the name `word`: `bootaudit: WORD: too
+/// long`, or the line for the first line of the report that has a fault.
 fn put_named_fault_line<'a, E: Sink>(err: &mut E, word: &'a str, fault: ReportFault)
     ensures { PutsLine E.Sink err.old err.new (named_fault_line word.now fault) }
 {
@@ -67,8 +68,8 @@ fn put_line_fault_line<E: Sink>(err: &mut E, word: &str, fault: LineFault)
     }
 }
 
-/// Writes to `err` the line `bootaudit: WORD: line LINE: WHAT`. Lines of a report are counted from
-/// 1.
+/// Writes to `err` the line `bootaudit: WORD: line LINE: WHAT`: line number `line` of the report
+/// `word`, from 1, has the fault `what`.
 fn put_numbered_line<'a, E: Sink>(err: &mut E, word: &'a str, line: u64, what: &'a str)
     ensures { PutsLine E.Sink err.old err.new (numbered_line word.now line what.now) }
 {

@@ -1,11 +1,11 @@
-//! Finds blocks that could merge with their buddies. A block's *parent* is the aligned set of
-//! twice as many frames that contains it. A block could merge if blocks of its node and zone cover
-//! the whole parent.
+//! Finds the first block that could merge with its buddy. A block's *parent* is the block together
+//! with its buddy: the aligned set of twice as many frames that contains it. A block could merge
+//! if its order is below 10 and blocks of its node and zone cover the whole parent.
 //!
-//! The blocks are ascending and disjoint. A *run* consists of blocks of one node and zone without
-//! a gap between them. For each block the loop knows the first frame of the run that ends with
-//! this block. To see whether the frames after the block are covered, the loop reads the next
-//! blocks up to the parent's end.
+//! The blocks ascend and are disjoint. A *run* consists of blocks of one node and zone without a
+//! gap between them. For each block the loop knows the first frame of the run that ends with this
+//! block, and so whether the parent's frames below the block are covered. For the frames above the
+//! block it reads the next blocks up to the parent's end.
 
 ghost use Rattle.std.specs.Prelude.{◌≡◌, ◌+◌, ◌^◌, ◌<◌, length, map};
 ghost use Rattle.audit_lines.specs.Lines.{AscendApart};
@@ -17,8 +17,10 @@ ghost use Rattle.bm_base.specs.Range.{end_of};
 use crate::blocks::{end_frame, first_frame, same_zone};
 use audit_lines::BlockLine;
 
-/// Returns the number of the first line, counted from 1, whose block could merge: its order is
-/// below 10, and blocks of its node and zone cover its parent.
+/// Returns the number of the first line, counted from 1, whose block could merge with its buddy:
+/// its order is below 10, and blocks of its node and zone cover both the block and its buddy.
+/// Returns `None` if there is no such line. The blocks must ascend and be disjoint, and there must
+/// be fewer than 2^32.
 pub fn first_mergeable(blocks: &[BlockLine]) -> Option<u32>
     requires order { AscendApart (map frames_of_block blocks.now) }
     requires few { length blocks.now < 2 ^ 32 }
@@ -36,8 +38,9 @@ pub fn first_mergeable(blocks: &[BlockLine]) -> Option<u32>
     None
 }
 
-/// Returns the first frame of the run that ends with `block`: blocks of one node and zone without a
-/// gap. `last` is the block before, and `from` is the first frame of the run that ends with `last`.
+/// Returns the number of the first frame of the run that ends with `block`. A run consists of
+/// blocks of one node and zone without a gap between them. `last` is the block on the line before,
+/// if there is one, and `from` is the first frame of the run that ends with `last`.
 fn run_start(last: Option<BlockLine>, from: u64, block: &BlockLine) -> u64
     ensures { result ≡ run_start last from block.now }
 {
@@ -61,8 +64,9 @@ fn are_of_one_zone(first: &BlockLine, second: &BlockLine) -> bool
     first.node == second.node && same_zone(first.zone, second.zone)
 }
 
-/// Tests whether the block could merge with its buddy. `from` is the first frame of the run that
-/// ends with the block, and `others` are the blocks after it.
+/// Tests whether the block could merge with its buddy. `from` is the first frame of the run
+/// (blocks of one node and zone without a gap) that ends with the block, and `others` are the
+/// blocks on the lines after it.
 fn could_merge_after_run(from: u64, block: &BlockLine, others: &[BlockLine]) -> bool
     ensures { result ≡ could_merge_after_run from block.now others.now }
 {
@@ -75,8 +79,8 @@ fn could_merge_after_run(from: u64, block: &BlockLine, others: &[BlockLine]) -> 
     from <= parent && is_covered_up_to(block, parent + size, others)
 }
 
-/// Tests whether the blocks `others` cover all frames from the end of `block` up to frame `until`,
-/// without a gap. A block of another node or zone covers nothing.
+/// Tests whether the blocks `others` cover all frames from the end of `block` up to but not
+/// including frame `until`. Only blocks of the node and zone of `block` count.
 fn is_covered_up_to(block: &BlockLine, until: u64, others: &[BlockLine]) -> bool
     ensures { result
         ≡ is_covered_up_to block.now (end_of (frames_of_block block.now)) until others.now }

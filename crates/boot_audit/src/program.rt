@@ -46,15 +46,15 @@ use std::alloc::Global;
 /// - 4: `out` refused the text.
 /// - 5: a file contains more than 512 MiB, or a line has a fault.
 /// - 7: out of memory.
-/// - 8: the verdict is another one; its text was written.
+/// - 8: the verdict is that memory wasn't conserved; its text was written.
 ///
-/// With status 0 and 8 nothing is written to `err`, and otherwise one line that says why the audit
-/// failed. If `err` refuses it, the status stays the same. The text of a verdict is written to
-/// `out` in one piece. With 2, 3 and 5 nothing is written to `out`; with 4 and 7 it may have the
-/// first part of the text.
+/// With status 0 and 8 nothing is written to `err`. With any other status one line is written to
+/// `err` that says why the audit failed; if `err` refuses this line, the status stays the same.
+/// The text of a verdict is written to `out` by one put. With status 2, 3 and 5 nothing is written
+/// to `out`; with 4 and 7 `out` may have got the first bytes of the text.
 ///
-/// The ghost `holds` says what each file contains, if the type of `files` knows it. If it is
-/// `None`, the clauses on `audit_outcome` say nothing.
+/// The ghost member `holds` of `files` says what each file contains. If it is `None`, the contents
+/// are unknown, and the clauses that cite `audit_outcome` say nothing.
 pub fn audit<F: Files, S: Sink, E: Sink>(
     alloc: Global,
     words: &[String],
@@ -62,25 +62,27 @@ pub fn audit<F: Files, S: Sink, E: Sink>(
     out: &mut S,
     err: &mut E,
 ) -> u8
-    // When each status comes, even if the files' contents are unknown. Status 2 comes exactly if
-    // the command line is refused.
+    // What each status implies, even if the files' contents are unknown. Status 2 comes exactly if
+    // the command line is refused. After status 3 the counter of faults of some named file rose,
+    // and after status 4 that of `out`.
     ensures usage { (result ≡ 2) ↔ IsNone (read_audit_args (map string_bytes words.now)) }
     ensures unread { result ≡ 3 → (report : AnyReport)
         × InputFaultsRose bootaudit (F.faults files.old) (F.faults files.new)
         (read_audit_args (map string_bytes words.now)) report }
     ensures unwritten { result ≡ 4 → Rose (S.faults out.old) (S.faults out.new) }
 
-    // What stays as it was, even if the files' contents are unknown. If the command line is
-    // refused, the files stay. If there is no verdict, `out` stays.
+    // What stays unchanged, even if the files' contents are unknown. If the command line is
+    // refused, the files stay. With status 2, 3 or 5 `out` stays. With status 7 `out` stays unless
+    // its counter `wants` rose.
     ensures unfetched { IsNone (read_audit_args (map string_bytes words.now))
         → files.new ≡ files.old }
     ensures early { (result ≡ 2) ⊎ (result ≡ 3) ⊎ (result ≡ 5) → out.new ≡ out.old }
     ensures wanting { result ≡ 7 → (out.new ≡ out.old) ⊎ Rose (S.wants out.old) (S.wants out.new) }
 
     // The headline, if the files' contents are known. With status 0 the command line is accepted,
-    // the three texts are well-formed, and memory was conserved by their lines. If all this holds,
-    // and no counter of faults rose, of `out` or of a file, the status is 0, or 7 if out of
-    // memory.
+    // the three reports are well-formed, and their lines show that memory was conserved.
+    // Conversely, if all this holds and neither a counter of faults of a file nor that of `out`
+    // rose, the status is 0, or 7 if out of memory.
     ensures headline { result ≡ 0 → IfSome (F.holds files.old)
         (FilesConserveMemory (read_audit_args (map string_bytes words.now))) }
     ensures conserved { IfSome (F.holds files.old) (λ held.
@@ -112,8 +114,8 @@ pub fn audit<F: Files, S: Sink, E: Sink>(
         ⊎ IsOkAnd (audit_outcome (read_audit_args (map string_bytes words.now)) held)
         (λ verdict. AppendsFront (S.written out.old) (S.written out.new) (verdict_text verdict))) }
 
-    // If no counter of faults rose, neither of `out` nor of a file, and the outcome is a verdict,
-    // the verdict is written unless the program runs out of memory.
+    // If the outcome is a verdict, and neither a counter of faults of a file nor that of `out`
+    // rose, the status is that of the verdict, or 7 if out of memory.
     ensures complete { IfSome (F.holds files.old) (λ held. (verdict : AnyVerdict)
         → audit_outcome (read_audit_args (map string_bytes words.now)) held ≡ Ok verdict
         → ¬ Rose (S.faults out.old) (S.faults out.new)
@@ -122,8 +124,9 @@ pub fn audit<F: Files, S: Sink, E: Sink>(
         (read_audit_args (map string_bytes words.now)) report)
         → (result ≡ verdict_status verdict) ⊎ (result ≡ 7)) }
 
-    // What `err` has: nothing if there is a verdict, else the line for a failure with this status.
-    // The cause of this failure did occur, and the failure fits the outcome.
+    // With status 0 or 8 `err` stays. With any other status the line of some failure with this
+    // status was written to `err`. What must happen before such a failure did happen
+    // (`FailureHasCause`), and the outcome allows the failure (`FitsFailure`).
     ensures silent { (result ≡ 0) ⊎ (result ≡ 8) → err.new ≡ err.old }
     ensures line { result ≢ 0 → result ≢ 8 → (failure : AnyFailure AnyReason)
         × (result ≡ failure_status failure)
@@ -141,7 +144,15 @@ pub fn audit<F: Files, S: Sink, E: Sink>(
     exit_status(end)
 }
 
-/// Writes the verdict after its whole text is made. Returns its exit status.
+/// Finds the verdict, makes its whole text in memory, and writes the text to `out` by one put.
+/// Returns the exit status of the verdict, 0 or 8.
+///
+/// # Errors
+///
+/// - `NoResult`: there is no verdict, or memory ran out before the text was made. Nothing was
+///   written.
+/// - `Output`: `out` refused the text or ran out of memory. The first bytes of the text may have
+///   been written.
 fn write_verdict<F: Files, S: Sink>(
     alloc: Global,
     names: &Option<AuditArgs<'_>>,
@@ -164,7 +175,15 @@ fn write_verdict<F: Files, S: Sink>(
     Ok(verdict_status(verdict))
 }
 
-/// Returns the verdict on the three files that the command line names.
+/// Fetches the three files that the command line names, and returns the verdict on their reports.
+/// `names` is `None` if the command line was refused.
+///
+/// # Errors
+///
+/// - `AuditReason::Usage` if the command line was refused. No file was fetched.
+/// - `AuditReason::Unread` if a file can't be read.
+/// - `AuditReason::Faulty` if a file contains more than 512 MiB, or a line has a fault.
+/// - `Memory` if this program is out of memory.
 fn find_verdict<F: Files>(
     alloc: Global,
     names: &Option<AuditArgs<'_>>,

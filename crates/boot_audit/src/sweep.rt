@@ -1,9 +1,11 @@
 //! Finds the first byte that is in a block but not free, and the first frame that is lost, by one
 //! sweep over the three lists.
 //!
-//! A byte is *free* if it is below the limit, in memory and without an owner. At each address, the
-//! first remaining line of each list decides for all bytes up to the next address at which a line
-//! begins or ends. The sweep therefore needs no list of free memory, and no step for each frame.
+//! A byte is *free* if it is below the limit of addresses, in memory and without an owner. The
+//! sweep goes up through the addresses, and drops the lines that it has passed. Up to the next
+//! address at which a line begins or ends, all bytes are in the same state, and the first
+//! remaining line of each list says in which. The sweep therefore needs no list of free memory,
+//! and no step for each frame.
 
 ghost use Rattle.std.specs.Prelude.{◌≡◌, ◌^◌, ◌<◌, ◌≤◌, ◌&&◌, Bool, true, not, nat_lt, ℕ, map, None, IsNone};
 ghost use Rattle.audit_lines.specs.Blocks.{bytes_of_block};
@@ -17,30 +19,33 @@ use crate::judgement::Saved;
 use audit_lines::{BlockLine, MapLine};
 use bm_base::{FRAME_SIZE, Range};
 
-/// The address at which the sweep ends; each block ends at or below it.
+/// The address at which the sweep ends. No block of a well-formed report ends above it.
 const SWEEP_END: u64 = 1 << 52;
 
-/// Whether a byte fits the blocks: it should be in a block exactly if it is free.
+/// The state of a byte in the sweep. A byte is free if it is below the limit of addresses, in
+/// memory and without an owner. It is sound if it is in a block exactly if it is free.
 #[derive(Clone, Copy, Debug, PartialEq, Eq)]
 pub enum ByteState {
-    /// It is in a block and free, or in no block and not free.
+    /// The byte is free and in a block, or not free and in no block.
     Sound,
-    /// It is in a block, but not free.
+    /// The byte is in a block, but not free.
     NotFree,
-    /// It is free, but in no block.
+    /// The byte is free, but in no block.
     Lost,
 }
 
-/// The first faults of frames that the sweep found. At most one of the fields has a frame.
+/// The lowest frame with a fault that the sweep found, if there is one. At most one of the two
+/// fields has a frame number.
 #[derive(Clone, Copy)]
 pub struct FrameFaults {
-    /// The least frame that is in a block but not free.
+    /// The lowest frame that is in a block but not free.
     pub not_free: Option<u64>,
-    /// The least frame that is free and in no block. Always `None` if `not_free` has a frame.
+    /// The lowest frame that is free but in no block. Always `None` if `not_free` has a frame.
     pub lost: Option<u64>,
 }
 
-/// A line of a report, with its range of addresses.
+/// A line of a report, as the sweep sees it: a range of addresses, and whether the sweep considers
+/// the line.
 pub trait RangeLine: Copy {
     // the range of the line's addresses
     ghost extent: { Self → RangeView };
@@ -48,16 +53,16 @@ pub trait RangeLine: Copy {
     // whether the sweep considers the line
     ghost counted: { Self → Bool };
 
-    /// Returns the address of the line's first byte.
+    /// Returns the first address of the line's range.
     fn base(&self) -> u64
         ensures { result ≡ (extent self.now).base };
 
-    /// Returns the address after the line's last byte.
+    /// Returns the address after the last one of the line's range.
     fn end(&self) -> u64
         ensures { result ≡ end_of (extent self.now) };
 
-    /// Returns whether the sweep considers the line: a map line counts only if its type is memory
-    /// (1 or 128), other lines always.
+    /// Returns whether the sweep considers the line: a line of `map` only if its type is memory (1
+    /// or 128), any other line always.
     fn is_relevant(&self) -> bool
         ensures { result ≡ counted self.now };
 }
@@ -123,17 +128,17 @@ impl RangeLine for BlockLine {
     }
 }
 
-/// Whether the bytes from some address up to address `until` are in a line that the sweep
-/// considers.
+/// The bytes from some address up to but not including address `until`. `inside` says whether all
+/// of them or none of them are in a line that the sweep considers.
 #[derive(Clone, Copy)]
 struct Coverage {
     inside: bool,
     until: u64,
 }
 
-/// Returns whether the address `at` is in a line that the sweep considers, and the next address at
-/// which this may change. The first line must end above `at`. Lines ascend, so only the first one
-/// matters.
+/// Returns whether the address `at` is in a line that the sweep considers, and the next address
+/// above `at` at which this may change. The lines must ascend and be disjoint, and the first must
+/// end above `at`, so only the first one matters. `at` must be below 2^52.
 fn coverage_at<L: RangeLine>(lines: &[L], at: u64) -> Coverage
     requires order { AscendApart (map L.extent lines.now) }
     requires behind { FirstEndsAbove at (map L.extent lines.now) }
@@ -161,7 +166,8 @@ fn coverage_at<L: RangeLine>(lines: &[L], at: u64) -> Coverage
     }
 }
 
-/// Returns the lines without those at the beginning of the list that end at or below address `at`.
+/// Drops the first lines of the list as long as they end at or below address `at`, and returns the
+/// others. The lines must ascend and be disjoint.
 fn skip_lines_below<L: RangeLine>(lines: &[L], at: u64) -> &[L]
     requires { AscendApart (map L.extent lines.now) }
     ensures order { AscendApart (map L.extent result.now) }
@@ -179,15 +185,15 @@ fn skip_lines_below<L: RangeLine>(lines: &[L], at: u64) -> &[L]
     rest
 }
 
-/// The state that all bytes from some address up to address `until` have.
+/// The state of all bytes from some address up to but not including address `until`.
 #[derive(Clone, Copy)]
 struct StateRun {
     state: ByteState,
     until: u64,
 }
 
-/// Returns whether the bytes from address `at` on are below the limit, and the address up to which
-/// this stays true or false.
+/// Returns whether address `at` is below the limit, and the next address above `at` at which this
+/// may change. `at` must be below 2^52.
 fn coverage_below_limit(limit: u64, at: u64) -> Coverage
     requires { at < 2 ^ 52 }
     ensures forward { at < result.until }
@@ -225,8 +231,9 @@ fn byte_state_of(free: bool, in_block: bool) -> ByteState
     }
 }
 
-/// Returns the state of the bytes from address `at` on, and the address up to which they all have
-/// it. In each list the first line must end above `at`.
+/// Returns the state of the bytes from address `at` on, and an address above `at` up to which they
+/// all have this state. Bytes at or above the address `limit` aren't free. In each list the lines
+/// must ascend and be disjoint, and the first must end above `at`. `at` must be below 2^52.
 fn state_run_from(
     limit: u64,
     runs: &[MapLine],
@@ -261,7 +268,8 @@ fn state_run_from(
     }
 }
 
-/// Returns the first frame that lies whole in the bytes from address `from` up to `until`.
+/// Returns the number of the lowest frame whose 4096 bytes are all at addresses from `from` up to
+/// but not including `until`. Returns `None` if there is no such frame.
 fn first_whole_frame(from: u64, until: u64) -> Option<u64>
     requires { from ≤ 2 ^ 52 }
     ensures { result ≡ first_whole_frame from until }
@@ -273,8 +281,10 @@ fn first_whole_frame(from: u64, until: u64) -> Option<u64>
     Some(frame)
 }
 
-/// Returns the first lost frame so far, and the address from which all bytes up to the end of
-/// `piece` are lost. `lost` and `from` are these two values before `piece`.
+/// Takes the next piece of bytes into account. `lost` is the lowest lost frame (free, but in no
+/// block) found below the piece, and `from` the address at which the lost bytes that end where the
+/// piece begins start. Returns these two values for the end of the piece. If the piece's bytes
+/// aren't lost, the second value is `piece.until`.
 fn advance_lost_frame(lost: Option<u64>, from: u64, piece: StateRun) -> (Option<u64>, u64)
     requires { from ≤ 2 ^ 52 }
     ensures { result ≡ advance_lost_frame lost from piece.until piece.state }
@@ -286,9 +296,10 @@ fn advance_lost_frame(lost: Option<u64>, from: u64, piece: StateRun) -> (Option<
     (lost, piece.until)
 }
 
-/// Returns the least frame that is in a block but not free. If there is none, returns the least
-/// lost frame: free, but in no block. Free frames lie below the address `limit`. The blocks must be
-/// aligned.
+/// Returns the lowest frame that is in a block but not free. If there is none, returns the lowest
+/// frame that is free but in no block. A frame is free if all its bytes are below the address
+/// `limit`, in memory and without an owner. In each report the lines must ascend and be disjoint,
+/// and the address of each block must be a multiple of its size.
 pub fn sweep(saved: &Saved, limit: u64) -> FrameFaults
     requires map_order { AscendApart (map (λ l. l.range) saved.now.map.items) }
     requires owner_order { AscendApart (map (λ r. r) saved.now.owners.items) }
