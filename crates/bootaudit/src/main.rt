@@ -1,12 +1,12 @@
-//! `bootaudit`: checks whether memory was conserved, by the saved reports `map`, `owners` and
-//! `blocks` of one boot.
+//! `bootaudit`: checks whether the saved reports `map`, `owners` and `blocks` of one boot show
+//! that memory was conserved: each usable frame is either reserved or in exactly one free block.
 //!
-//! The program reads three reports in the form in which `bootmem` prints them; any other program
-//! may have written them. It prints `sound`, or the first fault: `bootaudit [--la57] MAP OWNERS
-//! BLOCKS`.
+//! It is called as `bootaudit [--la57] MAP OWNERS BLOCKS`, with the names of three files. They
+//! have the form in which `bootmem` prints these reports, but any program may have written them.
+//! `bootaudit` prints `sound`, or the first fault.
 //!
 //! [`audit`] of `boot_audit` is the whole program over any files, output and error output, and has
-//! the contract. `main` calls it with those of the operating system.
+//! the contract. `main` calls it with the files and streams of the operating system.
 //!
 //! Exit statuses: 0, memory was conserved; 8, it wasn't; 2, the command line isn't accepted; 3, a
 //! file couldn't be read; 4, the output failed; 5, a report has a fault; 7, out of memory. With 0

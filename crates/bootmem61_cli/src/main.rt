@@ -1,18 +1,19 @@
-//! `bootmem61`: what an x86-64 Linux 6.1 kernel makes of the firmware's memory map, by the kernel's
-//! own rules for the crash area and for the spans of zones.
-//! The command line and the files are those of `bootmem`, and `--claims F` in addition. F names
-//! allocations that the kernel makes before its memory gets nodes. With these inputs the program
-//! boots up to the handover to the page allocator, and prints reports on the result: `bootmem61
-//! [OPTION..] ZEROPAGE`.
+//! `bootmem61`: what an x86-64 Linux 6.1 kernel makes of the firmware's memory map, by the
+//! kernel's own rules for the crash area and for the spans of zones.
 //!
-//! [`run61`] of `program_run` is the whole program over any files, output and error output, and has
-//! the contract. `main` calls it with those of the operating system.
+//! The command line is that of `bootmem`, and the option `--claims F` in addition. The file F
+//! lists allocations that the kernel makes before its memory gets NUMA nodes. From its inputs the
+//! program computes the boot up to the handover to the page allocator, and prints reports on the
+//! result: `bootmem61 [OPTION..] ZEROPAGE`.
 //!
-//! The exit statuses are those of `bootmem`: 0, the reports were written; 2, the command line isn't
-//! accepted; 3, a file couldn't be read; 4, the output failed; 5, an input has a fault; 6, the boot
-//! stops; 7, out of memory. With every status but 0 one line is written to the error output. If
-//! `main` can't collect the command line, it returns without a line: 2 for a word that isn't UTF-8,
-//! and 7 if out of memory.
+//! [`run61`] of `program_run` is the whole program over any files, output and error output, and
+//! has the contract. `main` calls it with the files and streams of the operating system.
+//!
+//! The exit statuses are those of `bootmem`: 0, the reports were written; 2, the command line
+//! isn't accepted; 3, a file couldn't be read; 4, the output failed; 5, an input has a fault; 6,
+//! the boot stops; 7, out of memory. With every status but 0 one line is written to the error
+//! output. If `main` can't collect the command line, it returns without a line: 2 for a word that
+//! isn't UTF-8, and 7 if out of memory.
 #![tactic(auto)]
 
 use bm_io::{RealFiles, StdSink};
