@@ -1,5 +1,5 @@
--- The lines that runs and blocks are read back as, and what must be true of a run, an owner or a
--- block that can be printed as a line.
+-- The line as which a run or a block is read back, and what must be true of a run, an owner or a
+-- block so that its line can be read back.
 use Rattle.std.specs.Prelude.{◌≡◌, ℕ, ◌/◌, ◌%◌, ◌<◌, ◌^◌}
 use Rattle.address_runs.specs.Runs.{RunOf, range_of_run}
 use Rattle.bm_base.specs.Range.{end_of}
@@ -11,7 +11,7 @@ use Rattle.buddy_blocks.specs.declared.block.Block.{Block}
 use Rattle.memblock_model.specs.declared.owner.Owner.{Owner}
 use Rattle.memblock_model.specs.declared.owner.Owner.TheVariants as owners
 
--- the line of a run of the map: its addresses and its type
+-- the line of the report `map` for a run: its range of addresses and its type
 abbrev pub line_of_run : RunOf ℕ → MapLine
 line_of_run r = record { range = range_of_run r; kind = r.value }
 
@@ -23,7 +23,7 @@ IsPrintableRange r = (0 < r.size) × (end_of (range_of_run r) < 2 ^ 64)
 abbrev pub IsPrintableRun : RunOf ℕ → Type 0
 IsPrintableRun r = IsPrintableRange r × ((0 < r.value) × (r.value < 2 ^ 32))
 
--- the number of a numbered owner fits in 32 bits
+-- the owner's number, if it has one, fits in 32 bits
 abbrev pub IsPrintableOwner : Owner → Type 0
 IsPrintableOwner (owners.NodeData n) = n < 2 ^ 32
 IsPrintableOwner (owners.Root n) = n < 2 ^ 32
@@ -35,7 +35,8 @@ IsPrintableOwner other = Unit {0}
 abbrev pub IsPrintableOwnerRun : RunOf Owner → Type 0
 IsPrintableOwnerRun r = IsPrintableRange r × IsPrintableOwner r.value
 
--- the line of a block: its node, zone and order, and the address of its first byte
+-- the line of the report `blocks` for a block: its node, zone and order, and the address of its
+-- first byte
 abbrev pub line_of_block : Block → BlockLineView
 line_of_block b = record { node = b.node; zone = b.zone; order = b.order; at = (bytes_of_frame b.first).base }
 
