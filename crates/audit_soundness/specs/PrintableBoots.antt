@@ -1,4 +1,4 @@
--- The boots whose three reports are read back as lines.
+-- The boots whose printed reports `map`, `owners` and `blocks` the audit can read back.
 use Rattle.std.specs.Prelude.{◌<◌, ◌^◌}
 use Rattle.std.specs.List.{All}
 use Rattle.bm_base.specs.Range.{end_of}
@@ -9,8 +9,9 @@ use Rattle.boot_model.specs.Boot.{BootedView}
 use Rattle.memblock_model.specs.Items.{owner_of, owner_runs_of}
 use Rattle.memblock_model.specs.declared.owner.Owner.{Owner}
 
--- The runs of the map and of the owners end below 2^64. The types of runs of the map and the
--- numbers of owners fit in 32 bits. Blocks need no condition.
+-- Each run of the map, and each run of bytes with one owner, isn't empty and ends below 2^64. The
+-- types of the map's runs are above 0 and below 2^32. The numbers of owners are below 2^32. No
+-- address from 2^64 on has an owner. Blocks need no condition.
 pub record IsPrintableBoot (told : BootedView) : Type 0 where
   pub map : All IsPrintableRun told.map
   pub owners : All IsPrintableOwnerRun (owner_runs_of told.items)

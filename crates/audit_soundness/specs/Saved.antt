@@ -6,13 +6,13 @@ use Rattle.boot_model.specs.Boot.{BootedView}
 use Rattle.debugfs_reports.specs.Report.{report_text}
 use Rattle.debugfs_reports.specs.declared.report.Report.TheVariants as reports
 
--- the file contains the whole text, which is at most 512 MiB, the largest file that the audit reads
+-- the file contains exactly this text, which has at most 512 MiB, as much as the audit reads
 pub record IsSaved (held : Option (List ℕ)) (text : List ℕ) : Type 0 where
   pub holds : held ≡ Some text
   pub short : length text ≤ 536870912
 
--- the three files contain the reports of the boot, and the audit is run for the boot's width of
--- physical addresses
+-- the three files that the command line of the audit names contain the reports of the boot, and
+-- the command line states the boot's width of physical addresses
 pub record AreSaved (held : FileContents) (wanted : AuditArgsView) (told : BootedView) : Type 0 where
   pub width : wanted.width ≡ told.width
   pub map : IsSaved (held wanted.map_name) (report_text reports.Map told)

@@ -1,6 +1,6 @@
-//! The law for the value that the code's boot returns. The types of its fields bound addresses and
-//! numbers, but a proof knows these bounds only after the code has read the field. The functions
-//! here therefore read each run.
+//! The law for the value that the function `boot` returned. The types of this value's fields bound
+//! its addresses and numbers. A proof knows such a bound only after code has read the field, so
+//! the functions here read each run.
 
 ghost use Rattle.std.specs.Prelude.{◌≡◌, Some, Ok};
 ghost use Rattle.std.specs.List.{All};
@@ -19,8 +19,10 @@ use boot_model::Booted;
 use e820_model::Run;
 use memblock_model::{Owner, OwnerRun};
 
-/// Law: if the files of an audit contain the three reports of this boot, as `bootmem` prints them,
-/// these reports show that memory was conserved, and the outcome of the audit is `Sound`.
+/// Law: if the files of an audit contain the three reports of the boot `booted`, as `bootmem`
+/// prints them, their lines show that memory was conserved, and the outcome of the audit is
+/// `Sound`. The addresses and numbers of `booted` are in the ranges of its types
+/// (`IsPrintableBoot`).
 pub fn booted_reports_are_sound(booted: &Booted)
     ghost given: { InputsView }
     requires { whole_boot given ≡ Ok (booted_view booted.now) }
@@ -36,7 +38,7 @@ pub fn booted_reports_are_sound(booted: &Booted)
     owner_runs_are_bounded(booted.journal.owners());
 }
 
-/// Law: each run of a map ends below 2^64.
+/// Law: each run of a map ends below address 2^64.
 fn map_runs_end_in_space(runs: &[Run])
     ensures { All RunEndsInSpace runs.now }
 {
@@ -45,15 +47,15 @@ fn map_runs_end_in_space(runs: &[Run])
     }
 }
 
-/// Law: a run of a map ends below 2^64.
+/// Law: a run of a map ends below address 2^64.
 fn run_ends_in_space(run: &Run)
     ensures { RunEndsInSpace run.now }
 {
     let _range = run.range;
 }
 
-/// Law: each run of bytes with one owner ends below 2^64, and the owner's number, if it has one,
-/// fits in 32 bits.
+/// Law: each run of bytes with one owner ends below address 2^64, and the owner's number, if it
+/// has one, fits in 32 bits.
 fn owner_runs_are_bounded(runs: &[OwnerRun])
     ensures { All IsBoundedOwnerRun runs.now }
 {
@@ -62,8 +64,8 @@ fn owner_runs_are_bounded(runs: &[OwnerRun])
     }
 }
 
-/// Law: a run of bytes with one owner ends below 2^64, and the owner's number, if it has one, fits
-/// in 32 bits.
+/// Law: a run of bytes with one owner ends below address 2^64, and the owner's number, if it has
+/// one, fits in 32 bits.
 fn owner_run_is_bounded(run: &OwnerRun)
     ensures { IsBoundedOwnerRun run.now }
 {

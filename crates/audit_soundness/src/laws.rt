@@ -1,5 +1,5 @@
-//! Laws: the lines of a boot's map, owners and blocks show that memory was conserved, and so do the
-//! printed texts of these lines.
+//! Laws: the reports `map`, `owners` and `blocks` of a boot show that memory was conserved, both
+//! as lists of lines and as printed texts that the audit reads back.
 
 ghost use Rattle.std.specs.Prelude.{◌≡◌, ◌^◌, Some, Ok, map};
 ghost use Rattle.address_runs.specs.Edits.{IsEmptyFrom};
@@ -22,10 +22,11 @@ ghost use Rattle.debugfs_reports.specs.Report.{report_text};
 ghost use Rattle.debugfs_reports.specs.declared.report.Report.TheVariants as reports;
 ghost use Rattle.memblock_model.specs.Items.{owner_of, owner_runs_of};
 
-/// Law: the lines of a successful boot's map, owners and blocks show that memory was conserved,
-/// provided no address from 2^64 on has an owner. Each usable frame is touched or in exactly one
-/// block, and each frame of a block is usable and untouched. Each block is aligned, lies in its
-/// zone, and couldn't merge with its buddy.
+/// Law: the lines of the reports `map`, `owners` and `blocks` of a successful boot show that
+/// memory was conserved, provided that no address from 2^64 on has an owner. Each usable frame is
+/// either touched (one of its bytes has an owner) or in exactly one block, and each frame of a
+/// block is usable and untouched. The address of each block is a multiple of its size, its frames
+/// are in its zone, and it couldn't merge with its buddy.
 pub fn booted_lines_conserve_memory()
     ensures { (given : InputsView) (told : BootedView) → whole_boot given ≡ Ok told
         → IsEmptyFrom (2 ^ 64) (owner_of told.items)
@@ -34,8 +35,9 @@ pub fn booted_lines_conserve_memory()
         (map line_of_block (booted_blocks told)) }
 {}
 
-/// Law: the three reports of a successful boot are read back as the boot's map, owners and blocks,
-/// provided its addresses and numbers are in the ranges of the program's types.
+/// Law: the audit reads the printed reports `map`, `owners` and `blocks` of a successful boot back
+/// as the lines that they were printed from. The boot's addresses must be below 2^64, and its
+/// numbers below 2^32 (`IsPrintableBoot`).
 pub fn booted_reports_are_read_back()
     ensures map { (given : InputsView) (told : BootedView) → whole_boot given ≡ Ok told
         → IsPrintableBoot told
@@ -51,9 +53,9 @@ pub fn booted_reports_are_read_back()
         ≡ Ok (map line_of_block (booted_blocks told)) }
 {}
 
-/// Law: if the files of an audit contain the three reports of a successful boot, these reports
-/// show that memory was conserved, and the outcome of the audit is `Sound`. The boot's addresses
-/// and numbers must be in the ranges of the program's types.
+/// Law: if the files of an audit contain the three reports of a successful boot, their lines show
+/// that memory was conserved, and the outcome of the audit is `Sound`. The boot's addresses must
+/// be below 2^64, and its numbers below 2^32 (`IsPrintableBoot`).
 pub fn saved_reports_are_sound()
     ensures conserved { (given : InputsView) (told : BootedView) → whole_boot given ≡ Ok told
         → IsPrintableBoot told
