@@ -1,4 +1,4 @@
--- The outcome of a call, from the words and files that the caller passes.
+-- The outcome of a call, which the words and files that the caller passes determine.
 use Rattle.std.specs.Prelude.{ℕ, Bool, true, if◌then◌else◌, ◌&&◌, List, [], ◌∷◌, Option, None, Result, Ok, Err}
 use Rattle.std.specs.Str.{is_utf8}
 use Rattle.bm_io.specs.MemFiles.{file_bytes}
@@ -19,11 +19,11 @@ abbrev pub are_utf8 : List (List ℕ) → Bool
 are_utf8 [] = true
 are_utf8 (word ∷ words) = is_utf8 word && are_utf8 words
 
--- what the words ask for, if each is UTF-8 and they are accepted
+-- the command line that the words spell; `None` if a word isn't UTF-8 or the words aren't accepted
 abbrev pub read_lent_args : List (List ℕ) → Option BootmemArgsView
 read_lent_args words = if are_utf8 words then read_args words else None
 
--- the outcome: the text that the call writes, or the reason why there is none
+-- the outcome: the text of the reports, or the reason why there is none
 abbrev pub outcome_of : List Bytes → List File → Result (List ℕ) InputsReason
 outcome_of words files = bootmem_outcome (read_lent_args (lent_words words)) (file_bytes (lent_files files))
 
@@ -32,16 +32,17 @@ abbrev pub outcome_status : Result (List ℕ) InputsReason → ℕ
 outcome_status (Ok text) = 0
 outcome_status (Err reason) = reason_status reason
 
--- the error line of an outcome: empty for a text
+-- the error line of an outcome: the line for its reason, or the empty text if there is no reason
 abbrev pub outcome_line : Option BootmemArgsView → Result (List ℕ) InputsReason → List ℕ
 outcome_line read_args (Ok text) = []
 outcome_line read_args (Err reason) = bootmem_failure_line read_args (failures.NoResult (errors.Reason reason))
 
--- the error line of the call: empty if the outcome is a text, and also if a word isn't UTF-8
+-- the error line of the call, unless it runs out of memory; empty if the outcome is a text, and
+-- also if a word isn't UTF-8
 abbrev pub call_line : List Bytes → List File → List ℕ
 call_line words files =
     if are_utf8 (lent_words words) then outcome_line (read_lent_args (lent_words words)) (outcome_of words files) else []
 
--- the line for a program that ran out of memory
+-- the error line of a call that ran out of memory
 abbrev pub out_of_memory_line : List ℕ
 out_of_memory_line = memory_line bootmem_name

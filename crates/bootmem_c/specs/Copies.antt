@@ -1,8 +1,9 @@
--- Texts that the program wrote, copied to buffers that the caller passes.
+-- How texts that the program wrote are copied to buffers that the caller passes.
 use Rattle.std.specs.Prelude.{◌≡◌, ℕ, ◌-◌, ◌^◌, ◌≤◌, ◌<◌, Bool, if◌then◌else◌, List, ◌++◌, drop, length}
 use Rattle.bootmem_c.specs.declared.crossing.Text.{Text}
 
--- the buffer begins with the text, and the rest of it is unchanged
+-- the buffer `new` begins with the text, and after it has the bytes that the buffer `old` had
+-- there
 abbrev pub BeginsWithText : List ℕ → (old new : List ℕ) → Type 0
 BeginsWithText text old new = new ≡ text ++ drop (length text) old
 
@@ -18,7 +19,7 @@ pub record TextSinkView : Type 0 where
   pub text : List ℕ
   pub is_short : Bool
 
--- the counter of writes that failed for lack of memory: 0 until memory runs out, and from then on
--- the greatest value
+-- the counter of writes that failed because memory ran out: 0 until the first of them, and 2^64 -
+-- 1 from then on
 abbrev pub failed_writes_of : TextSinkView → ℕ
 failed_writes_of written = if written.is_short then 2 ^ 64 - 1 else 0

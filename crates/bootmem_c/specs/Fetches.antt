@@ -1,4 +1,4 @@
--- The counters for fetching files that the caller passes (lent files).
+-- The counters of fetches from the files that the caller passes (lent files).
 use Rattle.std.specs.Prelude.{◌≡◌, ℕ, ◌-◌, ◌^◌, ◌<◌, Bool, List, length, min, Some, is_some, if◌then◌else◌, Result, Ok, Err, Vec}
 use Rattle.std.specs.Str.{bytes_eq}
 use Rattle.std.specs.declared.alloc.Global.{Global}
@@ -24,8 +24,9 @@ misses_of (Err fetch.TooLong) = 0
 misses_of (Err fetch.Memory) = 0
 
 -- The counter of faults for a name. If no lent file has the name, it is the number of failed
--- fetches of all names (below 2^32). If one has, its fetches never fail, and the counter is always
--- 2^64 - 2, which no other counter exceeds.
+-- fetches of all names (below 2^32). If a lent file has the name, its fetches never fail, and the
+-- counter is always 2^64 - 2. It isn't 2^64 - 1, since a counter with that value counts as risen
+-- (`Rose`).
 abbrev pub faults_at : LentFilesView → List ℕ → ℕ
 faults_at state name = if is_some (file_bytes state.files name) then 2 ^ 64 - 2 else min state.misses (2 ^ 32)
 

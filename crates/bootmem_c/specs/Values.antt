@@ -24,8 +24,9 @@ use Rattle.bootmem_c.specs.declared.values.MemoryNode.{MemoryNode}
 use Rattle.bootmem_c.specs.declared.values.MemoryRange.{MemoryRange}
 use Rattle.bootmem_c.specs.declared.values.ZoneSpan.{ZoneSpan}
 
--- `told` is the number of all values. The buffer begins with as many of them as it has room for,
--- and the rest of it is unchanged.
+-- How values are copied to a buffer of the caller, `old` before and `new` after: the buffer begins
+-- with the first of the values, as many as fit, and its rest is unchanged. `told` is the number of
+-- all values.
 pub record CopiesValues {T : Type 0} (values old new : List T) (told : ℕ) : Type 0 where
   pub count : told ≡ length values
   pub front : new ≡ take (length old) values ++ drop (length values) old
@@ -38,13 +39,13 @@ run_value run = record { base = run.base; size = run.size; kind = run.value }
 abbrev pub map_values : BootedView → List MapRun
 map_values told = map run_value told.map
 
--- the value of a part of the crash area; base and size are 0 if there is no such part
+-- the range of the crash area or of its low part; base and size are 0 if it isn't reserved
 abbrev pub crash_part_value : Option RangeView → RangeView
 crash_part_value None = record { base = 0; size = 0 }
 crash_part_value (Some part) = part
 
--- the value of the crash area: the number for why there is or isn't an area, its main part, and its
--- part below 4 GiB
+-- the value of the crash area, from `state`, which says why there is or isn't an area, the area
+-- itself, and its low part below 4 GiB
 abbrev pub crash_parts_value : ℕ → Option RangeView → Option RangeView → CrashArea
 crash_parts_value state main low = record {
   base = (crash_part_value main).base;
@@ -54,8 +55,8 @@ crash_parts_value state main low = record {
   state = state;
 }
 
--- the number for why there is or isn't a crash area (`BOOTMEM_CRASH_..` in C); 1 means that there
--- is one
+-- the number that says why there is or isn't a crash area (`BOOTMEM_CRASH_..` in C); 1 means that
+-- there is one
 abbrev pub crash_state_value : Crash → ℕ
 crash_state_value crash.Nothing = 0
 crash_state_value (crash.At main low) = 1
@@ -85,22 +86,23 @@ block_value b = record { first = b.first; order = b.order; node = b.node; zone =
 abbrev pub block_values : BootedView → List FreeBlock
 block_values told = map block_value (booted_blocks told)
 
--- the value of a span: the first frame, the frame after the last, the number of frames in between
--- that are the node's, and the node and zone
+-- the value of the range of frames that a node spans in a zone: the first frame, the frame after
+-- the last one, the number of frames in the range that are memory of the node, and the node and
+-- zone
 abbrev pub span_value : Span → ZoneSpan
 span_value s = record { start = s.start; end = s.end; present = s.present; node = s.node; zone = zone_number s.zone }
 
--- the spans of the boot
+-- the ranges of frames that the boot's nodes span in zones
 abbrev pub zone_values : BootedView → List ZoneSpan
 zone_values told = map span_value told.spans
 
--- the value of a node with its domain; if the SRAT isn't used, the node has no domain, and the
--- field `domain` is 0
+-- the value of a node with its proximity domain; without a domain, `domain` and `has_domain` are 0
 abbrev pub domain_value : ℕ → Option ℕ → MemoryNode
 domain_value node None = record { node = node; domain = 0; has_domain = 0 }
 domain_value node (Some domain) = record { node = node; domain = domain; has_domain = 1 }
 
--- the value of a node; `domains` has the domain of each node
+-- the value of a node; `domains` has the proximity domain of each node, and is empty if the SRAT
+-- isn't used
 abbrev pub node_value : List ℕ → ℕ → MemoryNode
 node_value domains node = domain_value node (slice_get domains node)
 
@@ -112,15 +114,16 @@ node_values told = map (node_value told.nodes.domains) told.nodes.with_memory
 abbrev pub region_value : Region → MemoryRange
 region_value r = record { base = r.base; size = r.size; flags = r.flags; node = r.node }
 
--- the values of the n records whose bytes begin at `place`
+-- the values of the n memory records whose bytes begin at address `place`, 24 bytes each; `f`
+-- gives the byte at an address
 abbrev pub regions_at : (ℕ → ℕ) → ℕ → ℕ → List MemoryRange
 regions_at f place zero = []
 regions_at f place (suc n) = region_value (decode_region (bytes_at f place 24)) ∷ regions_at f (place + 24) n
 
--- the value of a record that the journal gives
+-- the value of a memory record, from a run of bytes with one label (node and mirror flag)
 abbrev pub record_value : RunOf LabelView → MemoryRange
 record_value r = region_value (region_of r)
 
--- the values of the memory records that the boot's journal gives
+-- the values of the records of memblock's memory table, as the boot's journal defines them
 abbrev pub memory_values : BootedView → List MemoryRange
 memory_values told = map record_value (records_of which.Memory told.items)

@@ -1,8 +1,9 @@
-//! The results of a boot as values: the map, the crash area, memory, the nodes, the zones and the
-//! free blocks.
+//! The exports that boot and return what the boot made as values: the memory map, the crash area,
+//! memblock's memory, the nodes, the zones or the free blocks.
 //!
-//! Each export takes words and files as `bootmem_run` does, and returns the exit status that
-//! `bootmem_run` returns for them, unless one of the two calls runs out of memory. An export
+//! `words` are the words of the command line of `bootmem` after the program's name, and `files`
+//! are the files that they may name. Each export returns the exit status that `bootmem_run`
+//! returns for the same words and files, unless one of the two calls runs out of memory. It
 //! ignores which reports the words ask for.
 
 ghost use Rattle.std.specs.Prelude.{◌≡◌, ◌≢◌, ◌⊎◌, [], None, IfOk, IfErr};
@@ -23,9 +24,10 @@ use crate::values::{
 use program_run::NoReport;
 use std::alloc::Global;
 
-/// Writes the runs of the map to `out` in ascending order, as many as its buffer has room for, and
-/// sets `out.count` to the number of all runs. Returns the exit status: that of the outcome, or 7
-/// if out of memory. With a status other than 0, `out.count` is 0 and the buffer is unchanged.
+/// Boots with these words and files, and writes the runs of the boot's memory map to `out.room` in
+/// ascending order, as many as fit. Sets `out.count` to the number of all runs. Returns 0, or the
+/// status with which `bootmem` fails for these words and files: 2, 3, 5, 6, or 7 if out of memory.
+/// After a failure `out.count` is 0 and the buffer is unchanged.
 #[unsafe(no_mangle)]
 pub extern "C" fn bootmem_map(
     alloc: Global,
@@ -51,11 +53,11 @@ pub extern "C" fn bootmem_map(
     }
 }
 
-/// Boots with these words and files, and writes the crash area to `out`: the area itself, the
-/// second one below 4 GiB that an area at or above 4 GiB gets (`reserve_crashkernel_low`), and why
-/// there is or isn't an area. Base and size are 0 for an area that isn't reserved. Returns the exit
-/// status: that of the outcome, or 7 if out of memory. With a status other than 0, every number in
-/// `out` is 0.
+/// Boots with these words and files, and writes the crash area to `out`: the area itself, its low
+/// part below 4 GiB, which an area at or above 4 GiB gets (`reserve_crashkernel_low`), and why
+/// there is or isn't an area. Base and size are 0 for an area that isn't reserved. Returns 0, or
+/// the status with which `bootmem` fails for these words and files: 2, 3, 5, 6, or 7 if out of
+/// memory. After a failure every number in `out` is 0.
 #[unsafe(no_mangle)]
 pub extern "C" fn bootmem_crash(
     alloc: Global,
@@ -81,10 +83,11 @@ pub extern "C" fn bootmem_crash(
     }
 }
 
-/// Writes the free blocks after the handover to `out`, ascending by their first frames, as many as
-/// its buffer has room for, and sets `out.count` to the number of all blocks. Returns the exit
-/// status: that of the outcome, or 7 if out of memory. With a status other than 0, `out.count` is 0
-/// and the buffer is unchanged.
+/// Boots with these words and files, and writes the free blocks of the page allocator after the
+/// handover to `out.room`, ascending by their first frames, as many as fit. Sets `out.count` to
+/// the number of all blocks. Returns 0, or the status with which `bootmem` fails for these words
+/// and files: 2, 3, 5, 6, or 7 if out of memory. After a failure `out.count` is 0 and the buffer
+/// is unchanged.
 #[unsafe(no_mangle)]
 pub extern "C" fn bootmem_blocks(
     alloc: Global,
@@ -110,10 +113,11 @@ pub extern "C" fn bootmem_blocks(
     }
 }
 
-/// Writes the frames that each node spans in each zone to `out`, by node and then by zone, as many
-/// as its buffer has room for, and sets `out.count` to the number of all such spans. Returns the
-/// exit status: that of the outcome, or 7 if out of memory. With a status other than 0, `out.count`
-/// is 0 and the buffer is unchanged.
+/// Boots with these words and files, and writes the range of frames that each node spans in each
+/// zone to `out.room`, by node and then by zone, as many ranges as fit. Sets `out.count` to the
+/// number of all ranges. Returns 0, or the status with which `bootmem` fails for these words and
+/// files: 2, 3, 5, 6, or 7 if out of memory. After a failure `out.count` is 0 and the buffer is
+/// unchanged.
 #[unsafe(no_mangle)]
 pub extern "C" fn bootmem_zones(
     alloc: Global,
@@ -139,10 +143,11 @@ pub extern "C" fn bootmem_zones(
     }
 }
 
-/// Writes the records of the memory table to `out` in ascending order, as many as its buffer has
-/// room for, and sets `out.count` to the number of all records. Returns the exit status: that of
-/// the outcome, or 7 if out of memory. With a status other than 0, `out.count` is 0 and the buffer
-/// is unchanged.
+/// Boots with these words and files, and writes the records of memblock's memory table
+/// (`memblock.memory`) to `out.room` in ascending order, as many as fit. Sets `out.count` to the
+/// number of all records. Returns 0, or the status with which `bootmem` fails for these words and
+/// files: 2, 3, 5, 6, or 7 if out of memory. After a failure `out.count` is 0 and the buffer is
+/// unchanged.
 #[unsafe(no_mangle)]
 pub extern "C" fn bootmem_memory(
     alloc: Global,
@@ -168,10 +173,10 @@ pub extern "C" fn bootmem_memory(
     }
 }
 
-/// Writes the nodes that have memory to `out` in ascending order, as many as its buffer has room
-/// for, and sets `out.count` to the number of all such nodes. Returns the exit status: that of the
-/// outcome, or 7 if out of memory. With a status other than 0, `out.count` is 0 and the buffer is
-/// unchanged.
+/// Boots with these words and files, and writes the nodes that have memory to `out.room` in
+/// ascending order, as many as fit. Sets `out.count` to the number of all such nodes. Returns 0,
+/// or the status with which `bootmem` fails for these words and files: 2, 3, 5, 6, or 7 if out of
+/// memory. After a failure `out.count` is 0 and the buffer is unchanged.
 #[unsafe(no_mangle)]
 pub extern "C" fn bootmem_nodes(
     alloc: Global,
@@ -197,8 +202,12 @@ pub extern "C" fn bootmem_nodes(
     }
 }
 
-/// Returns the runs of the map of the boot with these words and files. Errors are those of
-/// [`boot_lent_files`].
+/// Boots with these words and files, and returns the runs of the boot's memory map.
+///
+/// # Errors
+///
+/// - A reason: the one for which `bootmem` has no result with these words and files.
+/// - `Memory` if this program is out of memory.
 fn boot_for_map(
     alloc: Global,
     words: &[Bytes<'_>],
@@ -214,8 +223,12 @@ fn boot_for_map(
     Ok(map_values(alloc, &booted.map)?)
 }
 
-/// Returns the free blocks of the boot with these words and files. Errors are those of
-/// [`boot_lent_files`].
+/// Boots with these words and files, and returns the free blocks after the handover.
+///
+/// # Errors
+///
+/// - A reason: the one for which `bootmem` has no result with these words and files.
+/// - `Memory` if this program is out of memory.
 fn boot_for_blocks(
     alloc: Global,
     words: &[Bytes<'_>],
@@ -232,8 +245,13 @@ fn boot_for_blocks(
     Ok(block_values(alloc, &blocks)?)
 }
 
-/// Returns the spans of the boot with these words and files. Errors are those of
-/// [`boot_lent_files`].
+/// Boots with these words and files, and returns the range of frames that each node spans in each
+/// zone.
+///
+/// # Errors
+///
+/// - A reason: the one for which `bootmem` has no result with these words and files.
+/// - `Memory` if this program is out of memory.
 fn boot_for_zones(
     alloc: Global,
     words: &[Bytes<'_>],
@@ -249,8 +267,12 @@ fn boot_for_zones(
     Ok(zone_values(alloc, &booted.spans)?)
 }
 
-/// Returns the nodes with memory of the boot with these words and files. Errors are those of
-/// [`boot_lent_files`].
+/// Boots with these words and files, and returns the nodes that have memory.
+///
+/// # Errors
+///
+/// - A reason: the one for which `bootmem` has no result with these words and files.
+/// - `Memory` if this program is out of memory.
 fn boot_for_nodes(
     alloc: Global,
     words: &[Bytes<'_>],
@@ -266,8 +288,12 @@ fn boot_for_nodes(
     Ok(node_values(alloc, &booted.nodes)?)
 }
 
-/// Returns the records of the memory table after the boot with these words and files. Errors are
-/// those of [`boot_lent_files`].
+/// Boots with these words and files, and returns the records of memblock's memory table.
+///
+/// # Errors
+///
+/// - A reason: the one for which `bootmem` has no result with these words and files.
+/// - `Memory` if this program is out of memory.
 fn boot_for_memory(
     alloc: Global,
     words: &[Bytes<'_>],

@@ -21,12 +21,13 @@ use program_args::{ArgsError, BootmemArgs, read_args};
 use program_run::{InputsReason, NoReport, read_boot_inputs, reason_by_stop};
 use std::alloc::Global;
 
-/// Boots with these words and files, and returns the results of the boot.
+/// Boots as `bootmem` does with these words of its command line and these files, and returns the
+/// results of the boot.
 ///
 /// # Errors
 ///
-/// - The reason of the outcome: the words aren't UTF-8 or aren't accepted, no file that is passed
-///   has the name, a file has a fault, or the boot stops.
+/// - A reason: the words aren't UTF-8 or aren't accepted, a named file isn't among the files that
+///   are passed, a file has a fault, or the boot stops.
 /// - `Memory` if this program is out of memory.
 pub fn boot_lent_files(
     alloc: Global,
@@ -48,8 +49,14 @@ pub fn boot_lent_files(
     }
 }
 
-/// Boots with these words, which are UTF-8, and these files. Returns the results of the boot.
-/// Errors are those of [`boot_lent_files`].
+/// Boots as `bootmem` does with these words of its command line and these files, and returns the
+/// results of the boot.
+///
+/// # Errors
+///
+/// - A reason: the words aren't accepted, a named file isn't among the files that are passed, a
+///   file has a fault, or the boot stops.
+/// - `Memory` if this program is out of memory.
 fn boot_with_strings(
     alloc: Global,
     words: &[String],
@@ -71,8 +78,14 @@ fn boot_with_strings(
     }
 }
 
-/// Boots with this accepted command line and these files. Returns the results of the boot. Errors
-/// are those of [`boot_lent_files`].
+/// Boots as `bootmem` does with this accepted command line and these files, and returns the
+/// results of the boot.
+///
+/// # Errors
+///
+/// - A reason: a named file isn't among the files that are passed, a file has a fault, or the boot
+///   stops.
+/// - `Memory` if this program is out of memory.
 fn boot_with_args(
     alloc: Global,
     wanted: &BootmemArgs<'_>,

@@ -1,10 +1,10 @@
-//! The types that `include/bootmem.h` declares for words, files and texts. A slice crosses as a
+//! The types that `include/bootmem.h` declares for words, files and texts. In C a slice is a
 //! pointer and a length.
 
 ghost use Rattle.std.specs.Prelude.{◌≤◌, length};
 ghost use Rattle.bootmem_c.specs.Copies.{BeginsWithText, CopiesText};
 
-/// The bytes of a word that the caller passes.
+/// A word of the command line that the caller passes, as bytes.
 #[repr(C)]
 #[derive(Clone, Copy)]
 pub struct Bytes<'a> {
@@ -19,8 +19,8 @@ pub struct File<'a> {
     pub bytes: &'a [u8],
 }
 
-/// A buffer that the caller passes for a text (`room`), and the text's length in bytes (`needed`),
-/// which the call sets.
+/// A buffer for a text (`room`), which the caller passes. The call sets `needed` to the length of
+/// the text in bytes, even if the text doesn't fit.
 #[repr(C)]
 #[derive(Drop)]
 pub struct Text<'a> {
@@ -28,8 +28,9 @@ pub struct Text<'a> {
     pub needed: usize,
 }
 
-/// Copies the text to the beginning of the buffer if it fits, and sets `needed` to its length. The
-/// bytes after the text are unchanged. If the text doesn't fit, the whole buffer is unchanged.
+/// Copies the text to the beginning of `out.room` if it fits, and sets `out.needed` to its length
+/// in bytes. The bytes of the buffer after the text are unchanged. If the text doesn't fit, the
+/// whole buffer is unchanged.
 pub fn copy_text(text: &[u8], out: &mut Text<'_>)
     ensures { CopiesText text.now out.old out.new }
 {
@@ -39,7 +40,8 @@ pub fn copy_text(text: &[u8], out: &mut Text<'_>)
     }
 }
 
-/// Copies the text to the beginning of the buffer. The text must fit.
+/// Copies the text to the beginning of the buffer `room`, which must be at least as long as the
+/// text. The bytes after the text are unchanged.
 fn copy_to_front(text: &[u8], room: &mut [u8])
     requires { length text.now ≤ length room.old }
     ensures { BeginsWithText text.now room.old room.new }

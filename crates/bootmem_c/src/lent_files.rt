@@ -1,4 +1,4 @@
-//! The files that the caller passes, as a type from which the program can fetch.
+//! The files that the caller of the library passes, as a [`Files`] from which the program fetches.
 
 ghost use Rattle.std.specs.Prelude.{◌≡◌, ℕ, ◌+◌, ◌-◌, ◌^◌, ◌<◌, ◌≤◌, ◌↔◌, length, Option, Some, IfOk, IsErrOf, IsNone, find};
 ghost use Rattle.std.specs.Option.{option_copied};
@@ -11,8 +11,8 @@ use bm_io::{Fetch, Files};
 use std::alloc::Global;
 use std::marker::Model;
 
-/// Files that the caller passes (lent files). If two have the same name, only the first can be
-/// fetched.
+/// The files that the caller of the library passes (*lent* files). If two have the same name, only
+/// the first can be fetched. `misses` counts the fetches for which no lent file had the name.
 #[derive(Drop)]
 pub struct LentFiles<'a> {
     files: &'a [File<'a>],
@@ -44,21 +44,22 @@ impl<'a> Files for LentFiles<'a> {
     ghost holds = { λ s. Some (file_bytes s.files) };
 
     // The counter of faults for a name. If no lent file has the name, the counter is the number of
-    // all failed fetches, whatever their names. If a lent file has the name, the counter is always
-    // 2^64 - 2, which no other counter exceeds. A counter rises only if no lent file has its name.
+    // all failed fetches, for any name. If a lent file has the name, its fetches never fail, and
+    // the counter is always 2^64 - 2. It isn't 2^64 - 1, since a counter with that value counts as
+    // risen.
     ghost faults = { λ s name. faults_at s name };
 
-    // The counter of bytes stays at its greatest value.
+    // The counter of bytes read is always 2^64 - 1. A counter with this value counts as risen.
     ghost taken = { λ s. 2 ^ 64 - 1 };
 
-    /// Returns a copy of the bytes of the file `name`.
+    /// Returns a copy of the bytes of the file `name`, which may have at most `limit` bytes.
     ///
     /// # Errors
     ///
-    /// - `Failed` only if no lent file has this name.
-    /// - `TooLong` exactly if the file contains more than `limit` bytes.
-    /// - `Memory` if this program is out of memory, or if no lent file has this name and the
-    ///   counter of failed fetches is full, after 2^32 - 1 of them.
+    /// - `Failed` only if the caller passes no file with this name.
+    /// - `TooLong` exactly if there is such a file and it contains more than `limit` bytes.
+    /// - `Memory` if this program is out of memory. Also if the caller passes no file with this
+    ///   name and 2^32 - 1 fetches failed before.
     fn fetch(&mut self, alloc: Global, name: &str, limit: u64) -> Result<Vec<u8>, Fetch>
         ensures bounded { IfOk result (λ bytes. length bytes.items ≤ limit) }
         ensures told { IfOk result (λ bytes.
@@ -87,7 +88,7 @@ impl<'a> Files for LentFiles<'a> {
     }
 }
 
-/// Returns the bytes of the first file with this name, if there is one.
+/// Returns the bytes of the first file with this name, or `None` if no file has it.
 fn bytes_of_named_file<'a>(files: &'a [File<'a>], name: &str) -> Option<&'a [u8]>
     ensures { option_copied result ≡ file_bytes (lent_files files.now) name.now }
 {

@@ -14,10 +14,11 @@ use crate::words::{StringsError, strings_of_words};
 use program_run::run;
 use std::alloc::Global;
 
-/// Runs `bootmem`. `words` are the words after the program's name, and `files` the files that they
-/// may name. Copies the reports to `out`, and the line that says why the program failed to `err`.
-/// Returns the exit status: that of the outcome (0, 2, 3, 5 or 6), or 7 if out of memory, even if
-/// only the error line needed the memory.
+/// Runs `bootmem`. `words` are the words of its command line after the program's name, and `files`
+/// the files that they may name. Returns the exit status: 0, 2, 3, 5 or 6 as the words and files
+/// determine, or 7 if out of memory, even if only the error line needed the memory. With status 0
+/// copies the reports to `out`. With any other status copies to `err` the one line that says why
+/// the program failed; for a word that isn't UTF-8 this line is empty.
 #[unsafe(no_mangle)]
 pub extern "C" fn bootmem_run(
     alloc: Global,
@@ -26,7 +27,8 @@ pub extern "C" fn bootmem_run(
     out: &mut Text<'_>,
     err: &mut Text<'_>,
 ) -> u8
-    // The status is that of the one outcome that words and files determine, or 7 for out of memory.
+    // The status is that of the outcome, which the words and files determine, or 7 if out of
+    // memory.
     ensures status { (result ≡ outcome_status (outcome_of words.now files.now)) ⊎ (result ≡ 7) }
 
     // With status 0 `out` has the text of the outcome, and the four facts of the headline hold for
@@ -38,8 +40,9 @@ pub extern "C" fn bootmem_run(
         (Some []) (Some text) }
     ensures unwritten { result ≢ 0 → CopiesText [] out.old out.new }
 
-    // With status 0 `err` has the empty text. With 7 it has the line of out of memory, and with
-    // any other status the whole line of the outcome.
+    // With status 0 `err` has the empty text. With 7 it has the line that says that memory ran
+    // out. With any other status it has the whole error line of the outcome, which is empty if a
+    // word isn't UTF-8.
     ensures silent { result ≡ 0 → CopiesText [] err.old err.new }
     ensures line { result ≢ 0 → result ≢ 7
         → CopiesText (call_line words.now files.now) err.old err.new }
@@ -54,8 +57,9 @@ pub extern "C" fn bootmem_run(
     status
 }
 
-/// Runs the program over these words and files. `report` and `line` must be empty. Returns the exit
-/// status. If memory runs out for the error line, `line.is_short` returns true afterwards.
+/// Runs `bootmem` over these words and files. Writes the reports to `report` and the error line to
+/// `line`, which must both be empty. Returns the exit status. If memory runs out while the error
+/// line is written, `line.is_short()` is true afterwards.
 fn run_lent_files(
     alloc: Global,
     words: &[Bytes<'_>],
@@ -82,8 +86,8 @@ fn run_lent_files(
     }
 }
 
-/// Returns the status of a run that wrote the error line `line`: 7 if memory ran out for the line,
-/// else the run's own status `ran`.
+/// Returns the exit status of the whole call. If memory ran out while the error line was written,
+/// this is 7, else the status `ran` that the run returned.
 fn status_after_line(ran: u8, line: &TextSink) -> u8
     ensures whole { line.now.is_short ≡ false → result ≡ ran }
     ensures short { line.now.is_short ≡ true → result ≡ 7 }
@@ -91,7 +95,7 @@ fn status_after_line(ran: u8, line: &TextSink) -> u8
     if line.is_short() { 7 } else { ran }
 }
 
-/// Returns the reports if the status is 0, else the empty text.
+/// Returns the text for `out`: the reports if the status is 0, else the empty text.
 fn report_text_for_status(status: u8, report: &TextSink) -> &[u8]
     ensures written { status ≡ 0 → result.now ≡ report.now.text }
     ensures unwritten { status ≢ 0 → result.now ≡ [] }

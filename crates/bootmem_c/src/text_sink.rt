@@ -7,7 +7,8 @@ use bm_io::{Put, Sink};
 use std::alloc::Global;
 use std::marker::Model;
 
-/// A text in memory. Each write appends to it, and fails only if this program is out of memory.
+/// A text in memory, to which each write appends. A write fails only if this program is out of
+/// memory; it then appends nothing.
 #[derive(Drop)]
 pub struct TextSink {
     text: Vec<u8>,
@@ -33,14 +34,15 @@ impl TextSink {
         }
     }
 
-    /// Returns the text so far.
+    /// Returns the text that was written so far.
     pub fn text(&self) -> &[u8]
         ensures { result.now ≡ self.now.text }
     {
         self.text.as_slice()
     }
 
-    /// Returns whether part of the text is missing because memory ran out.
+    /// Returns whether some write failed because memory ran out, so that part of the text is
+    /// missing.
     pub fn is_short(&self) -> bool
         ensures { result ≡ self.now.is_short }
     {
@@ -53,8 +55,8 @@ impl Sink for TextSink {
 
     ghost faults = { λ s. 0 };
 
-    // The counter of writes that failed for lack of memory: 0 until memory runs out, and from then
-    // on the greatest value.
+    // The counter of writes that failed because memory ran out: 0 until the first of them, and
+    // 2^64 - 1 from then on.
     ghost wants = { λ s. failed_writes_of s };
 
     fn put(&mut self, chunk: &[u8]) -> Result<(), Put>

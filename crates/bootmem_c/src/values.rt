@@ -14,7 +14,7 @@ use phys_store::Store;
 use std::alloc::Global;
 use zone_spans::Span;
 
-/// A run of the map: a range whose addresses all have the same type.
+/// A run of the memory map: a range whose addresses all have the same type.
 #[repr(C)]
 #[derive(Clone, Copy)]
 pub struct MapRun {
@@ -26,8 +26,8 @@ pub struct MapRun {
     pub kind: u32,
 }
 
-/// A buffer that the caller passes for runs of the map (`room`), and the number of all runs
-/// (`count`), which the call sets.
+/// A buffer for runs of the memory map (`room`), which the caller passes. The call sets `count` to
+/// the number of all runs, even if they don't all fit.
 #[repr(C)]
 #[derive(Drop)]
 pub struct MapRuns<'a> {
@@ -35,8 +35,9 @@ pub struct MapRuns<'a> {
     pub count: usize,
 }
 
-/// The crash area, and its low part, which is a further area below 4 GiB. Each has a base and a
-/// size in bytes, both 0 if there is no such area.
+/// The area that is reserved for a crash kernel (`base`, `size`), and its low part, a second area
+/// below 4 GiB (`low_base`, `low_size`). Sizes are in bytes. Base and size are both 0 if there is
+/// no such area.
 #[repr(C)]
 #[derive(Clone, Copy)]
 pub struct CrashArea {
@@ -44,12 +45,12 @@ pub struct CrashArea {
     pub size: u64,
     pub low_base: u64,
     pub low_size: u64,
-    /// Why there is or isn't an area: one of `BOOTMEM_CRASH_..` in `bootmem.h`. 1 means that the
-    /// area is reserved.
+    /// Why there is or isn't an area: one of the numbers `BOOTMEM_CRASH_..` in `bootmem.h`. 1
+    /// means that the area is reserved.
     pub state: u32,
 }
 
-/// A free block: 2^order frames of one node and zone.
+/// A free block of the page allocator: 2^`order` frames of one node and zone.
 #[repr(C)]
 #[derive(Clone, Copy)]
 pub struct FreeBlock {
@@ -62,8 +63,8 @@ pub struct FreeBlock {
     pub zone: u32,
 }
 
-/// A buffer that the caller passes for free blocks (`room`), and the number of all free blocks
-/// (`count`), which the call sets.
+/// A buffer for free blocks (`room`), which the caller passes. The call sets `count` to the number
+/// of all free blocks, even if they don't all fit.
 #[repr(C)]
 #[derive(Drop)]
 pub struct FreeBlocks<'a> {
@@ -71,7 +72,8 @@ pub struct FreeBlocks<'a> {
     pub count: usize,
 }
 
-/// The frames that a node spans in a zone.
+/// The range of frames that a node spans in a zone: from its lowest memory frame in the zone to
+/// its highest.
 #[repr(C)]
 #[derive(Clone, Copy)]
 pub struct ZoneSpan {
@@ -79,15 +81,15 @@ pub struct ZoneSpan {
     pub start: u64,
     /// The number of the frame after the last one.
     pub end: u64,
-    /// The number of frames in the span that are memory of this node.
+    /// The number of frames in the range that are memory of this node (`present_pages`).
     pub present: u64,
     pub node: u32,
     /// The number of the zone (`enum zone_type`): 0, 1 or 2.
     pub zone: u32,
 }
 
-/// A buffer that the caller passes for spans (`room`), and the number of all spans (`count`), which
-/// the call sets.
+/// A buffer for the ranges of frames that nodes span in zones (`room`), which the caller passes.
+/// The call sets `count` to the number of all ranges, even if they don't all fit.
 #[repr(C)]
 #[derive(Drop)]
 pub struct ZoneSpans<'a> {
@@ -95,19 +97,19 @@ pub struct ZoneSpans<'a> {
     pub count: usize,
 }
 
-/// A node with memory, and its domain in the SRAT.
+/// A node that has memory, and its proximity domain in the SRAT.
 #[repr(C)]
 #[derive(Clone, Copy)]
 pub struct MemoryNode {
     pub node: u32,
-    /// The domain, or 0 if the SRAT isn't used.
+    /// The node's proximity domain, or 0 if the SRAT isn't used.
     pub domain: u32,
     /// 1 if the SRAT is used, else 0.
     pub has_domain: u32,
 }
 
-/// A buffer that the caller passes for nodes (`room`), and the number of all nodes with memory
-/// (`count`), which the call sets.
+/// A buffer for nodes (`room`), which the caller passes. The call sets `count` to the number of
+/// all nodes that have memory, even if they don't all fit.
 #[repr(C)]
 #[derive(Drop)]
 pub struct MemoryNodes<'a> {
@@ -115,7 +117,8 @@ pub struct MemoryNodes<'a> {
     pub count: usize,
 }
 
-/// A record of memory (`struct memblock_region`): a range of whole frames on one node.
+/// A record of memblock's memory table (`struct memblock_region`): a range of whole frames on one
+/// node.
 #[repr(C)]
 #[derive(Clone, Copy)]
 pub struct MemoryRange {
@@ -128,8 +131,8 @@ pub struct MemoryRange {
     pub node: u32,
 }
 
-/// A buffer that the caller passes for records of memory (`room`), and the number of all records
-/// (`count`), which the call sets.
+/// A buffer for records of memory (`room`), which the caller passes. The call sets `count` to the
+/// number of all records, even if they don't all fit.
 #[repr(C)]
 #[derive(Drop)]
 pub struct MemoryRanges<'a> {
@@ -150,7 +153,8 @@ impl MapRun {
 }
 
 impl CrashArea {
-    /// Returns the value for a boot without a crash area. `state` says why there is none.
+    /// Returns the value for a boot without a crash area: all addresses and sizes are 0. `state`
+    /// says why there is no area (`BOOTMEM_CRASH_..` in C).
     pub fn none(state: u32) -> CrashArea
         ensures { result ≡ crash_parts_value state None None }
     {
@@ -180,7 +184,7 @@ impl CrashArea {
     }
 }
 
-/// Returns the number for why there is or isn't a crash area (`BOOTMEM_CRASH_..` in C).
+/// Returns the number that says why there is or isn't a crash area (`BOOTMEM_CRASH_..` in C).
 fn crash_state(crash: &Crash) -> u32
     ensures { result ≡ crash_state_value crash.now }
 {
@@ -193,7 +197,7 @@ fn crash_state(crash: &Crash) -> u32
     }
 }
 
-/// Returns the number of the zone (`enum zone_type`).
+/// Returns the zone's number in `enum zone_type`: DMA 0, DMA32 1, Normal 2.
 fn zone_number(zone: Zone) -> u32
     ensures { result ≡ zone_number zone }
 {
@@ -232,7 +236,8 @@ impl ZoneSpan {
 }
 
 impl MemoryNode {
-    /// Returns the value of a node. `domains` has the domain of each node.
+    /// Returns the value for C of node number `node`. `domains` has the proximity domain of each
+    /// node; it is empty if the SRAT isn't used.
     fn of(domains: &[u32], node: u32) -> MemoryNode
         ensures { result ≡ node_value domains.now node }
     {
@@ -264,7 +269,9 @@ impl MemoryRange {
     }
 }
 
-/// Returns the records of the table at this head as values for C. Fails only if out of memory.
+/// Returns the records of one of memblock's tables as values for C. `head` says where in `store`
+/// the table's bytes begin and how many records of 24 bytes it has; they must end below 2^64.
+/// Fails only if out of memory.
 pub fn memory_values(alloc: Global, store: &Store, head: &Head) -> Result<Vec<MemoryRange>, Memory>
     requires { head.now.place + 24 * head.now.count < 2 ^ 64 }
     ensures { IfOk result (λ values.
@@ -277,14 +284,16 @@ pub fn memory_values(alloc: Global, store: &Store, head: &Head) -> Result<Vec<Me
     Ok(values)
 }
 
-/// Returns the spans as values for C. Fails only if out of memory.
+/// Returns the ranges of frames that nodes span in zones as values for C, in the same order. Fails
+/// only if out of memory.
 pub fn zone_values(alloc: Global, spans: &[Span]) -> Result<Vec<ZoneSpan>, Memory>
     ensures { IfOk result (λ values. values.items ≡ map span_value spans.now) }
 {
     Ok(spans.iter().map(ZoneSpan::of).collect(alloc)?)
 }
 
-/// Returns the nodes with memory as values for C. Fails only if out of memory.
+/// Returns the nodes that have memory as values for C, in the same order. Fails only if out of
+/// memory.
 pub fn node_values(alloc: Global, nodes: &Nodes) -> Result<Vec<MemoryNode>, Memory>
     ensures { IfOk result (λ values. values.items
         ≡ map (node_value nodes.now.domains.items) nodes.now.with_memory.items) }
@@ -299,22 +308,23 @@ pub fn node_values(alloc: Global, nodes: &Nodes) -> Result<Vec<MemoryNode>, Memo
     )
 }
 
-/// Returns the runs as values for C. Fails only if out of memory.
+/// Returns the runs of the memory map as values for C, in the same order. Fails only if out of
+/// memory.
 pub fn map_values(alloc: Global, runs: &[Run]) -> Result<Vec<MapRun>, Memory>
     ensures { IfOk result (λ values. values.items ≡ map run_value runs.now) }
 {
     Ok(runs.iter().map(MapRun::from_map_run).collect(alloc)?)
 }
 
-/// Returns the blocks as values for C. Fails only if out of memory.
+/// Returns the free blocks as values for C, in the same order. Fails only if out of memory.
 pub fn block_values(alloc: Global, blocks: &[Block]) -> Result<Vec<FreeBlock>, Memory>
     ensures { IfOk result (λ values. values.items ≡ map block_value blocks.now) }
 {
     Ok(blocks.iter().map(FreeBlock::from_block).collect(alloc)?)
 }
 
-/// Copies values to the beginning of the buffer, as many as it has room for, and returns the number
-/// of all values. The rest of the buffer is unchanged.
+/// Copies the first of the values to the beginning of the buffer `room`, as many as fit, and
+/// returns the number of all values. The rest of the buffer is unchanged.
 pub fn copy_values<T: Copy>(values: &[T], room: &mut [T]) -> usize
     ensures { CopiesValues values.now room.old room.new result }
 {

@@ -1,4 +1,4 @@
-//! The words that the caller passes.
+//! The words of the command line that the caller passes, as strings.
 
 ghost use Rattle.std.specs.Prelude.{◌≡◌, map, string_bytes, IsUtf8, IfOk, IsErrOf};
 ghost use Rattle.std.specs.List.{All};
@@ -7,7 +7,7 @@ ghost use Rattle.bootmem_c.specs.Lent.{lent_words};
 use crate::crossing::Bytes;
 use std::alloc::{AllocError, AllocFailed, Global};
 
-/// Why reading the words failed.
+/// Why the words couldn't be returned as strings.
 #[derive(Clone, Copy, Debug, PartialEq, Eq)]
 pub enum StringsError {
     /// One of the words isn't UTF-8.
@@ -38,7 +38,7 @@ impl<T: Drop> From<AllocFailed<T>> for StringsError {
     }
 }
 
-/// Returns the words as strings.
+/// Returns the words as strings, in the same order.
 ///
 /// # Errors
 ///
@@ -56,7 +56,12 @@ pub fn strings_of_words(alloc: Global, words: &[Bytes<'_>]) -> Result<Vec<String
     Ok(texts)
 }
 
-/// Returns the word as a string. Errors are those of [`strings_of_words`].
+/// Returns the word as a string.
+///
+/// # Errors
+///
+/// - [`StringsError::NotUtf8`] only if the word isn't UTF-8.
+/// - [`StringsError::Memory`] if this program is out of memory.
 fn string_of_word(alloc: Global, word: &[u8]) -> Result<String, StringsError>
     ensures text { IfOk result (λ text. string_bytes text ≡ word.now) }
     ensures utf8 { IfOk result (λ text. IsUtf8 word.now) }
