@@ -1,7 +1,8 @@
-//! Worked cases of the audit of saved reports. This crate has only tests.
+//! Worked cases of `bootaudit`, the audit of saved reports. This crate has only tests.
 //!
-//! Each module has the cases of the crate that it is named after, or of `audit`. It calls that
-//! crate by its public names and knows only what the contracts say.
+//! `of_boot_audit` has the cases of the reader of reports and of the verdict (`judge`), `of_audit`
+//! those of the whole program (`audit`). The cases call the public functions of these crates and
+//! rely only on their contracts.
 #![tactic(auto)]
 
 #[cfg(test)]

@@ -1,5 +1,6 @@
-//! The program `audit` over files in memory: the reports of a virtual machine of 128 MiB, with one
-//! line changed at a time, and with calls that fail.
+//! The function `audit`, which is the whole of `bootaudit`, over files in memory. These are the
+//! reports of a virtual machine of 128 MiB, as they are, with one line changed, and with calls
+//! that fail.
 
 ghost use Rattle.std.specs.Prelude.{◌≡◌, IfOk, string_bytes};
 ghost use Rattle.bm_io.specs.MemFiles.{file_views, HaveOwnNames};
@@ -10,7 +11,7 @@ use std::alloc::Global;
 use std::process::Abort;
 use std::test::Fail;
 
-/// The lines of the report `map`.
+/// The lines of the report `map` of a virtual machine of 128 MiB.
 const MAP: [&str; 7] = [
     "0x0000000000000000..0x0000000000000fff 2 reserved\n",
     "0x0000000000001000..0x000000000009fbff 1 usable\n",
@@ -21,7 +22,7 @@ const MAP: [&str; 7] = [
     "0x00000000fffc0000..0x00000000ffffffff 2 reserved\n",
 ];
 
-/// The lines of the report `owners`.
+/// The lines of the report `owners` of the same machine: the reserved ranges with their owners.
 const OWNERS: [&str; 7] = [
     "   0: 0x0000000000000000..0x00000000000fffff low-1m\n",
     "   1: 0x0000000001000000..0x0000000002ffffff kernel\n",
@@ -32,7 +33,7 @@ const OWNERS: [&str; 7] = [
     "   6: 0x0000000007fb5000..0x0000000007fdffff node-data 0\n",
 ];
 
-/// The lines of the report `blocks`.
+/// The lines of the report `blocks` of a virtual machine of 128 MiB: all free blocks.
 const BLOCKS: [&str; 31] = [
     "node 0 zone DMA order 8 0x0000000000100000\n",
     "node 0 zone DMA order 9 0x0000000000200000\n",
@@ -67,7 +68,7 @@ const BLOCKS: [&str; 31] = [
     "node 0 zone DMA32 order 0 0x0000000007fae000\n",
 ];
 
-/// How an audit ended: the status, the output and the error output.
+/// How an audit ended: its exit status, and what it wrote to the output and to the error output.
 #[derive(Drop)]
 struct Ended {
     status: u8,
@@ -88,11 +89,11 @@ impl Ended {
 /// A changed line: the report's name, the line's number from 1, and its new text.
 type Change<'a> = (&'a str, usize, &'a str);
 
-/// No line is changed.
+/// The change that changes no line.
 const SAME: Change<'static> = ("", 0, "");
 
-/// Returns a file with these lines of the report `name`. If the change is for this report, its line
-/// is replaced.
+/// Returns a file with the name `name` and these lines. If the change is for the report of that
+/// name, the line with its number has the new text.
 fn file(alloc: Global, name: &str, lines: &[&str], change: Change<'_>) -> Result<MemFile, Fail>
     ensures { IfOk result (λ file. string_bytes file.name ≡ name.now) }
 {
@@ -111,7 +112,8 @@ fn file(alloc: Global, name: &str, lines: &[&str], change: Change<'_>) -> Result
     })
 }
 
-/// Returns the three reports `map`, `owners` and `blocks`.
+/// Returns the files `map`, `owners` and `blocks` with the machine's three reports, after the
+/// change.
 fn files_of(alloc: Global, change: Change<'_>) -> Result<Vec<MemFile>, Fail>
     ensures { IfOk result (λ files. HaveOwnNames (file_views files.items)) }
 {
@@ -121,8 +123,9 @@ fn files_of(alloc: Global, change: Change<'_>) -> Result<Vec<MemFile>, Fail>
     Ok(vec![in alloc; map, owners, blocks]?)
 }
 
-/// Audits with these words. `failing` has the numbers of the calls that fail: of fetches, of writes
-/// to the output, and of writes to the error output.
+/// Runs `audit` with these words of the command line, over the machine's three reports after the
+/// change. `failing` has three lists: the numbers, from 1, of the fetches that fail, of the writes
+/// to the output, and of the writes to the error output.
 fn audit_on(
     alloc: Global,
     words: &[&str],
@@ -141,17 +144,17 @@ fn audit_on(
     Ok(Ended { status, out, err })
 }
 
-/// The words that name the three reports.
+/// The words of a command line that names the three reports.
 const NAMED: [&str; 3] = ["map", "owners", "blocks"];
 
-/// No call fails.
+/// The lists of failing calls if no call fails.
 const NONE: [&[u64]; 3] = [&[], &[], &[]];
 
-/// The words, the numbers of the calls that fail (as in [`audit_on`]), and the expected status,
-/// output and error output.
+/// The words of the command line; the numbers of the fetches, of the writes to the output and of
+/// the writes to the error output that fail; and the expected status, output and error output.
 type Row<'a> = (&'a [&'a str], [&'a [u64]; 3], u8, &'a str, &'a str);
 
-/// Runs an audit for each row and compares how it ended.
+/// Runs an audit over the unchanged reports for each row, and compares how it ended.
 fn compare(rt: &impl Abort, alloc: Global, rows: &[Row<'_>]) -> Result<(), Fail> {
     for (words, failing, status, text, error) in rows {
         let ended = audit_on(alloc, words, SAME, *failing)?;
@@ -228,7 +231,7 @@ fn what_fails(rt: HostRuntime) -> Result<(), Fail> {
             "sou",
             "bootaudit: cannot write\n",
         ),
-        // the verdict is written in one chunk, so there is no second write
+        // the verdict is written by one put, so the second put, which would fail, never happens
         (&NAMED, [&[], &[2], &[]], 0, "sound\n", ""),
         (&NAMED, [&[], &[1], &[1]], 4, "sou", "boot"),
         (
@@ -258,7 +261,8 @@ fn compare_changes(
 
 #[test]
 fn verdicts(rt: HostRuntime) -> Result<(), Fail> {
-    // the block of order 9 at 2 MiB, cut into two blocks of one node, and of two nodes
+    // the block of order 9 at 2 MiB, cut into two blocks of order 8: in `halves` both are of node
+    // 0, in `of_two` the second is of node 1
     let halves =
         "node 0 zone DMA order 8 0x0000000000200000\nnode 0 zone DMA order 8 0x0000000000300000\n";
     let of_two =
@@ -389,7 +393,7 @@ fn faults(rt: HostRuntime) -> Result<(), Fail> {
             "",
             "bootaudit: map: line 2: order\n",
         ),
-        // the last line without its newline
+        // the last line lacks its newline
         (
             (
                 "map",

@@ -1,12 +1,14 @@
-//! The readers of reports, and the verdict on the three reports of a machine of eight frames. Each
-//! case changes one line.
+//! The verdict on the three reports of a machine of eight frames, and faults that the reader of
+//! reports finds. Each test changes a line or two of a sound or well-formed report; the test's
+//! name says what is wrong.
 
 use audit_lines::{BlockLine, LineFault, MapLine, ReadError, read_report};
 use bm_base::{Range, Width};
 use boot_audit::{Saved, Verdict, judge};
 use std::alloc::Global;
 
-/// Returns the verdict on three reports, or `None` if one of them has a fault.
+/// Returns the verdict on three reports, given as the bytes of `map`, `owners` and `blocks`.
+/// Returns `None` if one of them has a fault.
 fn verdict_on(alloc: Global, runs: &[u8], owners: &[u8], blocks: &[u8]) -> Option<Verdict> {
     let Ok(map) = read_report::<MapLine>(alloc, runs) else {
         return None;
@@ -31,7 +33,8 @@ fn verdict_on(alloc: Global, runs: &[u8], owners: &[u8], blocks: &[u8]) -> Optio
     .ok()
 }
 
-/// Returns the fault of a report, or `None` if it is well-formed.
+/// Reads the bytes as a report with lines of type `L`. Returns its fault, or `None` if it is
+/// well-formed.
 fn fault_of<L: audit_lines::ReportLine>(alloc: Global, bytes: &[u8]) -> Option<LineFault> {
     match read_report::<L>(alloc, bytes) {
         Err(ReadError::Fault(fault)) => Some(fault),
