@@ -1,8 +1,8 @@
-//! Worked cases of the page allocator after the handover, of its index of blocks, of the zone
-//! lists, and of their texts. This crate has only tests.
+//! Worked cases of the page allocator after the handover, of its index of free blocks, of the zone
+//! lists, and of the reports about them. This crate has only tests.
 //!
-//! Each module has the cases of the crate that it is named after. It calls that crate by its
-//! public names and knows only what the contracts say.
+//! The module `of_NAME` has the cases of the crate `NAME`. They call the public functions of that
+//! crate and rely only on their contracts.
 #![tactic(auto)]
 
 #[cfg(test)]

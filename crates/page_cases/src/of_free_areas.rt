@@ -1,5 +1,5 @@
-//! The index of two blocks: a frame is allocated from the first block and freed again. The expected
-//! values were worked out by hand from `expand` and `__free_one_page`.
+//! An index of two free blocks: a frame is allocated from the first block and freed again. The
+//! expected values were worked out by hand from the kernel's `expand` and `__free_one_page`.
 
 use bm_base::{Memory, Zone};
 use buddy_blocks::{Block, FrameRun};
@@ -7,8 +7,8 @@ use free_areas::Areas;
 use std::alloc::Global;
 use std::test::Fail;
 
-// Returns the index of the free frames from 1 MiB to 4 MiB: a block of order 8, and one of order
-// 9.
+// Returns the index of the free blocks from 1 MiB to 4 MiB, of node 0: a block of order 8 and a
+// block of order 9.
 fn three_mebibytes(alloc: Global) -> Result<Areas, Memory> {
     let run = FrameRun {
         first: 0x100,
@@ -18,8 +18,8 @@ fn three_mebibytes(alloc: Global) -> Result<Areas, Memory> {
     Areas::index_free_runs(alloc, &[run])
 }
 
-// Returns, for a request of each order from 0 to 10, the order and the first frame of the block
-// that serves it.
+// Returns, for a request of each order from 0 to 10, the order and the first frame of the free
+// block from which it would be served, or `None` if no block is large enough.
 fn served(areas: &Areas) -> [Option<(u32, u64)>; 11] {
     let mut served = [None; 11];
     for order in 0..11 {

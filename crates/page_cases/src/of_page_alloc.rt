@@ -1,5 +1,5 @@
-//! A page script on the frames from 1 MiB to 4 MiB, which are two blocks of node 0. Also the first
-//! fault of a malformed script.
+//! A page script (requests to the page allocator, one per line) on the free frames from 1 MiB to 4
+//! MiB, which are two blocks of node 0. Also the first fault of a malformed script.
 
 ghost use Rattle.std.specs.Prelude.{◌<◌, ◌^◌, length};
 
@@ -10,15 +10,16 @@ use slit_zonelists::{Lists, run_page_lines};
 use std::alloc::Global;
 use std::test::Fail;
 
-// Returns an allocator with the free frames from 1 MiB to 4 MiB: a block of order 8, and one of
-// order 9.
+// Returns a page allocator with the free frames from 1 MiB to 4 MiB of node 0: a block of order 8
+// and a block of order 9.
 fn three_mebibytes(alloc: Global) -> Result<Pages, Memory> {
     let mut buddy = Buddy::new(alloc);
     buddy.free_frames(0x100, 0x300, 0)?;
     Ok(Pages::new(alloc, buddy))
 }
 
-// Runs a page script and returns the outcome of each line that is a request.
+// Runs the page script `text` without distances of nodes. Returns the outcome of each line that
+// isn't empty or a comment.
 fn run(alloc: Global, pages: &mut Pages, text: &[u8]) -> Result<Vec<PageAnswer>, Fail>
     requires { length text.now < 2 ^ 32 }
 {

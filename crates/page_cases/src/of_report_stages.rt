@@ -1,5 +1,5 @@
-//! The texts of the page script and of the lists of zones: each outcome, and each use of the
-//! distances.
+//! The texts of two reports: that of a page script with each outcome of a line, and that of the
+//! zone lists with each reason why the SLIT is or isn't used.
 
 ghost use Rattle.std.specs.Prelude.{◌≡◌, IfOk, length};
 ghost use Rattle.std.specs.Option.{ForSome};
@@ -33,7 +33,7 @@ fn each_outcome(rt: HostRuntime) -> Result<(), Fail> {
     Ok(())
 }
 
-/// Returns an SLIT of two domains with these distances.
+/// Returns an SLIT of two domains with these four distances, row by row.
 fn two(alloc: Global, cells: &[u8]) -> Result<Slit, Memory>
     requires { length cells.now ≡ 4 }
     ensures { IfOk result (λ slit. IsSquare (slit_view slit)) }
@@ -54,7 +54,8 @@ fn span(node: u32, zone: Zone) -> Span {
     }
 }
 
-/// Returns the text of the zone lists for these zones.
+/// Returns the text of the report on zone lists, for these zones of nodes. `domains` has the
+/// proximity domain of each node.
 fn text_of(
     alloc: Global,
     slit: Option<&Slit>,
@@ -69,8 +70,8 @@ fn text_of(
     Ok(text)
 }
 
-// The text without zones for each reason why the SLIT isn't used. Then the lists of two nodes, of
-// which the first has two zones, with a SLIT that is used.
+// First the text for each reason why the SLIT isn't used, without any zone. Then the zone lists of
+// two nodes, of which the first has two zones, with an SLIT that is used.
 #[test]
 fn each_use(rt: HostRuntime) -> Result<(), Fail> {
     let alloc = rt.alloc();

@@ -1,5 +1,5 @@
-//! The SLIT of a machine of three domains, as its firmware gives it; each fault of an SLIT; the
-//! zone lists of the machine's nodes; and requests near a node.
+//! The SLIT of a machine of three domains, as its firmware has it; each fault of an SLIT; the zone
+//! lists of the machine's nodes; and requests that prefer the nearest node.
 
 ghost use Rattle.std.specs.Prelude.{◌≡◌, IfOk, length};
 ghost use Rattle.slit_zonelists.specs.SlitView.{slit_view, IsSquare};
@@ -12,12 +12,13 @@ use std::alloc::Global;
 use std::test::Fail;
 use zone_spans::Span;
 
-/// The SLIT of `examples/srat-slit`.
+/// The bytes of the SLIT of `examples/srat-slit`: three domains.
 const THREE_DOMAINS: [u8; 53] = *b"SLIT5\0\0\0\x01\x90CORPUSBOOTMEM \
         \x01\0\0\0TEST\x01\0\0\0\x03\0\0\0\0\0\0\0\x0a\x1e\x14\x1e\x0a\x14\x14\x14\x0a";
 
-/// Returns an SLIT of one domain, with this first byte of the signature, this stated length and
-/// this checksum. `low` and `high` are the lowest and the highest byte of its number of domains.
+/// Returns the bytes of an SLIT of one domain. `first` is the first byte of the signature,
+/// `stated` the length that the header states, and `checksum` its checksum. `low` and `high` are
+/// the lowest and the highest of the eight bytes of the number of domains.
 fn one_domain(first: u8, stated: u8, checksum: u8, low: u8, high: u8) -> [u8; 45] {
     let mut bytes = [0; 45];
     bytes[0] = first;
@@ -32,7 +33,7 @@ fn one_domain(first: u8, stated: u8, checksum: u8, low: u8, high: u8) -> [u8; 45
     bytes
 }
 
-/// Returns an SLIT of three domains with these distances.
+/// Returns an SLIT of three domains with these nine distances, row by row.
 fn three(alloc: Global, cells: &[u8]) -> Result<Slit, Memory>
     requires { length cells.now ≡ 9 }
     ensures { IfOk result (λ slit. IsSquare (slit_view slit)) }
@@ -43,7 +44,7 @@ fn three(alloc: Global, cells: &[u8]) -> Result<Slit, Memory>
     })
 }
 
-/// Returns two zones of node 0, and one each of nodes 1 and 2.
+/// Returns four zones: `DMA` and `DMA32` of node 0, and `DMA32` of nodes 1 and 2.
 fn four_zones() -> [Span; 4] {
     [
         span(0, Zone::Dma),
@@ -84,8 +85,9 @@ fn a_machine_of_three_domains(rt: HostRuntime) -> Result<(), Fail> {
     Ok(())
 }
 
-/// Each SLIT has the expected fault and also all faults that are checked after it. In the last one,
-/// the number of domains has the square 1 modulo 2^64.
+/// Each case is an SLIT with the expected fault and with all faults that are checked after it, so
+/// it pins the order of the checks. In the last case the number of domains is 2^63 + 1, whose
+/// square is 1 modulo 2^64.
 #[test]
 fn the_first_fault_is_told(rt: HostRuntime) {
     let alloc = rt.alloc();
@@ -128,8 +130,8 @@ fn a_bad_cell_and_what_goes_first(rt: HostRuntime) -> Result<(), Fail> {
     Ok(())
 }
 
-/// The distance between two domains may differ by direction. Node 1 has a domain that isn't in the
-/// SLIT; node 3 has no domain and no memory.
+/// The distance between two nodes may differ by direction. Node 1 has domain 3, which isn't in the
+/// SLIT; node 3 has no domain. Their distances to other nodes are 20, and to themselves 10.
 #[test]
 fn distances_of_domains(rt: HostRuntime) -> Result<(), Fail> {
     let slit = three(rt.alloc(), &[10, 40, 15, 30, 10, 25, 12, 13, 10])?;
@@ -151,7 +153,8 @@ fn distances_of_domains(rt: HostRuntime) -> Result<(), Fail> {
     Ok(())
 }
 
-/// Node 1 has 32 MiB from 64 MiB on, and node 2 has 4 MiB from 128 MiB on.
+/// Node 1 has 32 MiB of free memory from 64 MiB on, and node 2 has 4 MiB from 128 MiB on. The last
+/// request prefers node 2, whose only block is taken, and gets memory of node 1.
 #[test]
 fn requests_near_a_node(rt: HostRuntime) -> Result<(), Fail> {
     let alloc = rt.alloc();
