@@ -10,7 +10,6 @@ ghost use Rattle.early_script.specs.Effects.{CanBeRun};
 ghost use Rattle.program_end.specs.Causes.{IsErrorOfInput, IsFileError};
 ghost use Rattle.program_end.specs.Fetches.{Fetches};
 ghost use Rattle.script_reader.specs.Forms.{HasBounds};
-ghost use Rattle.script_reader.specs.Script.{script_fault_at};
 ghost use Rattle.text_words.specs.Words.{words_in};
 ghost use Rattle.text_words.specs.declared.separators.Separators.TheVariants as separators;
 ghost use Rattle.boot_inputs.specs.Claims.{claim_by_name, claims_limit, claims_of, claims_of_file, claims_or_fault};
@@ -23,7 +22,9 @@ use crate::fetching::{Names, fetch_bytes};
 use crate::input::Input;
 use bm_base::Memory;
 use bm_io::Files;
-use script_reader::{Act, Line, LinesError, ScriptFault, ScriptLine, ScriptLineFault, read_lines};
+use script_reader::{
+    Act, Line, LinesError, ScriptFault, ScriptLine, ScriptLineFault, read_lines, script_fault_at,
+};
 use std::alloc::Global;
 
 /// The largest number of bytes that the file may have: 1 MiB.
@@ -122,21 +123,6 @@ fn lines_of_claims(alloc: Global, claims: &[ClaimLine]) -> Result<Vec<Line>, Mem
         lines.push(claim.line)?;
     }
     Ok(lines)
-}
-
-/// Returns the fault of a script whose line `line` has the fault `wrong`. `line` is the line's
-/// number, from 1.
-fn script_fault_at(line: u32, wrong: ScriptLineFault) -> ScriptFault
-    ensures { result ≡ script_fault_at line wrong }
-{
-    match wrong {
-        ScriptLineFault::Form => ScriptFault::BadLine { line },
-        ScriptLineFault::Number => ScriptFault::BadNumber { line },
-        ScriptLineFault::Align => ScriptFault::BadAlign { line },
-        ScriptLineFault::ZeroSize => ScriptFault::ZeroSize { line },
-        ScriptLineFault::SecondSections => ScriptFault::SecondSections { line },
-        ScriptLineFault::TooFar => ScriptFault::TooFar { line },
-    }
 }
 
 /// Fetches and reads the file of early claims, and returns its lines. Fetches nothing and returns

@@ -27,7 +27,8 @@
 //!
 //! A page script (`page_alloc`) has other commands in the same kind of words, so one reader serves
 //! both: [`read_lines`] reads a script of any kind, and [`ScriptLine`] defines a kind. Both kinds
-//! read words and numbers by the same functions ([`one_word`], [`number_within`]).
+//! read words and numbers by the same functions ([`one_word`], [`number_within`]). Early claims
+//! (`boot_inputs`) have the commands of a script and its faults ([`script_fault_at`]).
 //!
 //! The layer above, which runs the lines, can rely on three facts. Each act meets the conditions
 //! for running it (`HasBounds`). `sections` occurs at most once. The reader runs out of memory
@@ -48,5 +49,5 @@ pub use forms::{GREATEST_ID, GREATEST_NODE};
 pub use laws::{each_line_has_its_words, lines_of_spelling, scripts_of_spelling};
 pub use lines::{LinesError, ScriptLine, read_lines};
 pub use memblock_model::Request;
-pub use script::read_script;
+pub use script::{read_script, script_fault_at};
 pub use words::{first_word, number_within, one_word};

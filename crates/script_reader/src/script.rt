@@ -63,7 +63,7 @@ pub fn read_script(alloc: Global, bytes: &[u8]) -> Result<Vec<Line>, ScriptFault
 }
 
 /// Returns the fault of a script whose line with this number has the fault `wrong`.
-fn script_fault_at(line: u32, wrong: ScriptLineFault) -> ScriptFault
+pub fn script_fault_at(line: u32, wrong: ScriptLineFault) -> ScriptFault
     ensures { result ≡ script_fault_at line wrong }
 {
     match wrong {
