@@ -7,16 +7,15 @@ use Rattle.std.specs.Str.{bytes_eq}
 use Rattle.std.proofs.lemmas.Bool.{cases_Bool}
 use Rattle.std.proofs.lemmas.List.Folds.{list_all-append}
 use Rattle.std.proofs.lemmas.Slice.Eq.{bytes_eq-Decides}
-use Rattle.clap.specs.Faults.{defaults_fault, given_default_fault}
+use Rattle.clap.specs.Faults.{defaults_fault}
+use Rattle.clap.specs.Simple.{Shape}
 use Rattle.clap.specs.Walk.{Row, Rule, default_rows, has_row, is_empty, more_values, reading_by, with_default, with_values}
-use Rattle.clap.specs.declared.builder.action.ArgAction.{ArgAction}
-use Rattle.clap.specs.declared.error.kind.ErrorKind.{ErrorKind}
 use Rattle.clap.specs.declared.parser.matches.ValueSource.TheVariants.{DefaultValue}
 use Rattle.clap.proofs.WalkLemmas.{both}
-use Rattle.program_args.specs.Grammar.{OptionRow, is_flag_action, options, bootmem_command}
+use Rattle.program_args.specs.Grammar.{OptionRow, is_flag_action}
 use Rattle.program_args.specs.Spelling.{default_value}
 use Rattle.program_args.specs.Args.{ArgValues, arg_value_in}
-use Rattle.program_args.proofs.KnownLaws.{behind_first, first_or, name_rule, option_of, rules}
+use Rattle.program_args.proofs.KnownLaws.{HasOptions, behind_first, default_fault, first_or, name_rule, off, option_of}
 use Rattle.program_args.proofs.SpellingLaws.{no_row_changed}
 
 abbrev pub has_some : List (List ℕ) → Bool
@@ -117,18 +116,6 @@ value_with_defaults (rule ∷ some) rows argument full =
 abbrev nothing : Option (List ℕ)
 nothing = None
 
--- the rules are those of the options and then that of the zero page's name; only flags have a
--- default
-rules_are : rules ≡ map option_of options ++ name_rule ∷ []
-unfolding bootmem_command
-rules_are = refl
-
-abbrev off : ArgAction → Option (List ℕ)
-off action = if is_flag_action action then Some (codes "false") else None
-
-all_off : map (λ (option : OptionRow). slice_get (option_of option).defaults 0) options ≡ map (λ (option : OptionRow). off option.1) options
-all_off = refl
-
 unspelled_by : (some : List OptionRow) (argument : List ℕ)
     → map (λ (option : OptionRow). slice_get (option_of option).defaults 0) some ≡ map (λ (option : OptionRow). off option.1) some
     → default_by (map option_of some ++ name_rule ∷ []) argument
@@ -138,26 +125,20 @@ unspelled_by (first ∷ some) argument are =
     let one : slice_get (option_of first).defaults 0 ≡ off first.1 = ap (first_or None) are in
     rw (one, unspelled_by some argument (ap behind_first are)) (grind arith)
 
-abbrev pass : Rule → List ErrorKind
-pass rule = given_default_fault rule rule.defaults
-
-all_pass : map pass rules ≡ map (λ rule. []) rules
-unfolding bootmem_command
-all_pass = refl
-
 either_none : {X : Type 0} (test : Bool) (faults : List X) → faults ≡ [] → (if test then [] else faults) ≡ []
 either_none test faults none = grind arith
 
-defaults_pass : (some : List Rule) (rows : List Row) → map pass some ≡ map (λ rule. []) some → defaults_fault rows some ≡ []
+defaults_pass : (some : List Rule) (rows : List Row) → map default_fault some ≡ map (λ rule. []) some → defaults_fault rows some ≡ []
 unfolding defaults_fault
 defaults_pass [] rows none = refl
 defaults_pass (rule ∷ some) rows none =
-    rw (either_none (has_row rule.id rows || is_empty rule.defaults) (pass rule) (ap (first_or []) none))
+    rw (either_none (has_row rule.id rows || is_empty rule.defaults) (default_fault rule) (ap (first_or []) none))
     (defaults_pass some (with_default rows rule) (ap behind_first none))
 
--- an argument without a row gets the value of an argument without a spelling
-pub as_unspelled : (argument : List ℕ) → default_by rules argument ≡ default_value argument
-as_unspelled argument = rw rules_are (unspelled_by options argument all_off)
+module _ (command : Shape) (options : List OptionRow) (has : HasOptions command options) where
+  -- an argument without a row gets the value of an argument without a spelling
+  pub as_unspelled : (argument : List ℕ) → default_by command.rules argument ≡ default_value options argument
+  as_unspelled argument = rw has.rules_are (unspelled_by options argument has.all_off)
 
-pub no_default_fault : (rows : List Row) → defaults_fault rows rules ≡ []
-no_default_fault rows = defaults_pass rules rows all_pass
+  pub no_default_fault : (rows : List Row) → defaults_fault rows command.rules ≡ []
+  no_default_fault rows = defaults_pass command.rules rows has.all_pass

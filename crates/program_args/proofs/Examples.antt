@@ -11,11 +11,11 @@ use Rattle.debugfs_reports.specs.ReportList.{are_reports, reports_in}
 use Rattle.debugfs_reports.specs.declared.report.Report.{Report}
 use Rattle.debugfs_reports.specs.declared.report.Report.TheVariants as reports
 use Rattle.program_args.specs.Entries.{entry_count_in, made_entry_count}
-use Rattle.program_args.specs.Grammar.{is_faultless, bootmem61_command, bootmem_command}
+use Rattle.program_args.specs.Grammar.{is_faultless, bootmem61_command, bootmem_command, options, options61}
 use Rattle.program_args.specs.Kernel.{default_kernel, image_if_allowed, kernel_range_in, kernel_range_of}
 use Rattle.program_args.specs.Mirrors.{are_mirror_pieces, mirrors_of_value}
 use Rattle.program_args.specs.Range.{base_size_range}
-use Rattle.program_args.specs.Spelling.{Spelling, two_word_option, spelled_values, is_flag, one_word_option, named, words_of_spellings, default_value}
+use Rattle.program_args.specs.Spelling.{Spelling, two_word_option, spelled_values, is_flag, is_option, one_word_option, named, words_of_spellings, default_value}
 use Rattle.program_args.specs.Args.{ArgValues, BootmemArgsView, args_from_values, arg_value_in, command_line_inputs, file_name_in, has_one_source, is_flag_given, read_args, read_args61, requested_list, address_width_in}
 
 -- what a command line asks `bootmem` for, with one field for each file name, so that two of them
@@ -221,11 +221,18 @@ spelled_examples : words_of_spellings three_spellings ≡ codes "--report" ∷ c
 spelled_examples = refl
 
 -- without a spelling a flag is `false`, and an option has no value
-flag_examples : (is_flag (codes "la57") ≡ true)
-    × (is_flag (codes "mirror") ≡ false)
-    × (default_value (codes "la57") ≡ Some (codes "false"))
-    × (default_value (codes "kernel") ≡ None)
+flag_examples : (is_flag options (codes "la57") ≡ true)
+    × (is_flag options (codes "mirror") ≡ false)
+    × (default_value options (codes "la57") ≡ Some (codes "false"))
+    × (default_value options (codes "kernel") ≡ None)
 flag_examples = (refl, refl, refl, refl)
+
+-- only `bootmem61` has the option `--claims`, which isn't a flag
+claims_examples : (is_option options61 (codes "claims") ≡ true)
+    × (is_flag options61 (codes "claims") ≡ false)
+    × (is_option options (codes "claims") ≡ false)
+    × (is_option options61 (codes "kernel") ≡ true)
+claims_examples = (refl, refl, refl, refl)
 
 -- accepted: ranges up to the last address; refused: a range that is too long, and a text of another
 -- form
@@ -252,7 +259,7 @@ some_pieces (suc more) = codes "0,0:" ++ some_pieces more
 most_pieces : (are_mirror_pieces (some_pieces 63) ≡ true) × (are_mirror_pieces (some_pieces 64) ≡ false)
 most_pieces = (refl, refl)
 
-value_examples : (spelled_values three_spellings (codes "script") ≡ Some (codes "-s"))
-    × (spelled_values three_spellings (codes "kernel") ≡ None)
-    × (spelled_values three_spellings (codes "ZEROPAGE") ≡ Some (codes "zp"))
+value_examples : (spelled_values options three_spellings (codes "script") ≡ Some (codes "-s"))
+    × (spelled_values options three_spellings (codes "kernel") ≡ None)
+    × (spelled_values options three_spellings (codes "ZEROPAGE") ≡ Some (codes "zp"))
 value_examples = (refl, refl, refl)

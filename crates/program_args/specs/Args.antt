@@ -156,6 +156,10 @@ args_of read command further words =
 abbrev pub args_from_values : ArgValues → Option BootmemArgsView
 args_from_values value = args_by_values bootmem_args [] value
 
+-- what the values ask `bootmem61` for
+abbrev pub args61_from_values : ArgValues → Option ProgramArgsView
+args61_from_values value = args_by_values bootmem61_args reports_of_bootmem61 value
+
 -- what the words after the program's name ask `bootmem` for; `None` if `clap` refuses the words, or
 -- the value of an argument is refused
 abbrev pub read_args : List (List ℕ) → Option BootmemArgsView

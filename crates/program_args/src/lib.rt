@@ -42,4 +42,5 @@ mod report_names;
 pub use args::{BootmemArgs, NamesWithClaims};
 pub use reader::{
     ArgsError, ranges_give_whole_frames, read_args, read_args61, spelled_args_are_read,
+    spelled_args61_are_read,
 };

@@ -7,9 +7,10 @@ ghost use Rattle.clap.specs.Words.{app_of, found_of, is_simple, is_simple_and_fr
 ghost use Rattle.bm_base.specs.Answers.{Answers};
 ghost use Rattle.program_args.specs.Answers.{or_refused};
 ghost use Rattle.program_args.specs.View.{bootmem_args_view, program_args_view};
-ghost use Rattle.program_args.specs.Args.{read_args, read_args61, args_of, args_by_values, args_from_values, bootmem61_args, has_one_source, report_list_in, bytes_of_words, arg_value_in, address_width_in};
+ghost use Rattle.program_args.specs.Args.{read_args, read_args61, args_of, args_by_values, args_from_values, args61_from_values, bootmem61_args, has_one_source, report_list_in, bytes_of_words, arg_value_in, address_width_in};
 ghost use Rattle.bm_base.specs.Range.{RangeView, end_of};
 ghost use Rattle.bm_base.specs.Frames.{frames_within};
+ghost use Rattle.program_args.specs.Grammar.{options, options61};
 ghost use Rattle.program_args.specs.Mirrors.{LiesInRange};
 ghost use Rattle.program_args.specs.Spelling.{AreSpellings, Spelling, spelled_values, words_of_spellings};
 
@@ -197,14 +198,24 @@ fn report_list_in<'w>(matches: &ArgMatches<'w>, further: &[&str]) -> Option<&'w 
     }
 }
 
-/// Law: if the words after the program's name follow the grammar, `read_args` has the same result,
-/// a value or an error, as the check of the values that the words spell. The grammar allows options
-/// with values, flags, and the name of the zero page, in any order, but no argument twice. The
-/// value of an option is the next word or follows `=`. Neither the name nor a value that is the
-/// next word begins with a hyphen.
+/// Law: if the words follow the grammar of `bootmem`, reading them has the same result, a value or
+/// an error, as checking the values that they spell. The grammar allows options with values, flags,
+/// and the name of the zero page, in any order, but no argument twice. The value of an option is
+/// the next word or follows `=`. Neither the name nor a value that is the next word begins with a
+/// hyphen.
 pub fn spelled_args_are_read()
-    ensures { (spellings : List Spelling) → AreSpellings spellings
-        → read_args (words_of_spellings spellings) ≡ args_from_values (spelled_values spellings) }
+    ensures { (spellings : List Spelling) → AreSpellings options spellings
+        → read_args (words_of_spellings spellings)
+        ≡ args_from_values (spelled_values options spellings) }
+{}
+
+/// Law: if the words follow the grammar of `bootmem61`, reading them has the same result, a value
+/// or an error, as checking the values that they spell. The grammar is that of `bootmem`, and has
+/// the option `--claims` in addition.
+pub fn spelled_args61_are_read()
+    ensures { (spellings : List Spelling) → AreSpellings options61 spellings
+        → read_args61 (words_of_spellings spellings)
+        ≡ args61_from_values (spelled_values options61 spellings) }
 {}
 
 /// Law: an address lies in the mirrored frames of a range exactly if each byte of its frame lies

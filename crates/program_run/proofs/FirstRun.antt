@@ -26,6 +26,7 @@ use Rattle.bm_base.specs.ResultSteps.{◌>>=◌}
 use Rattle.boot_model.specs.Boot.{InputsView, BootSoFar, begin_with_map, inputs_without_files, boot, claims, no_extra, early_inputs, memory_stage, judge_map, no_options, reach}
 use Rattle.boot_model.proofs.BootLaws.{goes_on}
 use Rattle.boot_model.proofs.CarriedLaws.{memory_made_by}
+use Rattle.program_args.specs.Grammar.{options}
 use Rattle.program_args.specs.Kernel.{default_kernel}
 use Rattle.program_args.specs.Spelling.{AreSpellings, Spelling, two_word_option, spelled_values, named}
 use Rattle.program_args.specs.Args.{BootmemArgsView, read_args, file_name_in}
@@ -143,12 +144,12 @@ memory_is_made = rw (map_is, frames_are) (memory_made_by given (begin_with_map r
 abbrev spellings : List Spelling
 spellings = two_word_option (codes "report") (codes "map") ∷ named (codes "zp") ∷ []
 
-are_spellings : AreSpellings spellings
+are_spellings : AreSpellings options spellings
 are_spellings = ((refl, refl), refl, (refl, refl, tt))
 
 abbrev asked : BootmemArgsView
 asked = record {
-  named = file_name_in (spelled_values spellings);
+  named = file_name_in (spelled_values options spellings);
   begun = inputs_without_files Bits46 default_kernel;
   reports = reports.Map ∷ [];
   made = None;
