@@ -10,13 +10,12 @@ sys.dont_write_bytecode = True
 
 from fault_tables.efi import KINDS, efi, in_a_row
 from fault_tables.slit import slit
-from test_growth import HERE, LOW, MAIN, PC, high, reserves, soft
+from test_growth import ABOVE, HERE, LOW, MAIN, PC, high, reserves, soft
 from support import RAM, machine_files
 from test_mirrored import FULL, NODES, RESERVES
 
 TOP = os.path.dirname(os.path.dirname(os.path.abspath(__file__)))
 EXAMPLES = os.path.join(TOP, "examples")
-WANTING = (7, b"", b"bootmem: out of memory\n")
 SILENT = (7, b"", b"")
 SECONDS = 60
 PAGES = b"pages 1 0 0 DMA\npages 2 10 1 DMA32\nnear 3 4 1\ngive 2\ngive 2\npages 1 0 0 DMA\npages 4 10 7 Normal\n"
@@ -54,6 +53,30 @@ CASES = [
         "summary --script replay/script --cmdline cmdline --srat srat.bin --kernel 0x1000000,0x3400000 zp.bin")),
 ]
 
+# What the reports of a run with early claims show: the answers of both files, the journal and the places of both tables.
+CLAIMED = "claims,script,journal,tables,reserved"
+
+
+def with_claims(entries, claims, script, *more, **held):
+    """A machine with a file of early claims."""
+    return machine(entries, script, CLAIMED, "--claims", "claims", *more, claims=claims.encode(), **held)
+
+
+# These run on bootmem61 alone.
+CLAIM_CASES = [
+    ("claims that are carried out and refused", with_claims(
+        PC, "alloc 1 64K 4K max 16M\nreserve 2 0x4000000 1M\nalloc 1 4K 4K\nfree 9\nalloc 3 2G 4K\nalloc 4 4K 4K node 1 exact\n", "")),
+    ("a line of the script frees a claim", with_claims(
+        PC, "alloc 1 64K 4K max 16M\nalloc 2 8K 4K\nfill 2 0xa5\n", "free 1\ntrim 2 4K\nalloc 3 64K 4K max 16M\nfree 9\n")),
+    ("the claims make the reserved table grow, and memory gets nodes", with_claims(
+        PC, reserves(1, 130, HERE), "free 7\nfree 130\nreserve 7 0x5000000 4K\n", "--srat", "srat", srat=NODES)),
+    ("the claims make it grow twice, from below", with_claims(PC, reserves(1, 260, HERE) + "free 7\n", "", "--bottom-up")),
+    ("nodes make the memory table grow after the claims", with_claims(
+        PC + high(126), reserves(1, 130, HERE), "free 7\n", "--srat", "srat", srat=NODES)),
+    ("no place is left for the table that the claims make grow", with_claims(
+        PC, "reserve 9001 0x100000 0xF00000\nreserve 9002 0x3000000 0x4FE0000\n" + reserves(1, 130, ABOVE), "")),
+]
+
 
 class Failing:
     """Runs of a program in a folder where the allocation of a number fails."""
@@ -77,13 +100,18 @@ def numbers(total, most):
     return sorted({1 + place * total // most for place in range(most)} | {total})
 
 
+def name_of(program):
+    """The name that the program has in its lines on standard error."""
+    return subprocess.run([program], capture_output=True, check=False, timeout=SECONDS).stderr.split(b":")[0]
+
+
 def told(end):
     status, out, line = end
     return f"status {status}, {len(out)} bytes, {line!r}"
 
 
-def differences(name, failing, most):
-    """How many of the runs were as they should be, and how many weren't."""
+def differences(name, failing, most, line):
+    """How many of the runs were as they should be, and how many weren't; the line is that of a run out of memory."""
     plain = failing.run(0)
     if failing.total == 0 or plain[0] not in (0, 6):
         print(f"{name}: {failing.total} allocations seen, {told(plain)}")
@@ -91,7 +119,7 @@ def differences(name, failing, most):
     tried = numbers(failing.total, most)
     with ThreadPoolExecutor(os.cpu_count()) as pool:
         ends = list(pool.map(failing.run, tried))
-    wanting = [number for number, end in zip(tried, ends) if end == WANTING]
+    wanting = [number for number, end in zip(tried, ends) if end == (7, b"", line)]
     first = min(wanting, default=failing.total + 1)
     silent = [number for number, end in zip(tried, ends) if end == SILENT and number < first]
     same = [number for number, end in zip(tried, ends) if end == plain]
@@ -109,13 +137,14 @@ def main():
     if not os.access(program, os.X_OK):
         print(f"allocations.sh: there is no program {program}: 'make bootmem' builds it", file=sys.stderr)
         return 2
+    own = name_of(program)
     passed = failed = 0
-    for name, (folder, words, files) in CASES:
+    for name, (folder, words, files) in CASES + (CLAIM_CASES if own == b"bootmem61" else []):
         with tempfile.TemporaryDirectory() as made:
             for file, held in files.items():
                 with open(os.path.join(made, file), "wb") as written:
                     written.write(held)
-            right, wrong = differences(name, Failing(library, program, folder or made, words), most)
+            right, wrong = differences(name, Failing(library, program, folder or made, words), most, own + b": out of memory\n")
         passed += right
         failed += wrong
     print(f"{passed} passed, {failed} failed")
