@@ -1,9 +1,9 @@
 //! Worked cases of memblock, of the crates below it and of those above it: the journal, bytes at
 //! addresses, the tables, the search, the stages, free frames, and the texts of all of these.
 //!
-//! Each module has the cases of the crate that it is named after. It calls that crate as any other
-//! crate does, by its public names, and knows only what the contracts say. Tests in a crate are
-//! proved again each time the crate is. Tests that need only its contracts are therefore here.
+//! The module `of_NAME` has the cases of the crate `NAME`. They call the public functions of that
+//! crate and rely only on their contracts. Tests inside a crate are proved again whenever the
+//! crate is. Tests that need only its contracts are therefore here.
 #![tactic(auto)]
 
 #[cfg(test)]

@@ -16,7 +16,8 @@ pub const MEMORY: Range = Range {
     size: 0x800_0000,
 };
 
-/// Tests whether the journal has an item (`HasFirstItem`), which most calls of a memblock require.
+/// Tests whether the journal has an item (one recorded change of memblock), which most calls of a
+/// memblock require (`HasFirstItem`).
 pub fn has_begun(memblock: &Memblock) -> bool
     ensures { IsTrue result → HasFirstItem memblock.now.journal.items }
 {
@@ -33,8 +34,8 @@ pub fn memblock_with_kernel(alloc: Global, kernel: Range) -> Result<Memblock, Re
     Ok(memblock)
 }
 
-// Adds the part to memory and gives it its node. Returns false if a call's requirements don't
-// hold.
+// Adds the part to memory and sets its node. Returns false if the requirements of a memblock call
+// don't hold.
 fn add(memblock: &mut Memblock, part: Part) -> Result<bool, Refusal> {
     let (from, until, node) = part;
     let Some(range) = Range::between(from, until) else {
@@ -65,7 +66,8 @@ pub fn machine(alloc: Global, kernel: Range, memory: &[Part]) -> Result<Memblock
     Ok(memblock)
 }
 
-/// Sets the limit of allocations; fails if nothing has been claimed yet.
+/// Sets the address at or below which allocations must end (`memblock_set_current_limit`). Fails
+/// if nothing has been claimed yet.
 pub fn limit(memblock: &mut Memblock, at: u64) -> Result<(), Fail> {
     if !has_begun(memblock) {
         return Err("nothing has happened".into());
@@ -74,8 +76,8 @@ pub fn limit(memblock: &mut Memblock, at: u64) -> Result<(), Fail> {
     Ok(())
 }
 
-/// Returns a memblock with 128 MiB of memory without a node, and with this limit of allocations.
-/// The kernel's image is `KERNEL`.
+/// Returns a memblock with 128 MiB of memory without a node, in which the kernel's image `KERNEL`
+/// is claimed and allocations must end at or below address `at`.
 pub fn bare(alloc: Global, at: u64) -> Result<Memblock, Fail> {
     let mut memblock = memblock_with_kernel(alloc, KERNEL)?;
     if has_begun(&memblock) {

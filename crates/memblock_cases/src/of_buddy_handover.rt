@@ -14,7 +14,8 @@ use std::alloc::Global;
 use std::process::Abort;
 use std::test::Fail;
 
-// Hands the free frames over, or fails if the bytes at the heads aren't records.
+// Hands the free frames of both tables over to the page allocator, or fails if the bytes at the
+// heads of the tables aren't records.
 fn hand_over_or_fail(alloc: Global, store: &Store, heads: &Heads) -> Result<Buddy, Fail> {
     if has_records(store, &heads.memory, FRAME_SIZE * MAX_FRAMES)
         && has_records(store, &heads.reserved, u64::MAX)
@@ -182,8 +183,8 @@ fn free_halves(
     compare_list(rt, buddy, 1, [whole, whole])
 }
 
-// Two ranges that meet give one block, whichever is freed first. With room for 32 entries neither
-// call allocates.
+// Two adjacent ranges of free frames become one block, whichever is freed first. Room for 32
+// entries is made before, so neither call allocates.
 #[test]
 fn ranges_that_meet(rt: HostRuntime) -> Result<(), Fail> {
     let whole = Block {
@@ -244,8 +245,8 @@ fn row(order: u32, first: u64, count: u64) -> BlockRow {
     }
 }
 
-// A frame that is freed is merged with the free frames next to it. Consecutive blocks of the
-// greatest order are one row.
+// A frame that is freed is merged with its free buddy, and so on upward. Consecutive blocks of
+// order 10, the greatest, are one row.
 #[test]
 fn frames_that_come_back(rt: HostRuntime) -> Result<(), Fail> {
     let mut buddy = Buddy::new(rt.alloc());

@@ -118,7 +118,8 @@ fn areas_below_4_gib(rt: HostRuntime) -> Result<(), Fail> {
     compare(&rt, rt.alloc(), &SMALL, &cases)
 }
 
-// The machine has 0x1FF7E000 bytes of memory.
+// In the form `crashkernel=RANGE:SIZE,..` the total memory chooses the size. The machine has
+// 0x1FF7E000 bytes of memory, which isn't rounded here.
 #[test]
 fn ranges_of_the_total(rt: HostRuntime) -> Result<(), Fail> {
     let cases = [
@@ -235,7 +236,8 @@ fn areas_above_4_gib(rt: HostRuntime) -> Result<(), Fail> {
     compare(&rt, rt.alloc(), &LARGE, &cases)
 }
 
-// The low part is claimed after the area. If it doesn't fit, the area is freed again.
+// The low part of a crash area, below 4 GiB, is claimed after the area itself. If it doesn't fit,
+// the area is freed again.
 #[test]
 fn low_parts(rt: HostRuntime) -> Result<(), Fail> {
     let line = b"crashkernel=512M,high".as_slice();

@@ -9,8 +9,8 @@ use memblock_ranges::Tables;
 use std::process::Abort;
 use std::test::Fail;
 
-// The result of a search. `NoSearch` means that its numbers don't meet the requirements of a
-// search.
+// The result of a search: the address found, or that there is none. `NoSearch` means that the
+// search wasn't made, since its size is 0 or its alignment isn't below 2^64.
 #[derive(Clone, Copy, Debug, PartialEq, Eq)]
 enum Answer {
     At(u64),
@@ -257,7 +257,8 @@ fn nodes_in_turn(rt: HostRuntime) -> Result<(), Fail> {
     Ok(())
 }
 
-// No search returns the first frame, and a window may end at the last address.
+// No search returns an address in the first frame (0x0..0xfff), and a search window may end at
+// address 2^64 - 1.
 #[test]
 fn the_first_frame(rt: HostRuntime) -> Result<(), Fail> {
     let memory = [
@@ -280,7 +281,7 @@ fn the_first_frame(rt: HostRuntime) -> Result<(), Fail> {
     Ok(())
 }
 
-// The same machine, with 0x4000000 to below 0x5000000 mirrored.
+// The virtual machine of 128 MiB, with the memory from 0x4000000 to below 0x5000000 mirrored.
 #[test]
 fn mirrored_memory_and_from_below(rt: HostRuntime) -> Result<(), Fail> {
     let reserved = [(0, 0x100000), (0x1000000, 0x3000000)];
@@ -327,7 +328,7 @@ fn mirrored_memory_and_from_below(rt: HostRuntime) -> Result<(), Fail> {
     Ok(())
 }
 
-// No search from below returns the first frame.
+// No search from the lowest address up returns an address in the first frame (0x0..0xfff).
 #[test]
 fn from_below_over_the_first_frame(rt: HostRuntime) -> Result<(), Fail> {
     let tables = tables_of(rt.alloc(), &[(0, 0x3000, 1024)], &[(0x2000, 0x2800)])?;

@@ -28,7 +28,8 @@ fn owner_of(run: &OwnerRun) -> Owner
     run.owner
 }
 
-// A list with each variant, and next to it one that differs from it in one part.
+// Journal items of each variant, and items that differ from one of these in one field. No two of
+// them are equal.
 #[test]
 fn items_that_differ_in_one_part(rt: HostRuntime) {
     let items = [
@@ -81,7 +82,7 @@ fn items_that_differ_in_one_part(rt: HostRuntime) {
     }
 }
 
-// Compares an item with all: it must equal only the one at its own index.
+// Compares the item at index `i` with all items. It must equal only itself.
 fn compare_with_all(rt: &impl Abort, items: &[Item], i: usize, first: &Item) {
     for (j, second) in items.iter().enumerate() {
         assert!(rt; (first == second) == (i == j), "{first:?} and {second:?}");

@@ -18,7 +18,8 @@ use std::test::Fail;
 /// The size of a node's data in bytes.
 const DATA: u64 = 0x2B000;
 
-// Tests whether the last item of the journal sets a limit above 0.
+// Tests whether the last item of the journal (the last recorded change of memblock) sets a limit
+// of allocations above 0.
 fn ends_with_limit(memblock: &Memblock) -> bool
     ensures { IsTrue result → 0 < limit_of memblock.now.journal.items }
 {

@@ -32,7 +32,7 @@ fn write_apart(store: &mut Store) -> Result<(), Memory> {
     Ok(())
 }
 
-// Writes the last address that a range can have.
+// Prepares and writes the byte at 2^64 - 2, the last address that a range can have.
 fn write_last(store: &mut Store) -> Result<(), Memory> {
     store.prepare(bytes(u64::MAX - 1, 1))?;
     store.fill(bytes(u64::MAX - 1, 1), 1);
@@ -73,7 +73,7 @@ fn frames_are_prepared_and_joined(rt: HostRuntime) -> Result<(), Fail> {
     Ok(())
 }
 
-// Moves bytes up and down inside one extent.
+// Moves bytes up and down inside one prepared range, where source and destination overlap.
 fn move_both_ways(rt: &impl Abort, store: &mut Store) -> Result<(), Memory> {
     store.prepare(bytes(0x1000, 0x400))?;
     store.write(0x1000, b"abcdef".as_slice());
@@ -84,7 +84,7 @@ fn move_both_ways(rt: &impl Abort, store: &mut Store) -> Result<(), Memory> {
     Ok(())
 }
 
-// Copies more than one chunk (256 bytes) to another extent.
+// Copies 768 bytes, which is more than one chunk (256 bytes), to another prepared range.
 fn copy_across(store: &mut Store) -> Result<(), Memory> {
     store.prepare(bytes(0x1000, 0x400))?;
     store.prepare(bytes(0x9000, 0x400))?;
@@ -98,7 +98,7 @@ fn bytes_are_moved_and_copied(rt: HostRuntime) -> Result<(), Fail> {
     let mut store = Store::new(rt.alloc());
     move_both_ways(&rt, &mut store)?;
     copy_across(&mut store)?;
-    // An address past the end of an extent reads as 0.
+    // A byte past the end of a prepared range reads as 0.
     let read = [
         (0x90FC, [0; 4]),
         (0x9100, [b'b', b'c', b'd', b'e']),

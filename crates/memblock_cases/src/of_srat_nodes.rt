@@ -18,8 +18,8 @@ fn in_node(node: u32, from: u64, until: u64) -> NodeRange
     RunOf { range, value: node }
 }
 
-/// Returns the judgement of a table with these blocks, on a machine of 128 MiB with its last 32
-/// frames kept by firmware.
+/// Returns what `judge_srat` says of an SRAT with these memory blocks, on a machine of 128 MiB
+/// whose last 32 frames aren't memory.
 fn judge_blocks(alloc: Global, blocks: &[SratBlock]) -> Result<SratNodes, Fail>
     requires { length blocks.now < 2 ^ 32 }
 {

@@ -1,6 +1,6 @@
-//! The spans of whole machines. The expected values come from outside this project. Those by the
-//! hulls of nodes, and the memory of these machines, were read from kernels with a debugger
-//! (`examples/NAME/lists/kernel.txt`).
+//! The ranges of frames that the nodes of whole machines span in each zone. The expected values
+//! come from outside this project. Those by the rule `NodeHull`, and the memory of these machines,
+//! were read from running kernels with a debugger (`examples/NAME/lists/kernel.txt`).
 
 use crate::ranges::{IN_TURN, Part};
 use crate::tables::tables_of;
@@ -52,7 +52,8 @@ fn span(node: u32, zone: Zone, start: u64, end: u64, present: u64) -> Span {
     }
 }
 
-// Returns the spans of this memory by a rule; None stands for the call without a rule.
+// Returns the spans of this memory by `spans_by` with the rule, or by `spans` if the rule is
+// `None`.
 fn spans_of(alloc: Global, rule: Option<ZoneRule>, memory: &[Part]) -> Result<Vec<Span>, Fail> {
     let (store, heads) = tables_of(alloc, memory, &[])?.into_parts();
     if has_records(&store, &heads.memory, FRAME_SIZE * MAX_FRAMES)

@@ -3,8 +3,8 @@ ghost use Rattle.std.specs.Prelude.{◌≡◌, ◌+◌, ◌-◌, ◌^◌, ◌<�
 
 use bm_base::Range;
 
-/// The first address of a part of memory, the address past its last one, and its node, or 1,024
-/// for none.
+/// A part of memory: its first address, the address past its last one, and its node, or 1,024
+/// (`MAX_NUMNODES`) for no node.
 pub type Part = (u64, u64, u32);
 
 /// The kernel's image, 32 MiB from 16 MiB on.
@@ -22,7 +22,7 @@ pub const FIRST_MIB: Range = Range {
 /// The memory of a virtual machine of 128 MiB, without what its firmware keeps.
 pub const MACHINE: [Part; 2] = [(0x1000, 0x9F000, 0), (0x10_0000, 0x7FE_0000, 0)];
 
-/// The same memory, with two nodes whose ranges alternate.
+/// The memory of `MACHINE`, with node 1 at 65 MiB to 96 MiB and node 0 on both sides of it.
 pub const IN_TURN: [Part; 4] = [
     (0x1000, 0x9F000, 0),
     (0x10_0000, 0x410_0000, 0),

@@ -12,8 +12,8 @@ pub const FIRST_RECORD: [u8; 24] = [
     0, 0x10, 0, 0, 0, 0, 0, 0, 0, 0xE0, 9, 0, 0, 0, 0, 0, 0, 0, 0, 0, 0, 0, 0, 0,
 ];
 
-/// Adds the range to the table, with this node. Returns false if the requirements of the call
-/// don't hold.
+/// Adds the range of `size` bytes from address `base` on to the table, with this node (1,024 for
+/// no node). Returns false if the requirements of `insert` don't hold.
 pub fn cover(tables: &mut Tables, which: Which, base: u64, size: u64, node: u32) -> bool {
     let Some(range) = Range::new(base, size) else {
         return false;
@@ -31,8 +31,8 @@ pub fn cover(tables: &mut Tables, which: Which, base: u64, size: u64, node: u32)
     true
 }
 
-/// Marks the memory of the range as mirrored. Returns false if the requirements of the call don't
-/// hold.
+/// Marks the memory of the range as mirrored. Returns false if the requirements of `set_mirror`
+/// don't hold.
 pub fn mirror(tables: &mut Tables, base: u64, size: u64) -> bool {
     let Some(range) = Range::new(base, size) else {
         return false;
@@ -46,7 +46,7 @@ pub fn mirror(tables: &mut Tables, base: u64, size: u64) -> bool {
 }
 
 // Adds the addresses of the part to the table, with its node. Returns false if the requirements of
-// the call don't hold.
+// `insert` don't hold.
 fn cover_part(tables: &mut Tables, which: Which, part: Part) -> bool {
     let (from, until, node) = part;
     from < until && cover(tables, which, from, until - from, node)

@@ -1,6 +1,7 @@
-//! Growth inside growth. The memory table finds a place, and the reserved table has to grow for
-//! the claim of that place, or for the free of the old one. The expected items and heads are from
-//! an implementation of the same rules in another language.
+//! One table grows while the other does. The memory table has found a new place. To claim that
+//! place, or to free the old one, the reserved table needs a record and has to grow too. The
+//! expected journal items and table heads are from an implementation of the same rules in another
+//! language.
 ghost use Rattle.std.specs.Prelude.{◌+◌, ◌^◌, ◌<◌};
 
 use super::{Step, add_apart, carry_out, claim_apart};
@@ -24,7 +25,7 @@ fn low_machine(alloc: Global, low: Step, frames: u32) -> Result<Memblock, Refusa
     Ok(memblock)
 }
 
-// Tests whether the journal has `count` items, and these are the last ones.
+// Tests whether the journal has `count` items, of which `last` are the last ones.
 fn has_written(memblock: &Memblock, count: usize, last: &[Item]) -> bool {
     let items = memblock.journal().items();
     items.len() == count && items.ends_with(last)
@@ -79,8 +80,8 @@ fn a_claim_makes_the_other_table_grow(rt: HostRuntime) -> Result<(), Fail> {
     Ok(())
 }
 
-// The same with two frames below 1 MiB: there is a place for the memory table, and none for the
-// reserved table. Nothing is written.
+// Both tables are full, but only two frames below 1 MiB are free: there is a place for the memory
+// table, and none for the reserved table. The call is refused and writes no journal item.
 #[test]
 fn a_claim_is_refused_for_the_other_table(rt: HostRuntime) -> Result<(), Fail> {
     let mut memblock = low_machine(rt.alloc(), Step::Add(0x11000, 0x2000), 126)?;
@@ -125,8 +126,9 @@ fn a_release_makes_the_other_table_grow(rt: HostRuntime) -> Result<(), Fail> {
     Ok(())
 }
 
-// The same with five frames below 1 MiB: there is no place for the reserved table. The old place
-// of the memory table stays claimed, and the page is added.
+// The memory table moves for the second time, and only five frames below 1 MiB are usable, so the
+// reserved table finds no place. The old place of the memory table stays claimed, and the page is
+// added.
 //
 //     0x11000           0x14000         0x16000
 //     |memory, 512 .....|left ..........|
