@@ -27,7 +27,8 @@ pub const KERNEL: Range = Range {
     size: 0x200_0000,
 };
 
-/// The first page, after the BIOS's areas have been trimmed.
+/// The first page as the boot's map has it: reserved (type 2), whatever the firmware says
+/// (`trim_bios_range`).
 pub const FIRST_PAGE: Run = Run {
     range: Range {
         base: 0,
@@ -58,7 +59,8 @@ pub fn entry(addr: u64, size: u64, kind: u32) -> Entry
     Entry { addr, size, kind }
 }
 
-/// Returns RAM with a reserved range inside.
+/// Returns two entries: 128 MiB of RAM from address 0 on, and 1 MiB of reserved memory inside it
+/// at 2 MiB.
 pub fn nested() -> [Entry; 2]
     ensures { EntriesFit result }
 {
@@ -117,7 +119,7 @@ pub fn file(alloc: Global, name: &str, bytes: &[u8]) -> Result<MemFile, Fail>
     })
 }
 
-/// Replaces the entries of the extension.
+/// Replaces the E820 entries of the inputs' extension by these.
 pub fn put_entries(inputs: &mut Inputs, entries: Vec<Entry>)
     requires { EntriesFit entries.items }
 {

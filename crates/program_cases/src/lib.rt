@@ -1,10 +1,9 @@
 //! Worked cases of the inputs (bytes, texts, files and words), of the map of memory, of the boot,
 //! and of the program `bootmem`. This crate has only tests.
 //!
-//! Each module has the cases of the crate that it is named after. It calls that crate by its public
-//! names and knows only what the contracts say, as any other crate does. Tests inside a crate are
-//! compiled and proved with that crate. The tests here need only its contracts, so they don't slow
-//! down its proof.
+//! The module `of_NAME` has the cases of the crate `NAME`. They call the public functions of that
+//! crate and rely only on their contracts. Tests inside a crate are compiled and proved with that
+//! crate. The tests here need only its contracts, so they don't slow down its proof.
 #![tactic(auto)]
 
 #[cfg(test)]

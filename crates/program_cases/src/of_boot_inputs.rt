@@ -123,8 +123,10 @@ fn expect(
     Ok(())
 }
 
-/// Does the same with early claims, which `read_inputs` doesn't fetch. Reading without an error
-/// returns the lines of the script and those of the claims.
+/// Reads the files by `read_inputs_with_claims`, which also fetches the early claims, and compares
+/// the error, or the lines of the script and of the claims. `failing` has the numbers of the
+/// fetches that fail. Afterwards the next fetch must fail too: its number is the last one in
+/// `failing`.
 fn expect_with_claims(
     rt: &impl Abort,
     alloc: Global,

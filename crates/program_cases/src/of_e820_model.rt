@@ -4,7 +4,8 @@ use crate::common::run;
 use address_runs::overlay_all;
 use std::test::Fail;
 
-// RAM with a reserved hole, and RAM again above it; the records aren't passed in ascending order
+// RAM with a reserved range inside, and RAM right above it. Of overlapping runs the greater type
+// holds, and adjacent runs of one type are joined. The runs aren't passed in ascending order.
 #[test]
 fn the_greater_type_holds(rt: HostRuntime) -> Result<(), Fail> {
     let told = [

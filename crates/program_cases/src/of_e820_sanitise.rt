@@ -58,8 +58,8 @@ fn edits_in_their_order(rt: HostRuntime) {
         size: 0x1000,
     };
     let mut table = settled(&rt, rt.alloc(), &[entry(0, 0x1000, 2)]);
-    // a page of type 2 stays type 2 if type 1 is added to it; it shows type 4 after a change to
-    // type 4
+    // a page of type 2 stays type 2 if type 1 is added to it, and has type 4 after its type is
+    // changed to 4
     expect_after(
         &rt,
         &mut table,

@@ -1,6 +1,6 @@
-//! Words that each command accepts or refuses, for each form of an option. The expected results
-//! were worked out word by word from the port's definition. The proved examples of `program_args`
-//! aren't repeated.
+//! Command lines that `bootmem` and `bootmem61` accept or refuse, for each form of an option. The
+//! expected results were worked out word by word from the definition of the command line. The
+//! proved examples of `program_args` aren't repeated.
 
 use bm_base::Width;
 use boot_inputs::{Input, Names};

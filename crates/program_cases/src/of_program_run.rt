@@ -1,5 +1,5 @@
-//! The program over files in memory: its reports, and the effect of each call that fails. The
-//! outcome of each input is proved, with examples (`proofs/`), and isn't repeated here.
+//! The program `bootmem` over files in memory: its reports, and what it does if a call fails. What
+//! it writes for which input is proved, with examples (`proofs/`), and isn't repeated here.
 
 ghost use Rattle.std.specs.Prelude.{IfOk};
 ghost use Rattle.bm_io.specs.MemFiles.{file_views, HaveOwnNames};
@@ -49,7 +49,8 @@ impl Ended {
     }
 }
 
-/// Returns the zero page `zp`, the extension `ext`, and a command line `cmd` with these bytes.
+/// Returns three files: the zero page `zp`, the extension `ext`, and the kernel's command line
+/// `cmd` with the bytes `line`.
 fn files_of(alloc: Global, line: &[u8]) -> Result<Vec<MemFile>, Fail>
     ensures { IfOk result (λ files. HaveOwnNames (file_views files.items)) }
 {
@@ -86,8 +87,8 @@ fn run_over(
     Ok(Ended { status, out, err })
 }
 
-/// The words, the numbers of the calls that fail (as in [`run_on`]), and the expected status,
-/// output and error output.
+/// The words of the command line; the numbers of the fetches, of the writes to the output and of
+/// the writes to the error output that fail; and the expected status, output and error output.
 type Row<'a> = (&'a [&'a str], [&'a [u64]; 3], u8, &'a str, &'a str);
 
 /// Runs `bootmem` for each row, with this command line of the kernel, and compares how the run

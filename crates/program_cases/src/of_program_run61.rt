@@ -126,7 +126,8 @@ fn claims_and_script(rt: HostRuntime) -> Result<(), Fail> {
     compare(&rt, rt.alloc(), &held, &rows)
 }
 
-// The RAM is a little less than 128 MiB, to which Linux 6.1 rounds it up.
+// The RAM is a little less than 128 MiB. The kernel's rule rounds it up to 128 MiB, so
+// `crashkernel=128M-:16M` reserves an area in `bootmem61`, and none in `bootmem`.
 #[test]
 fn crash_rule(rt: HostRuntime) -> Result<(), Fail> {
     let held = Held {
@@ -142,7 +143,7 @@ fn crash_rule(rt: HostRuntime) -> Result<(), Fail> {
     compare(&rt, rt.alloc(), &held, &rows)
 }
 
-// `bootmem` has neither the option nor the report.
+// `bootmem61` accepts the option `--claims` and the report `claims`; `bootmem` refuses both.
 #[test]
 fn two_grammars(rt: HostRuntime) -> Result<(), Fail> {
     let option: &[&str] = &["--claims", "cm", "--report=options", "zp"];
