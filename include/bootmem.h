@@ -1,20 +1,20 @@
 /* bootmem.h: the boot-time memory set-up of x86-64 Linux 6.1, proved, as a library.
  *
- * The library is the program bootmem (bootmem.1, bootmem.5) as one call over bytes: no file is opened, nothing is printed, no
- * process is started. bootmem_run hands over the program's reports, as text. bootmem_map, bootmem_crash, bootmem_memory, bootmem_nodes,
- * bootmem_zones and bootmem_blocks hand over what the boot made, as values. Their contracts are in crates/bootmem_c/src, run.rt and boot_values.rt.
+ * The library is the program bootmem (bootmem.1, bootmem.5) as calls over bytes in memory. It opens no file, prints nothing and starts no
+ * process. bootmem_run returns the program's reports as text. bootmem_map, bootmem_crash, bootmem_memory, bootmem_nodes, bootmem_zones and
+ * bootmem_blocks return what the boot made as values. Their contracts are in run.rt and boot_values.rt of crates/bootmem_c/src.
  *
- * Units. Addresses, sizes and lengths are in bytes, frames are 4096 bytes, numbers have the byte order of the machine.
+ * Units. Addresses, sizes and lengths are in bytes. A frame has 4096 bytes. Numbers have the byte order of the machine.
  *
- * Ownership. Whatever a pointer names belongs to the caller, before, during and after a call. The library keeps no pointer. It takes
- * memory by malloc, realloc and free, and has given all of it back when it returns.
+ * Ownership. What a pointer points to belongs to the caller before, during and after a call. The library keeps no pointer after a call. It
+ * allocates memory by malloc and realloc, and has freed all of it when it returns.
  *
- * What a caller owes. `at` points to `len` bytes, or to `room` bytes or values that may be written, and an array has as many elements as is said. No
- * pointer is NULL, also where the length is 0. What is written overlaps nothing else that the call is given, and no other thread writes to
- * any of it, or reads what is written, during the call. malloc, realloc and free are one allocator, aligned as C asks. No call is made from a
- * signal handler, nor in the child of a fork of a process with threads.
+ * What a caller must ensure. `at` points to `len` bytes, or to `room` bytes or values that may be written. An array has as many elements as
+ * its length argument says. No pointer is NULL, even if the length is 0. A buffer that the call writes overlaps no other argument. During the
+ * call no other thread writes to any argument, or reads a buffer that the call writes. malloc, realloc and free belong to one allocator, with
+ * the alignment that C requires. No call is made from a signal handler, or in the child after a fork of a process with threads.
  *
- * Threads. There is no state: calls on any number of threads at once are fine.
+ * Threads. The library has no state, so any number of threads may call it at the same time.
  *
  * Example: does this E820 table boot, and where does the crash area go?
  *
@@ -39,57 +39,60 @@
 extern "C" {
 #endif
 
-/* What a call answers: the program's exit statuses. 4, an output that fails, never comes. */
+/* What a call returns: the exit statuses of bootmem. 4 (the output failed) is never returned. */
 #define BOOTMEM_OK 0      /* the reports, or the values, are in `out` */
 #define BOOTMEM_USAGE 2   /* the words aren't those of bootmem.1, or one isn't UTF-8 */
 #define BOOTMEM_UNREAD 3  /* a file that the words name isn't among `files` */
 #define BOOTMEM_FAULTY 5  /* a file is malformed or too long */
 #define BOOTMEM_STOPPED 6 /* the boot stops */
-#define BOOTMEM_MEMORY 7  /* malloc or realloc gave no memory */
+#define BOOTMEM_MEMORY 7  /* malloc or realloc returned no memory */
 
-/* Bytes that the caller lends: a word, which has no byte 0 at its end. */
+/* Bytes that the caller passes, such as a word of the command line. They need no byte 0 at the end. */
 struct bootmem_bytes {
 	const uint8_t *at;
 	size_t len;
 };
 
-/* A file: what `name` holds where a word names it. Of two of one name the first counts. */
+/* A file that the caller passes: its name, as words of the command line cite it, and the bytes that it contains. If two files have the same
+ * name, the first is used. */
 struct bootmem_file {
 	struct bootmem_bytes name;
 	struct bootmem_bytes bytes;
 };
 
-/* Room for a text, and how many bytes the text has, which the call writes. Where `needed` is at most `room` the text stands at `at`,
- * without a byte 0 at its end, and what lies behind it is as it was; else the whole room is as it was, and the same call with more room gives it. */
+/* A buffer of `room` bytes at `at` for a text. The call sets `needed` to the length of the text in bytes. If `needed` is at most `room`, the buffer
+ * begins with the text, without a byte 0 at its end, and the bytes after the text are unchanged. Otherwise the whole buffer is unchanged; repeat
+ * the call with a buffer of `needed` bytes. */
 struct bootmem_text {
 	uint8_t *at;
 	size_t room;
 	size_t needed;
 };
 
-/* A run of the map: where it lies, in bytes, and its type (`enum e820_type`: 1 is usable memory). */
+/* A run of the memory map: its first address, its size in bytes, and its type (`enum e820_type`: 1 is usable memory). */
 struct bootmem_map_run {
 	uint64_t base;
 	uint64_t size;
 	uint32_t type;
 };
 
-/* Room for runs of the map, and how many there are, which the call writes. As many of them as `room` stand at `at`, the first ones, and what lies
- * behind them is as it was. Where `count` is more than `room`, the same call with more room gives all. */
+/* A buffer for `room` runs of the map at `at`. The call sets `count` to the number of all runs, and writes the first of them to the buffer, as many
+ * as fit. The rest of the buffer is unchanged. If `count` is more than `room`, repeat the call with room for `count` runs. */
 struct bootmem_map_runs {
 	struct bootmem_map_run *at;
 	size_t room;
 	size_t count;
 };
 
-/* Whether there is a crash area, and else why not. */
+/* Why there is or isn't a crash area. */
 #define BOOTMEM_CRASH_NOT_REQUESTED 0 /* the command line requests no crash area */
-#define BOOTMEM_CRASH_RESERVED 1      /* there is one */
+#define BOOTMEM_CRASH_RESERVED 1      /* the area is reserved */
 #define BOOTMEM_CRASH_NO_AREA 2       /* no free range fits it (the kernel logs "No suitable area found") */
 #define BOOTMEM_CRASH_IN_USE 3        /* the requested range isn't free, or its base isn't a multiple of 1 MiB */
 #define BOOTMEM_CRASH_LOW_FAILED 4    /* no free range below 4 GiB fits its low part */
 
-/* The crash area, and the part of it below 4 GiB: base and size in bytes, both 0 if there is none. `state` is one of BOOTMEM_CRASH_. */
+/* The crash area (`base`, `size`), and its low part, a second area below 4 GiB (`low_base`, `low_size`). Sizes are in bytes. Base and size are both 0
+ * if there is no such area. `state` is one of BOOTMEM_CRASH_. */
 struct bootmem_crash_area {
 	uint64_t base;
 	uint64_t size;
@@ -98,7 +101,7 @@ struct bootmem_crash_area {
 	uint32_t state;
 };
 
-/* A record of memblock's table of memory: base and size in bytes, and the node. */
+/* A record of memblock's memory table (`struct memblock_region`): the first address, the size in bytes, and the node. */
 struct bootmem_memory_range {
 	uint64_t base;
 	uint64_t size;
@@ -127,12 +130,12 @@ struct bootmem_memory_nodes {
 	size_t count;
 };
 
-/* The zones of a block (`enum zone_type`): below 16 MiB, from there to 4 GiB, and behind that. */
+/* Zones (`enum zone_type`): DMA below 16 MiB, DMA32 from 16 MiB to below 4 GiB, Normal from 4 GiB on. */
 #define BOOTMEM_ZONE_DMA 0
 #define BOOTMEM_ZONE_DMA32 1
 #define BOOTMEM_ZONE_NORMAL 2
 
-/* A free block: 2^order frames from `first` on, which is the number of a frame, so the block's first address is 4096 * first. */
+/* A free block: 2^order frames, of which `first` is the number of the first. The block's first address is 4096 * first. */
 struct bootmem_free_block {
 	uint64_t first;
 	uint32_t order; /* 0 to 10 */
@@ -140,15 +143,15 @@ struct bootmem_free_block {
 	uint32_t zone;
 };
 
-/* Room for free blocks, as for runs of the map. */
+/* A buffer for free blocks, used as the one for runs of the map. */
 struct bootmem_free_blocks {
 	struct bootmem_free_block *at;
 	size_t room;
 	size_t count;
 };
 
-/* The frames that a node spans in a zone: the number of the first, one more than that of the last, and how many of them are of this node and
- * zone. */
+/* The frames that a node spans in a zone: `start` is the number of the first frame, `end` one more than that of the last, and `present` the
+ * number of frames from `start` to below `end` that are memory of this node. */
 struct bootmem_zone_span {
 	uint64_t start;
 	uint64_t end;
@@ -164,23 +167,23 @@ struct bootmem_zone_spans {
 	size_t count;
 };
 
-/* The program. `words` are those after its name, in their order. Answers the status: that of the one outcome that words and files determine,
+/* Runs bootmem. `words` are the words of its command line after the program's name. Returns the exit status, which words and files determine,
  * or BOOTMEM_MEMORY.
  *
  * BOOTMEM_OK: `out` has the reports that the words ask for, and docs/HEADLINE.md holds for the boot; `err` is empty.
- * Any other: `out` is empty, and `err` has the whole line that the program prints on standard error, with its line feed. If a word isn't
- * UTF-8 the program prints none, so `err` is empty. BOOTMEM_MEMORY also comes if memory ran out only for the line; `err` then has the line
- * of out of memory, which needs none.
+ * Any other status: `out` is empty, and `err` has the whole line that the program prints on standard error, with its line feed. If a word
+ * isn't UTF-8, the program prints no line, so `err` is empty. BOOTMEM_MEMORY is also returned if memory ran out only for the error line. With
+ * BOOTMEM_MEMORY `err` has the line that says so, which needs no memory.
  *
- * Whether a text fits changes no status, so look at `needed` too. */
+ * The status doesn't say whether a text fitted into its buffer, so compare `needed` with `room` too. */
 uint8_t bootmem_run(const struct bootmem_bytes *words, size_t words_len, const struct bootmem_file *files, size_t files_len,
 	struct bootmem_text *out, struct bootmem_text *err);
 
-/* What the boot makes, as values. Words and files are those of bootmem_run, and so is the status, which is that of the one outcome that they determine,
- * or BOOTMEM_MEMORY; what `--report` names changes nothing else. No line says what is wrong: bootmem_run has it.
+/* What the boot made, as values. Words, files and the returned status are those of bootmem_run. The reports that `--report` names don't matter,
+ * but an unknown name is BOOTMEM_USAGE. These calls give no error line; bootmem_run does.
  *
- * BOOTMEM_OK: `out` has the values of the one boot that words and files determine, of which docs/HEADLINE.md holds. Any other: it has none, so
- * `count` is 0, and of the crash area each number is.
+ * BOOTMEM_OK: `out` has the values of the boot, which words and files determine, and docs/HEADLINE.md holds for it. Any other status: `count` is
+ * 0, and every number of the crash area is 0.
  *
  * bootmem_map: the runs of the map that the kernel works with, ascending.
  * bootmem_crash: the crash area, or why there is none.
