@@ -25,12 +25,12 @@ pub use values::{
 
 use std::fmt;
 
-/// Why there is no report.
+/// Why a call has no result.
 #[derive(Clone, Copy, Debug, PartialEq, Eq)]
 pub enum Reason {
-    /// The words aren't those of the program.
+    /// `bootmem` doesn't accept the words of the command line.
     Usage,
-    /// A file that the words name isn't there.
+    /// A file that the words name isn't among the files that are passed.
     Unread,
     /// A file is malformed or too long.
     Faulty,
@@ -40,7 +40,7 @@ pub enum Reason {
     Memory,
 }
 
-/// A refusal: why, and the line that says so, without its line feed.
+/// Why a call has no result, and the line that `bootmem` prints on standard error for it, without its line feed.
 #[derive(Clone, Debug, PartialEq, Eq)]
 pub struct Refusal {
     pub reason: Reason,
@@ -60,7 +60,7 @@ pub fn version() -> u32 {
     unsafe { ffi::bootmem_version() }
 }
 
-/// Words, and files by their names.
+/// The words of a command line of `bootmem`, and the files that it may name, each as its name and its bytes.
 #[derive(Clone, Copy)]
 struct Asked<'a> {
     words: &'a [&'a [u8]],
@@ -68,7 +68,7 @@ struct Asked<'a> {
 }
 
 impl Asked<'_> {
-    /// A call, to which they are lent.
+    /// Calls `call` with the words and files in the form that C takes, and returns what it returns.
     fn lent<T>(&self, call: impl FnOnce(&[ffi::Bytes], &[ffi::File]) -> T) -> T {
         let words: Vec<ffi::Bytes> = self.words.iter().map(|word| ffi::Bytes::of(word)).collect();
         let files: Vec<ffi::File> = self
@@ -82,7 +82,8 @@ impl Asked<'_> {
         call(&words, &files)
     }
 
-    /// One call with so much room: its status, and how much room the two texts want.
+    /// Calls `bootmem_run` with these two buffers. Returns the status and the lengths of the two texts in bytes. A text that is longer than its
+    /// buffer isn't copied.
     fn texts(&self, out: &mut [u8], err: &mut [u8]) -> (u8, usize, usize) {
         let (mut out, mut err) = (ffi::Text::of(out), ffi::Text::of(err));
         // Each pointer is a slice's own, so it is no null, and is valid for its length; the two rooms are borrowed alone.
@@ -99,7 +100,7 @@ impl Asked<'_> {
         (status, out.needed, err.needed)
     }
 
-    /// All values of a call that hands over some, where its status is 0.
+    /// Returns all values that `call`, one of the exports for values, makes. Repeats the call with a larger buffer if they don't all fit.
     fn values<T: Copy + Default>(
         &self,
         call: unsafe extern "C" fn(
@@ -138,7 +139,7 @@ impl Asked<'_> {
         }
     }
 
-    /// The refusal of a call that hands over values: such a call tells no line, so the line is that of the program.
+    /// Returns the refusal for a status of an export for values. Such an export has no error line, so the line is taken from [`run`].
     fn refusal(&self, status: u8) -> Refusal {
         let line = run(self.words, self.files).err().map(|told| told.line);
         Refusal {
@@ -148,7 +149,7 @@ impl Asked<'_> {
     }
 }
 
-/// The reason of a status that isn't 0.
+/// Returns the reason for an exit status other than 0.
 fn reason(status: u8) -> Reason {
     match status {
         2 => Reason::Usage,
@@ -159,7 +160,8 @@ fn reason(status: u8) -> Reason {
     }
 }
 
-/// The program: the words after its name, and each file by its name. The reports, or why there are none.
+/// Runs `bootmem` with the words of its command line after the program's name, and with files, each as its name and its bytes. Returns the text
+/// of the reports, or why there is none.
 pub fn run(words: &[&[u8]], files: &[(&[u8], &[u8])]) -> Result<Vec<u8>, Refusal> {
     let asked = Asked { words, files };
     let (mut out, mut err) = (vec![0; 1 << 16], vec![0; 1 << 10]);
@@ -232,7 +234,7 @@ pub fn blocks(words: &[&[u8]], files: &[(&[u8], &[u8])]) -> Result<Vec<Block>, R
     Ok(blocks.iter().filter_map(values::block).collect())
 }
 
-/// What a boot is given.
+/// The inputs of a boot. Each method that adds an input returns the inputs with it.
 #[derive(Clone, Debug, Default)]
 pub struct Boot<'a> {
     words: Vec<String>,
@@ -240,7 +242,7 @@ pub struct Boot<'a> {
 }
 
 impl<'a> Boot<'a> {
-    /// A boot of a zero page, of 4,096 bytes.
+    /// Returns the inputs of a boot with this zero page (4,096 bytes) and nothing else.
     pub fn new(zero_page: &[u8]) -> Boot<'a> {
         Boot {
             words: Vec::new(),
@@ -264,7 +266,7 @@ impl<'a> Boot<'a> {
         self.file("--e820ext", "e820ext", table)
     }
 
-    /// The firmware's own map of memory (`docs/FORMATS.md`).
+    /// The memory map of UEFI (`docs/FORMATS.md` says in which form).
     pub fn efi(self, table: &[u8]) -> Boot<'a> {
         self.file("--efi", "efi", table)
     }
@@ -279,17 +281,17 @@ impl<'a> Boot<'a> {
         self.file("--pages", "pages", lines.as_bytes())
     }
 
-    /// The firmware's table of domains.
+    /// The firmware's table of proximity domains (ACPI SRAT).
     pub fn srat(self, table: &[u8]) -> Boot<'a> {
         self.file("--srat", "srat", table)
     }
 
-    /// The firmware's table of distances.
+    /// The firmware's table of distances between domains (ACPI SLIT).
     pub fn slit(self, table: &[u8]) -> Boot<'a> {
         self.file("--slit", "slit", table)
     }
 
-    /// Where the kernel's image lies, in bytes.
+    /// The range of the kernel's image: its first address and its size in bytes.
     pub fn kernel(mut self, base: u64, size: u64) -> Boot<'a> {
         self.words
             .extend(["--kernel".to_string(), format!("{base:#x},{size:#x}")]);
@@ -318,7 +320,7 @@ impl<'a> Boot<'a> {
         self
     }
 
-    /// A call with the words, those in front of them, and the files.
+    /// Calls `call` with the words `front`, then those of this boot, and with its files. Returns what it returns.
     fn ask<T>(&self, front: &[&[u8]], call: impl FnOnce(&[&[u8]], &[(&[u8], &[u8])]) -> T) -> T {
         let mut words = front.to_vec();
         words.extend(self.words.iter().map(|word| word.as_bytes()));
@@ -331,7 +333,7 @@ impl<'a> Boot<'a> {
         call(&words, &files)
     }
 
-    /// The text of reports, by their names with a comma between each two.
+    /// Returns the text of the reports that the list names. Names are separated by commas.
     pub fn report(&self, list: &str) -> Result<String, Refusal> {
         let text = self.ask(&[b"--report", list.as_bytes()], run)?;
         Ok(String::from_utf8_lossy(&text).into_owned())

@@ -11,7 +11,7 @@ pub const E820_RESERVED: u32 = 2;
 /// The bytes of a frame.
 const FRAME_SIZE: u64 = 4096;
 
-/// A range of addresses, in bytes: the last address belongs to it.
+/// A range of addresses, from `first` to `last`, both included.
 #[derive(Clone, Copy, Debug, PartialEq, Eq)]
 pub struct Range {
     pub first: u64,
@@ -19,12 +19,12 @@ pub struct Range {
 }
 
 impl Range {
-    /// How many bytes it has.
+    /// Returns the number of bytes of the range.
     pub fn size(&self) -> u64 {
         self.last - self.first + 1
     }
 
-    /// The range, where it has a byte.
+    /// Returns the range of `size` bytes from address `base` on, or `None` if `size` is 0.
     fn of(base: u64, size: u64) -> Option<Range> {
         Some(Range {
             first: base,
@@ -33,27 +33,27 @@ impl Range {
     }
 }
 
-/// A run of the map.
+/// A run of the memory map: a range whose addresses all have one type.
 #[derive(Clone, Copy, Debug, PartialEq, Eq)]
 pub struct Run {
     pub range: Range,
-    /// Its E820 type.
+    /// The type (`enum e820_type`).
     pub kind: u32,
 }
 
-/// Whether there is a crash area, and else why not.
+/// Why there is or isn't a crash area.
 #[derive(Clone, Copy, Debug, Default, PartialEq, Eq)]
 pub enum CrashState {
-    /// The command line requests none.
+    /// The command line requests no crash area.
     #[default]
     NotRequested,
-    /// There is one.
+    /// The area is reserved.
     Reserved,
-    /// No free range fits it.
+    /// No free range is large enough for the area.
     NoArea,
     /// The requested range isn't free, or its base isn't a multiple of 1 MiB.
     InUse,
-    /// No free range below 4 GiB fits its low part.
+    /// No free range below 4 GiB is large enough for the area's low part.
     LowFailed,
 }
 
@@ -87,9 +87,9 @@ pub struct Node {
 pub struct ZoneSpan {
     pub node: u32,
     pub zone: Zone,
-    /// From the first address of its first frame to the last of its last.
+    /// The addresses of these frames.
     pub range: Range,
-    /// How many frames of this node and zone there are.
+    /// The number of frames in the range that are memory of this node.
     pub present: u64,
 }
 
@@ -98,7 +98,7 @@ pub struct ZoneSpan {
 pub enum Zone {
     /// Below 16 MiB.
     Dma,
-    /// From there to 4 GiB.
+    /// From 16 MiB to below 4 GiB.
     Dma32,
     /// From 4 GiB on.
     Normal,
