@@ -130,7 +130,7 @@ efi_mirrors (Some efi) = efi.mirrors
 abbrev pub all_mirrors : InputsView → List FrameRange
 all_mirrors given = given.mirrors ++ efi_mirrors given.efi
 
--- what the first items are computed from, besides the map
+-- the inputs of the early stages, before memory has nodes; the map is given apart from them
 abbrev pub early_inputs : InputsView → EarlyInputs
 early_inputs given = record {
   limit = reach given;
@@ -199,7 +199,7 @@ added_entries given = if given.options.add_efi then efi_entries given.efi else [
 abbrev pub claims : InputsView → Claims
 claims given = final_claims given.entries given.extension given.options.edits (added_entries given)
 
--- the heads of memblock's two tables after `items`
+-- the heads of memblock's two tables (address, number of records and room of each) after `items`
 abbrev pub heads_of : RangeView → List Item → Heads
 heads_of kernel items = record {
   memory = head_of (table_from_items which.Memory kernel items);
@@ -215,7 +215,7 @@ handover_frames items = free_node_in (memory_of items) (reserved_labels (owner_o
 abbrev pub spans_of_memory : List Item → List Span
 spans_of_memory items = spans_of (node_of_frame (memory_of items))
 
--- what the memory of each node spans in each zone by a rule
+-- what the memory of each node spans in each zone, by the rule `rule`
 abbrev pub spans_by_rule : ZoneRule → List Item → List Span
 spans_by_rule rule items = spans_by rule (node_of_frame (memory_of items))
 
@@ -249,7 +249,7 @@ finish_boot_by profile given made = record {
   after = page_state_after (booted_zonelists given made) (first_page_state (handover_frames made.items)) given.page_lines;
 }
 
--- the report by `bootmem`'s own profile
+-- what is reported of a boot with `bootmem`'s own profile
 abbrev pub finish_boot : InputsView → BootSoFar → BootedView
 finish_boot given made = finish_boot_by own_profile given made
 
@@ -340,7 +340,8 @@ finish_stage cause put next (Err error) = Err (cause error)
 abbrev pub finish_steps : {E A : Type 0} → (E → Cause) → (A → BootSoFar → BootSoFar) → BootSoFar → StepEffect E A → Result BootSoFar Cause
 finish_steps cause put made done = finish_stage cause put (record made { items = items_after_step made.items done }) done.answer
 
--- a stage made of steps, as a stage of the boot
+-- A stage of the boot that consists of the steps `doing`. `put` adds the value of the steps to what
+-- the boot has made. `cause` gives the reason for which the boot stops if the steps fail.
 abbrev pub stage_of_steps : {E A : Type 0} → (E → Cause) → (A → BootSoFar → BootSoFar) → StageStep E A → Stage
 stage_of_steps cause put doing made = finish_steps cause put made (doing made.items)
 
@@ -373,7 +374,7 @@ crash_area_stage profile given made = stage_of_steps cause_of_growth made_with_c
 abbrev pub made_with_sections : SectionPlaces → BootSoFar → BootSoFar
 made_with_sections sections made = record made { sections = sections }
 
--- places the sections that have memory (`sparse_init`)
+-- allocates the roots, the usage data and the maps of all sections that have memory (`sparse_init`)
 abbrev pub sections_stage : InputsView → Stage
 sections_stage given = stage_of_steps cause_of_stage made_with_sections (place_present_sections given.width)
 

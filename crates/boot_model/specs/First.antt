@@ -10,7 +10,8 @@ use Rattle.stage_steps.specs.Steps.{StageStep, fold_steps}
 use Rattle.stage_steps.specs.Nodes.{IsConstantInFrames}
 use Rattle.stage_steps.specs.Requests.{make_change}
 
--- carries out the items one after another, each after the growth of a table that it needs
+-- writes the items to the journal one after another. If an item needs more room in a table of
+-- memblock, the items of that growth come before it.
 unfoldable pub items_with_growths : List Item → StageStep RefusedGrowth (Unit {0})
 items_with_growths wanted = fold_steps (λ done i. make_change (change_writing_item i)) tt wanted
 

@@ -3,8 +3,8 @@ use Rattle.crash_kernel.specs.declared.rule.CrashRule.TheVariants as crash_rules
 use Rattle.zone_spans.specs.declared.rule.ZoneRule.TheVariants as zone_rules
 use Rattle.boot_model.specs.declared.extra.Profile.{Profile}
 
--- `bootmem`'s own rules: total memory isn't rounded, sizes aren't bounded, and a zone reaches
--- from its first memory frame to its last
+-- `bootmem`'s own rules: total memory isn't rounded and doesn't bound the size of the crash area,
+-- and a zone of a node spans from the node's first memory frame in it to the last
 abbrev pub own_profile : Profile
 own_profile = record { crash = crash_rules.ExactTotal; zones = zone_rules.Frames }
 

@@ -1,4 +1,4 @@
--- The places of sections: the roots, and then the usage data and maps (`sparse_init`).
+-- The allocations for sections: the roots, and then the usage data and maps (`sparse_init`).
 use Rattle.std.specs.Prelude.{List, []}
 use Rattle.bm_base.specs.declared.width.Width.{Width}
 use Rattle.memblock_model.specs.Items.{memory_of}
@@ -15,18 +15,18 @@ pub record SectionPlaces : Type 0 where
   pub roots : RootsView
   pub placed : List Placed
 
--- the places before the sections are placed
+-- the addresses before the stage of sections: there are none yet
 abbrev pub no_sections : SectionPlaces
 no_sections = record { roots = record { table = 0; roots = [] }; placed = [] }
 
--- places the given sections: first their roots, and then their usage data and maps
+-- allocates the table of roots and the roots of these sections, and then their usage data and maps
 abbrev pub place_sections : Width → List Section → StageStep StageCause SectionPlaces
 place_sections width sections = do
   table ← place_roots width sections
   placed ← place_maps sections
   return_value (record { roots = table; placed = placed })
 
--- places the sections that have memory, in the order of their numbers
+-- allocates the roots, the usage data and the maps of all sections that have memory
 unfoldable pub place_present_sections : Width → StageStep StageCause SectionPlaces
 place_present_sections width = do
   sections ← read_items_allocating (λ items. present (memory_of items))

@@ -31,7 +31,7 @@ abbrev pub cause_of_map : MapStop → Cause
 cause_of_map reasons.NoRam = causes.NoRam
 cause_of_map (reasons.TooMuchRam frames) = causes.TooMuchRam frames
 
--- the cause if a table had to grow and found no place (`memblock_double_array`)
+-- the cause if a table had to grow and no place was found for it (`memblock_double_array`)
 abbrev pub cause_of_growth : RefusedGrowth → Cause
 cause_of_growth refused = causes.NoTablePlace refused.which refused.room
 

@@ -21,11 +21,13 @@ use zone_spans::Span;
 pub struct Booted {
     /// The width of physical addresses.
     pub width: Width,
-    /// The map, as runs in the order of their addresses.
+    /// The firmware's map after the edits of the command line: runs of addresses of one type, in
+    /// ascending order.
     pub map: Vec<Run>,
     /// The options of the command line.
     pub options: Options,
-    /// What happened to memory, oldest first, and who owns what.
+    /// The journal: each change of memblock, oldest first, and the runs of memory that each owner
+    /// has.
     pub journal: Journal,
     /// The bytes of memory that the boot wrote, with both of memblock's tables.
     pub store: Store,
@@ -39,13 +41,13 @@ pub struct Booted {
     pub roots: Roots,
     /// The addresses of each section's map and usage data.
     pub placed: Vec<Placed>,
-    /// The outcome of each line of the early claims.
+    /// The outcome of each line of the early claims, which run before memory gets its nodes.
     pub claim_answers: Vec<Answer>,
     /// The outcome of each line of the early script.
     pub answers: Vec<Answer>,
     /// What the memory of each node spans in each zone.
     pub spans: Vec<Span>,
-    /// The frames that were handed over.
+    /// The free frames that were handed over to the page allocator, each with its node.
     pub buddy: Buddy,
     /// For each node, the zones with memory, in the order in which an allocation for the node tries
     /// them.

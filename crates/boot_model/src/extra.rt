@@ -11,7 +11,7 @@ use zone_spans::ZoneRule;
 /// The rules of a boot in which `bootmem` and Linux 6.1 differ.
 #[derive(Clone, Copy, Debug, PartialEq, Eq)]
 pub struct Profile {
-    /// How ranges of total memory give the size of the crash area.
+    /// How the size of the crash area follows from total memory.
     pub crash: CrashRule,
     /// Where a zone of a node starts and ends.
     pub zones: ZoneRule,
@@ -21,8 +21,8 @@ impl Profile {
     ghost use Rattle.std.specs.Prelude.{◌≡◌};
     ghost use Rattle.boot_model.specs.Profiles.{linux_profile, own_profile};
 
-    /// Returns the profile of `bootmem`: total memory as it is, and zones from their first memory
-    /// frame to their last.
+    /// Returns the profile of `bootmem`. For the crash area, total memory isn't rounded and doesn't
+    /// bound the size. A zone of a node spans from the node's first memory frame in it to the last.
     pub fn own() -> Profile
         ensures { result ≡ own_profile }
     {
@@ -32,8 +32,9 @@ impl Profile {
         }
     }
 
-    /// Returns the profile of Linux 6.1: total memory rounded up to 128 MiB, which bounds the sizes
-    /// (`parse_crashkernel_mem`), and zones that reach over the node
+    /// Returns the profile of Linux 6.1. For the crash area, total memory is rounded up to 128 MiB
+    /// and bounds the sizes (`parse_crashkernel_mem`). A zone of a node spans all frames inside its
+    /// borders from the node's first memory frame, in any zone, to its last
     /// (`zone_spanned_pages_in_node`).
     pub fn linux_6_1() -> Profile
         ensures { result ≡ linux_profile }

@@ -20,8 +20,9 @@ ghost use Rattle.boot_model.specs.Boot.{InputsView, BootSoFar, boot, boot_with, 
 
 use bm_base::FRAME_SIZE;
 
-/// Law: the EFI memory map counts only if the command line asks for it (`add_efi_memmap`) and it
-/// has descriptors. Otherwise the claims of the e820 table are those of a boot without that map.
+/// Law: the EFI memory map adds claims to the e820 table (typed ranges of addresses) only if the
+/// command line asks for it (`add_efi_memmap`) and the EFI map has descriptors. Otherwise the
+/// claims are those of a boot without that map.
 pub fn efi_map_counts_only_if_asked()
     ensures unasked { (given : InputsView) → given.options.add_efi ≡ false →
         claims given ≡ claims (record given { efi = None }) }
@@ -29,8 +30,8 @@ pub fn efi_map_counts_only_if_asked()
         claims given ≡ claims (record given { efi = None }) }
 {}
 
-/// Law: the map of a boot gives each address below 2^64 the greatest type that any claim of the
-/// e820 table gives it (`e820__update_table`). The map has at most 3,200 runs.
+/// Law: the map of a boot gives each address below 2^64 the greatest type that any claim (typed
+/// range) of the e820 table gives it (`e820__update_table`). The map has at most 3,200 runs.
 pub fn map_gives_types()
     ensures types { (given : InputsView) (made : BootSoFar) (x : ℕ) → boot given ≡ Ok made
         → x < 2 ^ 64 →
@@ -67,16 +68,16 @@ pub fn no_ram_means_no_usable_frame()
         → usable_frames (types_in_reach given) ≡ 0 }
 {}
 
-/// Law: each mirrored range that the EFI map gives is whole frames, at least one. A range that
-/// the words of the command name is cut to whole frames. If any frame is left, the result is at
-/// least one whole frame too.
+/// Law: each mirrored range that the EFI map gives is whole frames, at least one. A range that an
+/// option of the program names is cut to whole frames. If any frame is left, the result is at least
+/// one whole frame too.
 pub fn mirrors_are_whole_frames()
     ensures cut { (range : RangeView) → IfSome (frames_within range) IsMirror }
     ensures firmware { (bytes : List ℕ) → IfOk (efi_of bytes) (λ map. All IsMirror map.mirrors) }
 {}
 
-/// Law: `boot` is the boot with `bootmem`'s own profile and without early claims. What is
-/// reported of it is also what is reported of that boot.
+/// Law: a boot with `bootmem`'s own profile and without early claims makes what `boot` makes, and
+/// reports what `boot` reports.
 pub fn boot_has_own_profile()
     ensures made { (given : InputsView) → boot_with no_extra given ≡ boot given }
     ensures report { (given : InputsView) → whole_boot_with no_extra given ≡ whole_boot given }

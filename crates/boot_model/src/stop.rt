@@ -18,10 +18,10 @@ pub enum Cause {
     TooMuchRam { frames: u64 },
     /// The map has more than 3,200 runs, the room of the kernel's table. `runs` is their number.
     MapFull { runs: u64 },
-    /// No place was found for something that a boot can't do without.
+    /// No free place fits the allocation `what`, which the boot needs.
     NoPlace { what: What },
-    /// A full table had to grow and found no place. `room` is the number of records that it had
-    /// room for.
+    /// A full table of memblock had to grow and no place was found for it. `room` is the number of
+    /// records that it had room for.
     NoTablePlace { which: Which, room: u64 },
 }
 
@@ -34,17 +34,17 @@ pub enum Stop {
     TooMuchRam { frames: u64 },
     /// The map has more than 3,200 runs, the room of the kernel's table. `runs` is their number.
     MapFull { runs: u64 },
-    /// No place was found for something that a boot can't do without.
+    /// No free place fits the allocation `what`, which the boot needs.
     NoPlace { what: What },
-    /// A full table had to grow and found no place. `room` is the number of records that it had
-    /// room for.
+    /// A full table of memblock had to grow and no place was found for it. `room` is the number of
+    /// records that it had room for.
     NoTablePlace { which: Which, room: u64 },
     /// This program is out of memory.
     Memory,
 }
 
 impl Stop {
-    /// Returns the cause in the inputs, or `None` for out of memory.
+    /// Returns the reason for the stop as a [`Cause`], or `None` if it is out of memory.
     pub fn cause(self) -> Option<Cause>
         ensures { result ≡ cause_of self }
     {
@@ -104,8 +104,8 @@ impl From<StageStop> for Stop {
     }
 }
 
-/// The stop for a refused call of memblock: a table had to grow and found no place, or the program
-/// is out of memory.
+/// The stop for a refused call of memblock: a table had to grow and no place was found for it, or
+/// the program is out of memory.
 impl From<Refusal> for Stop {
     ghost use Rattle.std.specs.Prelude.{◌≡◌, Option};
     ghost use Rattle.growth_model.specs.Change.{RefusedGrowth};

@@ -18,23 +18,24 @@ is_node (Some m) n = m == n
 abbrev pub set_around : ℕ → ℕ → RangeView
 set_around order x = record { base = x - x % 2 ^ order; size = 2 ^ order }
 
--- whether all frames of the aligned set around frame `x` are free, on node `n`
+-- whether all frames of the aligned set of `2^order` frames that has frame `x` are free, on node
+-- `n`
 unfoldable pub are_free : Frames → ℕ → ℕ → ℕ → Bool
 are_free f order x n = each_in (set_around order x) (λ y. is_node (f y) n)
 
--- the largest order up to `m` such that all frames of the aligned set around frame `x` are free,
--- on node `n`
+-- the largest order up to `m` such that all frames of the aligned set of that order that has frame
+-- `x` are free, on node `n`
 unfoldable pub greatest_free_order : Frames → ℕ → ℕ → ℕ → ℕ
 greatest_free_order f x n zero = 0
 greatest_free_order f x n (suc m) = if are_free f (suc m) x n then suc m else greatest_free_order f x n m
 
--- the aligned set of this order around frame `x`, as a block of node `n`
+-- the aligned set of `2^order` frames that has frame `x`, as a block of node `n`
 abbrev pub block_around : ℕ → ℕ → ℕ → Block
 block_around order x n = record { order = order; first = x - x % 2 ^ order; node = n; zone = zone_of (x - x % 2 ^ order) }
 
--- the block that has frame `x`, if that frame is free on this node. It has the largest order, up
--- to 10, whose aligned set around the frame is free. If the frame isn't free (`None`), there is no
--- block.
+-- The block that has frame `x`, if that frame is free on this node. Its order is the largest, up to
+-- 10, for which all frames of the aligned set that has frame `x` are free. If the frame isn't free
+-- (`None`), there is no block.
 abbrev pub block_for : Frames → ℕ → Option ℕ → Option Block
 block_for f x None = None
 block_for f x (Some n) = Some (block_around (greatest_free_order f x n 10) x n)

@@ -1,6 +1,6 @@
 -- How blocks change when frames are allocated and freed. If an aligned set of frames is removed
--- from a block, one buddy is left of each order from the set's to below the block's (`expand`). If
--- the set is added back, the buddies are merged with it again (`__free_one_page`).
+-- from a block, one buddy is left of each order from the set's order to below the block's order
+-- (`expand`). If the set is added back, the buddies are merged with it again (`__free_one_page`).
 use Rattle.std.specs.Prelude.{◌≡◌, ℕ, ◌+◌, ◌-◌, ◌*◌, ◌/◌, ◌%◌, ◌^◌, ◌<◌, ◌≤◌, ◌==◌, if◌then◌else◌, None}
 use Rattle.address_runs.specs.Edits.{uncover_range, replace_in_range}
 use Rattle.buddy_blocks.specs.declared.block.Block.{Block}
@@ -16,8 +16,8 @@ without_set order x f = uncover_range (set_around order x) f
 abbrev pub with_set : ℕ → ℕ → ℕ → Frames → Frames
 with_set order x node f = replace_in_range (set_around order x) node f
 
--- `g` has the same free frames as `f`, except those of the aligned set around `x`, which aren't
--- free in `g`
+-- `g` has the same free frames as `f`, except that the aligned set of `2^order` frames that has
+-- frame `x` isn't free in `g`
 pub record RemovesFrameSet (f g : Frames) (order x : ℕ) : Type 0 where
   pub gone : (y : ℕ) → IsInSet order x y → g y ≡ None
   pub kept : (y : ℕ) → (IsInSet order x y → ⊥) → g y ≡ f y
@@ -37,8 +37,9 @@ buddy_first order x = other_half (x / 2 ^ order) * 2 ^ order
 abbrev pub buddy_of : Block → ℕ → ℕ → Block
 buddy_of b order x = record b { order = order; first = buddy_first order x }
 
--- `c` is one of the buddies that are left of block `b` without the set around `x`: the buddy of an
--- order from `low` to below `until`
+-- `c` is the buddy of the aligned set of some order, from `low` to below `until`, that has frame
+-- `x`; it is on the node and in the zone of `b`. If `until` is the order of `b`, these are the
+-- buddies that are left when the set of `2^low` frames is taken from `b`.
 pub record IsBuddy (b : Block) (low until x : ℕ) (c : Block) : Type 0 where
   pub order : ℕ
   pub from : low ≤ order

@@ -23,8 +23,9 @@ AreFree free order first node = (frame : ℕ) → IsInSet order first frame → 
 abbrev pub IsFreeInOneZone : Frames → ℕ → ℕ → ℕ → Zone → Type 0
 IsFreeInOneZone free order first node zone = (frame : ℕ) → IsInSet order first frame → (free frame ≡ Some node) × (zone_of frame ≡ zone)
 
--- a block: a good aligned set of an order up to 10, such that the set of the next order around it
--- isn't good
+-- A block of the free frames: an aligned set of an order up to 10 whose frames are all free, on one
+-- node and in one zone. Unless the order is 10, this isn't true of the aligned set of the next
+-- order that contains it.
 pub record IsBlock (free : Frames) (b : Block) : Type 0 where
   pub small : b.order ≤ 10
   pub aligned : b.first % 2 ^ b.order ≡ 0

@@ -12,18 +12,18 @@ pub record IsWholeNodeRun (f : Frames) (first end n : ℕ) : Type 0 where
   pub before : (x : ℕ) → suc x ≡ first → f x ≢ Some n
   pub behind : f end ≢ Some n
 
--- the aligned set of `s` frames around the frame lies in the frames from `first` to below `end`
+-- the aligned set of `s` frames that has `frame` lies in the frames from `first` to below `end`
 pub record SetFits (first end frame s : ℕ) : Type 0 where
   pub above : first ≤ frame - frame % s
   pub below : frame - frame % s + s ≤ end
 
--- no aligned set around the frame that is of an order above `order`, up to 10, lies in the frames
+-- no aligned set that has the frame, and is of an order above `order` up to 10, lies in the frames
 -- from `first` to below `end`
 abbrev pub IsGreatestFittingOrder : ℕ → ℕ → ℕ → ℕ → Type 0
 IsGreatestFittingOrder first end frame order = (o : ℕ) → order < o → o ≤ 10 → SetFits first end frame (2 ^ o) → ⊥
 
--- each aligned set around frame `at` that lies in the frames from `first` to below `end` begins at
--- `at`
+-- each aligned set that has frame `at`, and lies in the frames from `first` to below `end`, begins
+-- at `at`
 abbrev pub FittingSetsBeginAt : ℕ → ℕ → ℕ → Type 0
 FittingSetsBeginAt first end at = (o : ℕ) → o ≤ 10 → SetFits first end at (2 ^ o) → at % 2 ^ o ≡ 0
 

@@ -15,8 +15,9 @@ use crate::set::{AlignedSet, MAX_BLOCK_FRAMES, set_within, zone_until};
 use bm_base::{Zone, zone_of};
 
 /// Returns the number of blocks on this node, in this zone and of this order. The call allocates
-/// nothing. It takes about twenty steps for each run of the node. The runs must be canonical, and
-/// all frames below [`MAX_FRAMES`].
+/// nothing. It takes about twenty steps for each run of the node. The runs must be ascending and
+/// not empty, and two runs that touch must be of different nodes. All frames must be below
+/// [`MAX_FRAMES`].
 pub fn count_blocks(runs: &[FrameRun], node: u32, zone: Zone, order: u32) -> u64
     requires runs { AreRuns runs.now }
     requires low { IsEmptyFrom MAX_FRAMES (value_at runs.now) }

@@ -1,5 +1,5 @@
 //! The laws of this crate. They say that the functions that list blocks return exactly the sets of
-//! frames that are blocks.
+//! frames that are blocks by definition.
 
 ghost use Rattle.std.specs.Prelude.{◌≡◌, ◌⊎◌, ◌↔◌, ℕ, ◌/◌, ◌^◌, ◌<◌, ◌≤◌, Some, None};
 ghost use Rattle.bm_base.specs.declared.zone.Zone.{Zone as AnyZone};
@@ -19,9 +19,9 @@ pub fn sets_lie_in_one_zone()
     ensures { (order x y : ℕ) → order ≤ 10 → IsInSet order x y → zone_of y ≡ zone_of x }
 {}
 
-/// Law: the block of a frame is the only block that has the frame; a frame without a block isn't
-/// free. The list of blocks is in ascending order and has only blocks. It has all blocks if the
-/// free frames are below [`crate::MAX_FRAMES`].
+/// Law: `block_of` returns the only block that has the frame, and returns `None` only for a frame
+/// that isn't free. `blocks_of` lists blocks and nothing else, in ascending order. It lists all
+/// blocks if all free frames are below [`crate::MAX_FRAMES`].
 pub fn listed_blocks_are_blocks()
     ensures block { (f : Frames) (x : ℕ) (b : AnyBlock) → block_of f x ≡ Some b
         → IsBlock f b × IsInBlock b x }
@@ -34,10 +34,10 @@ pub fn listed_blocks_are_blocks()
     ensures ascending { (f : Frames) → AscendFrom 0 (blocks_of f) }
 {}
 
-/// Law: the picked block serves a request for an order on a node and in a zone
-/// (`__rmqueue_smallest`). It has the smallest sufficient order, and it is the lowest block of that
-/// order. No block is picked exactly if none serves the request. All free frames must be below
-/// [`crate::MAX_FRAMES`].
+/// Law: `picked_block` returns the block from which a request for `2^order` frames on a node and in
+/// a zone is served (`__rmqueue_smallest`). This block has the smallest sufficient order, and it is
+/// the lowest block of that order. The result is `None` exactly if no block on that node and in
+/// that zone is large enough. All free frames must be below [`crate::MAX_FRAMES`].
 pub fn picked_block_is_least()
     ensures picked { (f : Frames) (n : ℕ) (z : AnyZone) (order : ℕ) (b : AnyBlock)
         → IsEmptyFrom MAX_FRAMES f →
@@ -47,8 +47,9 @@ pub fn picked_block_is_least()
 {}
 
 /// Law: if an aligned set of frames of a block is no longer free, the rest of the block is split
-/// into buddies: one of each order from the set's to below the block's. All other blocks are
-/// unchanged. Removing a set of frames, or adding it back, changes only the frames of that set.
+/// into buddies: one of each order from the set's order to below the block's order. All other
+/// blocks are unchanged. Removing a set of frames, or adding it back, changes only the frames of
+/// that set.
 pub fn rest_of_block_is_buddies()
     ensures left { (f : Frames) (order x : ℕ) → RemovesFrameSet f (without_set order x f) order x }
     ensures back { (f : Frames) (order x n : ℕ) → ((y : ℕ) → IsInSet order x y → f y ≡ None) →

@@ -17,8 +17,9 @@ use bm_base::{Memory, zone_of};
 use run_edits::seek;
 use std::alloc::Global;
 
-/// Returns all blocks of the free frames, in ascending order. The runs must be canonical, and all
-/// frames below [`MAX_FRAMES`].
+/// Returns all blocks of the free frames, in ascending order. The runs must be ascending and not
+/// empty, and two runs that touch must be of different nodes. All frames must be below
+/// [`MAX_FRAMES`].
 ///
 /// # Errors
 ///
@@ -60,10 +61,11 @@ fn push_blocks(blocks: &mut Vec<Block>, first: u64, end: u64, node: u32) -> Resu
     Ok(())
 }
 
-/// Returns all blocks of the free frames, in ascending order, row by row. A run has one row of
-/// blocks of the largest order for each zone, and one row for each other block, of which there are
-/// about twenty. No row is empty, and no two rows of the largest order could be joined. The runs
-/// must be canonical, and all frames below [`MAX_FRAMES`].
+/// Returns all blocks of the free frames, in ascending order, as rows of equal consecutive blocks.
+/// A run has one row of blocks of the largest order for each zone, and one row for each other
+/// block, of which there are about twenty. No row is empty, and no two rows of the largest order
+/// could be joined. The runs must be ascending and not empty, and two runs that touch must be of
+/// different nodes. All frames must be below [`MAX_FRAMES`].
 ///
 /// # Errors
 ///
@@ -82,8 +84,9 @@ pub fn block_rows(alloc: Global, runs: &[FrameRun]) -> Result<Vec<BlockRow>, Mem
     Ok(rows)
 }
 
-/// Appends the blocks of one run, row by row. If the list was canonical (`AreCanonicalRows`) and
-/// the last frame of its last row is free, the list stays canonical.
+/// Appends the blocks of one run, row by row, from frame `first` to below `end`. No row becomes
+/// empty, and no two rows of the largest order can be joined afterwards (`AreCanonicalRows`). For
+/// this, the list must have been so before, and the last frame of its last row must be free.
 ///
 /// # Errors
 ///

@@ -1,6 +1,6 @@
-//! Finds the largest aligned set of frames that has a given frame and fits into a run. This set is
-//! the block of the frame, since an aligned set is good (`IsFreeInOneZone`) exactly if it lies in
-//! one run.
+//! Finds the largest aligned set of frames that has a given frame and fits into a run of free
+//! frames. This set is the block of the frame. An aligned set of free frames on one node lies in
+//! one run, and its frames are in one zone, since zones end at multiples of the largest block.
 
 ghost use Rattle.std.specs.Prelude.{◌≡◌, ◌^◌, ◌<◌, ◌≤◌, ◌↔◌, IsTrue, ◌≢◌, ◌⊎◌, ℕ, ◌+◌, ◌%◌};
 ghost use Rattle.buddy_blocks.specs.Sets.{SetFits, IsGreatestFittingOrder};
@@ -12,7 +12,8 @@ use bm_base::{MAX_DMA_FRAME, MAX_DMA32_FRAME};
 /// The number of frames in a block of the largest order.
 pub const MAX_BLOCK_FRAMES: u64 = 1 << MAX_ORDER;
 
-/// An aligned set of frames.
+/// An aligned set of `2^order` frames: the number of its first frame is a multiple of `2^order`.
+/// The first frame isn't recorded here.
 #[derive(Clone, Copy)]
 pub struct AlignedSet {
     pub order: u32,

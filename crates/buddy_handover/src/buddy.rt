@@ -46,11 +46,11 @@ impl From<Memory> for Take {
     }
 }
 
-/// The greatest number of entries that one call adds to the list of runs.
+/// The greatest number of runs that one call adds to the list of runs.
 const MAX_NEW_ENTRIES: u64 = 2;
 
 /// The free frames, each with its node. Contracts see the runs of free frames in ascending order,
-/// and `spare`: for how many more runs (entries) the list has room.
+/// and `spare`: for how many more runs the list has room.
 #[derive(Debug, Drop)]
 pub struct Buddy {
     runs: Vec<FrameRun>,
@@ -110,7 +110,7 @@ impl Buddy {
         let _ = &self.runs; // the invariant says so
     }
 
-    /// Makes room for `n` more entries, unless there is room for that many already.
+    /// Makes room in the list of runs for `n` more runs, unless it has room for that many already.
     ///
     /// # Errors
     ///
@@ -130,9 +130,9 @@ impl Buddy {
         Ok(())
     }
 
-    /// Frees `count` frames from `first` on, for node `node` (`__free_pages_core`). Each frame
-    /// must lie below [`MAX_FRAMES`], and none may be free already. The call uses up two entries
-    /// of `spare`, and makes room first if there are fewer.
+    /// Frees `count` frames from `first` on, for node `node` (`__free_pages_core`). Each frame must
+    /// lie below [`MAX_FRAMES`], and none may be free already. The call uses up room for two runs
+    /// (`spare`), and makes room first if there is less.
     ///
     /// # Errors
     ///
@@ -151,12 +151,12 @@ impl Buddy {
         self.mark_free(first, count, node)
     }
 
-    /// Frees `count` frames from `first` on, for node `node`, whether they were free before or
-    /// not. The call uses up two entries of `spare`, and makes room first if there are fewer.
+    /// Frees `count` frames from `first` on, for node `node`, whether they were free before or not.
+    /// The call uses up room for two runs (`spare`), and makes room first if there is less.
     ///
     /// # Errors
     ///
-    /// Out of memory, only if there was room for fewer than two more entries. Nothing has changed
+    /// Out of memory, only if there was room for fewer than two more runs. Nothing has changed
     /// then.
     pub(crate) fn mark_free(&mut self, first: u64, count: u64, node: u32) -> Result<(), Memory>
         requires low { first + count ≤ MAX_FRAMES }
@@ -236,9 +236,9 @@ impl Buddy {
         false
     }
 
-    /// Frees `2^order` frames from `first` on, for node `node` (`__free_one_page`). They are
-    /// merged with free buddies, as far as possible. `first` must be a multiple of `2^order`. Each
-    /// frame must lie below [`MAX_FRAMES`], and none may be free.
+    /// Frees `2^order` frames from `first` on, for node `node` (`__free_one_page`). They are merged
+    /// with free buddies, as far as possible. `first` must be a multiple of `2^order`. Each frame
+    /// must lie below [`MAX_FRAMES`], and none may be free already.
     ///
     /// # Errors
     ///
@@ -261,7 +261,8 @@ impl Buddy {
         Ok(())
     }
 
-    /// Moves the index out of the cache and returns it. Makes one if the cache is empty.
+    /// Takes the index of the blocks out of the cache and returns it. If the cache is empty, makes
+    /// the index from the free frames.
     ///
     /// # Errors
     ///
@@ -291,9 +292,9 @@ impl Buddy {
         buddy_blocks::blocks_of(*self.runs.allocator(), &self.runs)
     }
 
-    /// Returns the same blocks as [`Buddy::blocks`], in rows: about twenty rows for each run of
-    /// free frames, however long the run is. No row is empty, and no two rows of the greatest
-    /// order could be joined.
+    /// Returns all blocks of the free frames, in ascending order, as rows of consecutive blocks of
+    /// one order, node and zone. There are about twenty rows for each run of free frames, however
+    /// long the run is. No row is empty, and no two rows of the greatest order could be joined.
     ///
     /// # Errors
     ///

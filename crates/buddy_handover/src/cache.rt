@@ -1,4 +1,5 @@
-//! Keeps the index of blocks up to date. If there is no memory for a change, the index is dropped.
+//! Keeps the index of free blocks up to date. If there is no memory for a change, the index is
+//! dropped.
 
 ghost use Rattle.std.specs.Prelude.{◌≡◌, ℕ, ◌+◌, ◌^◌, ◌<◌, ◌≤◌, Some, IfSome};
 ghost use Rattle.buddy_blocks.specs.Frames.{Frames, IsBlock, IsInBlock};

@@ -42,7 +42,8 @@ pub record IsFreeFor (given : InputsView) (items : List Item) (b : Block) (frame
   pub node : (x : ℕ) → covers (bytes_of_frame frame) x ≡ true → node_of_tag (tag_of items x) ≡ Some b.node
   pub zone : zone_of frame ≡ b.zone
 
--- every frame of the block is free for it
+-- every frame of the block is usable, unclaimed, memory of the block's node, and in its zone
+-- (`IsFreeFor`)
 abbrev pub AreAllFree : InputsView → List Item → Block → Type 0
 AreAllFree given items b = (frame : ℕ) → has_frame b frame ≡ true → IsFreeFor given items b frame
 
@@ -51,20 +52,20 @@ AreAllFree given items b = (frame : ℕ) → has_frame b frame ≡ true → IsFr
 abbrev pub block_with_buddy : Block → Block
 block_with_buddy b = record b { order = b.order + 1; first = b.first - b.first % 2 ^ (b.order + 1) }
 
--- The block has an order that the buddy lists have, and begins at a multiple of its number of
--- frames. All its frames are free for it, so it lies in one node and one zone.
+-- The block's order is at most 10, and it begins at a multiple of its number of frames. Each of its
+-- frames is usable, unclaimed, memory of the block's node, and in its zone.
 pub record IsWhole (given : InputsView) (items : List Item) (b : Block) : Type 0 where
   pub small : b.order ≤ MAX_ORDER
   pub aligned : b.first % 2 ^ b.order ≡ 0
   pub frames : AreAllFree given items b
 
--- if the block's order is below the greatest, some frame of the block and its buddy isn't free for
--- the block
+-- if the block's order is below 10, some frame of the block or of its buddy is unusable, claimed,
+-- or of another node or zone
 abbrev pub IsMaximal : InputsView → List Item → Block → Type 0
 IsMaximal given items b = b.order < MAX_ORDER → ¬ AreAllFree given items (block_with_buddy b)
 
--- a usable frame that a claim touches is in no block, and one that no claim touches is in exactly
--- one
+-- the frame is touched by a claim and in no block, or it is touched by no claim and in exactly one
+-- block
 abbrev pub IsTouchedOrInOneBlock : BootedView → ℕ → Type 0
 IsTouchedOrInOneBlock told frame =
     (IsTouched told.items frame × (count_blocks_with (booted_blocks told) frame ≡ 0))
@@ -75,15 +76,17 @@ IsTouchedOrInOneBlock told frame =
 abbrev pub AllTouchedOrInOneBlock : InputsView → BootedView → Type 0
 AllTouchedOrInOneBlock given told = (frame : ℕ) → IsUsable given frame → IsTouchedOrInOneBlock told frame
 
--- no other frame is in a block: one that is in a block is usable, and no claim touches it
+-- each frame that is in a block is usable, and no claim touches it
 abbrev pub NoOtherInABlock : InputsView → BootedView → Type 0
 NoOtherInABlock given told =
     (frame : ℕ) → 0 < count_blocks_with (booted_blocks told) frame → IsUsable given frame × IsUntouched told.items frame
 
--- each block is aligned, free, in one node and in one zone
+-- each block has an order up to 10, is aligned, has only usable and unclaimed frames, and lies in
+-- one node and one zone
 abbrev pub BlocksAreWhole : InputsView → BootedView → Type 0
 BlocksAreWhole given told = (b : Block) → ListsBlock (booted_blocks told) b → IsWhole given told.items b
 
--- each block is as large as possible
+-- each block is as large as possible: unless its order is 10, a block with its buddy's frames too
+-- would have a frame that is unusable, claimed, or of another node or zone
 abbrev pub BlocksAreMaximal : InputsView → BootedView → Type 0
 BlocksAreMaximal given told = (b : Block) → ListsBlock (booted_blocks told) b → IsMaximal given told.items b

@@ -1,6 +1,6 @@
-//! The four facts of each boot that isn't stopped, and two more: where frames are after the page
-//! script, and which frames are usable by the reported map. They are proved for the definition of
-//! the boot, without calling a stage. They therefore hold for any boot that returns what the
+//! Laws about each frame after a boot that isn't stopped: four facts about claims and blocks, where
+//! frames are after the page script, and which frames are usable by the reported map. They are
+//! proved for the definition of the boot, and therefore hold for any boot that returns what the
 //! definition says.
 
 ghost use Rattle.std.specs.Prelude.{◌≡◌, ◌↔◌, ℕ, Ok};
@@ -10,9 +10,9 @@ ghost use Rattle.conservation.specs.Headline.{AllTouchedOrInOneBlock, BlocksAreM
 ghost use Rattle.conservation.specs.ByMap.{IsUsableByMap};
 ghost use Rattle.conservation.specs.FramePlacesAfterPages.{AllInOneBlockOrHeld, NoOtherInABlockOrHeld};
 
-/// Law: each usable frame is either touched by a claim or in a block, and never both. If a claim
-/// touches the frame, the journal records the claim with its owner. Otherwise the frame is in
-/// exactly one block.
+/// Law: after a boot each usable frame is either touched by a claim or in a block of the buddy
+/// lists, and never both. If a claim touches the frame, the journal records the claim with its
+/// owner. Otherwise the frame is in exactly one block.
 pub fn usable_frames_are_touched_or_in_one_block()
     ensures own { (given : InputsView) (told : BootedView) → whole_boot given ≡ Ok told
         → AllTouchedOrInOneBlock given told }
@@ -20,7 +20,7 @@ pub fn usable_frames_are_touched_or_in_one_block()
         whole_boot_with extra given ≡ Ok told → AllTouchedOrInOneBlock given told }
 {}
 
-/// Law: each frame of a block is usable, and no claim touches it.
+/// Law: each frame of a block of the buddy lists is usable, and no claim touches it.
 pub fn no_other_frame_is_in_a_block()
     ensures own { (given : InputsView) (told : BootedView) → whole_boot given ≡ Ok told
         → NoOtherInABlock given told }
@@ -61,7 +61,8 @@ pub fn handed_frames_stay_in_one_block_or_held()
         → HaveValidOrders given.page_lines → NoOtherInABlockOrHeld told }
 {}
 
-/// Law: the map that a boot reports determines which frames are usable.
+/// Law: a frame is usable exactly if it lies below the limit of physical addresses and all its
+/// bytes are RAM or the kernel's own memory in the map that the boot reports.
 pub fn map_determines_usable_frames()
     ensures own { (given : InputsView) (told : BootedView) (frame : ℕ) → whole_boot given ≡ Ok
         told →

@@ -12,21 +12,24 @@ use Rattle.crash_kernel.specs.declared.request.Placement.TheVariants as placemen
 use Rattle.crash_kernel.specs.declared.crash.Crash.{Crash}
 use Rattle.crash_kernel.specs.declared.crash.Crash.TheVariants as crash
 
--- a search for `size` bytes in a window, on any node
+-- the search for `size` bytes between the addresses `lo` and `hi`, at a multiple of `align`, on any
+-- node
 abbrev pub area_query : ℕ → ℕ → ℕ → ℕ → Query
 area_query size align lo hi = record { lo = lo; hi = hi; size = size; align = align; node = None }
 
--- the free range that memblock picks, at a multiple of 16 MiB (`CRASH_ALIGN`)
+-- the free range of `size` bytes that memblock picks between the addresses `lo` and `hi`, at a
+-- multiple of 16 MiB (`CRASH_ALIGN`); none if no free range fits
 abbrev pub best_range : ℕ → ℕ → ℕ → List Item → Option RangeView
 best_range size lo hi items = option_map (λ base. record { base = base; size = size }) (best_place items (area_query size 0x1000000 lo hi))
 
--- the range at a requested base: at a multiple of 1 MiB (`SZ_1M`), ending below 2^64, and free
+-- the range of `size` bytes at the requested base, if the base is a multiple of 1 MiB (`SZ_1M`),
+-- the range ends below 2^64, and it is free memory of one node
 abbrev pub fixed_range : ℕ → ℕ → List Item → Option RangeView
 fixed_range base size items =
     if (base % 0x100000 == 0) && nat_lt (base + size) (2 ^ 64) && fits items (area_query size 1 base (base + size)) false base
     then Some (record { base = base; size = size }) else None
 
--- a free range between 16 MiB and 64 TiB (`CRASH_ADDR_HIGH_MAX`)
+-- the free range that memblock picks between 16 MiB and 64 TiB (`CRASH_ADDR_HIGH_MAX`)
 abbrev pub high_range : ℕ → List Item → Option RangeView
 high_range size items = best_range size 0x1000000 (2 ^ 46) items
 
@@ -37,7 +40,7 @@ main_range size (placement.Fixed base) items = fixed_range base size items
 main_range size placement.Automatic items = option_or (best_range size 0x1000000 (2 ^ 32) items) (high_range size items)
 main_range size placement.High items = high_range size items
 
--- the outcome if no range was found
+-- the outcome if no range was found for an area with this placement
 abbrev pub search_failure : Placement → Crash
 search_failure (placement.Fixed base) = crash.InUse
 search_failure placement.Automatic = crash.NoArea
@@ -52,6 +55,6 @@ low_size asked = unwrap_or asked.low 0x10000000
 abbrev pub needs_low_part : RangeView → ℕ → Bool
 needs_low_part main low = nat_le (2 ^ 32) main.base && nat_lt 0 low
 
--- the range of the low part, below 4 GiB
+-- the free range of `size` bytes that memblock picks below 4 GiB, for the low part
 unfoldable pub low_range : ℕ → List Item → Option RangeView
 low_range size items = best_range size 0 (2 ^ 32) items

@@ -66,7 +66,8 @@ abbrev pub is_size_form : List CrashRange → Bool
 is_size_form [] = false
 is_size_form (r ∷ rs) = (length rs == 0) && (r.start == 0) && is_none r.end
 
--- the size of the plain form by the rule of Linux 6.1: that of `SIZE` isn't bounded
+-- the size of the plain form by the rule of Linux 6.1. Sizes for ranges of total memory are bounded
+-- by total memory; the size of `crashkernel=SIZE` isn't.
 abbrev pub size_by_linux : ℕ → List CrashRange → ℕ
 size_by_linux total ranges = if is_size_form ranges then size_for_total total ranges else bounded_size_for_total total ranges
 

@@ -17,7 +17,8 @@ use Rattle.crash_kernel.specs.Request.{request_by, request_for}
 use Rattle.crash_kernel.specs.declared.rule.CrashRule.{CrashRule}
 use Rattle.crash_kernel.specs.Places.{low_range, low_size, main_range, needs_low_part, search_failure}
 
--- searches for a low part and claims it; if no range was found for it, frees the area again
+-- `reserve_low_part` searches for a low part of `size` bytes, and `claim_low_part` claims the range
+-- that was found. If none was found, the area `main` is freed again.
 abbrev pub claim_low_part : RangeView → Option RangeView → StageStep RefusedGrowth Crash
 claim_low_part main None = do
   done ← make_change (free_range main)
@@ -31,14 +32,16 @@ reserve_low_part main size = do
   low ← read_items (low_range size)
   claim_low_part main low
 
--- claims the area, and reserves its low part if it needs one
+-- claims the range that was found for the area, and reserves its low part if it needs one. If none
+-- was found, returns the outcome for that.
 abbrev pub claim_area : AreaRequest → ℕ → Option RangeView → StageStep RefusedGrowth Crash
 claim_area area low None = return_value (search_failure area.placement)
 claim_area area low (Some main) = do
   done ← make_change (claim_range main owner.Crash)
   if needs_low_part main low then reserve_low_part main low else return_value (crash.At main None)
 
--- searches for the area, if one is requested, and claims it
+-- searches for the area, if one is requested, and claims it; `low` is the size that its low part
+-- would have
 abbrev pub reserve_request : ℕ → Option AreaRequest → StageStep RefusedGrowth Crash
 reserve_request low None = return_value crash.Nothing
 reserve_request low (Some area) = do
@@ -52,7 +55,8 @@ reserve_crash_area asked = do
   total ← read_items (λ items. memory_bytes (memory_of items))
   reserve_request (low_size asked) (request_for total asked)
 
--- the stage by a rule: `added` bytes became memory before it was trimmed to whole frames
+-- reserves the crash area, with its size by `rule`. `added` is the number of bytes that became
+-- memory before it was trimmed to whole frames; only the rule of Linux 6.1 uses it.
 unfoldable pub reserve_crash_area_by : CrashRule → ℕ → CrashOptionView → StageStep RefusedGrowth Crash
 reserve_crash_area_by rule added asked = do
   total ← read_items (λ items. memory_bytes (memory_of items))

@@ -1,5 +1,5 @@
--- What is true of a crash area that was reserved: it was free memory, and has a low part exactly
--- if it needs one.
+-- What is true of a crash area that was reserved: it was free memory, and has a low part exactly if
+-- it lies at or above 4 GiB and the low size isn't 0.
 use Rattle.std.specs.Prelude.{◌≡◌, ℕ, ◌%◌, ◌^◌, ◌≤◌, true, false, Option, Some, None, List}
 use Rattle.bm_base.specs.Range.{RangeView, covers, end_of}
 use Rattle.memblock_model.specs.declared.item.Item.{Item}
@@ -35,12 +35,13 @@ pub record IsLowPart (asked : CrashOptionView) (items : List Item) (main low : R
   pub free : IsFreeMemory (items_after_claim main items) low
   pub within : end_of low ≤ 2 ^ 32
 
--- an area has a low part if it needs one, and has none otherwise
+-- an area has a low part exactly if it lies at or above 4 GiB and the low size isn't 0
 abbrev pub HasLowPartIfNeeded : CrashOptionView → List Item → RangeView → Option RangeView → Type 0
 HasLowPartIfNeeded asked items main None = needs_low_part main (low_size asked) ≡ false
 HasLowPartIfNeeded asked items main (Some low) = (needs_low_part main (low_size asked) ≡ true) × IsLowPart asked items main low
 
--- the area has the size of this request, begins at a multiple of 1 MiB, and was free
+-- the area has the size of this request, begins at a multiple of 1 MiB, and was free memory of one
+-- node; it has a low part if it needs one
 pub record IsAreaFor (request : Option AreaRequest) (asked : CrashOptionView) (items : List Item) (main : RangeView)
     (low : Option RangeView) : Type 0 where
   pub placement : Placement
@@ -49,6 +50,7 @@ pub record IsAreaFor (request : Option AreaRequest) (asked : CrashOptionView) (i
   pub aligned : main.base % 0x100000 ≡ 0
   pub low_part : HasLowPartIfNeeded asked items main low
 
--- the area is one for the request of `bootmem`'s own rule
+-- the area has the size that `crashkernel=` requests by `bootmem`'s own rule, begins at a multiple
+-- of 1 MiB, and was free memory of one node
 abbrev pub IsCrashArea : CrashOptionView → List Item → RangeView → Option RangeView → Type 0
 IsCrashArea asked items main low = IsAreaFor (request_for (memory_bytes (memory_of items)) asked) asked items main low

@@ -15,7 +15,8 @@ ghost use Rattle.crash_kernel.specs.declared.rule.CrashRule.{CrashRule as AnyRul
 ghost use Rattle.crash_kernel.specs.declared.rule.CrashRule.TheVariants as rules;
 ghost use Rattle.crash_kernel.specs.ReservedArea.{IsAreaFor, IsCrashArea};
 
-/// Law: the stage changes neither memory nor the limit, whatever its outcome.
+/// Law: reserving the crash area changes neither memory nor the limit of allocations, whatever its
+/// outcome.
 pub fn reserve_keeps_memory_and_limit()
     ensures memory { (asked : CrashOptionView) (items : List AnyItem) →
         memory_of (items_after_step items (reserve_crash_area asked items)) ≡ memory_of items }
@@ -34,14 +35,15 @@ pub fn reserved_area_was_free()
         → IsCrashArea asked items main low }
 {}
 
-/// Law: by `bootmem`'s own rule the stage does what [`reserve`](crate::reserve) does, however
-/// many bytes became memory (`added`).
+/// Law: by the rule `ExactTotal`, [`reserve_by`](crate::reserve_by) does exactly what
+/// [`reserve`](crate::reserve) does. The number `added` plays no part in it.
 pub fn own_rule_is_reserve()
     ensures { (added : ℕ) (asked : CrashOptionView) →
         reserve_crash_area_by rules.ExactTotal added asked ≡ reserve_crash_area asked }
 {}
 
-/// Law: by each rule the stage changes neither memory nor the limit, whatever its outcome.
+/// Law: by either rule for its size, reserving the crash area changes neither memory nor the limit
+/// of allocations, whatever its outcome.
 pub fn reserve_by_keeps_memory_and_limit()
     ensures memory { (rule : AnyRule) (added : ℕ) (asked : CrashOptionView) (items : List AnyItem) →
         memory_of (items_after_step items (reserve_crash_area_by rule added asked items))
@@ -51,9 +53,10 @@ pub fn reserve_by_keeps_memory_and_limit()
         ≡ limit_of items }
 {}
 
-/// Law: by each rule a crash area that was reserved was free memory of one node before. It has the
-/// size that the rule gives, and begins at a multiple of 1 MiB. Its low part is as
-/// [`reserved_area_was_free`] says.
+/// Law: by either rule for its size, a crash area that was reserved was free memory of one node
+/// before. It has the size that the rule gives, and begins at a multiple of 1 MiB. It has a low
+/// part exactly if it lies at or above 4 GiB and the low size isn't 0. The low part ends at or
+/// below 4 GiB, and was still free memory of one node after the area was claimed.
 pub fn area_by_rule_was_free()
     ensures { (rule : AnyRule) (added : ℕ) (asked : CrashOptionView) (items : List AnyItem)
         (main : RangeView) (low : Option RangeView) →

@@ -48,9 +48,10 @@ pub fn request_for(total: u64, option: &CrashOption) -> Option<AreaRequest>
     plain_request(total, &option.plain).or_else(|| high_request(option.high))
 }
 
-/// Returns the area that `crashkernel=` requests by `rule`. `total` is the number of bytes in the
-/// memory table. `added` is the number of bytes that were added to it before it was trimmed to
-/// whole frames; only the rule of Linux 6.1 looks at it.
+/// Returns the area that `crashkernel=` requests by `rule`, or `None` if it requests no area.
+/// `total` is the number of bytes in the memory table. `added` is the number of bytes that were
+/// added to it before it was trimmed to whole frames; only the rule of Linux 6.1 (`RoundedTotal`)
+/// uses it.
 #[tactic(auto, unfolding(crate::specs::Request::request_by))]
 pub fn request_by(
     rule: CrashRule,
@@ -68,8 +69,8 @@ pub fn request_by(
     }
 }
 
-/// Returns the area that `crashkernel=` requests by the rule of Linux 6.1 if total memory is
-/// `total` bytes, rounded already.
+/// Returns the area that `crashkernel=` requests by the rule of Linux 6.1, or `None` if it requests
+/// no area. `total` is total memory in bytes, already rounded up to a multiple of 128 MiB.
 #[tactic(auto, unfolding(crate::specs::Request::linux_request))]
 fn linux_request(total: u64, option: &CrashOption) -> Option<AreaRequest>
     ensures area { result ≡ linux_request total (crash_option_view option.now) }
@@ -78,8 +79,9 @@ fn linux_request(total: u64, option: &CrashOption) -> Option<AreaRequest>
     linux_plain_request(total, &option.plain).or_else(|| high_request(option.high))
 }
 
-/// Returns the area that the plain form requests by the rule of Linux 6.1. `total` is total memory
-/// in bytes, rounded already.
+/// Returns the area that the plain form (`crashkernel=SIZE` or ranges of total memory) requests by
+/// the rule of Linux 6.1. `total` is total memory in bytes, already rounded up to a multiple of 128
+/// MiB.
 fn linux_plain_request(total: u64, plain: &Option<CrashPlain>) -> Option<AreaRequest>
     ensures area { result ≡ linux_plain_request total (option_map crash_plain_view plain.now) }
     ensures some { IfSome result (λ area. 0 < area.size) }
@@ -128,7 +130,8 @@ fn request_of_size(size: u64, placement: Placement) -> Option<AreaRequest>
     Some(AreaRequest { size, placement })
 }
 
-/// Returns the placement for the `BASE` of a plain form. Base 0 leaves the place to the kernel.
+/// Returns the placement for the `BASE` of `crashkernel=SIZE@BASE`. With base 0 the kernel picks
+/// the place, as without a base.
 fn placement_for(base: u64) -> Placement
     ensures { result ≡ placement_for base }
 {
@@ -139,9 +142,9 @@ fn placement_for(base: u64) -> Placement
     }
 }
 
-/// Returns the size, in bytes, for the first range that contains `total`, or 0 if none does
-/// (`parse_crashkernel_mem`). The kernel first rounds `total` up to 128 MiB. This function
-/// doesn't round it.
+/// Returns the size, in bytes, that `crashkernel=RANGE:SIZE,..` gives for the first range that
+/// contains `total`, or 0 if none does (`parse_crashkernel_mem`). The kernel first rounds total
+/// memory up to 128 MiB. This function doesn't round it.
 fn size_for_total(total: u64, ranges: &[CrashRange]) -> u64
     ensures { result ≡ size_for_total total ranges.now }
 {
@@ -169,8 +172,8 @@ fn rounded_total(added: u64) -> u64
     (added + (SZ_128M - 1)) / SZ_128M * SZ_128M
 }
 
-/// Returns the size, in bytes, that the plain form has by the rule of Linux 6.1, or 0 if the form
-/// requests nothing or is refused.
+/// Returns the size, in bytes, that the plain form requests by the rule of Linux 6.1. Returns 0 if
+/// it requests nothing or is refused. `total` is total memory in bytes, already rounded up.
 fn size_by_linux(total: u64, ranges: &[CrashRange]) -> u64
     ensures { result ≡ size_by_linux total ranges.now }
 {
@@ -181,16 +184,17 @@ fn size_by_linux(total: u64, ranges: &[CrashRange]) -> u64
     }
 }
 
-/// Tests whether the form is `crashkernel=SIZE`: a single range that contains every total. For
-/// `0-:SIZE` the option has this value too.
+/// Tests whether the form is `crashkernel=SIZE`: a single range that contains every total. The form
+/// `crashkernel=0-:SIZE` is read as the same range, so the test is true for it too.
 fn is_size_form(ranges: &[CrashRange]) -> bool
     ensures { result ≡ is_size_form ranges.now }
 {
     ranges.len() == 1 && ranges[0].start == 0 && ranges[0].end.is_none()
 }
 
-/// Returns the size, in bytes, for the first range that contains `total`. Returns 0 if none does,
-/// or if that range or one before it is refused (`parse_crashkernel_mem`).
+/// Returns the size, in bytes, that `crashkernel=RANGE:SIZE,..` gives for the first range that
+/// contains `total`. Returns 0 if no range does, or if Linux 6.1 refuses that range or one before
+/// it (`parse_crashkernel_mem`).
 fn bounded_size_for_total(total: u64, ranges: &[CrashRange]) -> u64
     ensures { result ≡ bounded_size_for_total total ranges.now }
 {

@@ -34,7 +34,7 @@ const DEFAULT_LOW_SIZE: u64 = 1 << 28;
 ///
 /// Completed steps stay: if claiming the low part fails, the area stays claimed.
 ///
-/// - `NoGapForTable` if a table has to grow for a claim or a free and finds no place.
+/// - `NoGapForTable` if a table has to grow for a claim or a free and no place is found for it.
 /// - `Memory` if this program is out of memory.
 pub fn reserve(memblock: &mut Memblock, option: &CrashOption) -> Result<Crash, Refusal>
     requires begun { HasFirstItem memblock.old.journal.items }
@@ -50,13 +50,18 @@ pub fn reserve(memblock: &mut Memblock, option: &CrashOption) -> Result<Crash, R
     reserve_by(memblock, CrashRule::ExactTotal, 0, option)
 }
 
-/// Reserves the crash area that `option` requests by `rule`. `added` is the number of bytes that
-/// became memory before memblock trimmed it to whole frames; only the rule of Linux 6.1 looks at
-/// it. In all else the call does what [`reserve`] does.
+/// Reserves the crash area that `option` requests, and its low part if it needs one
+/// (`reserve_crashkernel`). The size follows from total memory by `rule`. `added` is the number of
+/// bytes that became memory before memblock trimmed it to whole frames; only the rule of Linux 6.1
+/// uses it. Returns the outcome, which may be that nothing fits. The kernel's image must be claimed
+/// already. For `Nothing`, `NoArea` and `InUse` the call allocates nothing and can't fail.
 ///
 /// # Errors
 ///
-/// Those of [`reserve`].
+/// Completed steps stay: if claiming the low part fails, the area stays claimed.
+///
+/// - `NoGapForTable` if a table has to grow for a claim or a free and no place is found for it.
+/// - `Memory` if this program is out of memory.
 pub fn reserve_by(
     memblock: &mut Memblock,
     rule: CrashRule,
@@ -90,8 +95,16 @@ pub fn reserve_by(
     }
 }
 
-/// Reserves a low part of `size` bytes for the area `main`, which is claimed already. If no low
-/// part fits, frees the area again (`reserve_crashkernel_low`).
+/// Reserves a low part of `size` bytes for the area `main`, which is claimed already. Returns `At`
+/// with both. If no low part fits, frees the area again and returns `LowFailed`
+/// (`reserve_crashkernel_low`).
+///
+/// # Errors
+///
+/// The area stays claimed.
+///
+/// - `NoGapForTable` if a table has to grow for the claim or the free and no place is found for it.
+/// - `Memory` if this program is out of memory.
 fn reserve_low_part(memblock: &mut Memblock, main: Range, size: u64) -> Result<Crash, Refusal>
     requires begun { HasFirstItem memblock.old.journal.items }
     requires main { 0 < main.size }

@@ -8,7 +8,7 @@ pub record FrameRange : Type 0 where
   pub first : ℕ
   pub count : ℕ
 
--- the bytes of these frames
+-- the range of the bytes in these frames; a frame has 4,096 bytes
 abbrev pub bytes_of_frames : FrameRange → RangeView
 bytes_of_frames r = record { base = FRAME_SIZE * r.first; size = FRAME_SIZE * r.count }
 

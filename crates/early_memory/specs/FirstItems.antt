@@ -1,5 +1,5 @@
--- The items that a boot is to write before any node is known, in order. They depend only on its
--- inputs.
+-- The journal items (recorded changes of memblock) that a boot is to write before any node is
+-- known, in order. They depend only on the inputs of the boot.
 use Rattle.std.specs.Prelude.{ℕ, ◌-◌, ◌==◌, Bool, true, false, ◌&&◌, nat_lt, min, if◌then◌else◌, Option, Some, None, List, [], ◌∷◌, ◌++◌}
 use Rattle.bm_base.specs.Range.{RangeView}
 use Rattle.address_runs.specs.Runs.{RunOf, run_end, range_of_run, value_at}
@@ -12,7 +12,7 @@ use Rattle.early_memory.specs.declared.low.TheConstants.{ISA_END_ADDRESS, LOW_EN
 use Rattle.early_memory.specs.EarlyInputs.{EarlyInputs, FrameRange, bytes_of_frames}
 use Rattle.early_memory.specs.Memory.{memory_end}
 
--- the bytes from 0 to below the address
+-- the range of all addresses below `at`
 abbrev pub range_up_to : ℕ → RangeView
 range_up_to at = record { base = 0; size = at }
 
@@ -26,7 +26,7 @@ initrd_claims (Some range) = item.Claim range owner.Initrd ∷ []
 abbrev pub early_claims : RangeView → Option RangeView → List Item
 early_claims kernel initrd = item.Claim kernel owner.Kernel ∷ item.Claim (range_up_to LOW_END) owner.Low64K ∷ initrd_claims initrd
 
--- the part of the run below the limit
+-- the part of the run that lies below the limit
 abbrev pub part_below : ℕ → RunOf ℕ → RangeView
 part_below limit r = record { base = r.base; size = min (run_end r) limit - r.base }
 
@@ -42,8 +42,8 @@ abbrev pub items_of_map : ℕ → List (RunOf ℕ) → List Item
 items_of_map limit [] = []
 items_of_map limit (r ∷ rs) = items_of_run limit r ++ items_of_map limit rs
 
--- the item by which searches go from the lowest address up, or no item if they go from the
--- highest down (`memblock_set_bottom_up` in `setup_arch`)
+-- `true`: the one item by which searches go from the lowest address up. `false`: no item, since
+-- searches go from the highest address down by default (`memblock_set_bottom_up` in `setup_arch`).
 abbrev pub direction_items : Bool → List Item
 direction_items true = item.Upward true ∷ []
 direction_items false = []
@@ -60,8 +60,8 @@ abbrev pub items_after_map : List FrameRange → ℕ → List Item
 items_after_map mirrors end =
     item.Trim ∷ (mirror_items mirrors ++ (item.Limit end ∷ item.Claim (range_up_to ISA_END_ADDRESS) owner.Low1M ∷ []))
 
--- all items for these inputs and a map, in order; until memory is known, allocations stay in the
--- first MiB (`setup_arch`)
+-- all items of the early stages for these inputs and this map, in order. The limit of allocations
+-- is the end of the first MiB until all memory has been added (`setup_arch`).
 abbrev pub early_items : EarlyInputs → List (RunOf ℕ) → List Item
 early_items e map =
     early_claims e.kernel e.initrd

@@ -13,12 +13,12 @@ use Rattle.memblock_model.specs.Labels.{Labels, plain_label, with_mirror}
 use Rattle.memblock_model.specs.Search.{last_below}
 use Rattle.early_memory.specs.EarlyInputs.{FrameRange, bytes_of_frames}
 
--- memory without mirrors: each byte of a usable frame is memory without a node
--- (`e820__memblock_setup`)
+-- the label of each address before any memory is marked as mirrored: a byte of a usable frame is
+-- memory without a node, and any other byte isn't memory (`e820__memblock_setup`)
 abbrev pub usable_memory : ℕ → TypeAt → Labels
 usable_memory limit f x = if is_usable_frame (types_below limit f) (x / FRAME_SIZE) then Some plain_label else None
 
--- whether the address is in frames that are mirrored
+-- whether the address lies in one of these ranges of mirrored frames
 abbrev pub is_mirrored : List FrameRange → ℕ → Bool
 is_mirrored mirrors x = list_any (λ r. covers (bytes_of_frames r) x) mirrors
 
@@ -27,7 +27,7 @@ is_mirrored mirrors x = list_any (λ r. covers (bytes_of_frames r) x) mirrors
 abbrev pub mirrored_memory : List FrameRange → Labels → Labels
 mirrored_memory mirrors f x = if is_mirrored mirrors x then option_map with_mirror (f x) else f x
 
--- the address past the frame, or 0 for no frame
+-- the first address above the frame of this number, or 0 for `None`
 abbrev pub end_of_last_frame : Option ℕ → ℕ
 end_of_last_frame None = 0
 end_of_last_frame (Some frame) = end_of (bytes_of_frame frame)

@@ -1,5 +1,6 @@
-//! Laws of the early stages, on which later stages may rest. Memory is what the map says, frame by
-//! frame. Growth of memblock's tables between the items doesn't change that.
+//! Laws about memory after the early stages of the boot, before any node is known. A byte is memory
+//! exactly if its frame is usable in the firmware's map. This also holds if a table of memblock had
+//! to grow meanwhile.
 
 ghost use Rattle.std.specs.Prelude.{◌≡◌, ℕ, ◌-◌, ◌/◌, ◌%◌, ◌<◌, ◌≤◌, true, Some, List, [], IfSome, Ok};
 ghost use Rattle.std.specs.List.{All};
@@ -16,8 +17,9 @@ ghost use Rattle.early_memory.specs.FirstItems.{early_items};
 
 use bm_base::FRAME_SIZE;
 
-/// Law: after the early stages a byte is memory exactly if its frame is usable. No memory has a
-/// node. Memory is mirrored exactly if its frame is among those that firmware mirrors. The limit of
+/// Law: after the early stages a byte is memory exactly if its frame is usable: all bytes of the
+/// frame are RAM or the kernel's own memory in the map, below the limit of physical addresses. No
+/// memory has a node. Memory is mirrored exactly if its frame is in `e.mirrors`. The limit of
 /// allocations is the end of the last usable frame.
 pub fn memory_is_usable_frames()
     ensures memory { (e : EarlyInputs) (map : List (RunOf ℕ)) (items : List AnyItem) → AreRuns map →
@@ -42,16 +44,16 @@ pub fn memory_ends_at_last_usable_frame()
         is_usable_frame (types_below limit f) ((memory_end limit f - 1) / FRAME_SIZE) ≡ true }
 {}
 
-/// Law: the last run of memory ends at the end of the last usable frame. The end of the last
-/// usable frame can therefore be read from the memory table.
+/// Law: the last run of memory (a range of bytes with the same label) ends at the end of the last
+/// usable frame. That end can therefore be read from the last record of memblock's memory table.
 pub fn memory_ends_with_its_last_run()
     ensures { (limit : ℕ) (f : TypeAt) (mirrors : List FrameRange) (runs : List (RunOf LabelView)) →
         IsRunsOf (mirrored_memory mirrors (usable_memory limit f)) runs
         → end_of_last_run runs ≡ memory_end limit f }
 {}
 
-/// Law: if the kernel's image, the initrd and each range of mirrored frames aren't empty, no item
-/// of the list has an empty range.
+/// Law: no item of `early_items` has an empty range, if the kernel's image, the initrd (if there is
+/// one) and each range of mirrored frames aren't empty.
 pub fn no_early_item_is_empty()
     ensures { (e : EarlyInputs) (map : List (RunOf ℕ)) → 0 < e.kernel.size
         → IfSome e.initrd (λ range. 0 < range.size) →

@@ -1,6 +1,6 @@
--- What a line of the script does and returns. Each act first tests, in a fixed order, for the
--- reasons to refuse it. The first reason that applies gives the outcome, and memory changes only
--- if none applies.
+-- What a line of the script does and returns. A line is first tested, in a fixed order, for the
+-- reasons to refuse it. The first reason that applies gives the outcome, and memory changes only if
+-- none applies.
 use Rattle.std.specs.Prelude.{◌≡◌, ◌⊎◌, ℕ, ◌+◌, ◌-◌, nat_le, nat_lt, Bool, true, false, IsTrue, if◌then◌else◌, Option, Some, None, List, [], ◌∷◌, ◌++◌, length, Result, Ok, Err}
 use Rattle.bm_base.specs.declared.memory.Memory.{Memory}
 use Rattle.bm_base.specs.Range.{RangeView}
@@ -48,7 +48,8 @@ pub record OnlyAnswers (s : ScriptState) (d : LineEffect) : Type 0 where
   pub unchanged : d.change s.items ≡ no_change s.items
   pub untaken : d.takes ≡ false
 
--- `alloc`: claims the best place for the ID
+-- `alloc`: claims, for the ID, the place that memblock finds for the request, and makes the ID live
+-- with that range
 abbrev pub alloc_effect_at : ScriptState → ℕ → ℕ → Option ℕ → LineEffect
 alloc_effect_at s id size None = answer_only s outcomes.NoGap
 alloc_effect_at s id size (Some place) = record {
@@ -62,7 +63,8 @@ alloc_effect_at s id size (Some place) = record {
 abbrev pub alloc_effect : ScriptState → ℕ → Request → LineEffect
 alloc_effect s id r = if is_live s.ids id then answer_only s outcomes.Taken else alloc_effect_at s id r.size (place_for r s.items)
 
--- `reserve`: claims the range for the ID, unless it overlaps a table
+-- `reserve`: claims the range for the ID and makes the ID live with it, unless the range overlaps a
+-- table of memblock
 abbrev pub reserve_for_id : ScriptState → ℕ → RangeView → LineEffect
 reserve_for_id s id range = record {
   change = claim_range range (owner.Script id);
@@ -77,7 +79,7 @@ reserve_effect s id range =
     if is_live s.ids id then answer_only s outcomes.Taken else
     (if is_over_table s.kernel s.items range then answer_only s outcomes.TableInUse else reserve_for_id s id range)
 
--- an act on the range of an ID, which is refused unless the ID is live and owns all of its range
+-- a command on the range of an ID, which is refused unless the ID is live and owns all of its range
 abbrev pub act_on_owned_range : ScriptState → ℕ → (RangeView → LineEffect) → Option RangeView → LineEffect
 act_on_owned_range s id act_effect None = answer_only s outcomes.Unknown
 act_on_owned_range s id act_effect (Some range) =
@@ -134,8 +136,8 @@ act_effect s bytes (acts.Fill id byte) = fill_effect s id byte
 act_effect s bytes (acts.Peek at len) = peek_effect s bytes at len
 act_effect s bytes acts.Sections = answer_only s outcomes.Done
 
--- if a table has to grow and finds no place, the outcome of the line says so, and the live IDs are
--- unchanged
+-- if a table of memblock has to grow and no place is found for it, the outcome of the line is
+-- `NoGapForTable`, and the live IDs are unchanged
 abbrev pub outcome_unless_refused : Option RefusedGrowth → Outcome → Outcome
 outcome_unless_refused None answer = answer
 outcome_unless_refused (Some r) answer = outcomes.NoGapForTable r.which r.room
@@ -154,14 +156,15 @@ script_outcome_at_line s d = outcome_unless_refused (d.change s.items).refused d
 abbrev pub state_after_line : ScriptState → LineEffect → ScriptState
 state_after_line s d = state_after_change s d.ids (d.change s.items)
 
--- this program ran out of memory during a change: either before one of its steps, and then that
--- step and all later ones are missing; or after all steps, which is possible only if no growth was
--- refused and the line also allocates memory of this program (`takes`)
+-- This program ran out of memory during a change. Either it ran out before one of the change's
+-- steps: that step and all later ones are missing. Or it ran out after all steps: no growth was
+-- refused, and the line allocates further memory of this program (`takes`).
 abbrev pub RunsOutDuringChange : Bool → List Item → List Item → growth.ChangeEffect → Type 0
 RunsOutDuringChange takes old new o =
     StopsBeforeStep old new o.steps ⊎ (IsTrue takes × (o.refused ≡ None) × (new ≡ items_after_change old o))
 
--- this program ran out of memory during a line, and the live IDs are unchanged
+-- this program ran out of memory during a line: some steps of the line's change may be missing, and
+-- the live IDs are unchanged
 abbrev pub RunsOutDuringLine : ScriptState → ScriptState → LineEffect → Type 0
 RunsOutDuringLine old new d =
     RunsOutDuringChange d.takes old.items new.items (d.change old.items) × (new.kernel ≡ old.kernel) × (new.ids ≡ old.ids)
@@ -182,7 +185,7 @@ abbrev pub byte_after_line : Result Outcome Memory → ScriptState → ScriptSta
 byte_after_line (Ok answer) old new d x b = byte_after_any_fill d.fill x (byte_after_items old.kernel old.items new.items x b)
 byte_after_line (Err memory) old new d x b = byte_after_items old.kernel old.items new.items x b
 
--- the fills, with the fill of a line appended if the line made one
+-- the fills so far, with the fill of this line appended if the line made one
 abbrev pub add_fill : List Fill → Option Fill → List Fill
 add_fill fills None = fills
 add_fill fills (Some f) = fills ++ f ∷ []

@@ -10,7 +10,7 @@ use Rattle.early_script.specs.declared.outcome.Outcome.TheVariants as outcomes
 use Rattle.early_script.specs.LiveView.{LiveView}
 use Rattle.early_script.specs.Effects.{ScriptState}
 
--- the state, from live IDs and a memblock
+-- the state before a line, for these live IDs and this memblock
 abbrev pub state_of_memblock : LiveView → MemblockView → ScriptState
 state_of_memblock ids m = record { kernel = m.kernel; items = m.journal.items; ids = ids }
 
@@ -18,8 +18,8 @@ state_of_memblock ids m = record { kernel = m.kernel; items = m.journal.items; i
 abbrev pub memblock_bytes : MemblockView → ℕ → ℕ
 memblock_bytes m = byte_of m.tables.store
 
--- the result of a line that memblock refused: the refusal is the outcome, but out of memory is an
--- error and ends the script
+-- the result of a line that memblock refused: the reason is the outcome, except that out of memory
+-- is an error and ends the script
 abbrev pub AnswersRefusal : Result Outcome Memory → Refusal → Type 0
 AnswersRefusal (Ok answer) refusal.NoGap = answer ≡ outcomes.NoGap
 AnswersRefusal (Ok answer) (refusal.NoGapForTable w room) = answer ≡ outcomes.NoGapForTable w room

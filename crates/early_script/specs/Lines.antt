@@ -12,7 +12,7 @@ use Rattle.early_script.specs.LiveView.{LiveView}
 use Rattle.early_script.specs.Effects.{ScriptState, LineEffect, RunsOutDuringLine, CanBeRun, add_fill, act_effect, script_outcome_at_line, state_after_line}
 use Rattle.early_script.specs.FromMemblock.{state_of_memblock, memblock_bytes}
 
--- what has happened before a line: the state, and the fills and outcomes so far
+-- what the lines up to here have left: the state, the fills that were made, and the outcomes
 pub record ScriptSoFar : Type 0 where
   pub state : ScriptState
   pub fills : List Fill
@@ -37,8 +37,8 @@ abbrev pub script_after_lines : ScriptSoFar → List Line → ScriptSoFar
 script_after_lines s [] = s
 script_after_lines s (line ∷ lines) = script_after_lines (script_after_line s line) lines
 
--- what has happened before a list of lines: the state of the memblock `m` with the live IDs
--- `ids`, the fills `fills` and the outcomes `answers`
+-- what has happened before a list of lines: the state of the memblock `m` with the live IDs `ids`,
+-- the fills `fills` that were made, and the outcomes `answers`
 abbrev pub script_so_far : LiveView → MemblockView → List Fill → List Answer → ScriptSoFar
 script_so_far ids m fills answers = record { state = state_of_memblock ids m; fills = fills; answers = answers }
 

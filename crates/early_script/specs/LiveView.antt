@@ -19,7 +19,7 @@ is_live ids id = is_some (range_of_id ids id)
 abbrev pub with_range : LiveView → ℕ → RangeView → LiveView
 with_range ids id range = insert_entry nat_cmp ids id range
 
--- the live IDs without this one
+-- the live IDs without `id`
 abbrev pub without_id : LiveView → ℕ → LiveView
 without_id ids id = remove_entry (is_at (nat_cmp id)) ids
 

@@ -6,13 +6,14 @@
 //! the first that applies is the outcome. Memory changes only if none applies. A refused line
 //! doesn't end the boot: its outcome is recorded, and the next line follows.
 //!
-//! - `specs/Effects.antt`: what each act does and returns (`act_effect`), as a change of the items.
-//!   `specs/Lines.antt`: lines, one after another.
-//! - [`Live`]: the live IDs, each with its range. Contracts see it as a list of them.
+//! - `specs/Effects.antt`: what each command of a line does and returns (`act_effect`), as a change
+//!   of the journal's items. `specs/Lines.antt`: lines, one after another.
+//! - [`Live`]: the live IDs, each with its range. Contracts see it as a list of IDs with their
+//!   ranges.
 //! - A line can only use an ID that still owns all bytes of its range. Another line may have
 //!   claimed or freed some of these bytes. A look-up in the journal decides whether one has.
 //! - [`run_script_lines`] runs lines in order. [`split_at_sections`] returns the lines before and
-//!   after the one that places the sections.
+//!   after the line `sections`, which places the memory sections.
 //!
 //! The layer above may rest on these facts:
 //!

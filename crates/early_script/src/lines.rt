@@ -24,14 +24,14 @@ use bm_base::{Memory, push_within_capacity};
 use memblock_grow::Memblock;
 use script_reader::{Act, Line};
 
-/// Runs the lines in order and appends the outcome of each. A refused line has an outcome like any
-/// other.
+/// Runs the lines in order and appends the outcome of each to `answers`. A refused line has an
+/// outcome like any other, and the next line follows.
 ///
 /// # Errors
 ///
-/// `Memory` if this program is out of memory. If the list of outcomes has no room, that is found
-/// before the first line, and nothing has changed. Otherwise it happens during a line. All lines
-/// before that one have then been run, and their outcomes are in the list.
+/// `Memory` if this program is out of memory. If `answers` can't get room for all outcomes, no line
+/// has been run and nothing has changed. Otherwise memory ran out during a line. All lines before
+/// that one have then been run, and their outcomes are in `answers`.
 pub fn run_script_lines(
     live: &mut Live,
     mb: &mut Memblock,
@@ -69,8 +69,9 @@ pub fn run_script_lines(
     Ok(())
 }
 
-/// Returns the lines before the one that places the sections, or all lines if none does, and the
-/// lines after it.
+/// Splits a script at its line `sections`, which places the memory sections. Returns the lines
+/// before that line and the lines after it. Without such a line, returns all lines and an empty
+/// list.
 pub fn split_at_sections(lines: &[Line]) -> (&[Line], &[Line])
     requires once { PlacesSectionsOnce lines.now }
     requires bounds { All (λ l. HasBounds l.act) lines.now }
@@ -88,8 +89,9 @@ pub fn split_at_sections(lines: &[Line]) -> (&[Line], &[Line])
     (lines, &[])
 }
 
-/// Law: a line leaves memory, its nodes and the limit unchanged, whatever its outcome is. This is
-/// also true if this program runs out of memory during the line.
+/// Law: a line of the early script leaves memory, the nodes of memory and the limit of allocations
+/// unchanged, whatever its outcome is. This is also true if this program runs out of memory during
+/// the line.
 pub fn lines_leave_memory()
     ensures memory { (result : Result Outcome Memory) (old new : ScriptState) (bytes : ℕ
         → ℕ) (a : Act) →
@@ -101,8 +103,8 @@ pub fn lines_leave_memory()
         → limit_of new.items ≡ limit_of old.items }
 {}
 
-/// Law: a script that the reader accepted places the sections at most once, so each line after
-/// that one can be run.
+/// Law: a script that the reader accepts has at most one line `sections`. No line after it is
+/// another one.
 pub fn scripts_place_sections_once()
     ensures { (bytes : List ℕ) (lines : List Line) → script_of bytes ≡ Ok lines
         → PlacesSectionsOnce lines }

@@ -54,14 +54,14 @@ impl Live {
         }
     }
 
-    /// Runs one line and returns its outcome. The line must not be the one that places the
-    /// sections. Its numbers must be within the bounds that `script_reader` guarantees. A line that
-    /// changes nothing can't fail.
+    /// Runs one line and returns its outcome. The line must not be `sections`, which the boot runs
+    /// itself. Its numbers must be within the bounds that `script_reader` guarantees. A line that
+    /// writes nothing and only returns an outcome, such as `peek`, can't fail.
     ///
     /// # Errors
     ///
-    /// `Memory` if this program is out of memory. Some steps of the line's change may then be
-    /// written, and the IDs are unchanged.
+    /// `Memory` if this program is out of memory. A table of memblock may have grown by then and
+    /// the line's range may be claimed or freed, but the live IDs are unchanged.
     pub fn run_line(&mut self, mb: &mut Memblock, line: &Line) -> Result<Outcome, Memory>
         requires begun { HasFirstItem mb.old.journal.items }
         requires run { CanBeRun line.now.act }
@@ -94,12 +94,13 @@ impl Live {
         }
     }
 
-    /// Runs an `alloc` line: claims the best place for the request, and gives its range to the ID.
+    /// Runs an `alloc` line: claims the place that memblock finds for the request, and makes the ID
+    /// live with that range. The outcome is `Taken` if the ID is live already.
     ///
     /// # Errors
     ///
-    /// `Memory` if this program is out of memory. Some steps of the change may then be written,
-    /// and the IDs are unchanged.
+    /// `Memory` if this program is out of memory. A table of memblock may have grown and the range
+    /// may be claimed by then, but the live IDs are unchanged.
     fn alloc(&mut self, mb: &mut Memblock, id: u32, request: &Request) -> Result<Outcome, Memory>
         requires begun { HasFirstItem mb.old.journal.items }
         requires some { 1 ≤ request.now.size }
@@ -127,12 +128,14 @@ impl Live {
         }
     }
 
-    /// Runs a `reserve` line: claims the range and gives it to the ID, unless it overlaps a table.
+    /// Runs a `reserve` line: claims the range and makes the ID live with it. The outcome is
+    /// `Taken` if the ID is live already, and `TableInUse` if the range overlaps a table of
+    /// memblock.
     ///
     /// # Errors
     ///
-    /// `Memory` if this program is out of memory. Some steps of the change may then be written,
-    /// and the IDs are unchanged.
+    /// `Memory` if this program is out of memory. A table of memblock may have grown and the range
+    /// may be claimed by then, but the live IDs are unchanged.
     fn reserve(&mut self, mb: &mut Memblock, id: u32, range: Range) -> Result<Outcome, Memory>
         requires begun { HasFirstItem mb.old.journal.items }
         requires some { 0 < range.size }
@@ -161,8 +164,8 @@ impl Live {
     ///
     /// # Errors
     ///
-    /// `Memory` if this program is out of memory. Some steps of the change may then be written,
-    /// and the IDs are unchanged.
+    /// `Memory` if this program is out of memory. A table of memblock may have grown by then. The
+    /// range isn't freed, and the ID stays live.
     fn free(&mut self, mb: &mut Memblock, id: u32) -> Result<Outcome, Memory>
         requires { HasFirstItem mb.old.journal.items }
         ensures acts { EndsAsLine result (state_of_memblock self.old mb.old)
@@ -182,12 +185,13 @@ impl Live {
         Ok(Outcome::Done)
     }
 
-    /// Runs a `trim` line: frees all bytes of the ID's range except the first `keep`.
+    /// Runs a `trim` line: frees all bytes of the ID's range except the first `keep`, and shortens
+    /// the ID's range to these.
     ///
     /// # Errors
     ///
-    /// `Memory` if this program is out of memory. Some steps of the change may then be written,
-    /// and the IDs are unchanged.
+    /// `Memory` if this program is out of memory. A table of memblock may have grown and the bytes
+    /// may be free by then, but the live IDs are unchanged.
     fn trim(&mut self, mb: &mut Memblock, id: u32, keep: u64) -> Result<Outcome, Memory>
         requires begun { HasFirstItem mb.old.journal.items }
         requires some { 0 < keep }
@@ -273,7 +277,7 @@ impl Live {
     /// The outcome of a line that uses the ID:
     ///
     /// - `Unknown` if the ID isn't live.
-    /// - `NotWhole` if it doesn't own all of its range.
+    /// - `NotWhole` if some byte of its range has another owner, or none.
     fn owned_range(&self, mb: &Memblock, id: u32) -> Result<Range, Outcome>
         requires { HasFirstItem mb.now.journal.items }
         ensures range { IfOk result (λ range. (act_effect : RangeView → LineEffect)

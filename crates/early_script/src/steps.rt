@@ -1,5 +1,5 @@
-//! Steps of a line that need no live ID. They are outside of `Live`, so that their contracts are
-//! only about memblock or numbers.
+//! Parts of running a line that need no live ID. They are outside of `Live`, so that their
+//! contracts are only about memblock or numbers.
 
 ghost use Rattle.std.specs.Prelude.{◌≡◌, ℕ, ◌+◌, ◌-◌, ◌^◌, ◌<◌, ◌≤◌, false, MatchOption};
 ghost use Rattle.phys_store.specs.Bytes.{bytes_at};
@@ -14,11 +14,11 @@ use arrayvec::ArrayVec;
 use bm_base::{Memory, Range};
 use memblock_grow::{Memblock, Refusal, no_items_no_change};
 
-/// Converts a refusal of memblock to an outcome; out of memory stays an error.
+/// Converts the error of a memblock call to the outcome of the line.
 ///
 /// # Errors
 ///
-/// `Memory` if the refusal is `Memory`.
+/// `Memory` if the error is out of memory, which is no outcome.
 pub fn outcome_of_refusal(refusal: Refusal) -> Result<Outcome, Memory>
     ensures { AnswersRefusal result refusal }
 {
@@ -50,7 +50,8 @@ pub fn split_range(range: Range, keep: u64) -> Option<(Range, Range)>
     Some((kept, rest))
 }
 
-/// Tests whether the range overlaps a table.
+/// Tests whether the range has a byte in common with a table of memblock, in the table's present
+/// place.
 pub fn is_over_table(mb: &Memblock, range: Range) -> bool
     ensures value { result ≡ is_over_table mb.now.kernel mb.now.journal.items range }
     ensures away { result ≡ false → OverlapsNoTable mb.now.kernel range mb.now.journal.items }
@@ -58,7 +59,7 @@ pub fn is_over_table(mb: &Memblock, range: Range) -> bool
     mb.touches_table(range)
 }
 
-/// Reads `len` bytes, at most 64, from address `at` on.
+/// Reads `len` bytes, at most 64, from address `at` on. Returns them as the outcome `Bytes`.
 pub fn read_bytes_at(mb: &Memblock, at: u64, len: u32) -> Outcome
     requires begun { HasFirstItem mb.now.journal.items }
     requires few { len ≤ 64 }

@@ -31,12 +31,14 @@ pub record AreLargestInSameZone (b next : Block) : Type 0 where
   pub node : next.node ≡ b.node
   pub zone : next.zone ≡ b.zone
 
--- the list `new` has the blocks of `old`, and also the buddies that are left of block `b` without
--- the set around `x`: one of each order from `low` to below `until` (`IsBuddy`)
+-- the list `new` has the blocks of `old`, and also one buddy of each order from `low` to below
+-- `until`: the buddies of the aligned sets that have frame `x`, on the node and in the zone of `b`
+-- (`IsBuddy`)
 abbrev pub AddsBuddies : Block → ℕ → ℕ → ℕ → List Block → List Block → Type 0
 AddsBuddies b low until x old new = (c : Block) → ListsBlock new c ↔ (IsBuddy b low until x c ⊎ ListsBlock old c)
 
--- the list `new` has the blocks of `old`, except the buddies that are left of block `b` without
--- the set around `x`: one of each order from `low` to below `until` (`IsBuddy`)
+-- the list `new` has the blocks of `old`, except one buddy of each order from `low` to below
+-- `until`: the buddies of the aligned sets that have frame `x`, on the node and in the zone of `b`
+-- (`IsBuddy`)
 abbrev pub RemovesBuddies : Block → ℕ → ℕ → ℕ → List Block → List Block → Type 0
 RemovesBuddies b low until x old new = (c : Block) → ListsBlock new c ↔ ((IsBuddy b low until x c → ⊥) × ListsBlock old c)

@@ -1,4 +1,4 @@
-//! The index of free blocks, as its users see it.
+//! The index of free blocks, for the callers of this crate.
 
 ghost use Rattle.std.specs.Prelude.{◌≡◌, ℕ, ◌+◌, ◌^◌, ◌<◌, ◌≤◌, OnOk, IfOk, MatchOption};
 ghost use Rattle.address_runs.specs.Runs.{AreRuns, value_at};
@@ -35,8 +35,9 @@ impl Model for Areas {
 }
 
 impl Areas {
-    /// Returns an index of the blocks of these free frames. It has about twenty keys for each run.
-    /// The runs must be canonical, and all frames below `MAX_FRAMES`.
+    /// Returns an index of the blocks of the free frames in `runs`. It has about twenty blocks for
+    /// each run. The runs must be ascending and not empty, and two runs that touch must be of
+    /// different nodes. All frames must be below `MAX_FRAMES`.
     ///
     /// # Errors
     ///
@@ -79,10 +80,10 @@ impl Areas {
         self.blocks.range(from..until).next().copied()
     }
 
-    /// Updates the index after the `2^order` frames around `frame` were taken from `block`
-    /// (`expand`). The free halves that are left replace `block` in the index: one buddy of each
-    /// order from `order` to below the block's. `behind` must be the block that begins where
-    /// `block` ends, or `None` if there is none.
+    /// Updates the index after the aligned set of `2^order` frames that has `frame` was taken from
+    /// `block` (`expand`). The free halves that are left replace `block` in the index: one buddy of
+    /// each order from `order` to below the order of `block`. `behind` must be the block that
+    /// begins where `block` ends, or `None` if there is none.
     ///
     /// # Errors
     ///
@@ -106,9 +107,9 @@ impl Areas {
         insert_buddies(&mut self.blocks, block, order, frame)
     }
 
-    /// Updates the index after the `2^order` frames around `frame` were freed (`__free_one_page`).
-    /// `block` must be the block that has these frames now. It replaces the buddies from which it
-    /// was merged.
+    /// Updates the index after the aligned set of `2^order` frames that has `frame` was freed
+    /// (`__free_one_page`). `block` must be the block that has these frames now. In the index it
+    /// replaces the buddies from which it was merged.
     ///
     /// # Errors
     ///

@@ -1,4 +1,4 @@
-//! Changes the index one key at a time. The keys are blocks.
+//! Changes the index of free blocks one block at a time.
 
 ghost use Rattle.std.specs.Prelude.{◌≡◌, ◌≢◌, ◌⊎◌, ◌↔◌, ℕ, ◌+◌, ◌*◌, ◌/◌, ◌^◌, ◌<◌, ◌≤◌, Some, None, OnOk, IfSome, IfNone};
 ghost use Rattle.buddy_blocks.specs.declared.block.Block.{Block as AnyBlock};
@@ -10,7 +10,7 @@ use bm_base::Memory;
 use buddy_blocks::{Block, BlockRow, MAX_FRAMES, MAX_ORDER};
 use std::collections::BTreeSet;
 
-/// Returns the first block of a row.
+/// Returns the first block of a row (consecutive blocks of one order, node and zone).
 pub fn first_block_of_row(row: &BlockRow) -> Block
     ensures { result ≡ first_block_of_row row.now }
 {
@@ -22,7 +22,7 @@ pub fn first_block_of_row(row: &BlockRow) -> Block
     }
 }
 
-/// Adds a key to the set.
+/// Adds a block to the set.
 ///
 /// # Errors
 ///
@@ -35,7 +35,7 @@ pub fn insert_block(blocks: &mut BTreeSet<Block>, block: Block) -> Result<(), Me
     Ok(())
 }
 
-/// Removes a key from the set.
+/// Removes a block from the set. A set without the block is unchanged.
 fn remove_block(blocks: &mut BTreeSet<Block>, block: &Block)
     ensures { (b : AnyBlock) → ListsBlock blocks.new.keys b
         ↔ ((b ≢ block.now) × ListsBlock blocks.old.keys b) }
@@ -43,8 +43,9 @@ fn remove_block(blocks: &mut BTreeSet<Block>, block: &Block)
     let _ = blocks.remove(block);
 }
 
-/// Removes a block from the set. Adds the next block (`behind`) if the set could lack it: if both
-/// blocks are of the largest order, on one node and in one zone.
+/// Removes `block` from the set. Adds `behind`, the block right after it, if both are of the
+/// largest order, on one node and in one zone. The set may lack such a block as long as it has the
+/// block before.
 ///
 /// # Errors
 ///
@@ -70,9 +71,9 @@ pub fn remove_and_expose_next(
     }
 }
 
-/// Inserts the free halves that are left if `block` is split down to `order` around `frame`
-/// (`expand`): one buddy of each order from `order` to below the block's. They are on the block's
-/// node and in its zone.
+/// Inserts the free halves that are left of `block` after the aligned set of `2^order` frames that
+/// has `frame` was taken from it (`expand`): one buddy of each order from `order` to below the
+/// order of `block`. They are on the block's node and in its zone.
 ///
 /// # Errors
 ///
@@ -94,9 +95,9 @@ pub fn insert_buddies(
     Ok(())
 }
 
-/// Removes the halves that were merged with the `2^order` frames around `frame` to give `block`
-/// (`__free_one_page`): one buddy of each order from `order` to below the block's. Ignores a buddy
-/// that the set lacks.
+/// Removes the halves that were merged with the aligned set of `2^order` frames that has `frame` to
+/// give `block` (`__free_one_page`): one buddy of each order from `order` to below the order of
+/// `block`. Ignores a buddy that the set lacks.
 pub fn remove_buddies(blocks: &mut BTreeSet<Block>, block: &Block, order: u32, frame: u64)
     requires small { block.now.order ≤ 10 }
     requires low { frame < MAX_FRAMES }
@@ -107,9 +108,9 @@ pub fn remove_buddies(blocks: &mut BTreeSet<Block>, block: &Block, order: u32, f
     }
 }
 
-/// Returns `behind`, the block after `block`, if both are of the largest order, on one node and in
-/// one zone, else `None`. The index may lack `behind` in this case, as long as it has the first
-/// block of the row.
+/// Returns `behind`, the block right after `block`, if both are of the largest order, on one node
+/// and in one zone. Otherwise returns `None`. The index may lack such a `behind` only while it has
+/// `block`, so a caller that removes `block` must add it.
 fn next_block_of_row(block: &Block, behind: Option<Block>) -> Option<Block>
     ensures some { IfSome result (λ next. (behind ≡ Some next) × AreLargestInSameZone block.now
         next) }
@@ -124,8 +125,8 @@ fn next_block_of_row(block: &Block, behind: Option<Block>) -> Option<Block>
     })
 }
 
-/// Returns the buddy of the frame's set of this order (`__find_buddy_pfn`), with the node and the
-/// zone of `block`.
+/// Returns the buddy (`__find_buddy_pfn`) of the aligned set of `2^order` frames that has `frame`,
+/// as a block with the node and the zone of `block`.
 fn buddy_of(block: &Block, order: u32, frame: u64) -> Block
     requires small { order < 10 }
     requires low { frame < MAX_FRAMES }

@@ -1,4 +1,5 @@
--- Defines when the bytes at a head are an ascending list of records.
+-- Defines when the bytes at a table head (address, number of records, room) are an ascending list
+-- of records.
 use Rattle.std.specs.Prelude.{◌≡◌, ℕ, ◌+◌, ◌*◌, ◌%◌, ◌^◌, ◌<◌, ◌≤◌, List, [], ◌∷◌}
 use Rattle.bm_base.specs.declared.range.TheConstants.{FRAME_SIZE}
 use Rattle.address_runs.specs.Runs.{RunOf, run_end}

@@ -1,5 +1,6 @@
-//! Checks that the bytes at a head fulfil what the other calls require. This check is for callers
-//! that have only the bytes, without a table whose contract ensures it.
+//! Checks whether the bytes at a table head (a table's address, number of records and room) are a
+//! list of records, as the other calls require. Callers need this check if they have only the
+//! bytes, without a table whose contract ensures it.
 
 ghost use Rattle.std.specs.Prelude.{◌≡◌, ◌+◌, ◌*◌, ◌%◌, ◌^◌, ◌<◌, ◌≤◌, ◌↔◌, IsTrue};
 ghost use Rattle.memblock_ranges.specs.Tables.{records_of_head};
@@ -9,7 +10,8 @@ use bm_base::FRAME_SIZE;
 use memblock_ranges::{Head, RECORD_SIZE, Region, region_at};
 use phys_store::Store;
 
-/// Tests whether the head has room for its records, and all of that room is below 2^64.
+/// Tests whether the number of records at a table head is at most its room, and all bytes of that
+/// room (24 per record) are below 2^64.
 fn head_has_room(head: &Head) -> bool
     ensures { IsTrue result ↔ (head.now.count ≤ head.now.room)
         × (head.now.place + 24 * head.now.room < 2 ^ 64) }
@@ -39,9 +41,9 @@ fn is_whole_frames(region: &Region) -> bool
     region.base % FRAME_SIZE == 0 && region.size % FRAME_SIZE == 0
 }
 
-/// Tests whether the head's fields are possible (`count` is at most `room`, and the room ends below
-/// 2^64), and whether its `count` records are in ascending order, don't overlap, aren't empty, and
-/// end at or below the address `bound`.
+/// Tests whether a table head and the bytes at its address are a list of records. The head's
+/// `count` must be at most `room`, and the room must end below 2^64. The `count` records must be in
+/// ascending order, not overlap, not be empty, and end at or below the address `bound`.
 pub fn has_records(store: &Store, head: &Head, bound: u64) -> bool
     ensures list { IsTrue result ↔ HasRecords store.now head.now bound }
     ensures space { IsTrue result → HasRecords store.now head.now (2 ^ 64) }
@@ -60,8 +62,8 @@ pub fn has_records(store: &Store, head: &Head, bound: u64) -> bool
     true
 }
 
-/// Tests whether every record begins and ends at a frame boundary. The bytes at the head must be a
-/// list of records.
+/// Tests whether every record of the table at `head` begins and ends at a frame boundary. The bytes
+/// there must be a list of records (`HasRecords`).
 pub fn has_whole_frames(store: &Store, head: &Head) -> bool
     requires { HasRecords store.now head.now (2 ^ 64) }
     ensures { IsTrue result ↔ AreWholeFrames (records_of_head store.now head.now) }

@@ -12,7 +12,7 @@ use crate::frames::frames_of_record;
 use memblock_ranges::Head;
 use phys_store::Store;
 
-/// The next frames that overlap a record of a table.
+/// The next frames that overlap a record of a table: those from `first` to below `end`.
 #[derive(Clone, Copy, Debug, PartialEq, Eq)]
 pub struct ClaimedFrames {
     /// The index of the record from which the next search can start.
@@ -23,9 +23,10 @@ pub struct ClaimedFrames {
     pub end: u64,
 }
 
-/// Finds the lowest frames, from frame `at` on, that overlap a record. `at` must be below 2^52.
-/// The search begins at the record with index `index` and only goes to higher indices. The records
-/// before that index must not overlap frame `at` or any frame above it.
+/// Returns the lowest frames, from frame `at` on, that overlap a record of the table at `head`: the
+/// frames of one record, without those below `at`. `at` must be below 2^52. The search begins at
+/// the record with index `index` and only goes to higher indices. The records before that index
+/// must not overlap frame `at` or any frame above it.
 pub fn next_claimed_frames(store: &Store, head: &Head, index: u64, at: u64) -> ClaimedFrames
     requires table { HasRecords store.now head.now (2 ^ 64) }
     requires index { index ≤ head.now.count }

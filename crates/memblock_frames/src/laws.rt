@@ -1,6 +1,6 @@
-//! The law that connects bytes with tables. The calls of this crate know only bytes and heads. A
-//! boot knows the tables that its items define. By this law a boot meets what the calls require,
-//! and knows what they return for its tables.
+//! The law that connects the bytes of memory with memblock's tables. The calls of this crate read
+//! only bytes, at the addresses in the table heads. By this law, the bytes of a stored table are as
+//! these calls require, and the calls return what is true of the table.
 
 ghost use Rattle.std.specs.Prelude.{◌≡◌, ℕ, ◌*◌, ◌/◌, ◌^◌, List};
 ghost use Rattle.bm_base.specs.declared.range.TheConstants.{FRAME_SIZE};
@@ -11,10 +11,11 @@ ghost use Rattle.memblock_ranges.specs.Tables.{TableView, IsInStore, head_of, re
 ghost use Rattle.memblock_frames.specs.Frames.{free_node_in, node_of_frame};
 ghost use Rattle.memblock_frames.specs.HeadRecords.{HasRecords, AreWholeFrames};
 
-/// Law: tables that are stored in the bytes can be read as records at their heads. The records
-/// give each frame the same node as the tables, and the same frames are free. Each record ends at
-/// or below a bound if the table has nothing from that bound on. Each record is whole frames if
-/// the table has the same value for all bytes of a frame.
+/// Law: a table of memblock whose records are stored in the bytes of memory can be read back from
+/// them, by its head (address, number of records, room). The records that are read give each frame
+/// the same node as the table, and the same frames are free. Each record ends at or below a bound
+/// if the table has nothing from that bound on. Each record is whole frames if the table has the
+/// same value for all bytes of a frame.
 pub fn stored_records_give_table_frames()
     ensures records { (t : TableView) (store : List ExtentView) → IsInStore t store
         → HasRecords store (head_of t) (2 ^ 64) }

@@ -45,7 +45,7 @@ abbrev pub is_of_node : ℕ → Option LabelView → Bool
 is_of_node node None = false
 is_of_node node (Some label) = same_node_or_none label.node (Some node)
 
--- whether some byte is memory of the node
+-- whether some byte of memory has this node
 abbrev pub has_node : Labels → ℕ → Bool
 has_node f node = not (each_from (λ x. not (is_of_node node (f x))) 0 (2 ^ 64))
 

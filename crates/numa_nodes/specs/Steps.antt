@@ -16,7 +16,7 @@ has_record_of_node records node = list_any (λ (r : RunOf LabelView). same_node_
 abbrev pub CanGetNodes : List NumaBlock → Type 0
 CanGetNodes ranges = All (λ (r : NumaBlock). (0 < r.size) × (r.value < 1024)) ranges
 
--- if `ContinuesMemblock` holds from some earlier state to `old`, it also holds from that state to
--- `new`
+-- if `ContinuesMemblock` holds from some earlier state of the memblock to `old`, it also holds from
+-- that state to `new`
 abbrev pub KeepsContinuesMemblock : MemblockView → MemblockView → Type 0
 KeepsContinuesMemblock old new = (start : MemblockView) → ContinuesMemblock start old → ContinuesMemblock start new

@@ -1,5 +1,6 @@
-//! Laws of the stage. The stage is defined by ranges. The stages above need what the ranges mean
-//! for each byte of memory: it has a node, which is the same for all bytes of its frame.
+//! Laws about the stage that gives memory its nodes. The stage is defined by ranges of addresses.
+//! The laws say what follows for each byte of memory: it has a node, and all bytes of its frame
+//! have the same one.
 ghost use Rattle.std.specs.Prelude.{◌≡◌, ◌↔◌, ℕ, ◌^◌, ◌<◌, ◌≤◌, Bool, true, is_some, Option, List, length, get_or, Ok};
 ghost use Rattle.std.specs.List.{Contains};
 ghost use Rattle.address_runs.specs.Edits.{IsEmptyFrom};
@@ -11,8 +12,8 @@ ghost use Rattle.stage_steps.specs.Steps.{items_after_step};
 ghost use Rattle.stage_steps.specs.Nodes.{IsConstantInFrames, IsMemoryWithNodes};
 ghost use Rattle.numa_nodes.specs.Assignment.{NodesView, assign_nodes, is_of_node, nodes_with_memory};
 
-/// Law: no byte becomes memory or stops being memory, and the limit is unchanged, whatever the
-/// stage returns.
+/// Law: the stage that gives memory its nodes changes neither which bytes are memory nor the limit
+/// of allocations, whatever it returns.
 pub fn assign_keeps_memory_and_limit()
     ensures memory { (table : Option SratView) (off : Bool) (items : List AnyItem) (x : ℕ) →
         is_some (memory_of (items_after_step items (assign_nodes table off items)) x)
@@ -21,9 +22,10 @@ pub fn assign_keeps_memory_and_limit()
         limit_of (items_after_step items (assign_nodes table off items)) ≡ limit_of items }
 {}
 
-/// Law: if the stage succeeds, each byte of memory has a node below 1,024, and all bytes of a frame
-/// have the same label. This requires that memory was whole frames before, each with one label, and
-/// ended at or below the limit. The nodes that the stage returns are those that have memory.
+/// Law: if the stage that gives memory its nodes succeeds, each byte of memory has a node below
+/// 1,024, and all bytes of a frame have the same label (node and mirror flag). Before the stage,
+/// all bytes of a frame must have one label, and memory must end at or below the limit of
+/// allocations. The nodes that the stage returns are those that have memory.
 pub fn all_memory_gets_nodes()
     ensures noded { (reach : ℕ) (table : Option SratView) (off : Bool) (items : List AnyItem)
         (noded : NodesView) →
@@ -39,7 +41,7 @@ pub fn all_memory_gets_nodes()
         ≡ nodes_with_memory (memory_of (items_after_step items (assign_nodes table off items))) }
 {}
 
-/// Law: the list of nodes that have memory has a node exactly if it is below 1,024 and some byte of
+/// Law: the list `nodes_with_memory` has a node exactly if the node is below 1,024 and some byte of
 /// memory has it. The list is ascending.
 pub fn listed_nodes_have_memory()
     ensures listed { (f : Labels) (n : ℕ) → Contains (nodes_with_memory f) n ↔

@@ -29,10 +29,11 @@ use std::alloc::Global;
 pub struct Nodes {
     /// Whether the firmware's table of domains is used and, if not, why.
     pub why: Why,
-    /// The domain of each node, by the number of the node, if the table is used; else empty.
+    /// The proximity domain of each node, by the number of the node, if the table is used; else
+    /// empty.
     pub domains: Vec<u32>,
-    /// The number of frames of memory that no block covers and that got the lowest node; 0 if the
-    /// table isn't used.
+    /// The number of frames of memory that no block (range of the table) covers and that got the
+    /// lowest node; 0 if the table isn't used.
     pub uncovered: u64,
     /// The nodes that have memory, in ascending order.
     pub with_memory: Vec<u32>,
@@ -41,20 +42,20 @@ pub struct Nodes {
 /// The size in bytes of a node's data (`pg_data_t` of x86-64, in whole pages).
 const NODE_DATA_SIZE: u64 = 0x2B000;
 
-/// The size in bytes of a line of the processor's cache (`SMP_CACHE_BYTES`).
+/// The size of a cache line in bytes (`SMP_CACHE_BYTES`).
 const CACHE_LINE: u64 = 64;
 
 /// Gives each byte of memory its node, and places the data of each node that has memory
 /// (`initmem_init`). `srat` is the firmware's table of domains, if there is one. It isn't used if
 /// it doesn't fit the machine's memory, or if `off` is set (`numa=off`). If no table is used, all
-/// addresses below the limit get node 0. A limit of allocations must be set.
+/// addresses below the limit of allocations get node 0. That limit must be set.
 ///
 /// # Errors
 ///
 /// Steps that were completed before the error stay in effect.
 ///
-/// - `NoPlace` if the data of a node finds no place.
-/// - `NoTablePlace` if a table has to grow and finds no place.
+/// - `NoPlace` if no place fits the data of a node.
+/// - `NoTablePlace` if a table of memblock has to grow and no place is found for it.
 /// - `Memory` if this program is out of memory.
 pub fn assign(
     alloc: Global,
@@ -75,12 +76,17 @@ pub fn assign(
     assign_nodes_by(alloc, memblock, found)
 }
 
-/// Like [`assign`], but it is already decided whether the table of domains is used. `found` has
-/// this decision and, if the table is used, the ranges of each node.
+/// Gives each byte of memory its node, and places the data of each node that has memory, after it
+/// has been decided whether the firmware's table of domains is used. `found` has this decision and,
+/// if the table is used, the ranges of each node.
 ///
 /// # Errors
 ///
-/// Steps that were completed before the error stay in effect. The errors are those of [`assign`].
+/// Steps that were completed before the error stay in effect.
+///
+/// - `NoPlace` if no place fits the data of a node.
+/// - `NoTablePlace` if a table of memblock has to grow and no place is found for it.
+/// - `Memory` if this program is out of memory.
 fn assign_nodes_by(
     alloc: Global,
     memblock: &mut Memblock,
@@ -115,8 +121,8 @@ fn assign_nodes_by(
 }
 
 /// Returns the ranges that get a node, each with its node. If the table of domains is used, these
-/// are the runs of addresses of one node, and then the runs of memory that no block covers. Else
-/// there is one range: all addresses below the limit, with node 0 (`dummy_numa_init`).
+/// are the runs of addresses of one node, and then the runs of memory that no block of the table
+/// covers. Else there is one range: all addresses below `limit`, with node 0 (`dummy_numa_init`).
 ///
 /// # Errors
 ///
@@ -141,11 +147,11 @@ fn node_ranges(alloc: Global, limit: u64, found: &SratNodes) -> Result<Vec<NodeR
     Ok(ranges)
 }
 
-/// Gives each range its node (`memblock_set_node`).
+/// Sets the node of the memory in each range (`memblock_set_node`).
 ///
 /// # Errors
 ///
-/// - `NoTablePlace` if a table has to grow and finds no place.
+/// - `NoTablePlace` if a table of memblock has to grow and no place is found for it.
 /// - `Memory` if this program is out of memory.
 fn set_block_nodes(memblock: &mut Memblock, ranges: &[NodeRange]) -> Result<(), StageStop>
     requires begun { HasFirstItem memblock.old.journal.items }
@@ -160,12 +166,12 @@ fn set_block_nodes(memblock: &mut Memblock, ranges: &[NodeRange]) -> Result<(), 
     Ok(())
 }
 
-/// Allocates the data of each node.
+/// Allocates the data of each node in `nodes` (`alloc_node_data`).
 ///
 /// # Errors
 ///
-/// - `NoPlace` if no place fits.
-/// - `NoTablePlace` if a table has to grow and finds no place.
+/// - `NoPlace` if no place fits the data of a node.
+/// - `NoTablePlace` if a table of memblock has to grow and no place is found for it.
 /// - `Memory` if this program is out of memory.
 fn place_each_node_data(memblock: &mut Memblock, nodes: &[u32]) -> Result<(), StageStop>
     requires begun { HasFirstItem memblock.old.journal.items }

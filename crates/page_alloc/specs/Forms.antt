@@ -1,4 +1,4 @@
--- The forms of a line of a page script: which words may follow the first, and the act that they
+-- The forms of a line of a page script: which words may follow the first, and the command that they
 -- spell. The form of a line is checked before its numbers.
 use Rattle.std.specs.Prelude.{ℕ, if◌then◌else◌, List, codes, Result, Ok, Err}
 use Rattle.std.specs.Str.{bytes_eq}
@@ -23,7 +23,8 @@ zone_by_name word =
     (if bytes_eq word (codes "DMA32") then Ok zones.Dma32 else
     (if bytes_eq word (codes "Normal") then Ok zones.Normal else Err wrong.Form))
 
--- the line `pages ID ORDER NODE ZONE`
+-- the command of the line `pages ID ORDER NODE ZONE`, from the words after `pages`, or the line's
+-- fault
 abbrev pub pages_line : Words → Result PageAct ScriptLineFault
 pages_line words = do
   id ← first_word words
@@ -36,7 +37,7 @@ pages_line words = do
   of_node ← number_within greatest_node node.0
   Ok (acts.Pages of_id of_order of_node zone)
 
--- the line `near ID ORDER NODE`
+-- the command of the line `near ID ORDER NODE`, from the words after `near`, or the line's fault
 abbrev pub near_line : Words → Result PageAct ScriptLineFault
 near_line words = do
   id ← first_word words
@@ -47,14 +48,14 @@ near_line words = do
   of_node ← number_within greatest_node node
   Ok (acts.Near of_id of_order of_node)
 
--- the line `give ID`
+-- the command of the line `give ID`, from the words after `give`, or the line's fault
 abbrev pub give_line : Words → Result PageAct ScriptLineFault
 give_line words = do
   said ← one_word words
   id ← number_within greatest_id said
   Ok (acts.Give id)
 
--- the act of a line, by its first word
+-- the command of a line, from its first word `name` and the words after it, or the line's fault
 abbrev pub page_act_by_name : List ℕ → Words → Result PageAct ScriptLineFault
 page_act_by_name name words =
     if bytes_eq name (codes "pages") then pages_line words else

@@ -60,7 +60,7 @@ free_held_frames s id (Some what) = (
 )
 
 -- the outcome of a `pages` or `give` line, and the state after it. A `near` line is carried out by
--- the layer above; here it gets no block.
+-- the layer above; here its outcome is `NoBlock`.
 abbrev pub page_step : PageState → PageAct → PageOutcome × PageState
 page_step s (acts.Pages id order node zone) = allocate_unless_id_holds s id order node zone (s.held id)
 page_step s (acts.Near id order node) = (outcomes.NoBlock, s)

@@ -16,6 +16,6 @@ pub record PagesView : Type 0 where
 abbrev pub frames_held_by : List (ℕ × Held) → ℕ → Option Held
 frames_held_by ids id = lookup (is_at (nat_cmp id)) ids
 
--- the state of the page allocator that contracts see
+-- the state of the page allocator: the node of each free frame, and what each ID holds
 abbrev pub page_state_of : PagesView → PageState
 page_state_of b = record { frames = node_of_free_frame b.buddy; held = frames_held_by b.ids }

@@ -16,7 +16,8 @@ abbrev pub page_script_fault_at : ℕ → ScriptLineFault → PageFault
 page_script_fault_at line wrong.Form = faults.BadLine line
 page_script_fault_at line other = faults.BadNumber line
 
--- the kind of script whose lines are those of a page script; each act may occur more than once
+-- what the reader of scripts needs to know of page scripts: the forms of their lines, and that each
+-- command may occur more than once
 abbrev pub page_lines : ScriptKind PageAct PageLine
 page_lines = record { forms = λ seen. page_act_by_name; is_once = λ act. false; line = λ number act. record { number = number; act = act } }
 

@@ -30,7 +30,7 @@ HasPageScriptNumbers (pages id order node zone) = IsWithin greatest_id id × IsW
 HasPageScriptNumbers (near id order node) = IsWithin greatest_id id × IsWithin greatest_order order × IsWithin greatest_node node
 HasPageScriptNumbers (give id) = IsWithin greatest_id id
 
--- the act that a form spells, if its number words are sizes
+-- the command that a form spells, if its number words are sizes
 abbrev pub page_act_of : PageForm → PageAct
 page_act_of (pages id order node zone) = acts.Pages (value_of_word id) (value_of_word order) (value_of_word node) zone
 page_act_of (near id order node) = acts.Near (value_of_word id) (value_of_word order) (value_of_word node)

@@ -2,7 +2,8 @@
 
 use bm_base::Zone;
 
-/// A command of a page script.
+/// A command of a page script. An ID is a number by which the script names the frames that one of
+/// its lines allocated.
 #[derive(Clone, Copy, Debug, PartialEq, Eq)]
 pub enum PageAct {
     /// `pages`: allocates `2^order` frames of the node and the zone for the ID
@@ -22,7 +23,7 @@ pub enum PageAct {
         order: u32,
         node: u32,
     },
-    /// `give`: frees what the ID holds (`__free_pages`).
+    /// `give`: frees the frames that the ID holds (`__free_pages`).
     Give {
         id: u32,
     },

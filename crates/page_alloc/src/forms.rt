@@ -14,7 +14,7 @@ use script_reader::{
     GREATEST_ID, GREATEST_NODE, ScriptLineFault, first_word, number_within, one_word,
 };
 
-/// The largest order of a block.
+/// The largest order that a script can request, 10: 1,024 frames.
 const GREATEST_ORDER: u64 = 10;
 
 /// Returns the command `name` with its arguments, which are the words of `rest`.
@@ -40,7 +40,7 @@ pub fn page_act_by_name(name: &[u8], rest: &[u8]) -> Result<PageAct, ScriptLineF
     Err(ScriptLineFault::Form)
 }
 
-/// Returns the zone with this name.
+/// Returns the zone that the kernel calls by this name: `DMA`, `DMA32` or `Normal`.
 ///
 /// # Errors
 ///

@@ -11,9 +11,10 @@ ghost use Rattle.page_alloc.specs.declared.act.PageAct.{PageAct as AnyAct};
 ghost use Rattle.page_alloc.specs.Reading.{page_lines};
 ghost use Rattle.page_alloc.specs.Spelling.{page_grammar};
 
-/// Law: a line of a page script is read as an act exactly if its words spell that act. It has no
-/// command exactly if it has no words or is a comment. Its fault is the first condition of the
-/// grammar that its words break.
+/// Law: a line of a page script is read as a command exactly if its words spell that command. It is
+/// read as a line without a command exactly if it has no words or is a comment. It is read as
+/// faulty exactly if its words break a condition of the grammar; the fault is the first one that
+/// they break.
 pub fn page_lines_are_read_as_spelled()
     ensures act { (seen : Bool) (text : List ℕ) (words : Words) (act : AnyAct) →
         HasWords Script text words →

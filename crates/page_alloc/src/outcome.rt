@@ -19,8 +19,8 @@ pub enum PageOutcome {
     At(u64),
     /// The frames that the ID held are free again.
     Done,
-    /// No block on the node and in the zone is large enough; for a `near` line, no zone in the
-    /// node's list has a block that is.
+    /// No block on the node and in the zone is large enough. For a `near` line: no zone in the
+    /// node's zone list has a block that is large enough.
     NoBlock,
     /// The ID already holds frames.
     Taken,

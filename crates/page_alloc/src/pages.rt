@@ -36,7 +36,8 @@ impl Model for Pages {
 }
 
 impl Pages {
-    /// Returns the state in which the frames of the lists are free, and no ID holds anything.
+    /// Returns the state right after the handover: the free frames are those of `buddy`, and no ID
+    /// holds any frames.
     pub fn new(alloc: Global, buddy: Buddy) -> Pages
         ensures { page_state_of result ≡ first_page_state (node_of_free_frame buddy) }
     {

@@ -10,7 +10,8 @@ use Rattle.stage_steps.specs.Steps.{StageStep, ◌>>=◌, return_value, read_ite
 use Rattle.stage_steps.specs.Requests.{place_or_stop, or_else}
 use Rattle.section_maps.specs.declared.placed.Placed.{Placed}
 
--- a group: consecutive sections of one node, the first and the others
+-- a group of sections: neighbours in the list that are on one node; the first of them and the
+-- others
 pub record SectionGroup : Type 0 where
   pub first : Section
   pub others : List Section
@@ -51,8 +52,8 @@ consecutive_places usage map [] = []
 consecutive_places usage map (s ∷ ss) =
     record { section = s.number; node = s.node; map = map; usage = usage } ∷ consecutive_places (usage + 40) (map + 0x200000) ss
 
--- the steps that place the map of each section alone; their usage data is placed already, from
--- address `usage` on
+-- the steps that place the map of each section alone. The usage data of the sections is placed
+-- already: 40 bytes each, from address `usage` on.
 abbrev pub place_each_map : ℕ → List Placed → List Section → StageStep StageCause (List Placed)
 place_each_map usage before [] = return_value before
 place_each_map usage before (s ∷ ss) =

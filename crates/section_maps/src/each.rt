@@ -1,5 +1,6 @@
-//! Places the maps of sections one by one. This is done only if no free buffer has room for all
-//! maps of a group. Each map then has an owner of its own, and may lie on another node.
+//! Places the maps (page structures) of sections one by one. This is done only if no free range on
+//! the node has room for all maps of a group. Each map then has an owner of its own, and may lie on
+//! another node.
 
 ghost use Rattle.std.specs.Prelude.{◌≡◌, ◌+◌, ◌*◌, ◌^◌, ◌<◌, ◌≤◌, false, length, vec_len, vec_capacity};
 ghost use Rattle.memblock_model.specs.declared.owner.Owner.TheVariants as owner;
@@ -17,12 +18,13 @@ use boot_journal::Owner;
 use memblock_grow::{Memblock, no_items_no_change};
 use stage_steps::{Section, StageStop, What, place_or_stop};
 
-/// Allocates the map of one section, and returns its address.
+/// Allocates the map of one section, 2 MiB of page structures, on the section's node if there is
+/// room. Returns the map's address.
 ///
 /// # Errors
 ///
-/// - `NoPlace` if no place fits.
-/// - `NoTablePlace` if a table has to grow and finds no place.
+/// - `NoPlace` if no place fits the map.
+/// - `NoTablePlace` if a table of memblock has to grow and no place is found for it.
 /// - `Memory` if this program is out of memory.
 fn place_map(memblock: &mut Memblock, section: &Section) -> Result<u64, StageStop>
     requires { HasFirstItem memblock.old.journal.items }
@@ -37,14 +39,14 @@ fn place_map(memblock: &mut Memblock, section: &Section) -> Result<u64, StageSto
     place_or_stop(memblock, What::Map(number), &request, Owner::Map(number))
 }
 
-/// Allocates the map of each section, and appends the section with its addresses to `placed`. The
-/// usage data of the sections is allocated already: 40 bytes each, one after another from address
-/// `usage` on.
+/// Allocates the map of each section alone, and appends the section with its addresses to `placed`.
+/// The usage data of the sections is allocated already: 40 bytes each, one after another from
+/// address `usage` on.
 ///
 /// # Errors
 ///
-/// - `NoPlace` if no place fits.
-/// - `NoTablePlace` if a table has to grow and finds no place.
+/// - `NoPlace` if no place fits a map.
+/// - `NoTablePlace` if a table of memblock has to grow and no place is found for it.
 /// - `Memory` if this program is out of memory.
 pub fn place_each_map(
     memblock: &mut Memblock,

@@ -1,4 +1,5 @@
-//! Places one group: its usage data, and its maps in one buffer or one by one.
+//! Places one group of sections (neighbours in the list, on one node): its usage data, and its maps
+//! in one buffer or one by one.
 
 ghost use Rattle.std.specs.Prelude.{◌≡◌, ℕ, ◌+◌, ◌*◌, ◌^◌, ◌<◌, ◌≤◌, ◌==◌, length, vec_len, vec_capacity};
 ghost use Rattle.std.specs.List.{prefix_len};
@@ -24,14 +25,14 @@ pub fn count_same_node(sections: &[Section], node: u32) -> usize
     sections.iter().take_while(|s| s.node == node).count()
 }
 
-/// Allocates the maps of a group: in one buffer on the node itself or, if none is free, one by one.
-/// `first` is the group's first section. The usage data of the group is allocated already, at
-/// address `usage`.
+/// Allocates the maps of a group of sections on one node: in one buffer on that node or, if no free
+/// range there is large enough, one by one. `first` is the group's first section. The usage data of
+/// the group is allocated already, at address `usage`.
 ///
 /// # Errors
 ///
-/// - `NoPlace` if no place fits.
-/// - `NoTablePlace` if a table has to grow and finds no place.
+/// - `NoPlace` if no place fits a map.
+/// - `NoTablePlace` if a table of memblock has to grow and no place is found for it.
 /// - `Memory` if this program is out of memory.
 fn place_group_maps(
     memblock: &mut Memblock,
@@ -66,13 +67,14 @@ fn place_group_maps(
     }
 }
 
-/// Allocates the usage data and the maps of a group, and appends its sections to the list, which
-/// must have room for them.
+/// Allocates the usage data and the maps of a group of sections on one node. Appends the sections
+/// with these addresses to `placed`, which must have room for them. `first` is the group's first
+/// section.
 ///
 /// # Errors
 ///
-/// - `NoPlace` if no place fits.
-/// - `NoTablePlace` if a table has to grow and finds no place.
+/// - `NoPlace` if no place fits the usage data or a map.
+/// - `NoTablePlace` if a table of memblock has to grow and no place is found for it.
 /// - `Memory` if this program is out of memory.
 pub fn place_group(
     memblock: &mut Memblock,

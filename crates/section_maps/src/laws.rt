@@ -10,8 +10,8 @@ ghost use Rattle.stage_steps.specs.Steps.{items_after_step};
 ghost use Rattle.section_maps.specs.Maps.{groups_of, place_maps};
 ghost use Rattle.section_maps.specs.Stretches.{AreMaximalStretches};
 
-/// Law: placing maps and usage data changes neither memory nor the limit, whether each finds a
-/// place or not.
+/// Law: placing the maps and the usage data of sections changes neither memory nor the limit of
+/// allocations, whether it succeeds or not.
 pub fn place_maps_keeps_memory_and_limit()
     ensures memory { (sections : List AnySection) (items : List AnyItem) →
         memory_of (items_after_step items (place_maps sections items)) ≡ memory_of items }
@@ -19,8 +19,8 @@ pub fn place_maps_keeps_memory_and_limit()
         limit_of (items_after_step items (place_maps sections items)) ≡ limit_of items }
 {}
 
-/// Law: the groups of a list of sections are its maximal stretches of sections of one node, in the
-/// list's order.
+/// Law: the groups of a list of sections (`groups_of`) are the longest stretches of neighbouring
+/// sections on one node, in the list's order.
 pub fn groups_are_maximal_stretches()
     ensures { (sections : List AnySection) → AreMaximalStretches sections (groups_of sections) }
 {}

@@ -36,16 +36,17 @@ fn count_sections(sections: &[Section]) -> usize
 }
 
 /// Allocates the usage data and the map of each section, group by group: 40 bytes and 2 MiB each
-/// (`sparse_init_nid`). The numbers of the sections must be ascending.
+/// (`sparse_init_nid`). Returns the sections with these addresses. The numbers of the sections must
+/// be ascending.
 ///
 /// # Errors
 ///
 /// Steps that were completed before the error stay in effect.
 ///
-/// - `NoPlace` if usage data or a map finds no place.
-/// - `NoTablePlace` if a table of memblock has to grow and finds no place.
-/// - `Memory` if this program is out of memory: for the list, before the first allocation, or
-///   before a step of memblock.
+/// - `NoPlace` if no place fits usage data or a map.
+/// - `NoTablePlace` if a table of memblock has to grow and no place is found for it.
+/// - `Memory` if this program is out of memory, for the list (before the first allocation) or in a
+///   call of memblock.
 pub fn place_maps(
     alloc: Global,
     memblock: &mut Memblock,

@@ -16,7 +16,8 @@ pub const MAP_SIZE: u64 = 0x20_0000;
 /// The lowest address of a map, if there is room above it (`__pa(MAX_DMA_ADDRESS)`).
 const MAP_MIN: u64 = 0x100_0000;
 
-/// Returns the request for the usage data of `count` sections, on the node if there is room.
+/// Returns the request for the usage data of `count` sections, 40 bytes each, on the node if there
+/// is room.
 pub fn usage_request(count: u64, node: u32) -> Request
     requires { count ≤ 2 ^ 32 }
     ensures { result ≡ usage_request count node }
@@ -31,8 +32,8 @@ pub fn usage_request(count: u64, node: u32) -> Request
     }
 }
 
-/// Returns the request for the maps of `count` sections, on the node. If `exact` isn't set,
-/// another node is allowed.
+/// Returns the request for the maps of `count` sections, 2 MiB each, at or above 16 MiB if there is
+/// room. The place must be on the node if `exact` is set. Otherwise another node is allowed.
 pub fn map_request(count: u64, node: u32, exact: bool) -> Request
     requires { count ≤ 2 ^ 32 }
     ensures { result ≡ map_request count node exact }

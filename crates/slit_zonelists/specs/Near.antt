@@ -35,7 +35,8 @@ abbrev pub take_from_nearest : PageState → ℕ → ℕ → List ListZone → O
 take_from_nearest s id order zs (Some what) = (outcomes.Taken, s)
 take_from_nearest s id order zs None = take_from_zone s id order (first_zone s order zs)
 
--- the outcome of any line, and the state after it
+-- the outcome of any line of a page script, and the state after it. A `near` line tries the zones
+-- of the node's zone list in order.
 abbrev pub page_step_by_distance : ZoneListsView → PageState → PageAct → PageOutcome × PageState
 page_step_by_distance k s (acts.Pages id order node zone) = page_step s (acts.Pages id order node zone)
 page_step_by_distance k s (acts.Near id order node) = take_from_nearest s id order (zone_list_of k node) (s.held id)

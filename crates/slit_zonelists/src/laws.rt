@@ -1,4 +1,5 @@
-//! Laws about the SLIT, zone lists and near requests, and about the state after any lines.
+//! Laws about the SLIT, zone lists and near requests, and about each frame after the lines of a
+//! page script.
 
 ghost use Rattle.std.specs.Prelude.{◌≡◌, ℕ, ◌<◌, false, List, Option, Some, None, IsSome, IfSome, map};
 ghost use Rattle.std.specs.List.{All};
@@ -30,8 +31,9 @@ pub fn reported_bad_cell_is_first()
         → column < m.count → is_bad_cell m row column ≡ false }
 {}
 
-/// Law: the list of a node has one zone for each span, ordered by the distance of its node, then
-/// by that node's number, then Normal before DMA32 before DMA.
+/// Law: the zone list of a node has one zone for each span in `spans`. The zones are ordered by the
+/// distance from the node to theirs, then by the number of their node, then Normal before DMA32
+/// before DMA.
 pub fn zone_lists_have_each_zone_in_order()
     ensures each { (slit : Option SlitView) (domains : List ℕ) (spans : List AnySpan) (node : ℕ)
         → IfSome slit HasBytes →
@@ -42,9 +44,9 @@ pub fn zone_lists_have_each_zone_in_order()
         (zone_list_of (zonelists_from_slit slit domains spans) node) }
 {}
 
-/// Law: if the ID holds nothing, a request near a node is served from the first zone in the node's
-/// list that has a block of the order or a greater one. If no zone in the list has such a block,
-/// the outcome is `NoBlock`. If the ID already holds something, it is `Taken`.
+/// Law: if the ID holds no frames, a request near a node is served from the first zone in the
+/// node's zone list that has a block of the order or a greater one. If no zone in the list has such
+/// a block, the outcome is `NoBlock`. If the ID already holds frames, the outcome is `Taken`.
 pub fn near_takes_from_the_first_zone()
     ensures first { (k : ZoneListsView) (s : PageState) (id order node : ℕ) (z : AnyZone)
         → s.held id ≡ None → IsFirstZone s order (zone_list_of k node) z →
@@ -57,8 +59,8 @@ pub fn near_takes_from_the_first_zone()
         page_step_by_distance k s (act.Near id order node) ≡ (outcomes.Taken, s) }
 {}
 
-/// Law: after any lines each frame that was free at the beginning is in exactly one block or held
-/// by exactly one ID. No other frame is in a block or held.
+/// Law: after any lines of a page script, each frame that was free before them is in exactly one
+/// block or held by exactly one ID. No other frame is in a block or held.
 pub fn frames_stay_in_one_block_or_held()
     ensures one { (k : ZoneListsView) (f : Frames) (lines : List AnyLine) (x n : ℕ)
         → IsEmptyFrom MAX_FRAMES f → HaveValidOrders lines → f x ≡ Some n →

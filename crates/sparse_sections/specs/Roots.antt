@@ -29,7 +29,8 @@ first_of_each_root last [] = []
 first_of_each_root last (s ∷ ss) =
     if is_last_root last (root_of s) then first_of_each_root last ss else (s ∷ first_of_each_root (Some (root_of s)) ss)
 
--- a request for `size` bytes, aligned to a cache line, on the node if there is room
+-- a request for `size` bytes, aligned to a cache line (64 bytes), on the node if one is given and
+-- has room, else on any node
 abbrev pub cache_line_request : ℕ → Option ℕ → Request
 cache_line_request size node = record { size = size; align = 64; min = 0; max = None; node = node; exact = false }
 

@@ -1,6 +1,5 @@
-//! Laws of sections, on which a boot may rest. Sections are found in records that are whole frames
-//! on one node. This file proves that the stage of nodes leaves such records. That stage itself
-//! doesn't mention sections.
+//! Laws about the sections that have memory. To find them, the records of the memory table must be
+//! whole frames with a node. The first law says that this is so once memory has its nodes.
 
 ghost use Rattle.std.specs.Prelude.{◌≡◌, ℕ, ◌/◌, ◌^◌, ◌<◌, ◌≤◌, ◌==◌, Some, None, List, length, get_or, find};
 ghost use Rattle.std.specs.List.{All};
@@ -18,9 +17,10 @@ ghost use Rattle.stage_steps.specs.Nodes.{IsMemoryWithNodes};
 ghost use Rattle.sparse_sections.specs.Present.{present, IsWholeFramesWithNode, HasNodeOfLowestByte, IsSectionAt, AreSectionsInOrder};
 ghost use Rattle.sparse_sections.specs.Roots.{root_of, first_of_each_root, place_roots};
 
-/// Law: after the stage of nodes the records of the memory table are the runs of memory. They give
-/// each byte the label that the items give it. All of them are whole frames. If memory also ends at
-/// or below 4 PiB, [`crate::present`] can find sections in them.
+/// Law: once memory has its nodes, the records of the memory table are the runs of memory (ranges
+/// of one label). They give each byte the label that the journal's items give it. All of them are
+/// whole frames. If memory also ends at or below 4 PiB, [`crate::present`] can find sections in
+/// them.
 pub fn memory_with_nodes_is_whole_frames()
     ensures runs { (limit : ℕ) (items : List AnyItem) → limit ≤ 2 ^ 64
         → IsMemoryWithNodes limit (memory_of items) →
@@ -34,8 +34,9 @@ pub fn memory_with_nodes_is_whole_frames()
         → IsMemoryWithNodes (2 ^ 52) f → All IsWholeFramesWithNode rs }
 {}
 
-/// Law: if memory is whole frames with nodes, each of its bytes below 4 PiB is in a section that
-/// is found. Each section that is found has memory, and the node of its lowest byte of memory.
+/// Law: if memory is whole frames with nodes, each of its bytes below 4 PiB is in a section of the
+/// list `present`. Each section of this list has memory, and its node is that of its lowest byte of
+/// memory.
 pub fn present_sections_are_memory()
     ensures all { (limit x : ℕ) (f : Labels) (label : LabelView) → IsMemoryWithNodes limit f → x <
         2 ^ 52
@@ -45,17 +46,17 @@ pub fn present_sections_are_memory()
         → All (HasNodeOfLowestByte f) (present f) }
 {}
 
-/// Law: the sections with memory are in ascending order and below 4 PiB; after the stage of nodes
-/// each has a node below 1,024.
+/// Law: the list `present` of sections with memory is in ascending order, and they lie below 4 PiB.
+/// Once memory has its nodes, each of these sections has a node below 1,024.
 pub fn present_sections_ascend()
     ensures ascend { (f : Labels) → AreSectionsInOrder (present f) }
     ensures nodes { (limit : ℕ) (f : Labels) → IsMemoryWithNodes limit f
         → All (λ s. s.node < 1024) (present f) }
 {}
 
-/// Law: if the sections are in ascending order, so are the roots that are placed, and each root is
-/// placed once. A root is placed for the first section that belongs to it. The roots are therefore
-/// exactly those of the sections, each with the node of its lowest section.
+/// Law: if the sections are in ascending order, so are the roots (arrays of 256 sections) that are
+/// placed, and each root is placed once. A root is placed for the first section that belongs to it.
+/// The roots are therefore exactly those of the sections, each with the node of its lowest section.
 pub fn roots_ascend()
     ensures ascend { (sections : List AnySection) → AreSectionsInOrder sections →
         (i j : ℕ) (d : AnySection) → i < j → j < length (first_of_each_root None sections) →
@@ -66,8 +67,8 @@ pub fn roots_ascend()
         ≡ find (λ s. root_of s == root) sections }
 {}
 
-/// Law: placing roots changes neither memory nor the limit, whether each root finds a place or
-/// not.
+/// Law: placing the table of section roots and the roots changes neither memory nor the limit of
+/// allocations, whether it succeeds or not.
 pub fn place_roots_keeps_memory_and_limit()
     ensures memory { (width : AnyWidth) (sections : List AnySection) (items : List AnyItem) →
         memory_of (items_after_step items (place_roots width sections items)) ≡ memory_of items }

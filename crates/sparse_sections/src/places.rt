@@ -64,14 +64,15 @@ fn table_request(width: Width) -> Request
     cache_line_request(width.root_table(), None)
 }
 
-/// Returns the number of the section's root.
+/// Returns the number of the root that has the section's entry: 256 sections share a root.
 fn root_of(section: &Section) -> u32
     ensures { result ≡ root_of section.now }
 {
     section.number / SECTIONS_PER_ROOT
 }
 
-/// Tests whether `root` is the last root that was placed.
+/// Tests whether `root` is the number of the root that was placed last. `last` is that number, or
+/// `None` if no root has been placed.
 fn is_last_root(last: Option<u32>, root: u32) -> bool
     ensures { result ≡ is_last_root last root }
 {
@@ -81,12 +82,13 @@ fn is_last_root(last: Option<u32>, root: u32) -> bool
     }
 }
 
-/// Allocates the section's root and appends it to the list, which must have room for it.
+/// Allocates the root of the section, a page on the section's node if there is room, and appends it
+/// to `roots`. The list must have room for it.
 ///
 /// # Errors
 ///
-/// - `NoPlace` if no place fits.
-/// - `NoTablePlace` if a table has to grow and finds no place.
+/// - `NoPlace` if no place fits the root.
+/// - `NoTablePlace` if a table of memblock has to grow and no place is found for it.
 /// - `Memory` if this program is out of memory.
 fn place_root(
     memblock: &mut Memblock,
@@ -111,7 +113,7 @@ fn place_root(
     }
 }
 
-/// Returns an empty list of roots, with room for as many as there are sections.
+/// Returns an empty list of roots, with room for one root for each section.
 ///
 /// # Errors
 ///
@@ -124,12 +126,13 @@ fn empty_root_list(alloc: Global, sections: &[Section]) -> Result<Vec<RootPlace>
     Ok(Vec::with_capacity(alloc, sections.len())?)
 }
 
-/// Allocates the root of each section, once for all sections of a root.
+/// Allocates the roots of the sections and returns them, in the order of the sections. Sections of
+/// the same root that follow one another share it.
 ///
 /// # Errors
 ///
-/// - `NoPlace` if no place fits.
-/// - `NoTablePlace` if a table has to grow and finds no place.
+/// - `NoPlace` if no place fits a root.
+/// - `NoTablePlace` if a table of memblock has to grow and no place is found for it.
 /// - `Memory` if this program is out of memory.
 fn place_each_root(
     alloc: Global,
@@ -164,10 +167,9 @@ fn place_each_root(
 ///
 /// Steps that were completed before the error stay in effect.
 ///
-/// - `NoPlace` if the table or a root finds no place.
-/// - `NoTablePlace` if a table of memblock has to grow and finds no place.
-/// - `Memory` if this program is out of memory: for the list of roots, after the table is placed,
-///   or before a step of memblock.
+/// - `NoPlace` if no place fits the table or a root.
+/// - `NoTablePlace` if a table of memblock has to grow and no place is found for it.
+/// - `Memory` if this program is out of memory, for the list of roots or in a call of memblock.
 pub fn place_roots(
     alloc: Global,
     memblock: &mut Memblock,

@@ -1,6 +1,6 @@
--- The causes for which a stage stops the boot, and the error that its call returns for each. Out
--- of memory isn't among them, because a definition needs no memory of this program. The functions
--- below return it for `None`.
+-- Why a stage stops the boot, and the error that its call returns for each cause. Out of memory
+-- isn't a cause here, because a definition can't run out of memory. The call of a stage can, so the
+-- functions below map `None` to the error `Memory`.
 use Rattle.std.specs.Prelude.{ℕ, Option, Some, None}
 use Rattle.memblock_model.specs.declared.owner.Which.{Which}
 use Rattle.growth_model.specs.declared.refusal.Refusal.{Refusal}
@@ -10,8 +10,9 @@ use Rattle.memblock_grow.specs.declared.stop.What.{What}
 use Rattle.memblock_grow.specs.declared.stop.StageStop.{StageStop}
 use Rattle.memblock_grow.specs.declared.stop.StageStop.TheVariants as stop
 
--- `NoPlace`: no place fits what the boot needs. `NoTablePlace`: a table had to grow and found no
--- place.
+-- Why a stage stops the boot. `NoPlace`: no free place fits the allocation `thing`. `NoTablePlace`:
+-- a table of memblock had to grow and no place was found for it. `room` is the number of records
+-- that it has room for, which was too small.
 pub data StageCause : Type 0 where
   NoPlace : (thing : What) → StageCause
   NoTablePlace : (which : Which) (room : ℕ) → StageCause
@@ -21,12 +22,13 @@ error_of_stage_cause None = stop.Memory
 error_of_stage_cause (Some (NoPlace thing)) = stop.NoPlace thing
 error_of_stage_cause (Some (NoTablePlace w room)) = stop.NoTablePlace w room
 
--- the error of a stage that makes its own searches, and stops only for a table that found no place
+-- the error of a call that can fail for two reasons only: a table has to grow and no place is found
+-- for it, or this program is out of memory (`None`)
 abbrev pub refusal_for : Option RefusedGrowth → Refusal
 refusal_for None = refusal.Memory
 refusal_for (Some r) = refusal.NoGapForTable r.which r.room
 
--- the stop of the boot after memblock refused the allocation of `thing`
+-- why the boot stops after memblock refused to allocate `thing`
 abbrev pub stop_for_refusal : What → Refusal → StageStop
 stop_for_refusal thing refusal.NoGap = stop.NoPlace thing
 stop_for_refusal thing (refusal.NoGapForTable w room) = stop.NoTablePlace w room

@@ -4,7 +4,7 @@ use Rattle.bm_base.specs.declared.range.TheConstants.{FRAME_SIZE}
 use Rattle.address_runs.specs.Edits.{IsEmptyFrom}
 use Rattle.memblock_model.specs.Labels.{LabelView, Labels}
 
--- all bytes of a frame have the same value
+-- `f` has the same value at all bytes of a frame
 abbrev pub IsConstantInFrames : {T : Type 0} → (ℕ → T) → Type 0
 IsConstantInFrames f = (x : ℕ) → f x ≡ f (FRAME_SIZE * (x / FRAME_SIZE))
 

@@ -10,7 +10,8 @@ use Rattle.memblock_grow.specs.declared.stop.What.{What}
 use Rattle.stage_steps.specs.Causes.{StageCause, NoPlace, NoTablePlace}
 use Rattle.stage_steps.specs.Steps.{StepEffect, StageStep, ◌>>=◌, items_after_step, return_value, fail_with}
 
--- a change as a step; it fails with the growth that was refused, if one was
+-- a change of memblock as a step. It fails if a table has to grow and no place is found for it; the
+-- error names that table and its room.
 abbrev pub fail_if_refused : Option RefusedGrowth → Result (Unit {0}) RefusedGrowth
 fail_if_refused None = Ok tt
 fail_if_refused (Some r) = Err r
@@ -18,7 +19,8 @@ fail_if_refused (Some r) = Err r
 abbrev pub make_change : Change → StageStep RefusedGrowth (Unit {0})
 make_change change items = record { steps = (change items).steps; answer = fail_if_refused (change items).refused }
 
--- a change as a step of the boot, which stops if a growth is refused
+-- a change of memblock as a step. The boot stops with `NoTablePlace` if a table has to grow and no
+-- place is found for it.
 abbrev pub stop_if_refused : Option RefusedGrowth → Result (Unit {0}) StageCause
 stop_if_refused None = Ok tt
 stop_if_refused (Some r) = Err (NoTablePlace r.which r.room)
@@ -27,7 +29,8 @@ abbrev pub change_or_stop : Change → StageStep StageCause (Unit {0})
 change_or_stop change items = record { steps = (change items).steps; answer = stop_if_refused (change items).refused }
 
 -- an allocation as a step of the boot: it claims the place that is found and returns its address
--- (`memblock_alloc_range_nid`). The boot stops if no place is found, or if a growth is refused.
+-- (`memblock_alloc_range_nid`). The boot stops if no place is found, or if a table has to grow and
+-- no place is found for it.
 abbrev pub claim_found_place : What → Option ℕ → ℕ → Owner → StageStep StageCause ℕ
 claim_found_place thing None size who = fail_with (NoPlace thing)
 claim_found_place thing (Some place) size who =
@@ -36,7 +39,8 @@ claim_found_place thing (Some place) size who =
 unfoldable pub place_or_stop : What → Request → Owner → StageStep StageCause ℕ
 place_or_stop thing r who items = claim_found_place thing (place_for r items) r.size who items
 
--- the first step, followed by the other one only if the first found no place
+-- `or_else first other`: the first step, and the other one after it only if the first failed with
+-- `NoPlace`. The result is then that of the other step.
 abbrev pub if_no_place : {A : Type 0} → List (List Item) → Result A StageCause → StepEffect StageCause A → StepEffect StageCause A
 if_no_place steps (Ok a) other = record { steps = steps; answer = Ok a }
 if_no_place steps (Err (NoPlace thing)) other = record { steps = steps ++ other.steps; answer = other.answer }

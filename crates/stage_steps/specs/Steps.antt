@@ -1,5 +1,6 @@
--- Steps that write items to the journal and return a value, one after another; and how a call that
--- carries them out ends.
+-- Steps of a stage. Each writes items (recorded changes of memblock) to the journal and returns a
+-- value or an error. The definitions say what several steps in turn do, and how a call that carries
+-- them out ends.
 use Rattle.std.specs.Prelude.{◌≡◌, ◌⊎◌, Option, Some, None, List, [], ◌∷◌, ◌++◌, Result, Ok, Err}
 use Rattle.memblock_model.specs.declared.item.Item.{Item}
 use Rattle.growth_model.specs.Ends.{StopsBeforeStep}
@@ -30,12 +31,13 @@ module _ {E A : Type 0} where
   abbrev pub fail_with : E → StageStep E A
   fail_with e items = record { steps = []; answer = Err e }
 
-  -- returns a value that is computed from the items so far
+  -- writes nothing and returns a value that is computed from the items so far
   abbrev pub read_items : (List Item → A) → StageStep E A
   read_items f items = record { steps = []; answer = Ok (f items) }
 
-  -- like `read_items`, for a value that is stored in memory of this program, which may run out.
-  -- The step writes one group without items, so that a call may end before it.
+  -- Returns a value that is computed from the items so far and is stored in memory of this program,
+  -- which may run out. The step counts as one group, which has no items: a call that runs out of
+  -- memory ends before that group.
   abbrev pub read_items_allocating : (List Item → A) → StageStep E A
   read_items_allocating f items = record { steps = [] ∷ []; answer = Ok (f items) }
 
@@ -68,7 +70,8 @@ EndsAsStepEffect {E} d error (Err e) old new =
 abbrev pub EndsAsStage : {E F A : Type 0} → StageStep E A → (Option E → F) → Result A F → List Item → List Item → Type 0
 EndsAsStage stage error result old new = EndsAsStepEffect (stage old) error result old new
 
--- the result of a call, with its value as contracts see it
+-- the result of a call with `view` applied to its value, which is how contracts see the value; an
+-- error stays as it is
 abbrev pub view_of_result : {E A B : Type 0} → (A → B) → Result A E → Result B E
 view_of_result view (Ok a) = Ok (view a)
 view_of_result view (Err e) = Err e

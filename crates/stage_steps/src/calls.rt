@@ -1,4 +1,5 @@
-//! Calls of memblock whose refusal is returned as the stop of a stage.
+//! Calls of memblock for the stages of a boot. If memblock refuses a call, the error says why the
+//! boot stops.
 ghost use Rattle.std.specs.Prelude.{◌≡◌, ℕ, ◌+◌, ◌-◌, ◌^◌, ◌<◌, ◌≤◌, false, IfOk, IsOk, Some};
 ghost use Rattle.memblock_model.specs.declared.owner.Which.TheVariants as tables_of;
 ghost use Rattle.growth_model.specs.Growth.{set_range_node, count_uncovered_pieces, max_records_added_by_split, is_full};
@@ -14,8 +15,8 @@ use boot_journal::Owner;
 use growth_model::{Refusal, Request};
 use memblock_grow::{Memblock, StageStop, What};
 
-/// Converts a refusal of memblock to the stop of a stage. `what` is what the stage tried to
-/// allocate.
+/// Converts the error of a memblock call to the reason why the stage stops the boot. `what` is what
+/// the stage tried to allocate.
 pub fn stop_for_refusal(what: What, refusal: Refusal) -> StageStop
     ensures { result ≡ stop_for_refusal what refusal }
 {
@@ -33,8 +34,9 @@ pub fn stop_for_refusal(what: What, refusal: Refusal) -> StageStop
 /// # Errors
 ///
 /// - `NoPlace` if no place fits the request.
-/// - `NoTablePlace` if a table has to grow and finds no place.
-/// - `Memory` if this program is out of memory. The call then stops before one of its steps.
+/// - `NoTablePlace` if a table of memblock has to grow and no place is found for it.
+/// - `Memory` if this program is out of memory. A table may have grown by then, but nothing is
+///   claimed for `what`.
 pub fn place_or_stop(
     memblock: &mut Memblock,
     what: What,
@@ -61,14 +63,14 @@ pub fn place_or_stop(
     }
 }
 
-/// Gives the node, which is below 1,024, to the memory of the range. If the memory table has room
-/// for two more records and the journal has room for an item, the call can't fail. The range must
-/// not be empty.
+/// Sets the node of all memory in the range (`memblock_set_node`). The range must not be empty, and
+/// the node must be below 1,024. If the memory table has room for two more records and the journal
+/// has room for an item, the call can't fail.
 ///
 /// # Errors
 ///
-/// - `NoTablePlace` if a table has to grow and finds no place.
-/// - `Memory` if this program is out of memory. The call then stops before one of its steps.
+/// - `NoTablePlace` if a table of memblock has to grow and no place is found for it.
+/// - `Memory` if this program is out of memory. A table may have grown by then, but no node is set.
 pub fn set_node_or_stop(memblock: &mut Memblock, range: Range, node: u32) -> Result<(), StageStop>
     requires begun { HasFirstItem memblock.old.journal.items }
     requires some { 0 < range.size }

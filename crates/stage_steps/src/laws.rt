@@ -1,5 +1,5 @@
-//! Laws of stages. They prove, below all stages, that a call of memblock ends as its step is
-//! defined. The proof of a stage is then about its steps, and not about the growth in them.
+//! Laws about the memblock calls of a stage. They are proved here once. The proofs of the stages
+//! rest on them and needn't consider how memblock's tables grow.
 
 ghost use Rattle.std.specs.Prelude.{◌≡◌, ℕ, List, Result};
 ghost use Rattle.bm_base.specs.ResultSteps.{map_error};
@@ -16,8 +16,9 @@ ghost use Rattle.stage_steps.specs.Causes.{refusal_for, error_of_stage_cause, st
 ghost use Rattle.stage_steps.specs.Steps.{items_after_step, EndsAsStage};
 ghost use Rattle.stage_steps.specs.Requests.{change_or_stop, make_change, place_or_stop};
 
-/// Law: a call of memblock that makes a change, or an allocation, ends as the step for that call
-/// is defined. If memblock refuses the call, the step fails with the error for that refusal.
+/// Law: a memblock call ends as the definition of its step says (`make_change` or `change_or_stop`
+/// for a change, `place_or_stop` for an allocation). Its value or error and its journal items are
+/// those of the step. Only if this program runs out of memory may the last items be missing.
 pub fn calls_end_as_steps()
     ensures change { (result : Result (Unit {0}) AnyRefusal) (old new : List Item) (change : Change)
         → EndsAsChange result old new change →
@@ -34,7 +35,8 @@ pub fn calls_end_as_steps()
         (map_error (stop_for_refusal thing) result) old new }
 {}
 
-/// Law: an allocation changes neither memory nor the limit, whether it finds a place or not.
+/// Law: an allocation changes neither memory nor the limit of allocations, whether it finds a place
+/// or not.
 pub fn allocations_leave_memory()
     ensures memory { (thing : AnyWhat) (request : AnyRequest) (who : Owner) (items : List Item) →
         memory_of (items_after_step items (place_or_stop thing request who items))

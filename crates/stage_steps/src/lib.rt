@@ -4,10 +4,10 @@
 //! Node data, the crash area, section roots and section maps are each a sequence of allocations.
 //! What a later allocation requests may depend on what an earlier one got, and the first refusal
 //! ends the sequence. Such a stage is defined as steps (`specs/Steps.antt`). A step writes groups
-//! of items to the journal, each group as a whole or not at all, and returns a value or fails with
-//! an error. The relation `EndsAsStage` says how a call that carries out a stage ends. The call
-//! returns the stage's value or its error. If this program runs out of memory, it returns
-//! `Memory`, and only some of the groups, counted from the first, are written.
+//! of items (recorded changes of memblock) to the journal, each group as a whole or not at all. It
+//! returns a value or fails with an error. The relation `EndsAsStage` says how a call that carries
+//! out a stage ends. The call returns the stage's value or its error. If this program runs out of
+//! memory, it returns `Memory`, and only some of the groups, counted from the first, are written.
 //!
 //! - `specs/Steps.antt`: steps, one after another, and `EndsAsStage`.
 //! - `specs/Causes.antt`: why a stage stops the boot, and the error that a call returns for it.

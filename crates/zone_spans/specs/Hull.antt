@@ -56,7 +56,7 @@ hull_part n z present (Some h) =
 unfoldable pub hull_span_of : Frames → ℕ → Zone → Option Span
 hull_span_of f n z = hull_part n z (count_below_in_zone f n z (2 ^ 52)) (hull_below f n (2 ^ 52))
 
--- the spans of a node by its hull, by zone
+-- the spans of the zones of one node by the node's hull, from Dma to Normal
 abbrev pub hull_spans_of_node : Frames → ℕ → List Span
 hull_spans_of_node f n =
     option_to_list (hull_span_of f n zone.Dma)
@@ -67,7 +67,7 @@ unfoldable pub hull_spans_from : Frames → ℕ → ℕ → List Span
 hull_spans_from f n zero = []
 hull_spans_from f n (suc k) = hull_spans_of_node f n ++ hull_spans_from f (n + 1) k
 
--- all spans by the hulls of nodes, by node and then by zone
+-- all spans by the hulls of nodes, sorted by node and then by zone
 unfoldable pub hull_spans_of : Frames → List Span
 hull_spans_of f = hull_spans_from f 0 MAX_NODES
 
@@ -76,12 +76,12 @@ abbrev pub span_by : ZoneRule → Frames → ℕ → Zone → Option Span
 span_by rules.Frames f n z = span_of f n z
 span_by rules.NodeHull f n z = hull_span_of f n z
 
--- all spans by a rule, by node and then by zone
+-- all spans by a rule, sorted by node and then by zone
 abbrev pub spans_by : ZoneRule → Frames → List Span
 spans_by rules.Frames f = spans_of f
 spans_by rules.NodeHull f = hull_spans_of f
 
--- a frame of the zone is memory of the node (`populated_zone`)
+-- whether at least one frame of the zone is memory of the node (`populated_zone`)
 abbrev pub is_populated : Span → Bool
 is_populated s = nat_lt 0 s.present
 

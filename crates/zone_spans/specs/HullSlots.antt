@@ -21,7 +21,7 @@ abbrev pub present_in_slot : Option Span → ℕ
 present_in_slot None = 0
 present_in_slot (Some s) = s.present
 
--- the spans of a node by its hull, from its three slots
+-- the spans of the zones of a node by the node's hull, from its three slots
 abbrev pub hull_spans_of_slots : ℕ → Option Span → Option Span → Option Span → List Span
 hull_spans_of_slots n dma dma32 normal =
     let hull = hull_of_slots dma dma32 normal in

@@ -26,8 +26,8 @@ SpansHaveAtMost at slots = (i : ℕ) (s : Span) → get_or slots i None ≡ Some
 abbrev pub frames_with_node_run : ℕ → ℕ → ℕ → Frames → Frames
 frames_with_node_run first end n f x = if nat_le first x && nat_lt x end then Some n else f x
 
--- the content of a slot after the frames from `start` to below `end` of a node and a zone were
--- added
+-- the content of slot `i`, which was `held`, after the frames from `start` to below `end` of node
+-- `n` and zone `z` were added
 abbrev pub slot_after : ℕ → Zone → ℕ → ℕ → Option Span → ℕ → Option Span
 slot_after n z start end held i = if i == 3 * n + zone_index z then Some (with_frames n z start (end - start) held) else held
 

@@ -30,7 +30,7 @@ span_below f n z (suc m) = if is_in_node_zone f n z m then Some (with_frames n z
 unfoldable pub span_of : Frames → ℕ → Zone → Option Span
 span_of f n z = span_below f n z (2 ^ 52)
 
--- the spans of a node, by zone
+-- the spans of one node, from zone Dma to Normal
 abbrev pub spans_of_node : Frames → ℕ → List Span
 spans_of_node f n =
     option_to_list (span_of f n zone.Dma) ++ (option_to_list (span_of f n zone.Dma32) ++ option_to_list (span_of f n zone.Normal))
@@ -40,7 +40,7 @@ unfoldable pub spans_from : Frames → ℕ → ℕ → List Span
 spans_from f n zero = []
 spans_from f n (suc k) = spans_of_node f n ++ spans_from f (n + 1) k
 
--- all spans, by node and then by zone
+-- all spans, sorted by node and then by zone
 unfoldable pub spans_of : Frames → List Span
 spans_of f = spans_from f 0 MAX_NODES
 

@@ -1,6 +1,6 @@
-//! Computes the spans by the hulls of nodes. The slots have the span of each node and zone from
-//! the node's first frame in the zone to its last. The hull of a node begins with the lowest of
-//! its spans and ends with the highest.
+//! Computes spans by the rule of Linux 6.1. The hull of a node is all frames from its first memory
+//! frame to its last. A zone spans the part of the hull that is inside the zone's borders. The hull
+//! follows from the slots, which have the frames from the node's first to its last in each zone.
 
 ghost use Rattle.std.specs.Prelude.{◌≡◌, ℕ, ◌++◌, None, get_or, option_to_list, IfOk, OnOk};
 ghost use Rattle.buddy_blocks.specs.Frames.{Frames};
@@ -21,8 +21,9 @@ struct HullFrames {
     end: u64,
 }
 
-/// Returns the spans by the hulls of nodes, by node and then by zone. The slots must have the span
-/// of each node and zone.
+/// Returns the spans of the zones of all nodes by the nodes' hulls, sorted by node and then by
+/// zone. The hull of a node is all frames from its first memory frame to its last. `slots` must
+/// have the span of each node and zone, from the node's first frame in the zone to its last.
 ///
 /// # Errors
 ///
@@ -42,7 +43,9 @@ pub fn hull_spans_in_slots(alloc: Global, slots: &[Option<Span>]) -> Result<Vec<
     Ok(spans)
 }
 
-/// Appends the spans of a node, by its hull. The arguments after `node` are its slots.
+/// Appends the spans of the node's zones by the node's hull. `dma`, `dma32` and `normal` are its
+/// slots: the span from its first frame in that zone to its last, or `None` if it has no frame
+/// there.
 ///
 /// # Errors
 ///
@@ -97,7 +100,8 @@ fn push_if_some(spans: &mut Vec<Span>, span: Option<Span>) -> Result<(), Memory>
     Ok(())
 }
 
-/// Returns the hull of a node, given its slots.
+/// Returns the hull of a node from its slots, the spans of its memory in the three zones: all
+/// frames from the first of these spans to the last. Returns `None` if there is no span.
 fn hull_of_slots(dma: Option<Span>, dma32: Option<Span>, normal: Option<Span>) -> Option<HullFrames>
     ensures { result ≡ hull_of_slots dma dma32 normal }
 {
@@ -121,7 +125,8 @@ fn hull_with_span(hull: Option<HullFrames>, span: Option<Span>) -> Option<HullFr
     }
 }
 
-/// Returns the number of the node's frames in the zone, given the slot of this node and zone.
+/// Returns the number of the node's memory frames in the zone. `slot` is the span of this node and
+/// zone, or `None` if there are no such frames.
 fn present_in_slot(slot: Option<Span>) -> u64
     ensures { result ≡ present_in_slot slot }
 {

@@ -33,8 +33,9 @@ pub fn hull_spans_are_of_nodes()
         → zone_of x ≡ z → IsInHull f n x → ⊥ }
 {}
 
-/// Law: by each rule the span of a node and a zone has all their frames, and `present` is the
-/// number of these. If there is no span, no frame is of that node and zone.
+/// Law: by both rules (`Frames` and `NodeHull`) the span of a node and a zone has all frames of
+/// that node and zone, and `present` is the number of these. If there is no span, no frame is of
+/// that node and zone.
 pub fn spans_have_their_frames()
     ensures some { (rule : AnyRule) (f : Frames) (n : ℕ) (z : AnyZone) (s : AnySpan) (x : ℕ)
         → span_by rule f n z ≡ Some s → x < 2 ^ 52 → is_in_node_zone f n z x ≡ true

@@ -25,8 +25,8 @@ fn zone_index(zone: Zone) -> u64
     }
 }
 
-/// Adds the frames from `first` to below `end`, which are memory of this node. They must be above
-/// all frames that were added before.
+/// Adds the frames from `first` to below `end`, which are memory of this node, to the spans in the
+/// slots. They must be above all frames that were added before.
 ///
 /// # Errors
 ///
@@ -57,8 +57,8 @@ pub fn add_frames(
     Ok(())
 }
 
-/// Adds the frames from `start` to below `end`, which are memory of this node and all in this
-/// zone.
+/// Adds the frames from `start` to below `end`, which are memory of this node and all in this zone,
+/// to the span in the slot of this node and zone. They must be above all frames of that span.
 ///
 /// # Errors
 ///

@@ -34,8 +34,8 @@ pub struct Span {
     pub present: u64,
 }
 
-/// Returns one span for each node and zone with memory, by node and then by zone. The records of
-/// the memory table must be whole frames.
+/// Returns one span for each node and zone with memory, sorted by node and then by zone. The
+/// records of the memory table must be whole frames.
 ///
 /// # Errors
 ///
@@ -49,8 +49,8 @@ pub fn spans(alloc: Global, store: &Store, heads: &Heads) -> Result<Vec<Span>, M
     spans_by(ZoneRule::Frames, alloc, store, heads)
 }
 
-/// Returns the spans by a rule, by node and then by zone. The records of the memory table must be
-/// whole frames.
+/// Returns the spans of the zones of all nodes as `rule` defines them, sorted by node and then by
+/// zone. The records of the memory table must be whole frames.
 ///
 /// # Errors
 ///
