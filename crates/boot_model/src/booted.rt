@@ -43,7 +43,7 @@ pub struct Booted {
     pub placed: Vec<Placed>,
     /// The outcome of each line of the early claims, which run before memory gets its nodes.
     pub claim_answers: Vec<Answer>,
-    /// The outcome of each line of the early script.
+    /// The outcome of each line of the early script, except for the command `sections`.
     pub answers: Vec<Answer>,
     /// What the memory of each node spans in each zone.
     pub spans: Vec<Span>,
