@@ -1,5 +1,6 @@
 //! The program `bootmem61` over files in memory: what it has beside `bootmem`. These are the early
 //! claims, their file and their report, the rule for the crash area, and the name in error lines.
+//! Texts of boots whose tables grow come from an independent model of the boot.
 
 ghost use Rattle.std.specs.Prelude.{IfOk};
 ghost use Rattle.bm_io.specs.MemFiles.{file_views, HaveOwnNames};
@@ -49,27 +50,49 @@ fn files_of(alloc: Global, held: &Held<'_>) -> Result<Vec<MemFile>, Fail>
 /// and the expected status, output and error output.
 type Row<'a> = (Program, &'a [&'a str], [&'a [u64]; 2], u8, &'a str, &'a str);
 
+/// How a run ended: the status, the output and the error output.
+#[derive(Drop)]
+struct Ended {
+    status: u8,
+    out: MemSink,
+    err: MemSink,
+}
+
+/// Runs the program with these words over these files. `failing` has the numbers of the fetches and
+/// of the writes to the output that fail.
+fn run_on(
+    alloc: Global,
+    held: &Held<'_>,
+    program: Program,
+    words: &[&str],
+    failing: [&[u64]; 2],
+) -> Result<Ended, Fail> {
+    let [fetches, puts] = failing;
+    let mut owned = Vec::new(alloc);
+    for word in words {
+        owned.push(String::from_str(alloc, word)?)?;
+    }
+    let mut files = MemFiles::new(files_of(alloc, held)?, Vec::from_slice(alloc, fetches)?);
+    let mut out = MemSink::new(Vec::from_slice(alloc, puts)?);
+    let mut err = MemSink::new(Vec::new(alloc));
+    let status = match program {
+        Program::Bootmem => run(alloc, &owned, &mut files, &mut out, &mut err),
+        Program::Bootmem61 => run61(alloc, &owned, &mut files, &mut out, &mut err),
+    };
+    Ok(Ended { status, out, err })
+}
+
 /// Runs the program of each row over these files, and compares how it ends.
 fn compare(rt: &impl Abort, alloc: Global, held: &Held<'_>, rows: &[Row<'_>]) -> Result<(), Fail> {
-    for (program, words, [fetches, puts], status, text, line) in rows {
-        let mut owned = Vec::new(alloc);
-        for word in *words {
-            owned.push(String::from_str(alloc, word)?)?;
-        }
-        let mut files = MemFiles::new(files_of(alloc, held)?, Vec::from_slice(alloc, fetches)?);
-        let mut out = MemSink::new(Vec::from_slice(alloc, puts)?);
-        let mut err = MemSink::new(Vec::new(alloc));
-        let ended = match program {
-            Program::Bootmem => run(alloc, &owned, &mut files, &mut out, &mut err),
-            Program::Bootmem61 => run61(alloc, &owned, &mut files, &mut out, &mut err),
-        };
-        assert!(rt; ended == *status, "{program:?} {words:?}");
+    for (program, words, failing, status, text, line) in rows {
+        let ended = run_on(alloc, held, *program, words, *failing)?;
+        assert!(rt; ended.status == *status, "{program:?} {words:?}");
         assert!(rt;
-            out.written_bytes() == text.as_bytes(),
+            ended.out.written_bytes() == text.as_bytes(),
             "{program:?} {words:?}"
         );
         assert!(rt;
-            err.written_bytes() == line.as_bytes(),
+            ended.err.written_bytes() == line.as_bytes(),
             "{program:?} {words:?}"
         );
     }
@@ -249,4 +272,117 @@ fn faults_and_stops(rt: HostRuntime) -> Result<(), Fail> {
         (EMPTY, 0, ""),
     ];
     compare_faults(&rt, rt.alloc(), &rows)
+}
+
+/// Returns early claims of `many` single bytes, 8 KiB apart, and then of a line that frees the
+/// seventh.
+fn claims_of_bytes(alloc: Global, many: u32) -> Result<String, Fail> {
+    let mut text = String::new(alloc);
+    for id in 1..=many {
+        let line = format!(in alloc; "reserve {id} {} 1\n", 0x400_0000 + u64::from(id) * 8192)?;
+        text.push_str(line.as_str())?;
+    }
+    text.push_str("free 7\n")?;
+    Ok(text)
+}
+
+/// Runs `bootmem61` with `many` claimed bytes, and with a script that frees the eighth and finds
+/// a place for the ID of the seventh. Compares the reports `script`, `tables` and `buddyinfo`, and
+/// the last lines of the journal.
+fn compare_growth(
+    rt: &impl Abort,
+    alloc: Global,
+    many: u32,
+    text: &str,
+    journal: &str,
+) -> Result<(), Fail> {
+    let claims = claims_of_bytes(alloc, many)?;
+    let held = Held {
+        script: b"free 8\nalloc 7 8K 4K\nfree 7\n",
+        claims: claims.as_bytes(),
+        ..EMPTY
+    };
+    let words: &[&str] = &[
+        "--claims=cm",
+        "--script=sc",
+        "--report=script,tables,buddyinfo",
+        "zp",
+    ];
+    let rows: [Row<'_>; 1] = [(Program::Bootmem61, words, NONE, 0, text, "")];
+    compare(rt, alloc, &held, &rows)?;
+    let words: &[&str] = &["--claims=cm", "--script=sc", "--report=journal", "zp"];
+    let ended = run_on(alloc, &held, Program::Bootmem61, words, NONE)?;
+    assert!(rt; ended.status == 0, "{many} claims");
+    assert!(rt;
+        ended.out.written_bytes().ends_with(journal.as_bytes()),
+        "{many} claims"
+    );
+    Ok(())
+}
+
+// The reserved table has room for 128 records. The first MiB and the kernel take two of them.
+#[test]
+fn claims_make_a_table_grow(rt: HostRuntime) -> Result<(), Fail> {
+    let text = "== script\n\
+                1: done\n\
+                2: at 0x0000000007fb1000\n\
+                3: done\n\
+                == tables\n\
+                memory place 0x0000000002ffe000 room 128 records 1\n\
+                reserved place 0x0000000007fde000 room 256 records 131\n\
+                == buddyinfo\n\
+                Node 0, zone      DMA      0      0      0      0      0      0      0      0      \
+                1      1      3 \n\
+                Node 0, zone    DMA32    127      4      2      2      1      2      1      2      \
+                1      1     18 \n";
+    let journal = "133: claim script 126 0x00000000040fc000..0x00000000040fc000\n\
+                   134: grown reserved 0x0000000007fde000 room 256\n\
+                   135: claim table-reserved 0x0000000007fde000..0x0000000007fdffff\n\
+                   136: claim script 127 0x00000000040fe000..0x00000000040fe000\n\
+                   137: claim script 128 0x0000000004100000..0x0000000004100000\n\
+                   138: free 0x000000000400e000..0x000000000400e000\n\
+                   139: node 0 0x0000000000000000..0x0000000007fdffff\n\
+                   140: claim node-data 0 0x0000000007fb3000..0x0000000007fddfff\n\
+                   141: free 0x0000000004010000..0x0000000004010000\n\
+                   142: claim script 7 0x0000000007fb1000..0x0000000007fb2fff\n\
+                   143: free 0x0000000007fb1000..0x0000000007fb2fff\n\
+                   144: claim roots 0x0000000007faf000..0x0000000007fb2fff\n\
+                   145: claim root 0 0x0000000007fae000..0x0000000007faefff\n\
+                   146: claim usage 0 0x0000000007fadfc0..0x0000000007fadfe7\n\
+                   147: claim map 0 0x0000000007c00000..0x0000000007dfffff\n";
+    compare_growth(&rt, rt.alloc(), 128, text, journal)
+}
+
+// The table grows a second time, and frees its last place. The script's line gets that place.
+#[test]
+fn claims_make_a_table_grow_twice(rt: HostRuntime) -> Result<(), Fail> {
+    let text = "== script\n\
+                1: done\n\
+                2: at 0x0000000007fde000\n\
+                3: done\n\
+                == tables\n\
+                memory place 0x0000000002ffe000 room 128 records 1\n\
+                reserved place 0x0000000007fdb000 room 512 records 259\n\
+                == buddyinfo\n\
+                Node 0, zone      DMA      0      0      0      0      0      0      0      0      \
+                1      1      3 \n\
+                Node 0, zone    DMA32    253      3      1      1      0      1      0      1      \
+                1      1     18 \n";
+    let journal = "262: claim script 253 0x00000000041fa000..0x00000000041fa000\n\
+                   263: grown reserved 0x0000000007fdb000 room 512\n\
+                   264: claim table-reserved 0x0000000007fdb000..0x0000000007fddfff\n\
+                   265: free 0x0000000007fde000..0x0000000007fdffff\n\
+                   266: claim script 254 0x00000000041fc000..0x00000000041fc000\n\
+                   267: claim script 255 0x00000000041fe000..0x00000000041fe000\n\
+                   268: free 0x000000000400e000..0x000000000400e000\n\
+                   269: node 0 0x0000000000000000..0x0000000007fdffff\n\
+                   270: claim node-data 0 0x0000000007fb0000..0x0000000007fdafff\n\
+                   271: free 0x0000000004010000..0x0000000004010000\n\
+                   272: claim script 7 0x0000000007fde000..0x0000000007fdffff\n\
+                   273: free 0x0000000007fde000..0x0000000007fdffff\n\
+                   274: claim roots 0x0000000007fac000..0x0000000007faffff\n\
+                   275: claim root 0 0x0000000007fdf000..0x0000000007fdffff\n\
+                   276: claim usage 0 0x0000000007fdefc0..0x0000000007fdefe7\n\
+                   277: claim map 0 0x0000000007c00000..0x0000000007dfffff\n";
+    compare_growth(&rt, rt.alloc(), 255, text, journal)
 }
