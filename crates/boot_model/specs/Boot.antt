@@ -142,8 +142,8 @@ early_inputs given = record {
 
 -- What a boot has made so far: the map, the options, what happened to memory (oldest first), the
 -- nodes, the outcome for the crash area, and the places of the sections. The last four fields are
--- of the early claims and the early script: the live IDs and the fills of both, and the answers of
--- each.
+-- of the early claims and the early script: the live IDs and the fills of both, and the outcomes of
+-- the lines of each.
 pub record BootSoFar : Type 0 where
   pub map : List (RunOf ℕ)
   pub options : OptionsView
@@ -211,11 +211,12 @@ heads_of kernel items = record {
 abbrev pub handover_frames : List Item → Frames
 handover_frames items = free_node_in (memory_of items) (reserved_labels (owner_of items))
 
--- what the memory of each node spans in each zone (`free_area_init`)
+-- for each node and zone, the frames from the node's first memory frame in the zone to its last
+-- (`free_area_init`)
 abbrev pub spans_of_memory : List Item → List Span
 spans_of_memory items = spans_of (node_of_frame (memory_of items))
 
--- what the memory of each node spans in each zone, by the rule `rule`
+-- for each node and zone, the frames that the zone spans by the rule
 abbrev pub spans_by_rule : ZoneRule → List Item → List Span
 spans_by_rule rule items = spans_by rule (node_of_frame (memory_of items))
 
@@ -299,7 +300,7 @@ map_stages given = map_size_stage ∷ usable_frames_stage given ∷ []
 abbrev pub judge_map : InputsView → Result BootSoFar Cause
 judge_map given = run_each_stage (map_stages given) (begin_boot given)
 
--- the state in which lines of the early script begin
+-- the state before the next lines of the early script, from what the boot has made so far
 abbrev pub script_state : RangeView → BootSoFar → ScriptSoFar
 script_state kernel made = record {
   state = record { kernel = kernel; items = made.items; ids = made.ids };
@@ -324,8 +325,9 @@ claims_state kernel made = record (script_state kernel made) { answers = made.cl
 abbrev pub with_claims_state : BootSoFar → ScriptSoFar → BootSoFar
 with_claims_state made s = record made { items = s.state.items; ids = s.state.ids; fills = s.fills; claim_answers = s.answers }
 
--- The lines of early claims are carried out as those of a script. Their IDs stay live, and their
--- answers are a list of their own.
+-- Runs the lines of early claims as those of a script: if a line is refused, its outcome is
+-- recorded and the next line follows. Their IDs stay live, and their outcomes are a list of their
+-- own.
 abbrev pub claims_stage : RangeView → List Line → Stage
 claims_stage kernel lines made = Ok (with_claims_state made (script_after_lines (claims_state kernel made) lines))
 
@@ -335,8 +337,8 @@ abbrev pub finish_stage : {E A : Type 0} → (E → Cause) → (A → BootSoFar 
 finish_stage cause put next (Ok a) = Ok (put a next)
 finish_stage cause put next (Err error) = Err (cause error)
 
--- ends a stage made of steps: appends the items of its steps, and then does what `finish_stage`
--- does with its value or error
+-- ends a stage made of steps: appends the items that its steps wrote, and then puts its value into
+-- what the boot made, or stops the boot with the cause for its error
 abbrev pub finish_steps : {E A : Type 0} → (E → Cause) → (A → BootSoFar → BootSoFar) → BootSoFar → StepEffect E A → Result BootSoFar Cause
 finish_steps cause put made done = finish_stage cause put (record made { items = items_after_step made.items done }) done.answer
 
@@ -388,19 +390,22 @@ later_stages extra given =
     ∷ sections_stage given
     ∷ script_stage given.kernel (lines_after_sections given.lines) ∷ []
 
--- the boot up to the handover (`setup_arch`, up to `mem_init`), with a profile and early claims
+-- what the boot has made up to the handover (`setup_arch`, up to `mem_init`), with a profile and
+-- early claims, or the cause for which it stops
 unfoldable pub boot_with : ExtraView → InputsView → Result BootSoFar Cause
 boot_with extra given = judge_map given >>= λ made. run_each_stage (later_stages extra given) made
 
--- the boot by `bootmem`'s own profile, without early claims
+-- what the boot has made with `bootmem`'s own profile and without early claims, or the cause for
+-- which it stops
 unfoldable pub boot : InputsView → Result BootSoFar Cause
 boot given = boot_with no_extra given
 
--- the boot with a profile and early claims, and what is reported of it
+-- what is reported of the boot with a profile and early claims, or the cause for which it stops
 abbrev pub whole_boot_with : ExtraView → InputsView → Result BootedView Cause
 whole_boot_with extra given = boot_with extra given >>= λ made. Ok (finish_boot_by extra.profile given made)
 
--- the boot, and what is reported of it
+-- what is reported of the boot with `bootmem`'s own profile and without early claims, or the cause
+-- for which it stops
 abbrev pub whole_boot : InputsView → Result BootedView Cause
 whole_boot given = boot given >>= λ made. Ok (finish_boot given made)
 

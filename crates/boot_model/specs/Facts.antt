@@ -67,7 +67,7 @@ CanBeRun-prop acts.Sections = Prim.hlevel Unit-prop
 pub PlacesSectionsOnce-prop : (lines : List Line) → IsProp (PlacesSectionsOnce lines)
 PlacesSectionsOnce-prop lines = Prim.hlevel CanBeRun-prop
 
--- no line places the sections
+-- no line is `sections`, the line that places the memory sections
 abbrev pub HaveNoSections : List Line → Type 0
 HaveNoSections lines = All (λ line. CanBeRun line.act) lines
 

@@ -9,7 +9,7 @@ use Rattle.boot_model.specs.declared.stop.Cause.TheVariants as causes
 use Rattle.boot_model.specs.declared.stop.Stop.{Stop}
 use Rattle.boot_model.specs.declared.stop.Stop.TheVariants as stops
 
--- the stop for a cause
+-- the stop that has this cause
 abbrev pub stop_of : Cause → Stop
 stop_of causes.NoRam = stops.NoRam
 stop_of (causes.TooMuchRam frames) = stops.TooMuchRam frames
@@ -26,7 +26,7 @@ cause_of (stops.NoPlace thing) = Some (causes.NoPlace thing)
 cause_of (stops.NoTablePlace which room) = Some (causes.NoTablePlace which room)
 cause_of stops.Memory = None
 
--- the cause for the reason why a boot stops at its map
+-- the cause for which a boot stops if its map is refused for this reason
 abbrev pub cause_of_map : MapStop → Cause
 cause_of_map reasons.NoRam = causes.NoRam
 cause_of_map (reasons.TooMuchRam frames) = causes.TooMuchRam frames
@@ -35,7 +35,7 @@ cause_of_map (reasons.TooMuchRam frames) = causes.TooMuchRam frames
 abbrev pub cause_of_growth : RefusedGrowth → Cause
 cause_of_growth refused = causes.NoTablePlace refused.which refused.room
 
--- the cause for the stop of a stage
+-- the cause for which a boot stops if one of its stages stops for this reason
 abbrev pub cause_of_stage : StageCause → Cause
 cause_of_stage (NoPlace thing) = causes.NoPlace thing
 cause_of_stage (NoTablePlace w room) = causes.NoTablePlace w room

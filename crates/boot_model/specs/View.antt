@@ -41,7 +41,7 @@ inputs_view i = record {
   efi = option_map efi_map_view i.efi;
 }
 
--- what contracts see of what a boot is given besides its inputs
+-- what contracts see of an `Extra`: the profile, and the lines of early claims
 abbrev pub extra_view : Extra → ExtraView
 extra_view e = record { profile = e.profile; claims = e.claims.items }
 

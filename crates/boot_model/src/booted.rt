@@ -45,7 +45,8 @@ pub struct Booted {
     pub claim_answers: Vec<Answer>,
     /// The outcome of each line of the early script, except for the command `sections`.
     pub answers: Vec<Answer>,
-    /// What the memory of each node spans in each zone.
+    /// For each node and zone, the range of frames that the zone spans and the number of its memory
+    /// frames.
     pub spans: Vec<Span>,
     /// The free frames that were handed over to the page allocator, each with its node.
     pub buddy: Buddy,

@@ -46,7 +46,8 @@ impl Profile {
     }
 }
 
-/// What a boot is given besides its inputs.
+/// What a boot is given besides its inputs: the rules in which `bootmem` and Linux 6.1 differ, and
+/// the lines of early claims.
 #[derive(Drop)]
 pub struct Extra {
     /// The rules of the boot.

@@ -55,7 +55,7 @@ unfoldable pub blocks_from : Frames → ℕ → ℕ → List Block
 blocks_from f x zero = []
 blocks_from f x (suc n) = prepend_block_at x (block_of f x) (blocks_from f (x + 1) n)
 
--- all blocks, in ascending order of their first frames
+-- all blocks of the free frames, in ascending order of their first frames
 unfoldable pub blocks_of : Frames → List Block
 blocks_of f = blocks_from f 0 MAX_FRAMES
 

@@ -31,7 +31,8 @@ use std::marker::Model;
 pub enum Take {
     /// The node has no block of the order or a greater one in the zone.
     NoBlock,
-    /// This program is out of memory. This error is returned only if such a block exists.
+    /// This program is out of memory. This error is returned only if the node has a block of the
+    /// order or a greater one in the zone.
     Memory,
 }
 

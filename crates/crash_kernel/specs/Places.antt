@@ -33,8 +33,9 @@ fixed_range base size items =
 abbrev pub high_range : ℕ → List Item → Option RangeView
 high_range size items = best_range size 0x1000000 (2 ^ 46) items
 
--- the range of the crash area: at the requested base, or else the range that memblock picks.
--- Without `,high` a range below 4 GiB (`CRASH_ADDR_LOW_MAX`) is searched for first.
+-- The range for the crash area. If a base is requested, it is the range at that base. Otherwise it
+-- is the free range that memblock picks; without `,high` a range below 4 GiB (`CRASH_ADDR_LOW_MAX`)
+-- is searched for first. It is none if no free range fits.
 unfoldable pub main_range : ℕ → Placement → List Item → Option RangeView
 main_range size (placement.Fixed base) items = fixed_range base size items
 main_range size placement.Automatic items = option_or (best_range size 0x1000000 (2 ^ 32) items) (high_range size items)

@@ -16,7 +16,7 @@ use memblock_ranges::Tables;
 /// The multiple to which Linux rounds total memory up, in bytes (`SZ_128M`).
 const SZ_128M: u64 = 1 << 27;
 
-/// Where the area may lie.
+/// Where the crash area may lie.
 #[derive(Clone, Copy, Debug, PartialEq, Eq)]
 pub enum Placement {
     /// At exactly this physical address (`crashkernel=SIZE@BASE`).
@@ -33,7 +33,7 @@ pub enum Placement {
 pub struct AreaRequest {
     /// The size in bytes, above 0.
     pub size: u64,
-    /// Where the area may lie.
+    /// Where the crash area may lie.
     pub placement: Placement,
 }
 

@@ -10,8 +10,8 @@ pub enum CrashRule {
     /// is.
     ExactTotal,
     /// The rule of Linux 6.1. Total memory is the number of bytes that became memory, before
-    /// memblock trims them to whole frames, rounded up to a multiple of 128 MiB. The whole plain
-    /// form is refused for a range whose size is total memory or more, and for a range that ends
-    /// at or below its start, unless an earlier range contains total memory.
+    /// memblock trims them to whole frames, rounded up to a multiple of 128 MiB. The ranges are
+    /// checked in order, up to the first that contains total memory. If one of them has a size of
+    /// total memory or more, or ends at or below its start, the whole plain form is refused.
     RoundedTotal,
 }

@@ -125,8 +125,8 @@ fill_effect s id byte = on_range_of_id s id (fill_whole_range s byte)
 abbrev pub peek_effect : ScriptState → (ℕ → ℕ) → ℕ → ℕ → LineEffect
 peek_effect s bytes at len = answer_only s (outcomes.Bytes (record { items = bytes_at bytes at len }))
 
--- what an act does in this state, with these bytes in memory; the line that places the sections
--- does nothing here
+-- the effect of a line's command in this state; `bytes` gives the byte at each address. The line
+-- `sections` has no effect here, since the boot places the sections itself.
 unfoldable pub act_effect : ScriptState → (ℕ → ℕ) → Act → LineEffect
 act_effect s bytes (acts.Alloc id request) = alloc_effect s id request
 act_effect s bytes (acts.Reserve id range) = reserve_effect s id range
@@ -156,9 +156,10 @@ script_outcome_at_line s d = outcome_unless_refused (d.change s.items).refused d
 abbrev pub state_after_line : ScriptState → LineEffect → ScriptState
 state_after_line s d = state_after_change s d.ids (d.change s.items)
 
--- This program ran out of memory during a change. Either it ran out before one of the change's
--- steps: that step and all later ones are missing. Or it ran out after all steps: no growth was
--- refused, and the line allocates further memory of this program (`takes`).
+-- This program ran out of memory during a change, which is a list of steps (groups of items).
+-- Either it ran out before one of these steps: that step and all later ones are missing. Or it ran
+-- out after all steps: no growth was refused, and the line allocates further memory of this program
+-- (`takes`).
 abbrev pub RunsOutDuringChange : Bool → List Item → List Item → growth.ChangeEffect → Type 0
 RunsOutDuringChange takes old new o =
     StopsBeforeStep old new o.steps ⊎ (IsTrue takes × (o.refused ≡ None) × (new ≡ items_after_change old o))

@@ -26,9 +26,9 @@ use Rattle.numa_nodes.specs.declared.stage.Nodes.{Nodes}
 abbrev pub is_memory_byte : List Item → ℕ → Bool
 is_memory_byte items x = is_some (memory_of items x)
 
--- the ranges that get a node, each with its node. If the table of domains is used, they are the
--- runs of addresses of one node, and then the runs of memory that no block covers. Else the only
--- range is all addresses below the limit, with node 0 (`dummy_numa_init`).
+-- The ranges that get a node, each with its node. If the table of domains is used, they are the
+-- runs of addresses of one node, and then the runs of memory that no block of the table covers.
+-- Otherwise the only range is all addresses below `limit`, with node 0 (`dummy_numa_init`).
 abbrev pub node_ranges_by : Why → ℕ → SratNodesView → List NumaBlock
 node_ranges_by why.Used limit found = found.joined ++ found.rest
 node_ranges_by reason limit found = record { base = 0; size = limit; value = 0 } ∷ []
@@ -85,13 +85,14 @@ nodes_view_from_judgement found nodes =
 abbrev pub place_data_of_nodes : SratNodesView → List ℕ → StageStep StageCause NodesView
 place_data_of_nodes found nodes = fold_steps place_node_data tt nodes >>= λ done. return_value (nodes_view_from_judgement found nodes)
 
--- the whole stage after it has been decided (`found`) whether the table of domains is used
+-- the stage of the nodes after it has been decided (`found`) whether the table of domains is used
 unfoldable pub assign_nodes_by : SratNodesView → StageStep StageCause NodesView
 assign_nodes_by found =
     read_items_allocating (λ items. node_ranges (limit_of items) found) >>= λ ranges. (fold_steps set_block_node tt ranges
     >>= λ done. (read_items_allocating (λ items. nodes_with_memory (memory_of items)) >>= λ nodes. place_data_of_nodes found nodes))
 
--- the whole stage for a table of domains and the option `numa=off`. Before the first range gets
--- its node, it decides, from the machine's memory, whether the table is used.
+-- The whole stage of the nodes. `table` is the firmware's table of domains, if there is one, and
+-- `off` is the option `numa=off`. Before the first range gets its node, the stage decides from the
+-- machine's memory whether the table is used.
 unfoldable pub assign_nodes : Option SratView → Bool → StageStep StageCause NodesView
 assign_nodes table off = read_items (λ items. judge_srat (is_memory_byte items) off table) >>= λ found. assign_nodes_by found

@@ -18,7 +18,7 @@ pub data PageForm : Type 0 where
   near : (id order node : List ℕ) → PageForm
   give : (id : List ℕ) → PageForm
 
--- the words of each form
+-- the words of a line that has this form
 abbrev pub page_words_of : PageForm → Words
 page_words_of (pages id order node zone) = codes "pages" ∷ id ∷ order ∷ node ∷ zone_name zone ∷ []
 page_words_of (near id order node) = codes "near" ∷ id ∷ order ∷ node ∷ []

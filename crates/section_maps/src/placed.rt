@@ -35,7 +35,8 @@ pub fn empty_section_list(alloc: Global, count: usize) -> Result<Vec<Placed>, Me
     Ok(Vec::with_capacity(alloc, count)?)
 }
 
-/// Appends the section with its addresses. The list must have room for it.
+/// Appends the section, with its map at address `map` and its usage data at address `usage`, to the
+/// list. The list must have room for it.
 pub fn push_placed_section(placed: &mut Vec<Placed>, section: &Section, map: u64, usage: u64)
     requires room { vec_len placed.old < vec_capacity placed.old }
     ensures placed { placed.new.items ≡ placed.old.items

@@ -5,7 +5,7 @@ use Rattle.zone_spans.specs.declared.span.Span.{Span}
 use Rattle.zone_spans.specs.declared.hull.HullFrames.{HullFrames}
 use Rattle.zone_spans.specs.Hull.{hull_part}
 
--- the hull extended by the frames of a span, which are above all frames of the hull
+-- the hull extended to the end of the span, whose frames are above all frames of the hull
 abbrev pub hull_with_span : Option HullFrames → Option Span → Option HullFrames
 hull_with_span None None = None
 hull_with_span None (Some s) = Some (record { first = s.start; end = s.end })

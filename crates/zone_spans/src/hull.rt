@@ -108,7 +108,8 @@ fn hull_of_slots(dma: Option<Span>, dma32: Option<Span>, normal: Option<Span>) -
     hull_with_span(hull_with_span(hull_with_span(None, dma), dma32), normal)
 }
 
-/// Returns the hull extended by the frames of a span, which are above all frames of the hull.
+/// Returns the hull extended to the end of the span, whose frames must be above all frames of the
+/// hull. Without a hull, returns the frames of the span; without a span, returns the hull.
 fn hull_with_span(hull: Option<HullFrames>, span: Option<Span>) -> Option<HullFrames>
     ensures { result ≡ hull_with_span hull span }
 {
