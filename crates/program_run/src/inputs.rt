@@ -62,7 +62,7 @@ pub fn read_boot_inputs<F: Files>(
 /// - `Reason::Unread` if a file can't be read, and `Reason::Faulty` if one has a fault. The first
 ///   such file ends the call.
 /// - `Memory` if this program is out of memory.
-pub(crate) fn read_boot_inputs61<F: Files>(
+pub fn read_boot_inputs61<F: Files>(
     alloc: Global,
     names: &NamesWithClaims<'_, '_>,
     files: &mut F,

@@ -18,8 +18,8 @@
 //! `bootmem61_outcome`.
 //!
 //! `bootmem_cli` and `bootmem61_cli` run them on the files and streams of the operating system.
-//! [`read_boot_inputs`] and [`reason_by_stop`] serve a caller that boots without writing reports
-//! (`bootmem_c`).
+//! [`read_boot_inputs`], [`read_boot_inputs61`] and [`reason_by_stop`] serve a caller that boots
+//! without writing reports (`bootmem_c`).
 //!
 //! In contracts, a name means the definition in `specs/`.
 #![tactic(auto)]
@@ -30,6 +30,6 @@ mod program;
 mod program61;
 
 pub use boot_inputs::InputsReason;
-pub use inputs::read_boot_inputs;
+pub use inputs::{read_boot_inputs, read_boot_inputs61};
 pub use program::{Failure, NoReport, reason_by_stop, run};
 pub use program61::run61;
