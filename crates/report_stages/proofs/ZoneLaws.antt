@@ -1,5 +1,6 @@
--- Lemmas on the number of frames in the blocks of a node and a zone, order by order.
-use Rattle.std.proofs.Common.{◌≡◌, ℕ, suc, ◌+◌, ◌-◌, ◌*◌, ◌%◌, ◌^◌, ◌<◌, ◌≤◌, ◌==◌, Bool, ◌&&◌, cond, List, [], ◌∷◌, length, ◌++◌, codes, refl, arith}
+-- Lemmas on the number of frames in the blocks of a node and a zone, order by order, and on the lines
+-- of zones that have memory.
+use Rattle.std.proofs.Common.{◌≡◌, ℕ, suc, Bool, true, false, if◌then◌else◌, append-nil, sym, ◌+◌, ◌-◌, ◌*◌, ◌%◌, ◌^◌, ◌<◌, ◌≤◌, ◌==◌, ◌&&◌, cond, List, [], ◌∷◌, length, ◌++◌, codes, refl, arith}
 use Rattle.std.specs.Prelude.{nat_lt}
 use Rattle.std.specs.List.{count_by, filter, flat_map, range_with_len, sum_by}
 use Rattle.std.proofs.Math.Pow.{pow_mono}
@@ -10,7 +11,10 @@ use Rattle.bm_base.specs.declared.zone.Zone.{Zone}
 use Rattle.buddy_blocks.specs.declared.block.Block.{Block}
 use Rattle.buddy_blocks.specs.Frames.{Frames}
 use Rattle.buddy_blocks.specs.BlockList.{blocks_of, count_blocks, is_block_of, is_same_zone}
-use Rattle.report_stages.specs.ZonesText.{block_count_text, frames_in_zone, is_block_in_zone}
+use Rattle.zone_spans.specs.declared.span.Span.{Span}
+use Rattle.zone_spans.specs.Hull.{is_populated, populated_spans}
+use Rattle.report_memory.specs.Lines.{indexed_lines}
+use Rattle.report_stages.specs.ZonesText.{block_count_text, buddyinfo_line, buddyinfo_text, frames_in_zone, is_block_in_zone}
 use Rattle.report_stages.proofs.BlockLaws.{AreInBounds, listed_few, listed_in_bounds}
 
 -- the number of frames in the blocks of the node and the zone with orders below m
@@ -84,3 +88,29 @@ pub next_number : (f : Frames) (node : ℕ) (z : Zone) (order count : ℕ) → o
     ++ flat_map (block_count_text (blocks_of f) node z) (range_with_len (order + 1) (11 - (order + 1)))
 unfolding count_blocks
 next_number f node z order count less is = let left : 11 - order ≡ suc (11 - (order + 1)) = omega arith in rw (left, is) refl
+
+-- the index isn't printed
+same_line : (bs : List Block) (n m : ℕ) (s : Span) → buddyinfo_line bs n s ≡ buddyinfo_line bs m s
+unfolding buddyinfo_line
+same_line bs n m s = refl
+
+-- if the zone of a span has memory, the text of that span is its line
+pub line_of_populated : (f : Frames) (n : ℕ) (s : Span) → 0 < s.present
+    → buddyinfo_line (blocks_of f) n s ≡ buddyinfo_text f (s ∷ [])
+line_of_populated f n s some =
+    let is : is_populated s ≡ true = grind (arith, nat_tests) in
+    rw (is, append-nil) (same_line (blocks_of f) n 0 s)
+
+-- the text of one more span, before the texts of the others
+one_span : (bs : List Block) (b : Bool) (m : ℕ) (s : Span) (rest : List Span) (texts : List ℕ)
+    → texts ≡ indexed_lines (buddyinfo_line bs) (m + 1) rest → texts ≡ indexed_lines (buddyinfo_line bs) m rest
+    → indexed_lines (buddyinfo_line bs) 0 (if b then s ∷ [] else []) ++ texts ≡ indexed_lines (buddyinfo_line bs) m (if b then s ∷ rest else rest)
+one_span bs true m s rest texts after same = rw (append-nil, after, same_line bs 0 m s) refl
+one_span bs false m s rest texts after same = same
+
+-- the texts of the spans, one by one, are the lines of those whose zones have memory
+pub lines_of_spans : (f : Frames) (n m : ℕ) (spans : List Span)
+    → indexed_lines (λ k s. buddyinfo_text f (s ∷ [])) n spans ≡ indexed_lines (buddyinfo_line (blocks_of f)) m (populated_spans spans)
+lines_of_spans f n m [] = refl
+lines_of_spans f n m (s ∷ spans) =
+    one_span (blocks_of f) (is_populated s) m s (populated_spans spans) _ (lines_of_spans f (n + 1) (m + 1) spans) (lines_of_spans f (n + 1) m spans)

@@ -12,6 +12,7 @@ use Rattle.buddy_blocks.specs.declared.block.TheConstants.{MAX_ORDER}
 use Rattle.buddy_blocks.specs.Frames.{Frames}
 use Rattle.buddy_blocks.specs.BlockList.{blocks_of, is_block_of, is_same_zone}
 use Rattle.zone_spans.specs.declared.span.Span.{Span}
+use Rattle.zone_spans.specs.Hull.{populated_spans}
 use Rattle.report_memory.specs.Lines.{indexed_lines}
 use Rattle.bm_base.specs.Zones.{zone_name}
 
@@ -57,7 +58,8 @@ buddyinfo_line blocks n s =
     codes "Node " ++ decimal s.node ++ codes ", zone " ++ padded_zone s.zone ++ codes " "
     ++ block_counts_text blocks s.node s.zone ++ codes "\n"
 
--- the report `buddyinfo`: a line for each span, in the format of `/proc/buddyinfo`; `f` gives the
--- free frames
+-- the report `buddyinfo`: a line for each span whose zone has memory of the node, in the format of
+-- `/proc/buddyinfo`; `f` gives the free frames. A zone without memory has no line: `frag_show`
+-- (mm/vmstat.c) calls `walk_zones_in_node` with `assert_populated` true.
 abbrev pub buddyinfo_text : Frames → List Span → List ℕ
-buddyinfo_text f spans = indexed_lines (buddyinfo_line (blocks_of f)) 0 spans
+buddyinfo_text f spans = indexed_lines (buddyinfo_line (blocks_of f)) 0 (populated_spans spans)

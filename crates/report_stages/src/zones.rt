@@ -1,9 +1,9 @@
-//! Writes the reports `zones` and `buddyinfo`. Both have a line for each span: the range of frames
-//! of one node in one zone. `zones` prints the span and the number of free frames of its node and
-//! zone. `buddyinfo` prints the number of free blocks of each order. Both count with
-//! `Buddy::count`, without a list of blocks.
+//! Writes the reports `zones` and `buddyinfo`. Their lines are of spans: the range of frames of one
+//! node in one zone. `zones` prints each span and the number of free frames of its node and zone.
+//! `buddyinfo` prints the number of free blocks of each order, for zones that have memory of the
+//! node. Both count with `Buddy::count`, without a list of blocks.
 
-ghost use Rattle.std.specs.Prelude.{◌≡◌, ◌++◌, codes, decimal};
+ghost use Rattle.std.specs.Prelude.{◌≡◌, [], ◌∷◌, ◌++◌, codes, decimal};
 ghost use Rattle.bm_base.specs.PutsText.{PutsText};
 ghost use Rattle.bm_base.specs.Text.{padded_decimal};
 ghost use Rattle.buddy_blocks.specs.BlockList.{blocks_of};
@@ -33,7 +33,8 @@ pub fn put_zones(text: &mut Vec<u8>, spans: &[Span], buddy: &Buddy) -> Result<()
 }
 
 /// Appends the numbers of free blocks, in the format of `/proc/buddyinfo`: a line for each span
-/// (node and zone), with the number of free blocks of each order from 0 to 10.
+/// (node and zone) whose zone has memory of the node, with the number of free blocks of each order
+/// from 0 to 10.
 ///
 /// # Errors
 ///
@@ -43,7 +44,7 @@ pub fn put_buddyinfo(text: &mut Vec<u8>, spans: &[Span], buddy: &Buddy) -> Resul
         (buddyinfo_text (node_of_free_frame buddy.now) spans.now) }
 {
     put_indexed_lines(text, spans, |text: &mut Vec<u8>, index: u64, span: &Span| {
-        put_buddyinfo_line(text, index, span, buddy)
+        put_populated_line(text, index, span, buddy)
     })
 }
 
@@ -75,6 +76,24 @@ fn put_zone_line(text: &mut Vec<u8>, index: u64, span: &Span, buddy: &Buddy) -> 
         free_frames_in_zone(buddy, span.node, span.zone),
     )?;
     put_text(text, b"\n")
+}
+
+/// Appends the line of `buddyinfo` for a span, or nothing if its zone has no memory of the node
+/// (`walk_zones_in_node`).
+#[tactic(auto, using(crate::proofs::ZoneLaws::line_of_populated))]
+fn put_populated_line(
+    text: &mut Vec<u8>,
+    index: u64,
+    span: &Span,
+    buddy: &Buddy,
+) -> Result<(), Memory>
+    ensures { PutsText text.old text.new result
+        (buddyinfo_text (node_of_free_frame buddy.now) (span.now ∷ [])) }
+{
+    if span.present == 0 {
+        return Ok(());
+    }
+    put_buddyinfo_line(text, index, span, buddy)
 }
 
 /// Appends the line of a span: its node, its zone, and the number of free blocks of each order from
