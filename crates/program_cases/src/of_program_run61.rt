@@ -1,6 +1,6 @@
 //! The program `bootmem61` over files in memory: what it has beside `bootmem`. These are the early
-//! claims, their file and their report, the rule for the crash area, and the name in error lines.
-//! Texts of boots whose tables grow come from an independent model of the boot.
+//! claims, their file and their report, the rules for the crash area and for zones, and the name in
+//! error lines. Texts of boots whose tables grow come from an independent model of the boot.
 
 ghost use Rattle.std.specs.Prelude.{IfOk};
 ghost use Rattle.bm_io.specs.MemFiles.{file_views, HaveOwnNames};
@@ -162,6 +162,49 @@ fn crash_rule(rt: HostRuntime) -> Result<(), Fail> {
     let rows: [Row<'_>; 2] = [
         (Program::Bootmem61, words, NONE, 0, area, ""),
         (Program::Bootmem, words, NONE, 0, "crash none\n", ""),
+    ];
+    compare(&rt, rt.alloc(), &held, &rows)
+}
+
+// The node has memory below 16 MiB and from 4 GiB on, but none in between. The kernel shows zone
+// DMA32 in `/proc/zoneinfo`, but not in `/proc/buddyinfo`. The page script takes the one free block
+// of order 7.
+#[test]
+fn zone_without_memory(rt: HostRuntime) -> Result<(), Fail> {
+    let held = Held {
+        line: b"memmap=exactmap memmap=15M@1M memmap=128M@4G",
+        script: b"pages 1 7 0 Normal\n",
+        ..EMPTY
+    };
+    let zones: &[&str] = &["--kernel=1M,4M", "--cmdline=cl", "--report=zones", "zp"];
+    let by_hull = "Node 0, zone DMA start 256 end 4096 present 3840 free 2816\n\
+        Node 0, zone DMA32 start 4096 end 1048576 present 0 free 0\n\
+        Node 0, zone Normal start 1048576 end 1081344 present 32768 free 31695\n";
+    let own = "Node 0, zone DMA start 256 end 4096 present 3840 free 2816\n\
+        Node 0, zone Normal start 1048576 end 1081344 present 32768 free 31695\n";
+    let blocks: &[&str] = &["--kernel=1M,4M", "--cmdline=cl", "--report=buddyinfo", "zp"];
+    let free = "Node 0, zone      DMA      0      0      0      0      0      0      0      0      \
+        1      1      2 \n\
+        Node 0, zone   Normal      1      1      1      1      0      0      1      1      \
+        1      1     30 \n";
+    let pages: &[&str] = &[
+        "--kernel=1M,4M",
+        "--cmdline=cl",
+        "--pages=sc",
+        "--report=pagesinfo",
+        "zp",
+    ];
+    let left = "Node 0, zone      DMA      0      0      0      0      0      0      0      0      \
+        1      1      2 \n\
+        Node 0, zone   Normal      1      1      1      1      0      0      1      0      \
+        1      1     30 \n";
+    let rows: [Row<'_>; 6] = [
+        (Program::Bootmem61, zones, NONE, 0, by_hull, ""),
+        (Program::Bootmem61, blocks, NONE, 0, free, ""),
+        (Program::Bootmem61, pages, NONE, 0, left, ""),
+        (Program::Bootmem, zones, NONE, 0, own, ""),
+        (Program::Bootmem, blocks, NONE, 0, free, ""),
+        (Program::Bootmem, pages, NONE, 0, left, ""),
     ];
     compare(&rt, rt.alloc(), &held, &rows)
 }
