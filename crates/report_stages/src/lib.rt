@@ -28,6 +28,7 @@
 mod batches;
 mod blocks;
 mod crash;
+mod laws;
 mod lists;
 mod nodes;
 mod pages;
@@ -39,6 +40,7 @@ mod zones;
 
 pub use blocks::put_blocks;
 pub use crash::put_crash;
+pub use laws::own_rule_gives_a_line_for_each_span;
 pub use lists::put_zonelists;
 pub use nodes::put_nodes;
 pub use pages::put_pages;
