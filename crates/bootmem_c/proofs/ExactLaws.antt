@@ -1,9 +1,10 @@
 -- A file that can't be read is the one that the outcome names: reading fails only if no lent file
--- has the name.
-use Rattle.std.proofs.Common.{◌≡◌, ℕ, ◌<◌, List, [], ◌∷◌, Option, Some, None, Result, Ok, Err, refl, inl, inr, ap, arith, sym, ◌∙◌}
+-- has the name. The laws hold for each of the two programs.
+use Rattle.std.proofs.Common.{◌≡◌, ℕ, ◌<◌, ◌≤◌, List, [], ◌∷◌, Option, Some, None, Result, Ok, Err, refl, inl, inr, ap, arith, sym, ◌∙◌}
 use Rattle.std.specs.Prelude.{◌⊎◌}
 use Rattle.bm_base.specs.ResultSteps.{◌>>=◌}
 use Rattle.bm_io.specs.MemFiles.{file_bytes}
+use Rattle.boot_inputs.specs.Claims.{claims_of_file, claims_of_optional_file, claims_or_fault, claims_limit}
 use Rattle.boot_inputs.specs.declared.fault.Fault.{Fault}
 use Rattle.boot_inputs.specs.declared.input.Input.{Input}
 use Rattle.boot_inputs.specs.declared.input.Input.TheVariants as inputs
@@ -11,26 +12,123 @@ use Rattle.boot_inputs.specs.Reason.{NoInputs, InputsReason}
 use Rattle.boot_inputs.specs.File.{File}
 use Rattle.boot_inputs.specs.Input.{input_place}
 use Rattle.boot_inputs.specs.Inputs.{FileNames, inputs_after_file, inputs_after_files, input_files, inputs_of, inputs_after_named_file, answer_or_faulty_file, step_or_unread_file, inputs_after_optional_file, within_limit}
+use Rattle.boot_inputs.specs.WithClaims.{InputsWithClaims, files_after_claims, files_before_claims, inputs_with_claims_of, with_claims}
+use Rattle.script_reader.specs.declared.act.Line.{Line}
 use Rattle.program_end.specs.Program.{FileContents}
 use Rattle.boot_model.specs.declared.stop.Cause.{Cause}
 use Rattle.boot_model.specs.Boot.{InputsView}
 use Rattle.program_end.specs.declared.failure.NoResult.TheVariants as errors
 use Rattle.program_end.specs.declared.failure.Reason.TheVariants as reasons
-use Rattle.program_end.specs.Causes.{ErrorHasCause, IsErrorOfInput, FaultsRose, InputFaultsRose}
+use Rattle.program_end.specs.Causes.{ErrorHasCause, FaultsRose, InputFaultsRose}
 use Rattle.program_end.specs.Fetches.{FitsError, ReachesFile}
-use Rattle.program_run.specs.Bootmem.{bootmem}
-use Rattle.program_run.specs.Outcome.{bootmem_outcome, reports_on_boot, with_made_table}
-use Rattle.program_args.specs.Args.{BootmemArgsView}
+use Rattle.program_run.specs.Bootmem.{reports_program}
+use Rattle.program_run.specs.Outcome.{bootmem61_outcome, bootmem_outcome, read_boot_inputs, read_boot_inputs61, reports_of_list61, reports_on_boot, reports_on_boot61, with_made_table, with_made_table61}
+use Rattle.program_args.specs.Args.{BootmemArgsView, ProgramArgsView, named61}
 use Rattle.bootmem_c.specs.Boots.{HasOutcomeReason}
 use Rattle.bootmem_c.specs.Fetches.{LentFilesView, faults_at}
 use Rattle.bootmem_c.proofs.FetchLaws.{rose_unheld}
 use Rattle.bootmem_c.proofs.NameLaws.{HasNoClaims}
+
+-- if the step fails, its reason names an input before the place `bound` in the order of reading
+abbrev FailsBefore : {A : Type 0} → ℕ → Result A InputsReason → Type 0
+FailsBefore bound (Ok given) = Unit {0}
+FailsBefore bound (Err reasons.Usage) = ⊥
+FailsBefore bound (Err (reasons.Unread other)) = input_place other < bound
+FailsBefore bound (Err (reasons.Faulty other fault)) = input_place other < bound
+FailsBefore bound (Err (reasons.Stopped why)) = ⊥
+
+-- if reading reaches the file of `input` and can't read it, it ends with that reason
+abbrev EndsUnread : {A : Type 0} → Input → Result A InputsReason → Type 0
+EndsUnread input said = ReachesFile input_place input said → said ≡ Err (reasons.Unread input)
+
+-- a step before the file of `input` changes nothing of that
+after : {A B : Type 0} (input : Input) (step : Result A InputsReason) (rest : A → Result B InputsReason)
+    → FailsBefore (input_place input) step → ((given : A) → EndsUnread input (rest given)) → EndsUnread input (step >>= rest)
+after input (Ok given) rest fails goes comes = goes given comes
+after input (Err reasons.Usage) rest fails goes comes = absurd fails
+after input (Err (reasons.Unread other)) rest fails goes comes = absurd (omega (arith, fails, comes))
+after input (Err (reasons.Faulty other fault)) rest fails goes comes = absurd (omega (arith, fails, comes))
+after input (Err (reasons.Stopped why)) rest fails goes comes = absurd fails
+
+-- nor does a step after it
+within : {A B : Type 0} (input : Input) (step : Result A InputsReason) (rest : A → Result B InputsReason) → EndsUnread input step
+    → EndsUnread input (step >>= rest)
+within input (Ok given) rest goes comes = absurd (cc (goes tt))
+within {A = A} input (Err reason) rest goes comes = ap (λ (s : Result A InputsReason). s >>= rest) (goes comes)
+
+-- two steps that fail before a place fail before it together
+both_before : {A B : Type 0} (bound : ℕ) (step : Result A InputsReason) (rest : A → Result B InputsReason) → FailsBefore bound step
+    → ((given : A) → FailsBefore bound (rest given)) → FailsBefore bound (step >>= rest)
+both_before bound (Ok given) rest first second = second given
+both_before bound (Err reasons.Usage) rest first second = first
+both_before bound (Err (reasons.Unread other)) rest first second = first
+both_before bound (Err (reasons.Faulty other fault)) rest first second = first
+both_before bound (Err (reasons.Stopped why)) rest first second = first
+
+faulty_before : {A : Type 0} (input : Input) (bound : ℕ) (answer : Result A Fault) → input_place input < bound
+    → FailsBefore bound (answer_or_faulty_file input answer)
+faulty_before input bound (Ok given) below = tt
+faulty_before input bound (Err fault) below = below
+
+unread_before : {A : Type 0} (held : Option (List ℕ)) (input : Input) (bound : ℕ) (step : List ℕ → Result A InputsReason)
+    → input_place input < bound → ((bytes : List ℕ) → FailsBefore bound (step bytes))
+    → FailsBefore bound (step_or_unread_file input held step)
+unread_before None input bound step below is = below
+unread_before (Some bytes) input bound step below is = is bytes
+
+file_before : (held : FileContents) (file : File) (given : InputsView) (bound : ℕ) (name : Option (List ℕ)) → input_place file.input < bound
+    → FailsBefore bound (inputs_after_optional_file held file given name)
+file_before held file given bound None below = tt
+file_before held file given bound (Some name) below =
+    unread_before (held name) file.input bound _ below
+    (λ bytes. faulty_before file.input bound (within_limit file.limit bytes >>= λ read. file.says read given) below)
+
+-- each file of the list comes before the place
+abbrev AreBefore : ℕ → List File → Type 0
+AreBefore bound [] = Unit {0}
+AreBefore bound (file ∷ files) = (input_place file.input < bound) × AreBefore bound files
+
+files_before : (held : FileContents) (named : FileNames) (bound : ℕ) (files : List File) (given : InputsView) → AreBefore bound files
+    → FailsBefore bound (inputs_after_files held named files given)
+files_before held named bound [] given all = tt
+files_before held named bound (file ∷ files) given all =
+    both_before bound (inputs_after_file held named file given) (inputs_after_files held named files)
+    (file_before held file given bound (named file.input) all.0) (λ given. files_before held named bound files given all.1)
+
+claims_before : (held : FileContents) (bound : ℕ) (name : Option (List ℕ)) → 5 < bound
+    → FailsBefore bound (claims_of_optional_file held name)
+claims_before held bound None below = tt
+claims_before held bound (Some name) below =
+    unread_before (held name) inputs.Claims bound _ below
+    (λ bytes. faulty_before inputs.Claims bound (within_limit claims_limit bytes >>= claims_or_fault) below)
 
 -- the input is in the list, and the files before it in the list come earlier in the order of
 -- reading
 abbrev Has : Input → List File → Type 0
 Has input [] = ⊥
 Has input (file ∷ files) = (file.input ≡ input) ⊎ ((input_place file.input < input_place input) × Has input files)
+
+unread_at : (held : FileContents) (named : FileNames) (input : Input) (name : List ℕ) → named input ≡ Some name → held name ≡ None
+    → (files : List File) (given : InputsView) → Has input files → EndsUnread input (inputs_after_files held named files given)
+unread_at held named input name is none [] given has comes = absurd has
+unread_at held named input name is none (file ∷ files) given (inl same) comes =
+    let own : named file.input ≡ Some name = ap named same ∙ is in
+    let unread : inputs_after_named_file held file given name ≡ Err (reasons.Unread file.input) = rw none refl in
+    let step : inputs_after_file held named file given ≡ Err (reasons.Unread file.input) =
+    ap (inputs_after_optional_file held file given) own ∙ unread in
+    ap (λ (s : Result InputsView InputsReason). s >>= inputs_after_files held named files) step
+    ∙ ap (λ (i : Input). Err (reasons.Unread i)) same
+unread_at held named input name is none (file ∷ files) given (inr more) comes =
+    after input (inputs_after_file held named file given) (inputs_after_files held named files)
+    (file_before held file given (input_place input) (named file.input) more.0)
+    (λ given. unread_at held named input name is none files given more.1) comes
+
+-- if no file has the name of an input, and the outcome reaches this input, the outcome is that its
+-- file can't be read; `named` gives the names of the files
+abbrev pub NamesUnread : {W : Type 0} → (W → FileNames) → FileContents → Option W → Result (List ℕ) InputsReason → Type 0
+NamesUnread named held None said = Unit {0}
+NamesUnread named held (Some wanted) said =
+    (input : Input) (name : List ℕ) → named wanted input ≡ Some name → held name ≡ None → EndsUnread input said
 
 -- each input that a command line of `bootmem` names is in the list
 has : (named : FileNames) (name : List ℕ) → named inputs.Claims ≡ None → (input : Input) → named input ≡ Some name → Has input input_files
@@ -44,94 +142,88 @@ has named name own inputs.Pages is = grind arith
 has named name own inputs.Slit is = grind arith
 has named name own inputs.Efi is = grind arith
 
--- if the step for a file fails, its reason names this input
-abbrev Refuses : Input → Result InputsView InputsReason → Type 0
-Refuses input (Ok given) = Unit {0}
-Refuses input (Err reason) = IsErrorOfInput {F = Fault} {C = Cause} input (errors.Reason reason)
+pub bootmem_names_unread : (held : FileContents) (accepted : Option BootmemArgsView) → HasNoClaims accepted
+    → NamesUnread (λ wanted. wanted.named) held accepted (bootmem_outcome accepted held)
+bootmem_names_unread held None own = tt
+bootmem_names_unread held (Some wanted) own = λ input name is none.
+    within input (read_boot_inputs held wanted) (reports_on_boot wanted.reports)
+    (within input (inputs_of held wanted.named wanted.begun) (λ given. Ok (with_made_table wanted.made given))
+    (unread_at held wanted.named input name is none input_files wanted.begun (has wanted.named name own input is)))
 
-faulty_is : (input : Input) (answer : Result InputsView Fault) → Refuses input (answer_or_faulty_file input answer)
-faulty_is input (Ok given) = tt
-faulty_is input (Err fault) = refl
+-- the early claims are read after some files and before the others
+module _ (held : FileContents) (named : FileNames) (begun : InputsView) (name : List ℕ) (none : held name ≡ None) where
+  rest_of_claims : InputsView → List Line → Result InputsWithClaims InputsReason
+  rest_of_claims early lines = inputs_after_files held named files_after_claims early >>= λ given. Ok (with_claims given lines)
 
-unread_is : (held : Option (List ℕ)) (input : Input) (step : List ℕ → Result InputsView InputsReason)
-    → ((bytes : List ℕ) → Refuses input (step bytes)) → Refuses input (step_or_unread_file input held step)
-unread_is None input step is = refl
-unread_is (Some bytes) input step is = is bytes
+  rest_of_files : InputsView → Result InputsWithClaims InputsReason
+  rest_of_files early = claims_of_file held named >>= rest_of_claims early
 
-step_is : (held : FileContents) (file : File) (given : InputsView) (name : Option (List ℕ))
-    → Refuses file.input (inputs_after_optional_file held file given name)
-step_is held file given None = tt
-step_is held file given (Some name) =
-    unread_is (held name) file.input _ (λ bytes. faulty_is file.input (within_limit file.limit bytes >>= λ read. file.says read given))
+  file_of_first : (input : Input) → named input ≡ Some name → Has input files_before_claims
+      → EndsUnread input (inputs_with_claims_of held named begun)
+  unfolding rest_of_files rest_of_claims
+  file_of_first input is has =
+      within input (inputs_after_files held named files_before_claims begun) rest_of_files
+      (unread_at held named input name is none files_before_claims begun has)
 
--- if reading reaches the file of `input` and can't read it, reading the whole list ends with that
--- reason
-behind : (input : Input) (file : File) (rest : InputsView → Result InputsView InputsReason) → input_place file.input < input_place input
-    → ((given : InputsView) → ReachesFile input_place input (rest given) → rest given ≡ Err (reasons.Unread input))
-    → (step : Result InputsView InputsReason) → Refuses file.input step → ReachesFile input_place input (step >>= rest)
-    → (step >>= rest) ≡ Err (reasons.Unread input)
-behind input file rest lower goes (Ok given) is comes = goes given comes
-behind input file rest lower goes (Err reasons.Usage) is comes = absurd is
-behind input file rest lower goes (Err (reasons.Unread other)) is comes = absurd (omega (arith, lower, comes, ap input_place is))
-behind input file rest lower goes (Err (reasons.Faulty other fault)) is comes = absurd (omega (arith, lower, comes, ap input_place is))
-behind input file rest lower goes (Err (reasons.Stopped cause)) is comes = absurd is
+  file_of_claims : named inputs.Claims ≡ Some name → EndsUnread inputs.Claims (inputs_with_claims_of held named begun)
+  unfolding rest_of_files rest_of_claims
+  file_of_claims is =
+      let unread : claims_of_file held named ≡ Err (reasons.Unread inputs.Claims) = rw (is, none) refl in
+      after inputs.Claims (inputs_after_files held named files_before_claims begun) rest_of_files
+      (files_before held named 5 files_before_claims begun (grind arith))
+      (λ early. within inputs.Claims (claims_of_file held named) (rest_of_claims early) (λ comes. unread))
 
-named_unread : (held : FileContents) (file : File) (given : InputsView) (name : List ℕ) → held name ≡ None
-    → inputs_after_named_file held file given name ≡ Err (reasons.Unread file.input)
-named_unread held file given name none = rw none refl
+  file_of_last : (input : Input) → named input ≡ Some name → 5 < input_place input → Has input files_after_claims
+      → AreBefore (input_place input) files_before_claims → EndsUnread input (inputs_with_claims_of held named begun)
+  unfolding rest_of_files rest_of_claims
+  file_of_last input is last has first =
+      after input (inputs_after_files held named files_before_claims begun) rest_of_files
+      (files_before held named (input_place input) files_before_claims begun first)
+      (λ early. after input (claims_of_file held named) (rest_of_claims early)
+      (claims_before held (input_place input) (named inputs.Claims) last)
+      (λ lines. within input (inputs_after_files held named files_after_claims early) (λ given. Ok (with_claims given lines))
+      (unread_at held named input name is none files_after_claims early has)))
 
-unread_at : (held : FileContents) (named : FileNames) (input : Input) (name : List ℕ) → named input ≡ Some name → held name ≡ None
-    → (files : List File) (given : InputsView) → Has input files → ReachesFile input_place input (inputs_after_files held named files given)
-    → inputs_after_files held named files given ≡ Err (reasons.Unread input)
-unread_at held named input name is none [] given has comes = absurd has
-unread_at held named input name is none (file ∷ files) given (inl same) comes =
-    let own : named file.input ≡ Some name = ap named same ∙ is in
-    let step : inputs_after_file held named file given ≡ Err (reasons.Unread file.input) =
-    ap (inputs_after_optional_file held file given) own ∙ named_unread held file given name none in
-    ap (λ (s : Result InputsView InputsReason). s >>= inputs_after_files held named files) step
-    ∙ ap (λ (i : Input). Err (reasons.Unread i)) same
-unread_at held named input name is none (file ∷ files) given (inr more) comes =
-    behind input file (inputs_after_files held named files) more.0 (λ given. unread_at held named input name is none files given more.1)
-    (inputs_after_file held named file given) (step_is held file given (named file.input)) comes
+  each_file : (input : Input) → named input ≡ Some name → EndsUnread input (inputs_with_claims_of held named begun)
+  each_file inputs.ZeroPage is = file_of_first inputs.ZeroPage is (grind arith)
+  each_file inputs.Extension is = file_of_first inputs.Extension is (grind arith)
+  each_file inputs.CommandLine is = file_of_first inputs.CommandLine is (grind arith)
+  each_file inputs.Srat is = file_of_first inputs.Srat is (grind arith)
+  each_file inputs.Script is = file_of_first inputs.Script is (grind arith)
+  each_file inputs.Claims is = file_of_claims is
+  each_file inputs.Pages is = file_of_last inputs.Pages is (omega arith) (grind arith) (grind arith)
+  each_file inputs.Slit is = file_of_last inputs.Slit is (omega arith) (grind arith) (grind arith)
+  each_file inputs.Efi is = file_of_last inputs.Efi is (omega arith) (grind arith) (grind arith)
 
--- a file that the outcome reaches is reached when the inputs are read
-comes_to : (input : Input) (wanted : BootmemArgsView) (said : Result InputsView InputsReason)
-    → ReachesFile input_place input ((said >>= λ given. Ok (with_made_table wanted.made given)) >>= reports_on_boot wanted.reports)
-    → ReachesFile input_place input said
-comes_to input wanted (Ok given) reaches = tt
-comes_to input wanted (Err reason) reaches = reaches
+pub bootmem61_names_unread : (held : FileContents) (accepted : Option ProgramArgsView)
+    → NamesUnread named61 held accepted (bootmem61_outcome accepted held)
+bootmem61_names_unread held None = tt
+bootmem61_names_unread held (Some wanted) = λ input name is none.
+    within input (read_boot_inputs61 held wanted) (reports_on_boot61 (reports_of_list61 wanted.list))
+    (within input (inputs_with_claims_of held (named61 wanted) wanted.begun) (λ given. Ok (with_made_table61 wanted.made given))
+    (each_file held (named61 wanted) wanted.begun name none input is))
 
-pub unread_outcome : (held : FileContents) (wanted : BootmemArgsView) (input : Input) (name : List ℕ)
-    → wanted.named inputs.Claims ≡ None → wanted.named input ≡ Some name → held name ≡ None
-    → ReachesFile input_place input (bootmem_outcome (Some wanted) held) → bootmem_outcome (Some wanted) held ≡ Err (reasons.Unread input)
-unread_outcome held wanted input name own is none reaches =
-    let said = unread_at held wanted.named input name is none input_files wanted.begun (has wanted.named name own input is)
-    (comes_to input wanted (inputs_of held wanted.named wanted.begun) reaches) in
-    ap (λ (s : Result InputsView InputsReason). (s >>= λ given. Ok (with_made_table wanted.made given))
-    >>= reports_on_boot wanted.reports) said
+-- `named` gives the names of a program's files, and `said` is its outcome
+module _ {W : Type 0} (named : W → FileNames) (old new : LentFilesView) (said : Result (List ℕ) InputsReason) where
+  -- if the counter of a name rose, no lent file has the name
+  risen_file_is_not_lent : (name : Option (List ℕ)) → FaultsRose (faults_at old) (faults_at new) name
+      → (n : List ℕ) × (name ≡ Some n) × (file_bytes old.files n ≡ None)
+  risen_file_is_not_lent None rose = absurd rose
+  risen_file_is_not_lent (Some name) rose = (name, refl, rose_unheld old new name rose)
 
--- if the counter of a name rose, no lent file has the name
-risen_file_is_not_lent : (old new : LentFilesView) (named : Option (List ℕ)) → FaultsRose (faults_at old) (faults_at new) named
-    → (name : List ℕ) × (named ≡ Some name) × (file_bytes old.files name ≡ None)
-risen_file_is_not_lent old new None rose = absurd rose
-risen_file_is_not_lent old new (Some name) rose = (name, refl, rose_unheld old new name rose)
+  unread_is_said : (accepted : Option W) (input : Input) → NamesUnread named (file_bytes old.files) accepted said
+      → InputFaultsRose (reports_program named) (faults_at old) (faults_at new) accepted input → EndsUnread input said
+  unread_is_said None input names rose comes = absurd rose
+  unread_is_said (Some wanted) input names rose comes =
+      let found = risen_file_is_not_lent (named wanted input) rose in
+      names input found.0 found.1 found.2 comes
 
-pub unread_is_said : (old new : LentFilesView) (accepted : Option BootmemArgsView) (input : Input) → HasNoClaims accepted
-    → InputFaultsRose bootmem (faults_at old) (faults_at new) accepted input
-    → ReachesFile input_place input (bootmem_outcome accepted (file_bytes old.files))
-    → bootmem_outcome accepted (file_bytes old.files) ≡ Err (reasons.Unread input)
-unread_is_said old new None input own rose reaches = absurd rose
-unread_is_said old new (Some wanted) input own rose reaches =
-    let found = risen_file_is_not_lent old new (wanted.named input) rose in
-    unread_outcome (file_bytes old.files) wanted input found.0 own found.1 found.2 reaches
-
--- with lent files, the error is that of the outcome
-pub fails_as : (old new : LentFilesView) (accepted : Option BootmemArgsView) (error : NoInputs) → HasNoClaims accepted
-    → ErrorHasCause bootmem (faults_at old) (faults_at new) accepted error
-    → FitsError input_place error (bootmem_outcome accepted (file_bytes old.files))
-    → HasOutcomeReason error (bootmem_outcome accepted (file_bytes old.files))
-fails_as old new accepted (errors.Reason reasons.Usage) own cause fits = fits
-fails_as old new accepted (errors.Reason (reasons.Unread input)) own cause fits = unread_is_said old new accepted input own cause fits
-fails_as old new accepted (errors.Reason (reasons.Faulty input fault)) own cause fits = fits
-fails_as old new accepted (errors.Reason (reasons.Stopped why)) own cause fits = fits
-fails_as old new accepted errors.Memory own cause fits = tt
+  -- with lent files, the error is that of the outcome
+  pub fails_as : (accepted : Option W) (error : NoInputs) → NamesUnread named (file_bytes old.files) accepted said
+      → ErrorHasCause (reports_program named) (faults_at old) (faults_at new) accepted error → FitsError input_place error said
+      → HasOutcomeReason error said
+  fails_as accepted (errors.Reason reasons.Usage) names cause fits = fits
+  fails_as accepted (errors.Reason (reasons.Unread input)) names cause fits = unread_is_said accepted input names cause fits
+  fails_as accepted (errors.Reason (reasons.Faulty input fault)) names cause fits = fits
+  fails_as accepted (errors.Reason (reasons.Stopped why)) names cause fits = fits
+  fails_as accepted errors.Memory names cause fits = tt

@@ -1,12 +1,21 @@
 -- The boot whose results a call returns as values, and the errors of such a call.
-use Rattle.std.specs.Prelude.{◌≡◌, ℕ, List, Option, Some, Result, Ok, Err}
+use Rattle.std.specs.Prelude.{◌≡◌, ℕ, Bool, List, Option, Some, None, Result, Ok, Err}
+use Rattle.bm_io.specs.MemFiles.{file_bytes}
 use Rattle.program_end.specs.Program.{FileContents}
-use Rattle.boot_model.specs.Boot.{InputsView, BootedView, whole_boot}
+use Rattle.boot_model.specs.Boot.{InputsView, BootedView, whole_boot, whole_boot_with}
 use Rattle.conservation.specs.Headline.{AllTouchedOrInOneBlock, BlocksAreMaximal, BlocksAreWhole, NoOtherInABlock}
 use Rattle.boot_inputs.specs.Reason.{NoInputs, InputsReason}
+use Rattle.boot_inputs.specs.WithClaims.{InputsWithClaims}
 use Rattle.program_end.specs.declared.failure.NoResult.TheVariants as errors
-use Rattle.program_run.specs.Outcome.{read_boot_inputs}
-use Rattle.program_args.specs.Args.{BootmemArgsView}
+use Rattle.program_run.specs.Outcome.{linux_extra, read_boot_inputs, read_boot_inputs61}
+use Rattle.program_args.specs.Args.{BootmemArgsView, ProgramArgsView}
+use Rattle.bootmem_c.specs.declared.crossing.Bytes.{Bytes}
+use Rattle.bootmem_c.specs.declared.crossing.File.{File}
+use Rattle.bootmem_c.specs.declared.profile.BootProfile.{BootProfile}
+use Rattle.bootmem_c.specs.declared.profile.BootProfile.TheVariants as profiles
+use Rattle.bootmem_c.specs.Call.{are_utf8, read_args61_if, read_args_if}
+use Rattle.bootmem_c.specs.Lent.{lent_files, lent_words}
+use Rattle.bootmem_c.specs.Profiles.{profile_of_number}
 
 -- `told` has the results of the one boot that the accepted command line and the files' bytes
 -- determine. In this boot each usable frame is touched by a claim with a recorded owner, or is in
@@ -22,6 +31,30 @@ pub record IsBoot (accepted : Option BootmemArgsView) (held : FileContents) (tol
   pub others : NoOtherInABlock given told
   pub whole : BlocksAreWhole given told
   pub maximal : BlocksAreMaximal given told
+
+-- The same for the boot of `bootmem61`, which has the profile of Linux 6.1 and the early claims of
+-- the files.
+pub record IsBoot61 (accepted : Option ProgramArgsView) (held : FileContents) (told : BootedView) : Type 0 where
+  pub wanted : ProgramArgsView
+  pub given : InputsWithClaims
+  pub words : accepted ≡ Some wanted
+  pub inputs : read_boot_inputs61 held wanted ≡ Ok given
+  pub boots : whole_boot_with (linux_extra given.claims) given.inputs ≡ Ok told
+  pub each : AllTouchedOrInOneBlock given.inputs told
+  pub others : NoOtherInABlock given.inputs told
+  pub whole : BlocksAreWhole given.inputs told
+  pub maximal : BlocksAreMaximal given.inputs told
+
+-- `told` has the results of the boot by a profile; `utf8` says whether each word is UTF-8
+abbrev pub IsBootBy : Option BootProfile → Bool → List (List ℕ) → FileContents → BootedView → Type 0
+IsBootBy None utf8 words held told = ⊥
+IsBootBy (Some profiles.Own) utf8 words held told = IsBoot (read_args_if utf8 words) held told
+IsBootBy (Some profiles.Linux61) utf8 words held told = IsBoot61 (read_args61_if utf8 words) held told
+
+-- `told` has the results of the boot by the profile of this number
+abbrev pub IsBootAs : ℕ → List Bytes → List File → BootedView → Type 0
+IsBootAs number words files told =
+    IsBootBy (profile_of_number number) (are_utf8 (lent_words words)) (lent_words words) (file_bytes (lent_files files)) told
 
 -- if the error is a reason, the outcome `said` is this reason; out of memory may happen with any
 -- outcome

@@ -5,6 +5,10 @@
 //! are the files that they may name. Each export returns the exit status that `bootmem_run`
 //! returns for the same words and files, unless one of the two calls runs out of memory. It
 //! ignores which reports the words ask for.
+//!
+//! Each boot has `bootmem`'s own profile. `values_by_profile` has the same calls with a profile.
+//! There is none for the map, since each profile gives the same map
+//! ([`map_is_the_same_by_each_profile`](crate::profile::map_is_the_same_by_each_profile)).
 
 ghost use Rattle.std.specs.Prelude.{◌≡◌, ◌≢◌, ◌⊎◌, [], None, IfOk, IfErr};
 ghost use Rattle.bm_io.specs.MemFiles.{file_bytes};
@@ -16,10 +20,13 @@ ghost use Rattle.bootmem_c.specs.Values.{CopiesValues, crash_outcome_value, bloc
 
 use crate::boots::boot_lent_files;
 use crate::crossing::{Bytes, File};
+use crate::profile::OWN;
 use crate::values::{
-    CrashArea, FreeBlock, FreeBlocks, MapRun, MapRuns, MemoryNode, MemoryNodes, MemoryRange,
-    MemoryRanges, ZoneSpan, ZoneSpans, block_values, copy_values, map_values, memory_values,
-    node_values, zone_values,
+    CrashArea, FreeBlocks, MapRun, MapRuns, MemoryNodes, MemoryRanges, ZoneSpans, copy_values,
+    map_values,
+};
+use crate::values_by_profile::{
+    bootmem_blocks_as, bootmem_crash_as, bootmem_memory_as, bootmem_nodes_as, bootmem_zones_as,
 };
 use program_run::NoReport;
 use std::alloc::Global;
@@ -71,16 +78,7 @@ pub extern "C" fn bootmem_crash(
         × (out.new ≡ crash_outcome_value told.crash) }
     ensures none { result ≢ 0 → out.new ≡ crash_parts_value 0 None None }
 {
-    match boot_lent_files(alloc, words, files) {
-        Ok(booted) => {
-            *out = CrashArea::crash_area_value(&booted.crash);
-            0
-        }
-        Err(failure) => {
-            *out = CrashArea::none(0);
-            failure.status()
-        }
-    }
+    bootmem_crash_as(alloc, OWN, words, files, out)
 }
 
 /// Boots with these words and files, and writes the free blocks of the page allocator after the
@@ -101,16 +99,7 @@ pub extern "C" fn bootmem_blocks(
         × CopiesValues (block_values told) out.old.room.now out.new.room.now out.new.count }
     ensures none { result ≢ 0 → CopiesValues [] out.old.room.now out.new.room.now out.new.count }
 {
-    match boot_for_blocks(alloc, words, files) {
-        Ok(blocks) => {
-            out.count = copy_values(&blocks, out.room);
-            0
-        }
-        Err(failure) => {
-            out.count = 0;
-            failure.status()
-        }
-    }
+    bootmem_blocks_as(alloc, OWN, words, files, out)
 }
 
 /// Boots with these words and files, and writes the range of frames that each node spans in each
@@ -131,16 +120,7 @@ pub extern "C" fn bootmem_zones(
         × CopiesValues (zone_values told) out.old.room.now out.new.room.now out.new.count }
     ensures none { result ≢ 0 → CopiesValues [] out.old.room.now out.new.room.now out.new.count }
 {
-    match boot_for_zones(alloc, words, files) {
-        Ok(zones) => {
-            out.count = copy_values(&zones, out.room);
-            0
-        }
-        Err(failure) => {
-            out.count = 0;
-            failure.status()
-        }
-    }
+    bootmem_zones_as(alloc, OWN, words, files, out)
 }
 
 /// Boots with these words and files, and writes the records of memblock's memory table
@@ -161,16 +141,7 @@ pub extern "C" fn bootmem_memory(
         × CopiesValues (memory_values told) out.old.room.now out.new.room.now out.new.count }
     ensures none { result ≢ 0 → CopiesValues [] out.old.room.now out.new.room.now out.new.count }
 {
-    match boot_for_memory(alloc, words, files) {
-        Ok(ranges) => {
-            out.count = copy_values(&ranges, out.room);
-            0
-        }
-        Err(failure) => {
-            out.count = 0;
-            failure.status()
-        }
-    }
+    bootmem_memory_as(alloc, OWN, words, files, out)
 }
 
 /// Boots with these words and files, and writes the nodes that have memory to `out.room` in
@@ -190,16 +161,7 @@ pub extern "C" fn bootmem_nodes(
         × CopiesValues (node_values told) out.old.room.now out.new.room.now out.new.count }
     ensures none { result ≢ 0 → CopiesValues [] out.old.room.now out.new.room.now out.new.count }
 {
-    match boot_for_nodes(alloc, words, files) {
-        Ok(nodes) => {
-            out.count = copy_values(&nodes, out.room);
-            0
-        }
-        Err(failure) => {
-            out.count = 0;
-            failure.status()
-        }
-    }
+    bootmem_nodes_as(alloc, OWN, words, files, out)
 }
 
 /// Boots with these words and files, and returns the runs of the boot's memory map.
@@ -219,92 +181,6 @@ fn boot_for_map(
     ensures fails { IfErr result (λ failure. HasOutcomeReason failure (outcome_of words.now
         files.now)) }
 {
-    let booted = boot_lent_files(alloc, words, files)?;
+    let booted = boot_lent_files(alloc, OWN, words, files)?;
     Ok(map_values(alloc, &booted.map)?)
-}
-
-/// Boots with these words and files, and returns the free blocks after the handover.
-///
-/// # Errors
-///
-/// - A reason: the one for which `bootmem` has no result with these words and files.
-/// - `Memory` if this program is out of memory.
-fn boot_for_blocks(
-    alloc: Global,
-    words: &[Bytes<'_>],
-    files: &[File<'_>],
-) -> Result<Vec<FreeBlock>, NoReport>
-    ensures blocks { IfOk result (λ blocks. (told : BootedView)
-        × IsBoot (read_lent_args (lent_words words.now)) (file_bytes (lent_files files.now)) told
-        × (blocks.items ≡ block_values told)) }
-    ensures fails { IfErr result (λ failure. HasOutcomeReason failure (outcome_of words.now
-        files.now)) }
-{
-    let booted = boot_lent_files(alloc, words, files)?;
-    let blocks = booted.buddy.blocks()?;
-    Ok(block_values(alloc, &blocks)?)
-}
-
-/// Boots with these words and files, and returns the range of frames that each node spans in each
-/// zone.
-///
-/// # Errors
-///
-/// - A reason: the one for which `bootmem` has no result with these words and files.
-/// - `Memory` if this program is out of memory.
-fn boot_for_zones(
-    alloc: Global,
-    words: &[Bytes<'_>],
-    files: &[File<'_>],
-) -> Result<Vec<ZoneSpan>, NoReport>
-    ensures zones { IfOk result (λ zones. (told : BootedView)
-        × IsBoot (read_lent_args (lent_words words.now)) (file_bytes (lent_files files.now)) told
-        × (zones.items ≡ zone_values told)) }
-    ensures fails { IfErr result (λ failure. HasOutcomeReason failure (outcome_of words.now
-        files.now)) }
-{
-    let booted = boot_lent_files(alloc, words, files)?;
-    Ok(zone_values(alloc, &booted.spans)?)
-}
-
-/// Boots with these words and files, and returns the nodes that have memory.
-///
-/// # Errors
-///
-/// - A reason: the one for which `bootmem` has no result with these words and files.
-/// - `Memory` if this program is out of memory.
-fn boot_for_nodes(
-    alloc: Global,
-    words: &[Bytes<'_>],
-    files: &[File<'_>],
-) -> Result<Vec<MemoryNode>, NoReport>
-    ensures nodes { IfOk result (λ nodes. (told : BootedView)
-        × IsBoot (read_lent_args (lent_words words.now)) (file_bytes (lent_files files.now)) told
-        × (nodes.items ≡ node_values told)) }
-    ensures fails { IfErr result (λ failure. HasOutcomeReason failure (outcome_of words.now
-        files.now)) }
-{
-    let booted = boot_lent_files(alloc, words, files)?;
-    Ok(node_values(alloc, &booted.nodes)?)
-}
-
-/// Boots with these words and files, and returns the records of memblock's memory table.
-///
-/// # Errors
-///
-/// - A reason: the one for which `bootmem` has no result with these words and files.
-/// - `Memory` if this program is out of memory.
-fn boot_for_memory(
-    alloc: Global,
-    words: &[Bytes<'_>],
-    files: &[File<'_>],
-) -> Result<Vec<MemoryRange>, NoReport>
-    ensures memory { IfOk result (λ ranges. (told : BootedView)
-        × IsBoot (read_lent_args (lent_words words.now)) (file_bytes (lent_files files.now)) told
-        × (ranges.items ≡ memory_values told)) }
-    ensures fails { IfErr result (λ failure. HasOutcomeReason failure (outcome_of words.now
-        files.now)) }
-{
-    let booted = boot_lent_files(alloc, words, files)?;
-    Ok(memory_values(alloc, &booted.store, &booted.heads.memory)?)
 }

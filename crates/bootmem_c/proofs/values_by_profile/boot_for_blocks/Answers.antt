@@ -2,7 +2,7 @@
 use Rattle.std.proofs.Common.{◌∙◌, ap, map}
 use Rattle.boot_model.specs.View.{booted_view}
 use Rattle.bootmem_c.specs.Values.{block_value}
-use Rattle.bootmem_c.proofs.boot_values.boot_for_blocks.Goals as goal
+use Rattle.bootmem_c.proofs.values_by_profile.boot_for_blocks.Goals as goal
 
 pub returns-clause-blocks : goal.returns-clause-blocks
 returns-clause-blocks c = (

@@ -5,7 +5,7 @@ use Rattle.memblock_ranges.specs.declared.region.Head.{Head}
 use Rattle.boot_model.specs.View.{booted_view}
 use Rattle.bootmem_c.specs.Values.{record_value, regions_at}
 use Rattle.bootmem_c.proofs.ValueLaws.{standing_values}
-use Rattle.bootmem_c.proofs.boot_values.boot_for_memory.Goals as goal
+use Rattle.bootmem_c.proofs.values_by_profile.boot_for_memory.Goals as goal
 
 pub returns-clause-memory : goal.returns-clause-memory
 returns-clause-memory c =
