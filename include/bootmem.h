@@ -4,6 +4,10 @@
  * process. bootmem_run returns the program's reports as text. bootmem_map, bootmem_crash, bootmem_memory, bootmem_nodes, bootmem_zones and
  * bootmem_blocks return what the boot made as values. Their contracts are in run.rt and boot_values.rt of crates/bootmem_c/src.
  *
+ * Profiles. Each of these calls makes the boot of bootmem. A call whose name ends in _as takes the number of a profile first: BOOTMEM_OWN, with
+ * which it is the call without _as, or BOOTMEM_LINUX_6_1, the boot of the program bootmem61 (bootmem61.1), with the rules of Linux 6.1 and early
+ * claims. There is no bootmem_map_as, because the map depends on neither the profile nor the early claims.
+ *
  * Units. Addresses, sizes and lengths are in bytes. A frame has 4096 bytes. Numbers have the byte order of the machine.
  *
  * Ownership. What a pointer points to belongs to the caller before, during and after a call. The library keeps no pointer after a call. It
@@ -41,11 +45,15 @@ extern "C" {
 
 /* What a call returns: the exit statuses of bootmem. 4 (the output failed) is never returned. */
 #define BOOTMEM_OK 0      /* the reports, or the values, are in `out` */
-#define BOOTMEM_USAGE 2   /* the words aren't those of bootmem.1, or one isn't UTF-8 */
+#define BOOTMEM_USAGE 2   /* the words aren't those of bootmem.1, or one isn't UTF-8; or there is no such profile */
 #define BOOTMEM_UNREAD 3  /* a file that the words name isn't among `files` */
 #define BOOTMEM_FAULTY 5  /* a file is malformed or too long */
 #define BOOTMEM_STOPPED 6 /* the boot stops */
 #define BOOTMEM_MEMORY 7  /* malloc or realloc returned no memory */
+
+/* The profiles of a boot. Any other number is answered by BOOTMEM_USAGE, and no text or value is written. */
+#define BOOTMEM_OWN 0       /* that of bootmem */
+#define BOOTMEM_LINUX_6_1 1 /* that of bootmem61: the rules of Linux 6.1, and early claims (--claims) */
 
 /* Bytes that the caller passes, such as a word of the command line. They need no byte 0 at the end. */
 struct bootmem_bytes {
@@ -202,6 +210,24 @@ uint8_t bootmem_nodes(const struct bootmem_bytes *words, size_t words_len, const
 uint8_t bootmem_zones(const struct bootmem_bytes *words, size_t words_len, const struct bootmem_file *files, size_t files_len,
 	struct bootmem_zone_spans *out);
 uint8_t bootmem_blocks(const struct bootmem_bytes *words, size_t words_len, const struct bootmem_file *files, size_t files_len,
+	struct bootmem_free_blocks *out);
+
+/* The same calls by a profile: BOOTMEM_OWN or BOOTMEM_LINUX_6_1. The words are those of the profile's program, so with BOOTMEM_LINUX_6_1 those of
+ * bootmem61.1. All else is as without _as, and with BOOTMEM_OWN the answer is the same. With any other number the status is BOOTMEM_USAGE: both
+ * texts are empty, `count` is 0, and of the crash area each number is.
+ *
+ * The map is that of bootmem_map, with the words without --claims. Its status is that of the boot of bootmem. */
+uint8_t bootmem_run_as(uint32_t profile, const struct bootmem_bytes *words, size_t words_len, const struct bootmem_file *files, size_t files_len,
+	struct bootmem_text *out, struct bootmem_text *err);
+uint8_t bootmem_crash_as(uint32_t profile, const struct bootmem_bytes *words, size_t words_len, const struct bootmem_file *files, size_t files_len,
+	struct bootmem_crash_area *out);
+uint8_t bootmem_memory_as(uint32_t profile, const struct bootmem_bytes *words, size_t words_len, const struct bootmem_file *files, size_t files_len,
+	struct bootmem_memory_ranges *out);
+uint8_t bootmem_nodes_as(uint32_t profile, const struct bootmem_bytes *words, size_t words_len, const struct bootmem_file *files, size_t files_len,
+	struct bootmem_memory_nodes *out);
+uint8_t bootmem_zones_as(uint32_t profile, const struct bootmem_bytes *words, size_t words_len, const struct bootmem_file *files, size_t files_len,
+	struct bootmem_zone_spans *out);
+uint8_t bootmem_blocks_as(uint32_t profile, const struct bootmem_bytes *words, size_t words_len, const struct bootmem_file *files, size_t files_len,
 	struct bootmem_free_blocks *out);
 
 /* The version of the library: major * 1000000 + minor * 1000 + patch. */

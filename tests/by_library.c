@@ -1,5 +1,6 @@
-/* by_library [--values NAME] WORD..: the program bootmem over the library: each word that names a file is read and lent under its name, the
- * reports go to standard output, the line to standard error, and the status is the call's. Room is given in two calls: none, and as much as
+/* by_library [--as PROFILE] [--values NAME] WORD..: the program bootmem over the library: each word that names a file is read and lent under its
+ * name, the reports go to standard output, the line to standard error, and the status is the call's. With --as the calls are those whose names end
+ * in _as, with this number of a profile. Room is given in two calls: none, and as much as
  * was needed. With --values the report NAME (map, crash, memory, nodes, zones, blocks) is printed of the values that the library hands over, and
  * no line; a call with half of the room gives the first half. The form is that of the program's reports, with two exceptions. A zone's line lacks
  * the free frames. A node's line is 'node N domain D', or 'node N' if the node has no domain. */
@@ -15,6 +16,32 @@
 static struct bootmem_bytes words[MOST];
 static struct bootmem_file files[MOST];
 static size_t words_len, files_len;
+static int is_by_number; /* --as */
+static uint32_t profile;
+
+/* The call of this name with the words and files, or the one by a profile. */
+#define BY_PROFILE(call, values) \
+	static int call##_lent(struct values *out) \
+	{ \
+		return is_by_number ? call##_as(profile, words, words_len, files, files_len, out) : call(words, words_len, files, files_len, out); \
+	}
+
+BY_PROFILE(bootmem_crash, bootmem_crash_area)
+BY_PROFILE(bootmem_memory, bootmem_memory_ranges)
+BY_PROFILE(bootmem_nodes, bootmem_memory_nodes)
+BY_PROFILE(bootmem_zones, bootmem_zone_spans)
+BY_PROFILE(bootmem_blocks, bootmem_free_blocks)
+
+static int bootmem_map_lent(struct bootmem_map_runs *out)
+{
+	return bootmem_map(words, words_len, files, files_len, out);
+}
+
+static int bootmem_run_lent(struct bootmem_text *out, struct bootmem_text *err)
+{
+	return is_by_number ? bootmem_run_as(profile, words, words_len, files, files_len, out, err)
+			    : bootmem_run(words, words_len, files, files_len, out, err);
+}
 
 /* The bytes of a file, or none where it can't be read. */
 static struct bootmem_bytes read_file(const char *name)
@@ -51,12 +78,12 @@ static int put_reports(void)
 	struct bootmem_text out = {none, 0, 0}, err = {none, 0, 0};
 	int first, status;
 
-	first = bootmem_run(words, words_len, files, files_len, &out, &err);
+	first = bootmem_run_lent(&out, &err);
 	out = (struct bootmem_text){calloc(1, out.needed + 1), out.needed, 0};
 	err = (struct bootmem_text){calloc(1, err.needed + 1), err.needed, 0};
 	if (!out.at || !err.at)
 		return BOOTMEM_MEMORY;
-	status = bootmem_run(words, words_len, files, files_len, &out, &err);
+	status = bootmem_run_lent(&out, &err);
 	if (status != first || out.needed != out.room || err.needed != err.room)
 		return 1;
 	fwrite(out.at, 1, out.needed, stdout);
@@ -127,7 +154,7 @@ static void put_block(const struct bootmem_free_block *block)
 	{ \
 		struct value none[1]; \
 		struct values out = {none, 0, 7}; \
-		int first = call(words, words_len, files, files_len, &out), status; \
+		int first = call##_lent(&out), status; \
 		size_t count = out.count, half = count / 2; \
 		struct value *part = malloc((count + 1) * sizeof *part), *all = malloc((count + 1) * sizeof *all); \
 \
@@ -135,10 +162,10 @@ static void put_block(const struct bootmem_free_block *block)
 			return BOOTMEM_MEMORY; \
 		memset(part, UNTOUCHED, (count + 1) * sizeof *part); \
 		out = (struct values){part, half, 7}; \
-		if (call(words, words_len, files, files_len, &out) != first || out.count != count || !is_untouched(part + half, part + count + 1)) \
+		if (call##_lent(&out) != first || out.count != count || !is_untouched(part + half, part + count + 1)) \
 			return 1; \
 		out = (struct values){all, count, 7}; \
-		status = call(words, words_len, files, files_len, &out); \
+		status = call##_lent(&out); \
 		if (status != first || out.count != count) \
 			return 1; \
 		for (size_t i = 0; i < count; i++) \
@@ -157,7 +184,7 @@ static int put_crash(void)
 	static const char *const reasons[] = {[BOOTMEM_CRASH_NOT_REQUESTED] = "none", [BOOTMEM_CRASH_NO_AREA] = "no area",
 		[BOOTMEM_CRASH_IN_USE] = "in use", [BOOTMEM_CRASH_LOW_FAILED] = "low failed"};
 	struct bootmem_crash_area area = {7, 7, 7, 7, 7};
-	int status = bootmem_crash(words, words_len, files, files_len, &area);
+	int status = bootmem_crash_lent(&area);
 
 	if (status && (area.base || area.size || area.low_base || area.low_size || area.state))
 		return 1;
@@ -185,15 +212,28 @@ static const struct {
 
 int main(int argc, char **argv)
 {
-	int values = argc > 2 && !strcmp(argv[1], "--values"), front = values ? 3 : 1;
+	const char *report = NULL;
 
-	if (argc - front > MOST)
+	argc--;
+	argv++;
+	if (argc > 1 && !strcmp(*argv, "--as")) {
+		is_by_number = 1;
+		profile = (uint32_t)strtoul(argv[1], NULL, 10);
+		argc -= 2;
+		argv += 2;
+	}
+	if (argc > 1 && !strcmp(*argv, "--values")) {
+		report = argv[1];
+		argc -= 2;
+		argv += 2;
+	}
+	if (argc > MOST)
 		return 1;
-	lend(argv + front, argc - front);
-	if (!values)
+	lend(argv, argc);
+	if (!report)
 		return put_reports();
 	for (size_t i = 0; i < sizeof reports / sizeof *reports; i++)
-		if (!strcmp(argv[2], reports[i].name))
+		if (!strcmp(report, reports[i].name))
 			return reports[i].put();
 	return 1;
 }

@@ -64,6 +64,18 @@ AT(bootmem_free_block, node, 12);
 AT(bootmem_free_block, zone, 16);
 BUFFER(bootmem_free_blocks, count);
 
+/* the profiles' numbers, and the types of the calls that take one */
+_Static_assert(BOOTMEM_OWN == 0 && BOOTMEM_LINUX_6_1 == 1, "the profiles");
+#define LENT const struct bootmem_bytes *, size_t, const struct bootmem_file *, size_t
+#define IS(call, ...) _Static_assert(_Generic(&call, uint8_t (*)(uint32_t, LENT, __VA_ARGS__): 1, default: 0), "type of " #call)
+
+IS(bootmem_run_as, struct bootmem_text *, struct bootmem_text *);
+IS(bootmem_crash_as, struct bootmem_crash_area *);
+IS(bootmem_memory_as, struct bootmem_memory_ranges *);
+IS(bootmem_nodes_as, struct bootmem_memory_nodes *);
+IS(bootmem_zones_as, struct bootmem_zone_spans *);
+IS(bootmem_blocks_as, struct bootmem_free_blocks *);
+
 int main(int argc, char **argv)
 {
 	static struct bootmem_entry entries[BOOTMEM_ZERO_PAGE_ENTRIES + 1];

@@ -1,10 +1,11 @@
 #!/bin/sh
 # library.sh [PROGRAM]: the library against the program, and from C, Rust and Python. Every report of every machine of examples/ through the
 # library is the very bytes of the program, with its status and its line, and what it hands over as values is what the program's text
-# says. Then each allocation fails in turn. Then come the layout of the structs, the example in C, the tests that TOOLS.md shows, 'cargo
+# says. The calls with a profile are compared with bootmem61, which lies beside PROGRAM. Then each allocation fails in turn. Then come the layout of the structs, the example in C, the tests that TOOLS.md shows, 'cargo
 # test' and the unit tests of Python. What lacks its tool is left out, with a line. Prints 'N passed, M failed' at its end.
 . "$(dirname "$0")/counted.sh"
 program=$(built "${1:-$top/bootmem}") || exit 2
+program61=$(built "$(dirname "$program")/bootmem61") || exit 2
 cd "$top" || exit 1
 [ -f libbootmem.a ] || {
 	echo "library.sh: there is no $top/libbootmem.a: 'make lib' builds it" >&2
@@ -23,16 +24,17 @@ shown() {
 	sed -n "/^\`\`\`$1\$/,/^\`\`\`\$/p" docs/TOOLS.md | sed '1d;$d'
 }
 
-# expected NAME WORD..: what by_library.c prints of these values, from the program's text, and the status. A zone has no free frames. A node
-# is one that has zones, with its domain if it has one.
+# expected PROGRAM NAME WORD..: what by_library.c prints of these values, from the program's text, and the status. A zone has no free frames. A
+# node is one that has zones, with its domain if it has one.
 expected() {
-	name=$1
-	shift
+	by=$1
+	name=$2
+	shift 2
 	case $name in
 	nodes) list=nodes,zones ;;
 	*) list=$name ;;
 	esac
-	(cd "$folder" && "$program" --report "$list" "$@" 2>/dev/null; echo "status $?") | case $name in
+	(cd "$folder" && "$by" --report "$list" "$@" 2>/dev/null; echo "status $?") | case $name in
 	zones) sed 's/ free [0-9]*$//' ;;
 	nodes)
 		awk '/^domain / { domain[$4] = " domain " $2 }
@@ -48,17 +50,43 @@ values() {
 	folder=$1
 	report=$2
 	shift 2
-	expected "$report" "$@" >"$work/out"
+	expected "$program" "$report" "$@" >"$work/out"
 	(cd "$folder" && "$work/by_library" --values "$report" "$@"; echo "status $?") >"$work/got"
 	ok "$folder: the values of $report, of $*" cmp "$work/got" "$work/out"
+	[ "$report" = map ] || values_as "$folder" "$report" "$@"
+}
+
+# values_as FOLDER NAME WORD..: the same by the profile of Linux 6.1, for the program bootmem61
+values_as() {
+	folder=$1
+	report=$2
+	shift 2
+	expected "$program61" "$report" "$@" >"$work/out"
+	(cd "$folder" && "$work/by_library" --as 1 --values "$report" "$@"; echo "status $?") >"$work/got"
+	ok "$folder: the values of $report by Linux 6.1, of $*" cmp "$work/got" "$work/out"
+}
+
+# reports_as FOLDER WORD..: by each profile the call's reports, its line and its status are those of the profile's program
+reports_as() {
+	folder=$1
+	shift
+	for by in "$program" "$program61"; do
+		number=0
+		[ "$by" = "$program" ] || number=1
+		(cd "$folder" && "$by" "$@" >"$work/out" 2>"$work/err"; echo "status $?" >>"$work/err")
+		(cd "$folder" && "$work/by_library" --as $number "$@" >"$work/got" 2>"$work/why"; echo "status $?" >>"$work/why")
+		ok "$folder: profile $number, $*" cmp "$work/got" "$work/out"
+		ok "$folder: profile $number, $*: the line" cmp "$work/why" "$work/err"
+	done
 }
 
 reports=$(sed -n 's/^report //p' tools/bootmem_tools/words.txt)
+all=$(echo "$reports" | tr '\n' ',' | sed 's/,$//')
 values="map crash memory nodes zones blocks"
 
 # of the names in the archive the exports alone are seen, and they are those of the header
 is "names" "$(nm -g --defined-only libbootmem.a | sed -n 's/.* T //p' | sort | tr '\n' ' ')" \
-	"$(sed -n 's/^[a-z0-9_]* \(bootmem_[a-z]*\)(.*/\1/p' include/bootmem.h | sort | tr '\n' ' ')"
+	"$(sed -n 's/^[a-z0-9_]* \(bootmem_[a-z_]*\)(.*/\1/p' include/bootmem.h | sort | tr '\n' ' ')"
 
 if has "${CC:-cc}" "the program's bytes and the example in C"; then
 	cc="${CC:-cc} -Wall -Wextra -Werror -Iinclude"
@@ -80,6 +108,8 @@ if has "${CC:-cc}" "the program's bytes and the example in C"; then
 			# shellcheck disable=SC2086
 			values "$folder" "$report" $words
 		done
+		# shellcheck disable=SC2086
+		reports_as "$folder" --report "$all" $words
 	done
 	# a SLIT without an SRAT and with one, of two wrong lengths, and another table in its place
 	slit=examples/srat-slit/slit.bin
@@ -111,6 +141,31 @@ if has "${CC:-cc}" "the program's bytes and the example in C"; then
 		values examples "$report" README.md
 		values examples/first "$report" --srat zp.bin zp.bin
 		values examples/first "$report" --kernel 0x1000000,0x3400000 --la57 zp.bin
+	done
+	# the early claims, as only bootmem61 reads them, and a number without a profile
+	printf '%s\n' 'reserve 1 0x1000000 0x3400000' 'alloc 2 64K 4K' 'free 1' >"$work/claims"
+	printf '%s\n' 'sections' >"$work/wrong"
+	for words in "--claims $work/claims zp.bin" "--claims $work/wrong zp.bin" "--claims none zp.bin"; do
+		# shellcheck disable=SC2086
+		reports_as examples/first --report claims,owners $words
+		for report in $values; do
+			# shellcheck disable=SC2086
+			[ "$report" = map ] || values_as examples/first "$report" $words
+		done
+	done
+	for words in --none "" zp.bin "--make 3" "--report none zp.bin"; do
+		# shellcheck disable=SC2086
+		reports_as examples $words
+	done
+	for number in 2 4294967295; do
+		status=0
+		"$work/by_library" --as $number examples/first/zp.bin >"$work/got" 2>&1 || status=$?
+		is "profile $number" "$status $(cat "$work/got")" "2 "
+		for report in crash memory nodes zones blocks; do
+			status=0
+			"$work/by_library" --as $number --values "$report" examples/first/zp.bin >"$work/got" 2>&1 || status=$?
+			is "profile $number: the values of $report" "$status $(cat "$work/got")" "2 "
+		done
 	done
 	ok "out_of_memory.c" $cc -O1 tests/out_of_memory.c libbootmem.a -Wl,--wrap=malloc -Wl,--wrap=realloc -o "$work/out_of_memory"
 	ok "each allocation fails in turn" "$work/out_of_memory"

@@ -105,6 +105,30 @@ class Calls(unittest.TestCase):
                 library.run(words, files)
             self.assertEqual((refused.exception.status, str(refused.exception)), (status, line))
 
+    def test_a_profile(self):
+        """The boot of `bootmem61`: its rules, its early claims and its lines. The other profile's
+        is that of no profile, and any other number is a wrong word."""
+        words, files = ["--cmdline", "line", "zp.bin"], {"zp.bin": PAGE, "line": b"crashkernel=1G-:64M", "claims": b"reserve 1 0x20000000 0x1000\n"}
+        linux = library.LINUX_6_1
+        self.assertEqual(library.crash_area(words, files).state, library.NOT_REQUESTED)
+        self.assertEqual(library.crash_area(words, files, profile=library.OWN), library.crash_area(words, files))
+        self.assertEqual(library.crash_area(words, files, profile=linux).size, 64 << 20)
+        claimed = ["--claims", "claims", *words]
+        self.assertEqual(library.run(["--report", "claims", *claimed], files, profile=linux), b"1: done\n")
+        whole, fewer = ({frame for block in library.free_blocks(one, files, profile=linux) for frame in range(block.first, block.first + (1 << block.order))}
+                        for one in (words, claimed))
+        self.assertEqual((whole - fewer, fewer - whole), ({0x20000}, set()))
+        for values in library.memory_ranges, library.nodes:
+            self.assertEqual(values(claimed, files, profile=linux), values(words, files))
+        self.assertEqual(sum(one.present for one in library.zone_spans(claimed, files, profile=linux)),
+                         sum(one.present for one in library.zone_spans(words, files)))
+        for profile, line in (library.OWN, b"bootmem: usage\n"), (linux, b"bootmem61: usage\n"), (2, b""):
+            self.assertEqual(library.call(["--none"], files, profile=profile), (2, b"", line))
+        for values in library.crash_area, library.memory_ranges, library.nodes, library.zone_spans, library.free_blocks:
+            with self.subTest(values=values), self.assertRaises(library.Refused) as refused:
+                values(words, files, profile=2)
+            self.assertEqual((refused.exception.reason, str(refused.exception)), ("usage", ""))
+
     def test_a_slit(self):
         """A SLIT has the program's answers, word for word: without an SRAT, with one, of another
         length, and with each other fault."""

@@ -13,7 +13,8 @@ top=$(cd "$(dirname "$0")/.." && pwd)
 crate=$top/crates/bootmem_c
 log=$crate/out/build.log
 exports="bootmem_run bootmem_map bootmem_crash bootmem_memory bootmem_nodes bootmem_zones
-	bootmem_blocks bootmem_version"
+	bootmem_blocks bootmem_run_as bootmem_crash_as bootmem_memory_as bootmem_nodes_as bootmem_zones_as
+	bootmem_blocks_as bootmem_version"
 
 kit=$(dirname "$("$rt" doc)")
 

@@ -29,6 +29,10 @@ DMA, DMA32, NORMAL = 0, 1, 2
 # fits it, its range is in use, or no range below 4 GiB fits its low part.
 NOT_REQUESTED, CRASH_RESERVED, NO_AREA, IN_USE, LOW_FAILED = range(5)
 
+# The profile of a boot: that of `bootmem`, or that of `bootmem61`, which has the rules of Linux 6.1
+# and early claims.
+OWN, LINUX_6_1 = 0, 1
+
 # Words and names of files are texts or bytes.
 Text = Union[str, bytes]
 Words = Sequence[Text]
@@ -198,9 +202,9 @@ class _FreeBlocks(ctypes.Structure):
 
 
 _EXPORTS: dict[str, list[type[ctypes.Structure]]] = {
-    "bootmem_run": [_Text, _Text], "bootmem_map": [_MapRuns], "bootmem_crash": [_CrashArea],
-    "bootmem_memory": [_MemoryRanges], "bootmem_nodes": [_MemoryNodes],
-    "bootmem_zones": [_ZoneSpans], "bootmem_blocks": [_FreeBlocks]}
+    "bootmem_run_as": [_Text, _Text], "bootmem_map": [_MapRuns], "bootmem_crash_as": [_CrashArea],
+    "bootmem_memory_as": [_MemoryRanges], "bootmem_nodes_as": [_MemoryNodes],
+    "bootmem_zones_as": [_ZoneSpans], "bootmem_blocks_as": [_FreeBlocks]}
 _MISSING = """{0}. One of these helps:
   - set BOOTMEM_LIB to the path of libbootmem.so ('make lib' builds it at the top of bootmem's \
 sources)
@@ -240,7 +244,8 @@ def _loaded() -> ctypes.CDLL:
         lent = [ctypes.POINTER(_Bytes), ctypes.c_size_t, ctypes.POINTER(_File), ctypes.c_size_t]
         for export, outs in _EXPORTS.items():
             getattr(library, export).restype = ctypes.c_uint8
-            getattr(library, export).argtypes = lent + [ctypes.POINTER(out) for out in outs]
+            first = [ctypes.c_uint32] if export.endswith("_as") else []
+            getattr(library, export).argtypes = first + lent + [ctypes.POINTER(out) for out in outs]
         library.bootmem_version.restype = ctypes.c_uint32
         _libraries.append(library)
     return _libraries[0]
@@ -282,107 +287,126 @@ class _Room:
         return ctypes.string_at(self.buffer, self.text.needed)
 
 
-def call(words: Words, files: Files, room: int = 1 << 16) -> tuple[int, bytes, bytes]:
+def call(words: Words, files: Files, room: int = 1 << 16, *,
+         profile: int = OWN) -> tuple[int, bytes, bytes]:
     """Runs the program as one call and returns its status, the reports and the line of a failure.
 
-    `words` are those after its name, `files` has the bytes of each file by its name.
+    `words` are those after its name, `files` has the bytes of each file by its name. With the
+    profile LINUX_6_1 the program is `bootmem61`. Any other number than the two has the status 2.
     """
     lent = _lent_all(words, files)
     out, err = _Room(room), _Room(1 << 10)
     while True:
-        status = _loaded().bootmem_run(*lent, ctypes.byref(out.text), ctypes.byref(err.text))
+        status = _loaded().bootmem_run_as(
+            profile, *lent, ctypes.byref(out.text), ctypes.byref(err.text))
         if out.fits() and err.fits():
             return status, out.taken(), err.taken()
         out, err = (_Room(max(one.text.needed, one.text.room)) for one in (out, err))
 
 
-def run(words: Words, files: Files) -> bytes:
-    """Returns the reports.
+def run(words: Words, files: Files, *, profile: int = OWN) -> bytes:
+    """Returns the reports on the boot by a profile.
 
     # Errors
     A Refused if there are none.
     """
-    status, out, err = call(words, files)
+    status, out, err = call(words, files, profile=profile)
     if status:
         raise Refused(status, err.decode("utf-8", "replace").rstrip("\n"))
     return out
 
 
-def _accept(status: int, words: Words, files: Files) -> None:
+def _accept(status: int, words: Words, files: Files, profile: int) -> None:
     """Raises a Refused, with the program's line, if the status of a call that hands over values
     isn't 0."""
     if status:
-        raise Refused(status, call(words, files)[2].decode("utf-8", "replace").rstrip("\n"))
+        line = call(words, files, profile=profile)[2]
+        raise Refused(status, line.decode("utf-8", "replace").rstrip("\n"))
 
 
-def _values(export: str, values: Any, value: Any, words: Words, files: Files, room: int) -> Any:
-    """Returns all values of a call that hands over some."""
+def _values(export: str, values: Any, value: Any, words: Words, files: Files, room: int,
+            profile: int) -> Any:
+    """Returns all values of a call that hands over some. Only a name that ends in `_as` takes the
+    profile."""
     lent = _lent_all(words, files)
+    first = (profile,) if export.endswith("_as") else ()
     while True:
         places = (value * max(room, 1))()
         out = values(places, room, 0)
-        _accept(getattr(_loaded(), export)(*lent, ctypes.byref(out)), words, files)
+        status = getattr(_loaded(), export)(*first, *lent, ctypes.byref(out))
+        _accept(status, words, files, profile)
         if out.count <= room:
             return places[:out.count]
         room = out.count
 
 
 def map_runs(words: Words, files: Files, room: int = 1 << 10) -> list[MapRun]:
-    """Returns the map that the kernel works with, ascending.
+    """Returns the map that the kernel works with, ascending. It is the same by each profile, so the
+    words are those of `bootmem`, without `--claims`.
 
     # Errors
     A Refused, as `run`.
     """
-    runs = _values("bootmem_map", _MapRuns, _MapRun, words, files, room)
+    runs = _values("bootmem_map", _MapRuns, _MapRun, words, files, room, OWN)
     return [MapRun(one.base, one.size, one.type) for one in runs]
 
 
-def crash_area(words: Words, files: Files) -> CrashArea:
+def crash_area(words: Words, files: Files, *, profile: int = OWN) -> CrashArea:
     """Returns the crash area, or why there is none.
 
     # Errors
     A Refused, as `run`.
     """
     out = _CrashArea()
-    _accept(_loaded().bootmem_crash(*_lent_all(words, files), ctypes.byref(out)), words, files)
+    lent = _lent_all(words, files)
+    status = _loaded().bootmem_crash_as(profile, *lent, ctypes.byref(out))
+    _accept(status, words, files, profile)
     return CrashArea(out.base, out.size, out.low_base, out.low_size, out.state)
 
 
-def memory_ranges(words: Words, files: Files, room: int = 1 << 10) -> list[MemoryRange]:
+def memory_ranges(words: Words, files: Files, room: int = 1 << 10, *,
+                  profile: int = OWN) -> list[MemoryRange]:
     """Returns the records of memory, ascending.
 
     # Errors
     A Refused, as `run`.
     """
-    ranges = _values("bootmem_memory", _MemoryRanges, _MemoryRange, words, files, room)
+    ranges = _values(
+        "bootmem_memory_as", _MemoryRanges, _MemoryRange, words, files, room, profile)
     return [MemoryRange(one.base, one.size, one.flags, one.node) for one in ranges]
 
 
-def nodes(words: Words, files: Files, room: int = 1 << 10) -> list[Node]:
+def nodes(words: Words, files: Files, room: int = 1 << 10, *,
+          profile: int = OWN) -> list[Node]:
     """Returns the nodes that have memory, ascending.
 
     # Errors
     A Refused, as `run`.
     """
-    found = _values("bootmem_nodes", _MemoryNodes, _MemoryNode, words, files, room)
+    found = _values(
+        "bootmem_nodes_as", _MemoryNodes, _MemoryNode, words, files, room, profile)
     return [Node(one.node, one.domain if one.has_domain else None) for one in found]
 
 
-def zone_spans(words: Words, files: Files, room: int = 1 << 10) -> list[ZoneSpan]:
+def zone_spans(words: Words, files: Files, room: int = 1 << 10, *,
+               profile: int = OWN) -> list[ZoneSpan]:
     """Returns the zones that have memory, by node and then by zone.
 
     # Errors
     A Refused, as `run`.
     """
-    spans = _values("bootmem_zones", _ZoneSpans, _ZoneSpan, words, files, room)
+    spans = _values(
+        "bootmem_zones_as", _ZoneSpans, _ZoneSpan, words, files, room, profile)
     return [ZoneSpan(one.start, one.end, one.present, one.node, one.zone) for one in spans]
 
 
-def free_blocks(words: Words, files: Files, room: int = 1 << 10) -> list[FreeBlock]:
+def free_blocks(words: Words, files: Files, room: int = 1 << 10, *,
+                profile: int = OWN) -> list[FreeBlock]:
     """Returns the free blocks at the handover, ascending.
 
     # Errors
     A Refused, as `run`.
     """
-    blocks = _values("bootmem_blocks", _FreeBlocks, _FreeBlock, words, files, room)
+    blocks = _values(
+        "bootmem_blocks_as", _FreeBlocks, _FreeBlock, words, files, room, profile)
     return [FreeBlock(block.first, block.order, block.node, block.zone) for block in blocks]

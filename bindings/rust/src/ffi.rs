@@ -82,7 +82,8 @@ pub struct Values<T> {
 }
 
 extern "C" {
-    pub fn bootmem_run(
+    pub fn bootmem_run_as(
+        profile: u32,
         words: *const Bytes,
         words_len: usize,
         files: *const File,
@@ -97,35 +98,40 @@ extern "C" {
         files_len: usize,
         out: *mut Values<MapRun>,
     ) -> u8;
-    pub fn bootmem_crash(
+    pub fn bootmem_crash_as(
+        profile: u32,
         words: *const Bytes,
         words_len: usize,
         files: *const File,
         files_len: usize,
         out: *mut CrashArea,
     ) -> u8;
-    pub fn bootmem_memory(
+    pub fn bootmem_memory_as(
+        profile: u32,
         words: *const Bytes,
         words_len: usize,
         files: *const File,
         files_len: usize,
         out: *mut Values<MemoryRange>,
     ) -> u8;
-    pub fn bootmem_nodes(
+    pub fn bootmem_nodes_as(
+        profile: u32,
         words: *const Bytes,
         words_len: usize,
         files: *const File,
         files_len: usize,
         out: *mut Values<MemoryNode>,
     ) -> u8;
-    pub fn bootmem_zones(
+    pub fn bootmem_zones_as(
+        profile: u32,
         words: *const Bytes,
         words_len: usize,
         files: *const File,
         files_len: usize,
         out: *mut Values<ZoneSpan>,
     ) -> u8;
-    pub fn bootmem_blocks(
+    pub fn bootmem_blocks_as(
+        profile: u32,
         words: *const Bytes,
         words_len: usize,
         files: *const File,

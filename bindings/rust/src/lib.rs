@@ -1,7 +1,8 @@
 //! What x86-64 Linux 6.1 makes of a machine's memory at boot, from `libbootmem`.
 //!
 //! [`run`] is the program `bootmem` as one call over words and files in memory. [`map`], [`crash`], [`memory`], [`nodes`], [`zones`] and
-//! [`blocks`] are what its boot makes, as values. [`Boot`] has a method for each input, for tests of the E820 table that a VMM builds.
+//! [`blocks`] are what its boot makes, as values. [`run_as`], [`crash_as`] and so on take a [`Profile`] first: with [`Profile::Linux61`] they are
+//! the program `bootmem61` and its boot. [`Boot`] has a method for each input, for tests of the E820 table that a VMM builds.
 //!
 //! Any number of threads may call the library at once: it has no state.
 //!
@@ -24,6 +25,16 @@ pub use values::{
 };
 
 use std::fmt;
+
+/// Which program's boot a call makes.
+#[derive(Clone, Copy, Debug, Default, PartialEq, Eq)]
+pub enum Profile {
+    /// That of `bootmem`.
+    #[default]
+    Own = 0,
+    /// That of `bootmem61`: the rules of Linux 6.1, and early claims.
+    Linux61 = 1,
+}
 
 /// Why a call has no result.
 #[derive(Clone, Copy, Debug, PartialEq, Eq)]
@@ -60,9 +71,36 @@ pub fn version() -> u32 {
     unsafe { ffi::bootmem_version() }
 }
 
-/// The words of a command line of `bootmem`, and the files that it may name, each as its name and its bytes.
+/// A call of the library that hands over some values, by a profile.
+type Call<T> = unsafe extern "C" fn(
+    u32,
+    *const ffi::Bytes,
+    usize,
+    *const ffi::File,
+    usize,
+    *mut ffi::Values<T>,
+) -> u8;
+
+/// The runs of the map, which are the same by each profile.
+///
+/// # Safety
+///
+/// As for `bootmem_map`.
+unsafe extern "C" fn map_by_any(
+    _profile: u32,
+    words: *const ffi::Bytes,
+    words_len: usize,
+    files: *const ffi::File,
+    files_len: usize,
+    out: *mut ffi::Values<ffi::MapRun>,
+) -> u8 {
+    ffi::bootmem_map(words, words_len, files, files_len, out)
+}
+
+/// A profile, the words of a command line, and the files that it may name, each as its name and its bytes.
 #[derive(Clone, Copy)]
 struct Asked<'a> {
+    profile: Profile,
     words: &'a [&'a [u8]],
     files: &'a [(&'a [u8], &'a [u8])],
 }
@@ -88,7 +126,8 @@ impl Asked<'_> {
         let (mut out, mut err) = (ffi::Text::of(out), ffi::Text::of(err));
         // Each pointer is a slice's own, so it is no null, and is valid for its length; the two rooms are borrowed alone.
         let status = self.lent(|words, files| unsafe {
-            ffi::bootmem_run(
+            ffi::bootmem_run_as(
+                self.profile as u32,
                 words.as_ptr(),
                 words.len(),
                 files.as_ptr(),
@@ -101,16 +140,7 @@ impl Asked<'_> {
     }
 
     /// Returns all values that `call`, one of the exports for values, makes. Repeats the call with a larger buffer if they don't all fit.
-    fn values<T: Copy + Default>(
-        &self,
-        call: unsafe extern "C" fn(
-            *const ffi::Bytes,
-            usize,
-            *const ffi::File,
-            usize,
-            *mut ffi::Values<T>,
-        ) -> u8,
-    ) -> Result<Vec<T>, Refusal> {
+    fn values<T: Copy + Default>(&self, call: Call<T>) -> Result<Vec<T>, Refusal> {
         let mut values = vec![T::default(); 1 << 10];
         loop {
             let mut out = ffi::Values {
@@ -121,6 +151,7 @@ impl Asked<'_> {
             // As in `texts`.
             let status = self.lent(|words, files| unsafe {
                 call(
+                    self.profile as u32,
                     words.as_ptr(),
                     words.len(),
                     files.as_ptr(),
@@ -141,7 +172,8 @@ impl Asked<'_> {
 
     /// Returns the refusal for a status of an export for values. Such an export has no error line, so the line is taken from [`run`].
     fn refusal(&self, status: u8) -> Refusal {
-        let line = run(self.words, self.files).err().map(|told| told.line);
+        let told = run_as(self.profile, self.words, self.files);
+        let line = told.err().map(|told| told.line);
         Refusal {
             reason: reason(status),
             line: line.unwrap_or_default(),
@@ -163,7 +195,20 @@ fn reason(status: u8) -> Reason {
 /// Runs `bootmem` with the words of its command line after the program's name, and with files, each as its name and its bytes. Returns the text
 /// of the reports, or why there is none.
 pub fn run(words: &[&[u8]], files: &[(&[u8], &[u8])]) -> Result<Vec<u8>, Refusal> {
-    let asked = Asked { words, files };
+    run_as(Profile::Own, words, files)
+}
+
+/// The program of a profile, as [`run`].
+pub fn run_as(
+    profile: Profile,
+    words: &[&[u8]],
+    files: &[(&[u8], &[u8])],
+) -> Result<Vec<u8>, Refusal> {
+    let asked = Asked {
+        profile,
+        words,
+        files,
+    };
     let (mut out, mut err) = (vec![0; 1 << 16], vec![0; 1 << 10]);
     loop {
         let (status, written, told) = asked.texts(&mut out, &mut err);
@@ -184,19 +229,38 @@ pub fn run(words: &[&[u8]], files: &[(&[u8], &[u8])]) -> Result<Vec<u8>, Refusal
     }
 }
 
-/// The map that the kernel works with, ascending.
+/// The map that the kernel works with, ascending. It is the same by each profile.
 pub fn map(words: &[&[u8]], files: &[(&[u8], &[u8])]) -> Result<Vec<Run>, Refusal> {
-    let runs = Asked { words, files }.values(ffi::bootmem_map)?;
+    let asked = Asked {
+        profile: Profile::Own,
+        words,
+        files,
+    };
+    let runs = asked.values(map_by_any)?;
     Ok(runs.iter().filter_map(values::run).collect())
 }
 
 /// The crash area, or why there is none.
 pub fn crash(words: &[&[u8]], files: &[(&[u8], &[u8])]) -> Result<Crash, Refusal> {
-    let asked = Asked { words, files };
+    crash_as(Profile::Own, words, files)
+}
+
+/// The crash area of a boot by a profile, as [`crash`].
+pub fn crash_as(
+    profile: Profile,
+    words: &[&[u8]],
+    files: &[(&[u8], &[u8])],
+) -> Result<Crash, Refusal> {
+    let asked = Asked {
+        profile,
+        words,
+        files,
+    };
     let mut area = ffi::CrashArea::default();
     // As in `Asked::texts`.
     let status = asked.lent(|words, files| unsafe {
-        ffi::bootmem_crash(
+        ffi::bootmem_crash_as(
+            profile as u32,
             words.as_ptr(),
             words.len(),
             files.as_ptr(),
@@ -212,31 +276,89 @@ pub fn crash(words: &[&[u8]], files: &[(&[u8], &[u8])]) -> Result<Crash, Refusal
 
 /// The records of memory, ascending.
 pub fn memory(words: &[&[u8]], files: &[(&[u8], &[u8])]) -> Result<Vec<MemoryRange>, Refusal> {
-    let ranges = Asked { words, files }.values(ffi::bootmem_memory)?;
+    memory_as(Profile::Own, words, files)
+}
+
+/// The records of memory of a boot by a profile, as [`memory`].
+pub fn memory_as(
+    profile: Profile,
+    words: &[&[u8]],
+    files: &[(&[u8], &[u8])],
+) -> Result<Vec<MemoryRange>, Refusal> {
+    let asked = Asked {
+        profile,
+        words,
+        files,
+    };
+    let ranges = asked.values(ffi::bootmem_memory_as)?;
     Ok(ranges.iter().filter_map(values::memory).collect())
 }
 
 /// The nodes that have memory, ascending.
 pub fn nodes(words: &[&[u8]], files: &[(&[u8], &[u8])]) -> Result<Vec<Node>, Refusal> {
-    let nodes = Asked { words, files }.values(ffi::bootmem_nodes)?;
+    nodes_as(Profile::Own, words, files)
+}
+
+/// The nodes of a boot by a profile, as [`nodes`].
+pub fn nodes_as(
+    profile: Profile,
+    words: &[&[u8]],
+    files: &[(&[u8], &[u8])],
+) -> Result<Vec<Node>, Refusal> {
+    let asked = Asked {
+        profile,
+        words,
+        files,
+    };
+    let nodes = asked.values(ffi::bootmem_nodes_as)?;
     Ok(nodes.iter().filter_map(values::node).collect())
 }
 
 /// The zones that have memory, by node and then by zone.
 pub fn zones(words: &[&[u8]], files: &[(&[u8], &[u8])]) -> Result<Vec<ZoneSpan>, Refusal> {
-    let spans = Asked { words, files }.values(ffi::bootmem_zones)?;
+    zones_as(Profile::Own, words, files)
+}
+
+/// The zones of a boot by a profile, as [`zones`].
+pub fn zones_as(
+    profile: Profile,
+    words: &[&[u8]],
+    files: &[(&[u8], &[u8])],
+) -> Result<Vec<ZoneSpan>, Refusal> {
+    let asked = Asked {
+        profile,
+        words,
+        files,
+    };
+    let spans = asked.values(ffi::bootmem_zones_as)?;
     Ok(spans.iter().filter_map(values::span).collect())
 }
 
 /// The free blocks at the handover, ascending.
 pub fn blocks(words: &[&[u8]], files: &[(&[u8], &[u8])]) -> Result<Vec<Block>, Refusal> {
-    let blocks = Asked { words, files }.values(ffi::bootmem_blocks)?;
+    blocks_as(Profile::Own, words, files)
+}
+
+/// The free blocks of a boot by a profile, as [`blocks`].
+pub fn blocks_as(
+    profile: Profile,
+    words: &[&[u8]],
+    files: &[(&[u8], &[u8])],
+) -> Result<Vec<Block>, Refusal> {
+    let asked = Asked {
+        profile,
+        words,
+        files,
+    };
+    let blocks = asked.values(ffi::bootmem_blocks_as)?;
     Ok(blocks.iter().filter_map(values::block).collect())
 }
 
 /// The inputs of a boot. Each method that adds an input returns the inputs with it.
 #[derive(Clone, Debug, Default)]
 pub struct Boot<'a> {
+    profile: Profile,
+    has_claims: bool,
     words: Vec<String>,
     files: Vec<(&'a str, Vec<u8>)>,
 }
@@ -245,6 +367,8 @@ impl<'a> Boot<'a> {
     /// Returns the inputs of a boot with this zero page (4,096 bytes) and nothing else.
     pub fn new(zero_page: &[u8]) -> Boot<'a> {
         Boot {
+            profile: Profile::Own,
+            has_claims: false,
             words: Vec::new(),
             files: vec![("zeropage", zero_page.to_vec())],
         }
@@ -253,6 +377,19 @@ impl<'a> Boot<'a> {
     fn file(mut self, option: &str, name: &'a str, bytes: &[u8]) -> Boot<'a> {
         self.words.extend([option.to_string(), name.to_string()]);
         self.files.push((name, bytes.to_vec()));
+        self
+    }
+
+    /// The profile of the boot: [`Profile::Own`], unless another is given.
+    pub fn profile(mut self, profile: Profile) -> Boot<'a> {
+        self.profile = profile;
+        self
+    }
+
+    /// The early claims, which only [`Profile::Linux61`] has. They change nothing of the map.
+    pub fn claims(mut self, lines: &str) -> Boot<'a> {
+        self.has_claims = true;
+        self.files.push(("claims", lines.as_bytes().to_vec()));
         self
     }
 
@@ -333,9 +470,22 @@ impl<'a> Boot<'a> {
         call(&words, &files)
     }
 
+    /// A call by the profile, which has the early claims too.
+    fn ask_as<T>(
+        &self,
+        front: &[&[u8]],
+        call: impl FnOnce(Profile, &[&[u8]], &[(&[u8], &[u8])]) -> T,
+    ) -> T {
+        let mut words = front.to_vec();
+        if self.has_claims {
+            words.extend([&b"--claims"[..], b"claims"]);
+        }
+        self.ask(&words, |words, files| call(self.profile, words, files))
+    }
+
     /// Returns the text of the reports that the list names. Names are separated by commas.
     pub fn report(&self, list: &str) -> Result<String, Refusal> {
-        let text = self.ask(&[b"--report", list.as_bytes()], run)?;
+        let text = self.ask_as(&[b"--report", list.as_bytes()], run_as)?;
         Ok(String::from_utf8_lossy(&text).into_owned())
     }
 
@@ -346,26 +496,26 @@ impl<'a> Boot<'a> {
 
     /// The crash area, or why there is none.
     pub fn crash(&self) -> Result<Crash, Refusal> {
-        self.ask(&[], crash)
+        self.ask_as(&[], crash_as)
     }
 
     /// The records of memory, ascending.
     pub fn memory(&self) -> Result<Vec<MemoryRange>, Refusal> {
-        self.ask(&[], memory)
+        self.ask_as(&[], memory_as)
     }
 
     /// The nodes that have memory, ascending.
     pub fn nodes(&self) -> Result<Vec<Node>, Refusal> {
-        self.ask(&[], nodes)
+        self.ask_as(&[], nodes_as)
     }
 
     /// The zones that have memory, by node and then by zone.
     pub fn zones(&self) -> Result<Vec<ZoneSpan>, Refusal> {
-        self.ask(&[], zones)
+        self.ask_as(&[], zones_as)
     }
 
     /// The free blocks at the handover, ascending.
     pub fn blocks(&self) -> Result<Vec<Block>, Refusal> {
-        self.ask(&[], blocks)
+        self.ask_as(&[], blocks_as)
     }
 }

@@ -2,7 +2,8 @@
 //! from 1 MiB on up to the hole below 4 GiB, and what is left above 4 GiB.
 
 use bootmem::{
-    extension, run, zero_page, Boot, CrashState, Range, Reason, Zone, E820_RAM, E820_RESERVED,
+    extension, run, run_as, zero_page, Boot, CrashState, Profile, Range, Reason, Zone, E820_RAM,
+    E820_RESERVED,
 };
 
 const EBDA_START: u64 = 0x9_fc00;
@@ -271,6 +272,26 @@ fn what_is_wrong_is_told() {
     );
     assert_eq!(run(&[b"page"], &[]).unwrap_err().reason, Reason::Unread);
     assert_eq!(run(&[b"--none"], &[]).unwrap_err().reason, Reason::Usage);
+}
+
+#[test]
+fn the_rules_of_linux_are_another_profile() {
+    let page = zero_page(&e820_table(1 << 30)).unwrap();
+    let own = Boot::new(&page).cmdline("crashkernel=1G-:64M");
+    let linux = own.clone().profile(Profile::Linux61);
+    // The table has less than 1 GiB of memory; Linux 6.1 rounds it up.
+    assert_eq!(own.crash().unwrap().state, CrashState::NotRequested);
+    assert_eq!(linux.crash().unwrap().high.unwrap().size(), 64 << 20);
+    let early = linux.clone().claims("reserve 1 0x20000000 0x1000\n");
+    assert_eq!(early.report("claims").unwrap(), "1: done\n");
+    assert_eq!(early.map().unwrap(), own.map().unwrap());
+    let refusal = own.claims("").crash().unwrap_err();
+    assert_eq!(
+        (refusal.reason, refusal.line.as_str()),
+        (Reason::Usage, "bootmem: usage")
+    );
+    let none = run_as(Profile::Linux61, &[b"page"], &[]).unwrap_err();
+    assert_eq!(none.line, "bootmem61: cannot read page");
 }
 
 #[test]
