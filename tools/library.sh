@@ -2,8 +2,8 @@
 # library.sh VERSION [gate]: proves bootmem_c and the crates below it, and makes libbootmem.a and libbootmem.so.VERSION at the top. The
 # archive has one object: the crate's, with the kit's three lines over malloc, realloc and free. Of its names the exports alone are seen.
 # libbootmem.built has the commit and the kit.
-# With "gate" the crates below are those that `rt ci` proved and left in this clone, so that bootmem_c alone is proved once more; where one
-# isn't there, the status is 3.
+# With "gate" the crates below are those that `rt ci` proved and left in this clone, so that bootmem_c alone is proved once more. If none of
+# them is there, as with a kit that leaves none, the status is 3; if some are and another isn't, that is a fault, and the status is 1.
 set -eu
 unset CDPATH
 rt=${RT:-rt}
@@ -47,9 +47,20 @@ mkdir -p "$crate/out"
 status=0
 if [ "${2:-}" = gate ]; then
 	names=$(sed -n 's/^bootmem_c staticlib: //p' "$top/crates.txt")
+	found=
+	missing=
 	for name in $names; do
-		[ -d "$(place "$name")" ] || exit 3
+		if [ -d "$(place "$name")" ]; then
+			[ ! -d "$top/crates/$name" ] || found="$found $name"
+		else
+			missing="$missing $name"
+		fi
 	done
+	if [ -n "$missing" ]; then
+		echo "libbootmem.a: rt ci left no library of$missing" >&2
+		[ -z "$found" ] || exit 1
+		exit 3
+	fi
 	# shellcheck disable=SC2086 # a word each
 	(over_gate $names) >"$log" 2>&1 || status=$?
 else
